@@ -1,0 +1,6 @@
+use Rattle.std.specs.Io.KnownBytes.{Keeps}
+use Rattle.pfl_base.proofs.std_device.read_again.Given as goal
+
+-- the interrupted calls took nothing
+abbrev pub invariant-loop : goal.invariant-loop
+invariant-loop g l = Keeps (g.D.Read.remaining l.fn.device) (g.D.Read.remaining l.device)

@@ -1,0 +1,13 @@
+pub mod Names
+pub mod Numbers
+pub mod Ends
+pub mod Flags
+pub mod Packets
+pub mod Keys
+pub mod Sequence
+pub mod Classes
+pub mod Lists
+pub mod Nodes
+pub mod Refusals
+pub mod Texts
+pub mod Devices

@@ -1,0 +1,27 @@
+//! What is read from.
+
+ghost use Rattle.std.specs.Prelude.{◌≡◌, ℕ, List, Bool, true, Option, None, OnOk, OnErr};
+ghost use Rattle.std.specs.Io.{ReadsAtMost};
+ghost use Rattle.std.specs.Io.KnownBytes.{ReadConsumes};
+
+use crate::std_device::DeviceFault;
+
+/// A device that is read from.
+pub trait Input {
+    /// What is left to read, of a device that tells its bytes.
+    ghost left: { Self → Option (List ℕ) } = { λ _. None };
+
+    /// A call has failed.
+    ghost has_failed: { Self → Bool };
+
+    /// Reads some bytes into the front of the buffer; none only at the end, or into a buffer with no room.
+    fn read(&mut self, buf: &mut [u8]) -> Result<usize, DeviceFault>
+        ensures bound { ReadsAtMost result buf.new }
+        ensures bytes { ReadConsumes (left self.old) (left self.new) result buf.new }
+        ensures stays { OnOk result (has_failed self.new ≡ has_failed self.old) }
+        ensures fails { OnErr result (has_failed self.new ≡ true) };
+
+    /// Whether a call has failed.
+    fn failed(&self) -> bool
+        ensures { result ≡ has_failed self.now };
+}

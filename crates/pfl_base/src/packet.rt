@@ -1,0 +1,171 @@
+//! Packets.
+
+ghost use Rattle.std.specs.Prelude.{◌≡◌, None, Some, MatchResult};
+
+use crate::addr::End;
+use crate::fields::{BadPacket, PacketFields};
+use crate::flags::TcpFlags;
+use crate::proto::Proto;
+use std::marker::Model;
+
+/// A packet as a filter sees it: fields without a fault. One of another protocol than TCP has no flags, zeros for the
+/// three numbers, and no scale.
+#[derive(Clone, Copy, Debug, PartialEq, Eq)]
+pub struct Packet {
+    fields: PacketFields,
+}
+
+impl Model for Packet {
+    ghost use Rattle.pfl_base.specs.declared.fields.PacketFields.{PacketFields};
+
+    ghost Value = { PacketFields };
+
+    ghost use Rattle.pfl_base.specs.Packets.{IsPacket};
+
+    ghost view = { λ p. p.fields };
+
+    ghost invariant = { λ p. IsPacket p.fields };
+
+    ghost inverse = { λ fields. record { fields = fields } };
+}
+
+impl Packet {
+    ghost use Rattle.pfl_base.specs.declared.direction.Dir.{Dir};
+    ghost use Rattle.pfl_base.specs.declared.fields.PacketFields.{PacketFields};
+    ghost use Rattle.pfl_base.specs.Keys.{key as key_of, other_dir};
+    ghost use Rattle.pfl_base.specs.Packets.{bad_packet, exchanged, IsPacket};
+
+    /// The packet with these fields, or the first reason why they are none.
+    #[allow(clippy::too_many_arguments)]
+    pub fn checked(
+        proto: Proto,
+        src: End,
+        dst: End,
+        flags: TcpFlags,
+        seq: u32,
+        ack: u32,
+        window: u16,
+        len: u16,
+        scale: Option<u8>,
+    ) -> Result<Packet, BadPacket>
+        ensures { let fields : PacketFields = record { proto = proto; src = src; dst = dst; flags = flags; seq = seq; ack = ack; window = window; len = len; scale = scale } in MatchResult result (λ p. (p ≡ fields) × (bad_packet fields ≡ None)) (λ e. bad_packet fields ≡ Some e) }
+    {
+        Packet::of(PacketFields {
+            seq,
+            ack,
+            window,
+            len,
+            proto,
+            src,
+            dst,
+            flags,
+            scale,
+        })
+    }
+
+    /// The packet with these fields, or the first reason why they are none.
+    pub fn of(fields: PacketFields) -> Result<Packet, BadPacket>
+        ensures { MatchResult result (λ p. (p ≡ fields) × (bad_packet fields ≡ None)) (λ e. bad_packet fields ≡ Some e) }
+    {
+        // Its contract says that the protocol is written one way, which a packet keeps.
+        let _number = fields.proto.number();
+        match fields.fault() {
+            None => Ok(Packet { fields }),
+            Some(fault) => Err(fault),
+        }
+    }
+
+    /// Tells a proof what each packet keeps. It does nothing.
+    pub fn known(&self)
+        ensures { IsPacket self.now }
+    {
+        let _fields = &self.fields;
+    }
+
+    /// The packet on its way back: its ends are exchanged. A node that it goes through in the other direction finds the
+    /// same flow.
+    pub fn exchanged(&self) -> Packet
+        ensures packet { result ≡ exchanged self.now }
+        ensures flow { (dir : Dir) → key_of result (other_dir dir) ≡ key_of self.now dir }
+    {
+        let PacketFields { src, dst, .. } = self.fields;
+        Packet {
+            fields: PacketFields {
+                src: dst,
+                dst: src,
+                ..self.fields
+            },
+        }
+    }
+
+    /// What the packet was made from.
+    pub fn fields(&self) -> PacketFields
+        ensures { result ≡ self.now }
+    {
+        let Packet { fields } = *self;
+        fields
+    }
+
+    /// The protocol.
+    pub fn proto(&self) -> Proto
+        ensures { result ≡ self.now.proto }
+    {
+        self.fields.proto
+    }
+
+    /// The end that sent the packet.
+    pub fn src(&self) -> End
+        ensures { result ≡ self.now.src }
+    {
+        self.fields.src
+    }
+
+    /// The end that the packet goes to.
+    pub fn dst(&self) -> End
+        ensures { result ≡ self.now.dst }
+    {
+        self.fields.dst
+    }
+
+    /// The flags of TCP.
+    pub fn flags(&self) -> TcpFlags
+        ensures { result ≡ self.now.flags }
+    {
+        self.fields.flags
+    }
+
+    /// The sequence number of TCP.
+    pub fn seq(&self) -> u32
+        ensures { result ≡ self.now.seq }
+    {
+        self.fields.seq
+    }
+
+    /// The acknowledgment number of TCP.
+    pub fn ack(&self) -> u32
+        ensures { result ≡ self.now.ack }
+    {
+        self.fields.ack
+    }
+
+    /// The window as it stands in the header, before scaling.
+    pub fn window(&self) -> u16
+        ensures { result ≡ self.now.window }
+    {
+        self.fields.window
+    }
+
+    /// Bytes behind the TCP header, or behind the IP header.
+    pub fn len(&self) -> u16
+        ensures { result ≡ self.now.len }
+    {
+        self.fields.len
+    }
+
+    /// The window scale option (RFC 7323).
+    pub fn scale(&self) -> Option<u8>
+        ensures { result ≡ self.now.scale }
+    {
+        self.fields.scale
+    }
+}

@@ -1,0 +1,10 @@
+use Rattle.std.proofs.Common.{length, sym, ◌∙◌, ap}
+use Rattle.pfl_edits.specs.Ordered.{Distinct-rising}
+use Rattle.pfl_edits.specs.Rows.{len-map_of}
+use Rattle.pfl_edits.proofs.rows.Rows.len.Goals as goal
+
+pub returns-clause-map : goal.returns-clause-map
+returns-clause-map g c =
+    let k = g.X.Keyed in
+    let l = g.met.X.Keyed in
+    ap length c.as_slice.ensures.rows ∙ sym (len-map_of l.total l.exact k.key _ (Distinct-rising k.order k.key _ c.known.ensures.rows.rising))

@@ -1,0 +1,118 @@
+-- The first value of a map that passes a test, and what a scan of rows finds. Proofs of the crates above cite the lemmas.
+-- This project's profile.
+use Rattle.std.specs.Prelude.{◌≡◌, Bool, true, false, List, [], ◌∷◌, map, find, Option, Some, None, refl, ◌&&◌}
+use Rattle.std.specs.Ordering.{eq_by_cmp, is_eq, is_lt}
+use Rattle.std.specs.declared.cmp.Ordering.{Ordering}
+use Rattle.std.specs.declared.cmp.Ordering.TheVariants.{Less, Equal, Greater}
+use Rattle.std.specs.Cmp.{IsTotalOrder}
+use Rattle.pfl_edits.specs.Maps as maps
+use Rattle.std.specs.FinMap.{IsAntisymmetric}
+use Rattle.pfl_edits.specs.Maps.{Map, entries, entries_sorted, get-entries}
+use Rattle.std.specs.FinMap.Entries as ordered
+use Rattle.std.specs.FinMap.Entries.{is_sorted, below_all}
+use Rattle.std.proofs.Common.{cond, T, ◌∙◌, ap, sym, subst}
+use Rattle.pfl_edits.specs.Rows.{same_key, own_key, some_is_none}
+
+-- the first value that passes the test, in the order of the keys
+abbrev pub first_value : {K X : Type 0} {R : K → K → Ordering} → (X → Bool) → Map R X → Option X
+first_value p m = find p (map (λ e. e.1) (entries m))
+
+true_is_false : {A : Type 0} → true ≡ false → A
+true_is_false e = absurd (subst T e tt)
+
+less_is : (r : Ordering) → T (is_lt r) → r ≡ Less
+less_is Less t = refl
+less_is Equal t = absurd t
+less_is Greater t = absurd t
+
+left : (a b : Bool) → T (a && b) → T a
+left true b t = tt
+left false b t = t
+
+right : (a b : Bool) → T (a && b) → T b
+right true b t = t
+right false b t = absurd t
+
+module _ {K X : Type 0} {R : K → K → Ordering} (o : IsTotalOrder R) (exact : IsAntisymmetric R) where
+  -- a key below all of a list is not found there
+  absent_below : (q : K) (es : List (K × X)) → T (below_all R q es) → ordered.find R q es ≡ None
+  absent_below q [] t = refl
+  absent_below q (e ∷ es) t =
+      ap (λ r. cond (is_eq r) (Some e.1) (ordered.find R q es)) (less_is (R q e.0) (left _ _ t)) ∙ absent_below q es (right _ _ t)
+
+  module _ (p : X → Bool) where
+    lifted : (e : K × X) (es : List (K × X)) → T (is_sorted R (e ∷ es)) → (q : K) (v : X) → ordered.find R q es ≡ Some v → ordered.find R q (e ∷ es) ≡ Some v
+    lifted e es s q v is =
+        elim (eq_by_cmp R q e.0) as (λ b. eq_by_cmp R q e.0 ≡ b → cond b (Some e.1) (ordered.find R q es) ≡ Some v) [
+          | true ↦ λ t. absurd (some_is_none v (sym is ∙ (ap (λ k. ordered.find R k es) (same_key o exact (λ k. k) q e.0 t) ∙ absent_below e.0 es (left _ _ s))))
+          | false ↦ λ t. is
+        ] refl
+
+    head : (e : K × X) (es : List (K × X)) → ordered.find R e.0 (e ∷ es) ≡ Some e.1
+    head e es = ap (λ b. cond b (Some e.1) (ordered.find R e.0 es)) (own_key o exact (λ k. k) e.0)
+
+    none_entries : (es : List (K × X)) → T (is_sorted R es) → ((q : K) (v : X) → ordered.find R q es ≡ Some v → p v ≡ false) → find p (map (λ e. e.1) es) ≡ None
+    none_entries [] s h = refl
+    none_entries (e ∷ es) s h =
+        ap (λ b. cond b (Some e.1) (find p (map (λ e. e.1) es))) (h e.0 e.1 (head e es))
+        ∙ none_entries es (right _ _ s) (λ q v is. h q v (lifted e es s q v is))
+
+    some_entries : (es : List (K × X)) → T (is_sorted R es) → (k : K) (v : X) → ordered.find R k es ≡ Some v → p v ≡ true → ((q : K) (u : X) → ordered.find R q es ≡ Some u → p u ≡ true → q ≡ k) → find p (map (λ e. e.1) es) ≡ Some v
+    some_entries [] s k v is pv one = absurd (some_is_none v (sym is))
+    some_entries (e ∷ es) s k v is pv one =
+        elim (eq_by_cmp R k e.0) as (λ b. eq_by_cmp R k e.0 ≡ b → cond b (Some e.1) (ordered.find R k es) ≡ Some v → cond (p e.1) (Some e.1) (find p (map (λ e. e.1) es)) ≡ Some v) [
+          | true ↦ λ t i. let same : e.1 ≡ v = cc in ap (λ b. cond b (Some e.1) (find p (map (λ e. e.1) es))) (ap p same ∙ pv) ∙ i
+          | false ↦ λ t i.
+              elim (p e.1) as (λ b. p e.1 ≡ b → cond b (Some e.1) (find p (map (λ e. e.1) es)) ≡ Some v) [
+                | true ↦ λ pe. true_is_false (sym (own_key o exact (λ k. k) k) ∙ (ap (eq_by_cmp R k) (sym (one e.0 e.1 (head e es) pe)) ∙ t))
+                | false ↦ λ pe. some_entries es (right _ _ s) k v i pv (λ q u is pu. one q u (lifted e es s q u is) pu)
+              ] refl
+        ] refl is
+
+    -- none is found, where none passes
+    pub first_value-none : (m : Map R X) → ((q : K) (v : X) → maps.get m q ≡ Some v → p v ≡ false) → first_value p m ≡ None
+    first_value-none m h = none_entries (entries m) (entries_sorted m) (λ q v is. h q v (get-entries m q ∙ is))
+
+    -- the one that passes is found
+    pub first_value-some : (m : Map R X) (k : K) (v : X) → maps.get m k ≡ Some v → p v ≡ true → ((q : K) (u : X) → maps.get m q ≡ Some u → p u ≡ true → q ≡ k) → first_value p m ≡ Some v
+    first_value-some m k v is pv one = some_entries (entries m) (entries_sorted m) k v (sym (get-entries m k) ∙ is) pv (λ q u iu pu. one q u (get-entries m q ∙ iu) pu)
+
+    failing_entries : (es : List (K × X)) → find p (map (λ e. e.1) es) ≡ None → (q : K) (v : X) → ordered.find R q es ≡ Some v → p v ≡ false
+    failing_entries [] n q v is = absurd (some_is_none v (sym is))
+    failing_entries (e ∷ es) n q v is =
+        elim (p e.1) as (λ b. p e.1 ≡ b → cond b (Some e.1) (find p (map (λ e. e.1) es)) ≡ None → p v ≡ false) [
+          | true ↦ λ pe n. absurd (some_is_none e.1 n)
+          | false ↦ λ pe n.
+              elim (eq_by_cmp R q e.0) as (λ b. cond b (Some e.1) (ordered.find R q es) ≡ Some v → p v ≡ false) [
+                | true ↦ λ i. let same : e.1 ≡ v = cc in ap p (sym same) ∙ pe
+                | false ↦ λ i. failing_entries es n q v i
+              ] is
+        ] refl n
+
+    standing_entry : (es : List (K × X)) → T (is_sorted R es) → (v : X) → find p (map (λ e. e.1) es) ≡ Some v → (q : K) × (ordered.find R q es ≡ Some v)
+    standing_entry [] s v is = absurd (some_is_none v (sym is))
+    standing_entry (e ∷ es) s v is =
+        elim (p e.1) as (λ b. cond b (Some e.1) (find p (map (λ e. e.1) es)) ≡ Some v → (q : K) × (ordered.find R q (e ∷ es) ≡ Some v)) [
+          | true ↦ λ i. (e.0, head e es ∙ i)
+          | false ↦ λ i. let rest = standing_entry es (right _ _ s) v i in (rest.0, lifted e es s rest.0 v rest.1)
+        ] is
+
+    -- where none is found, none passes
+    pub no_value_passes : (m : Map R X) → first_value p m ≡ None → (q : K) (v : X) → maps.get m q ≡ Some v → p v ≡ false
+    no_value_passes m none q v is = failing_entries (entries m) none q v (sym (get-entries m q) ∙ is)
+
+    -- what is found stands in the map
+    pub first_value-stands : (m : Map R X) (v : X) → first_value p m ≡ Some v → (q : K) × (maps.get m q ≡ Some v)
+    first_value-stands m v is = let at = standing_entry (entries m) (entries_sorted m) v is in (at.0, get-entries m at.0 ∙ at.1)
+
+-- what is found passes
+pub first_value-passes : {K X : Type 0} {R : K → K → Ordering} (p : X → Bool) (m : Map R X) (v : X) → first_value p m ≡ Some v → p v ≡ true
+first_value-passes {X = X} p m v is = passes (map (λ e. e.1) (entries m)) is
+  where
+    passes : (xs : List X) → find p xs ≡ Some v → p v ≡ true
+    passes [] i = absurd (some_is_none v (sym i))
+    passes (x ∷ xs) i =
+        elim (p x) as (λ b. p x ≡ b → cond b (Some x) (find p xs) ≡ Some v → p v ≡ true) [
+          | true ↦ λ px s. let same : x ≡ v = cc in ap p (sym same) ∙ px
+          | false ↦ λ px s. passes xs s
+        ] refl i

@@ -1,0 +1,17 @@
+//! Values whose edits can be taken back, and the lists of edits that do it.
+#![tactic(auto)]
+
+mod changes;
+mod keyed;
+mod no_memory;
+mod reversible;
+mod rows;
+
+pub use changes::Change;
+pub use keyed::Keyed;
+pub use no_memory::NoMemory;
+pub use reversible::{Reversible, undo_all};
+pub use rows::Rows;
+
+#[cfg(test)]
+mod tests;

@@ -1,0 +1,50 @@
+//! Values whose edits can be taken back.
+ghost use Rattle.std.specs.Prelude.{◌≡◌};
+ghost use Rattle.pfl_edits.specs.Changes.{back, Fits, LeadsBothWays};
+
+use crate::changes::Change;
+use std::alloc::Allocator;
+
+/// A value whose operations give an edit for each change of it.
+///
+/// An edit names one place, its former value and its new one, whatever the code of it keeps.
+pub trait Reversible {
+    /// What is kept of one change: a place, its former value and its new one.
+    type Edit;
+
+    /// The edit finds its new value in its place.
+    ghost finds: { Self.Edit → Self → Type 0 };
+
+    /// The edit finds its former value in its place.
+    ghost finds_former: { Self.Edit → Self → Type 0 };
+
+    /// The value with the edit's former value in the edit's place.
+    ghost put_back: { Self.Edit → Self → Self };
+
+    /// The value with the edit's new value in the edit's place.
+    ghost redone: { Self.Edit → Self → Self };
+
+    /// The value is one that its type may have.
+    ghost allows: { Self → Type 0 };
+
+    /// Puts the edit's former value back. It answers nothing, so it cannot want memory.
+    fn undo(&mut self, edit: Self::Edit)
+        requires found { finds edit self.old }
+        requires allowed { allows (put_back edit self.old) }
+        ensures undone { self.new ≡ put_back edit self.old };
+
+    /// What an edit put back can be redone, and the other way round: it knows both values of its place, and nothing is
+    /// lost on either way. That it leaves the rest alone is for `put_back` itself to say, which is read with each layer.
+    ghost both_ways: { (e : Self.Edit) → LeadsBothWays (finds_former e) (finds e) (put_back e) (redone e) };
+}
+
+/// Takes the edits of a change back, the newest first, without memory.
+pub fn undo_all<T: Reversible, A: Allocator>(value: &mut T, mut change: Change<T::Edit, A>)
+    requires fits { Fits T.finds T.allows T.put_back change.list value.old }
+    ensures value { value.new ≡ back T.put_back change.list value.old }
+{
+    while let Some(edit) = change.pop() {
+        value.undo(edit);
+    }
+    change.destroy_empty();
+}

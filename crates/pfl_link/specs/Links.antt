@@ -1,0 +1,51 @@
+-- The link: frames in flight by ticket (this project's profile).
+use Rattle.std.specs.Prelude.{◌≡◌, ◌≤◌, ◌<◌, ℕ, ◌+◌, Bool, nat_le, List, take, Some}
+use Rattle.std.specs.Ordering.{nat_cmp}
+use Rattle.pfl_base.specs.declared.node_id.NodeId.{NodeId}
+use Rattle.pfl_edits.specs.Maps as maps
+use Rattle.pfl_edits.specs.Maps.{Map}
+
+-- a frame on its way
+pub record InFlight : Type 0 where
+  pub to : NodeId
+  pub bytes : List ℕ
+
+-- what contracts see of the link
+pub record Link : Type 0 where
+  pub limit : ℕ
+  pub next : ℕ
+  pub frames : Map nat_cmp InFlight
+
+-- a link: at most so many frames, with tickets below the next one
+pub record IsLink (l : Link) : Type 0 where
+  pub few : maps.len l.frames ≤ l.limit
+  pub below : (ticket : ℕ) (f : InFlight) → maps.get l.frames ticket ≡ Some f → ticket < l.next
+  pub countable : l.next ≤ 4294967295
+
+-- no frame is in flight
+abbrev pub empty_link : ℕ → ℕ → Link
+empty_link limit next = record { limit = limit; next = next; frames = maps.empty }
+
+-- the link holds its limit of frames
+abbrev pub is_full : Link → Bool
+is_full l = nat_le l.limit (maps.len l.frames)
+
+-- the next ticket is the last number
+abbrev pub is_counted_out : Link → Bool
+is_counted_out l = nat_le 4294967295 l.next
+
+-- the frame under the next ticket
+abbrev pub sent : Link → InFlight → Link
+sent l f = record l { next = l.next + 1; frames = maps.insert l.frames l.next f }
+
+-- the link without the frame
+abbrev pub without_frame : Link → ℕ → Link
+without_frame l ticket = record l { frames = maps.remove l.frames ticket }
+
+-- the frame's first n bytes
+abbrev pub cut_to : InFlight → ℕ → InFlight
+cut_to f n = record f { bytes = take n f.bytes }
+
+-- the link with this frame under the ticket
+abbrev pub with_frame : Link → ℕ → InFlight → Link
+with_frame l ticket f = record l { frames = maps.insert l.frames ticket f }

@@ -1,0 +1,74 @@
+-- A node that has seen nothing is a node.
+use Rattle.std.specs.Prelude.{◌≡◌, ◌≤◌, ℕ, ◌+◌, Bool, false, ◌||◌, nat_lt, Option, Some, None, refl}
+use Rattle.std.specs.List.{IsDistinct}
+use Rattle.std.proofs.Common.{◌∙◌, ap, sym, subst, arith}
+use Rattle.std.proofs.lemmas.Bool.{le-ltb}
+use Rattle.pfl_base.specs.Names.{name_cmp}
+use Rattle.pfl_base.specs.declared.state_name.StateName.{StateName}
+use Rattle.pfl_edits.specs.Maps as maps
+use Rattle.pfl_edits.specs.Maps.{get-empty, len-empty}
+use Rattle.pfl_edits.specs.Rows.{some_is_none}
+use Rattle.pfl_rules.specs.Rules.{Rules, AreRules}
+use Rattle.pfl_track.specs.declared.State.{State}
+use Rattle.pfl_table.specs.Tables.{States, AreStates}
+use Rattle.pfl_queue.specs.declared.Mark.{Mark}
+use Rattle.pfl_queue.specs.Queues.{IsQueue, empty_queue}
+use Rattle.pfl_defer.specs.Deferring.{IsDeferrals, no_deferrals}
+use Rattle.pfl_node.specs.declared.Limits.{Limits}
+use Rattle.pfl_node.specs.Limits.{AreLimits}
+use Rattle.pfl_node.specs.Laws.{NewNodesAreNodes}
+use Rattle.pfl_node.specs.Nodes.{IsNode, new_node, greatest, last_millisecond}
+
+-- an empty map has nothing at a name
+nothing : {X : Type 0} {A : Type 0} (n : StateName) (x : X) → maps.get (maps.empty {R = name_cmp}) n ≡ Some x → A
+nothing n x is = absurd (some_is_none x (sym is ∙ get-empty name_cmp n))
+
+no_states : AreStates maps.empty
+no_states = record {
+  filed = λ n s is. nothing n s is;
+  one_wire = λ n o s t is there. nothing n s is;
+  one_stack = λ n o s t is there. nothing n s is;
+}
+
+none_pending : (limit next : ℕ) → next ≤ greatest → IsQueue (empty_queue limit next)
+unfolding IsDistinct
+none_pending limit next low = record {
+  few = subst (λ (k : ℕ). k + 0 + 0 + 0 ≤ limit) (sym (len-empty name_cmp Mark)) (omega arith);
+  filed = λ n m is. nothing n m is;
+  below = λ n m is. nothing n m is;
+  one_number = λ n o m k is there. nothing n m is;
+  asked_once = tt;
+  countable = low;
+}
+
+none_held : (limit : ℕ) → IsDeferrals (no_deferrals limit)
+unfolding IsDistinct
+none_held limit = record {
+  few = omega arith;
+  once = tt;
+  by_age = λ i j h k le is there. absurd (some_is_none h (sym is));
+}
+
+neither : (a b : Bool) → a ≡ false → b ≡ false → (a || b) ≡ false
+neither a b p q = ap (λ c. c || b) p ∙ q
+
+pub new_node-is : NewNodesAreNodes
+new_node-is l r creator next clock limits rules low on_time = record {
+  limits = limits;
+  rules = rules;
+  states = no_states;
+  few = subst (λ (k : ℕ). k ≤ l.states) (sym (len-empty name_cmp State)) (omega arith);
+  each = λ n s is. nothing n s is;
+  queue = none_pending l.queue next low;
+  queue_limit = refl;
+  marks = λ n m is. nothing n m is;
+  deferrals = none_held l.held;
+  held_limit = refl;
+  held = λ i h is. absurd (some_is_none h (sym is));
+  serving = tt;
+  waiting = tt;
+  clock = on_time;
+  counted =
+      let high : nat_lt greatest next ≡ false = le-ltb greatest next low in
+      neither (nat_lt greatest next) _ high (neither (nat_lt greatest next) false high refl);
+}

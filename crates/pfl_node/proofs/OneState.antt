@@ -1,0 +1,293 @@
+-- No record and no packet gives two states of a node one wire key or one stack key (pf(4)).
+use Rattle.std.specs.Prelude.{◌≡◌, ◌≢◌, ℕ, Bool, true, false, not, ◌&&◌, ◌||◌, ◌⊎◌, List, [], ◌∷◌, Option, Some, None, nat_le, refl}
+use Rattle.std.specs.List.{fold}
+use Rattle.std.specs.Option.{option_map_or}
+use Rattle.std.proofs.Common.{T, cond, ◌∙◌, ap, sym, subst, inl, inr}
+use Rattle.pfl_base.specs.declared.direction.Dir.{Dir}
+use Rattle.pfl_base.specs.declared.packet.Packet.{Packet}
+use Rattle.pfl_base.specs.declared.state_name.StateName.{StateName}
+use Rattle.pfl_base.specs.Keys.{key}
+use Rattle.pfl_base.specs.Names.{names_total, names_exact}
+use Rattle.pfl_base.specs.Packets.{is_tcp}
+use Rattle.pfl_edits.specs.Maps as maps
+use Rattle.pfl_edits.specs.Places.{get-set_at_same, get-set_at_other, key_cases}
+use Rattle.pfl_rules.specs.declared.Rule.{Rule}
+use Rattle.pfl_rules.specs.Rules.{timeout, verdict, rule_at}
+use Rattle.pfl_track.specs.declared.State.{State}
+use Rattle.pfl_track.specs.declared.Tracked.{Tracked}
+use Rattle.pfl_track.specs.declared.Tracked.TheVariants.{Moved, OutOfWindow, Reused}
+use Rattle.pfl_track.specs.Tracking.{tracked}
+use Rattle.pfl_track.proofs.Names.{Stays, tracked-stays}
+use Rattle.pfl_table.specs.Tables.{AreStates, found, key_in_use}
+use Rattle.pfl_table.proofs.Apart.{OwnsKeys, OwnsKeys-unused, OwnsKeys-known, SameKeys, SameKeys-itself, AreStates-with, AreStates-without, found-stands}
+use Rattle.pfl_wire.specs.declared.message.BulkStatus.{BulkStatus}
+use Rattle.pfl_wire.specs.declared.message.BulkStatus.TheVariants.{Start, End as Finish}
+use Rattle.pfl_wire.specs.declared.message.StateRecord.{StateRecord}
+use Rattle.pfl_wire.specs.declared.message.UpdateRecord.{UpdateRecord}
+use Rattle.pfl_wire.specs.declared.message.Message.{Message}
+use Rattle.pfl_wire.specs.declared.message.Message.TheVariants as message
+use Rattle.pfl_queue.specs.declared.Kind.{Kind}
+use Rattle.pfl_queue.specs.declared.Kind.TheVariants.{Insert}
+use Rattle.pfl_queue.specs.Queues.{kind_of, is_requested}
+use Rattle.pfl_merge.specs.declared.Received.{Received}
+use Rattle.pfl_merge.specs.declared.Merged.{Merged}
+use Rattle.pfl_merge.specs.Merging.{merged, stale_src, stale_dst}
+use Rattle.pfl_defer.specs.declared.Held.{Held}
+use Rattle.pfl_defer.specs.Deferring.{pushed_out}
+use Rattle.pfl_bulk.specs.Bulk.{no_name}
+use Rattle.pfl_node.specs.Nodes.{Node}
+use Rattle.pfl_node.specs.Changes.{put_state, without_state, mark, unmark, push_if, counted, is_untold, is_recent, is_insert, is_held, freed, lost, not_waiting, released, changed, deleted, deletion_told, forgotten, ask, tell_status, count_bad, count_stale, count_freed, count_lost, without_held}
+use Rattle.pfl_node.specs.Starting.{Handled, pass, drop, started, judged, by_rule, announced, hold, with_room, with_new, new_state, is_at_max, is_deferred, wire_key}
+use Rattle.pfl_node.specs.Packets.{handled, handled_by, followed, accepted}
+use Rattle.pfl_node.specs.Receiving.{taken, insert_taken, can_import, imported, merge_taken, merged_into, of_state, of_update, bulk_taken, answered, request_taken, ack_taken, delete_taken, is_known, is_not_given, is_delete, cleared_names, status_taken, is_partly_told}
+
+-- the states of the node are named and keyed rightly
+abbrev Apart : Node → Type 0
+Apart n = AreStates n.states
+
+either : (b : Bool) (x y : Node) → Apart x → Apart y → Apart (cond b x y)
+either true x y k l = k
+either false x y k l = l
+
+-- which of the two is known
+either_by : (b : Bool) (x y : Node) → (b ≡ true → Apart x) → (b ≡ false → Apart y) → Apart (cond b x y)
+either_by true x y k l = k refl
+either_by false x y k l = l refl
+
+on_some : {X : Type 0} (o : Option X) (f : X → Node) (d : Node) → ((x : X) → o ≡ Some x → Apart (f x)) → Apart d → Apart (option_map_or f o d)
+on_some None f d k l = l
+on_some (Some x) f d k l = k x refl
+
+over_all : {X : Type 0} (f : Node → X → Node) (xs : List X) (n : Node) → ((m : Node) (x : X) → Apart m → Apart (f m x)) → Apart n → Apart (fold f n xs)
+over_all f [] n k l = l
+over_all f (x ∷ xs) n k l = over_all f xs (f n x) k (k n x l)
+
+-- ---- held packets
+
+-- the states stay
+freed-states : (n : Node) (name : StateName) → (freed n name).states ≡ n.states
+freed-states n name = by (is_held n name)
+  where
+    by : (b : Bool) → (cond b (count_freed (without_held n name)) n).states ≡ n.states
+    by true = refl
+    by false = refl
+
+lost-states : (n : Node) (name : StateName) → (lost n name).states ≡ n.states
+lost-states n name = by (is_held n name)
+  where
+    by : (b : Bool) → (cond b (count_lost (without_held n name)) n).states ≡ n.states
+    by true = refl
+    by false = refl
+
+freed-apart : (n : Node) (name : StateName) → Apart n → Apart (freed n name)
+freed-apart n name k = subst AreStates (sym (freed-states n name)) k
+
+lost-apart : (n : Node) (name : StateName) → Apart n → Apart (lost n name)
+lost-apart n name k = subst AreStates (sym (lost-states n name)) k
+
+-- ---- states put
+
+-- in place of one with the same name and keys
+put-known : (n : Node) (s t : State) → Apart n → maps.get n.states s.name ≡ Some s → SameKeys s t → Apart (put_state n t)
+put-known n s t k at same = AreStates-with n.states t k (OwnsKeys-known n.states s t k at same)
+
+put-unused : (n : Node) (s : State) → Apart n → key_in_use n.states s.wire s.stack ≡ false → Apart (put_state n s)
+put-unused n s k free = AreStates-with n.states s k (OwnsKeys-unused n.states s free)
+
+under_its_name : (n : Node) (name : StateName) (s : State) → Apart n → maps.get n.states name ≡ Some s → maps.get n.states s.name ≡ Some s
+under_its_name n name s k at = subst (λ q. maps.get n.states q ≡ Some s) (sym (k.filed name s at)) at
+
+not_waiting-apart : (n : Node) (name : StateName) → Apart n → Apart (not_waiting n name)
+not_waiting-apart n name k = on_some (maps.get n.states name) _ n
+    (λ s at. put-known n s (record s { ack_wanted = false }) k (under_its_name n name s k at) (record { name = refl; wire = refl; stack = refl })) k
+
+released-apart : (n : Node) (name : StateName) → Apart n → Apart (released n name)
+released-apart n name k = not_waiting-apart (freed n name) name (freed-apart n name k)
+
+-- a name has a state with these keys
+pub record Has (n : Node) (s : State) : Type 0 where
+  pub state : State
+  pub at : maps.get n.states s.name ≡ Some state
+  pub same : SameKeys s state
+
+inner : {X : Type 0} (x y : X) → Some x ≡ Some y → x ≡ y
+inner x y e = cc
+
+not_waiting-has : (n : Node) (name : StateName) (s : State) → Apart n → maps.get n.states s.name ≡ Some s → Has (not_waiting n name) s
+not_waiting-has n name s k at = by (maps.get n.states name) refl
+  where
+    calm : State → State
+    calm t = record t { ack_wanted = false }
+
+    by : (o : Option State) → maps.get n.states name ≡ o → Has (option_map_or (λ t. put_state n (record t { ack_wanted = false })) o n) s
+    by None e = record { state = s; at = at; same = SameKeys-itself s }
+    by (Some t) e = elim (key_cases names_total names_exact s.name t.name) [
+      | inl same ↦ record {
+        state = record t { ack_wanted = false };
+        at = ap (maps.get (maps.insert n.states t.name (record t { ack_wanted = false }))) same ∙ get-set_at_same names_total names_exact n.states t.name (Some (record t { ack_wanted = false }));
+        same =
+            let one : t ≡ s = inner t s (sym (under_its_name n name t k e) ∙ (ap (maps.get n.states) (sym same) ∙ at)) in
+            record { name = ap (λ (u : State). u.name) one; wire = ap (λ (u : State). u.wire) one; stack = ap (λ (u : State). u.stack) one };
+      }
+      | inr other ↦ record {
+        state = s;
+        at = get-set_at_other names_total names_exact n.states t.name (Some (record t { ack_wanted = false })) s.name other ∙ at;
+        same = SameKeys-itself s;
+      }
+    ]
+
+released-has : (n : Node) (name : StateName) (s : State) → Apart n → maps.get n.states s.name ≡ Some s → Has (released n name) s
+released-has n name s k at =
+    not_waiting-has (freed n name) name s (freed-apart n name k) (ap (λ m. maps.get m s.name) (freed-states n name) ∙ at)
+
+-- ---- local changes and deletions
+
+changed-apart : (n : Node) (s t : State) → Apart n → maps.get n.states s.name ≡ Some s → SameKeys s t → Apart (changed n t)
+unfolding changed
+changed-apart n s t k at same =
+    either t.no_sync _ _ (put-known n s t k at same)
+    (either (is_untold (kind_of n.queue t.name)) _ _
+    (put-known n s (record t { updates = 0 }) k at (record { name = same.name; wire = same.wire; stack = same.stack }))
+    (either (is_tcp t.wire.proto) _ _ (put-known n s _ k at (record { name = same.name; wire = same.wire; stack = same.stack })) (put-known n s t k at same)))
+
+deleted-apart : (n : Node) (s : State) → Apart n → Apart (deleted n s)
+unfolding deleted
+deleted-apart n s k =
+    let without = AreStates-without (lost n s.name).states s.name (lost-apart n s.name k) in
+    either (is_insert (kind_of (lost n s.name).queue s.name)) _ _ without (either s.no_sync _ _ without without)
+
+forgotten-apart : (n : Node) (name : StateName) → Apart n → Apart (forgotten n name)
+unfolding forgotten
+forgotten-apart n name k = AreStates-without (lost n name).states name (lost-apart n name k)
+
+-- ---- records
+
+or_false : (a b : Bool) → (a || b) ≡ false → (a ≡ false) × (b ≡ false)
+or_false true b e = absurd (subst T e tt)
+or_false false b e = (refl, e)
+
+not_not : (b : Bool) → not (not b) ≡ false → b ≡ false
+not_not true e = absurd (subst T e tt)
+not_not false e = refl
+
+-- what may be taken over has keys that are not in use
+can_import-unused : (n : Node) (r : StateRecord) → not (can_import n r) ≡ false → key_in_use n.states r.wire r.stack ≡ false
+can_import-unused n r e =
+    let all = not_not _ e in
+    (or_false _ _ (or_false _ _ all).0).1
+
+insert-apart : (n : Node) (b : Bool) (r : StateRecord) (ack : Bool) → Apart n → Apart (insert_taken n b r ack)
+insert-apart n b r ack k = either_by (not (can_import n r)) _ _ (λ e. k) (λ e.
+    let put = put-unused n (imported n b r) k (can_import-unused n r e) in
+    either ack _ _ put put)
+
+same_of : (b : Bool) (held x y : State) → SameKeys held x → SameKeys held y → SameKeys held (cond b x y)
+same_of true held x y f g = f
+same_of false held x y f g = g
+
+-- a merge keeps the held name and keys
+merged-same : (held : State) (r : Received) (seconds now : ℕ) → SameKeys held (merged held r seconds now).state
+merged-same held r seconds now =
+    same_of (not (stale_src held r && stale_dst held r)) held _ _
+    (record { name = refl; wire = refl; stack = refl }) (record { name = refl; wire = refl; stack = refl })
+
+merge-apart : (n : Node) (s : State) (r : Received) → Apart n → maps.get n.states s.name ≡ Some s → Apart (merge_taken n s r)
+merge-apart n s r k at = go (lost n s.name) (merged s r (timeout n.rules.list s.rule r.class) n.clock)
+    (lost-apart n s.name k) (ap (λ m. maps.get m s.name) (lost-states n s.name) ∙ at) (merged-same s r _ _)
+  where
+    go : (m : Node) (x : Merged) → Apart m → maps.get m.states s.name ≡ Some s → SameKeys s x.state → Apart (merged_into m x)
+    go m x k at same =
+        let calm : SameKeys s (record x.state { ack_wanted = false }) = record { name = same.name; wire = same.wire; stack = same.stack } in
+        either (x.stale_src || x.stale_dst) _ _ (changed-apart (count_stale m) s (record x.state { ack_wanted = false }) k at calm) (put-known m s (record x.state { ack_wanted = false }) k at calm)
+
+request-apart : (n : Node) (name : StateName) → Apart n → Apart (request_taken n name)
+request-apart n name k = either _ (bulk_taken n) _ (either _ _ _ k k) (on_some (maps.get n.states name) (answered n) _ (λ s at. either _ _ n k k) k)
+
+status-apart : (n : Node) (status : BulkStatus) → Apart n → Apart (status_taken n status)
+status-apart n Start k = k
+status-apart n Finish k = k
+
+-- no record brings two states under one key
+pub taken-apart : (n : Node) (same_rules : Bool) (m : Message) → AreStates n.states → AreStates (taken n same_rules m).states
+unfolding taken
+taken-apart n b (message.Clear creator bound) k = over_all forgotten (cleared_names n creator bound) n (λ m name l. forgotten-apart m name l) k
+taken-apart n b (message.Insert r) k = insert-apart n b r r.ack_wanted k
+taken-apart n b (message.InsertAck name) k = on_some (maps.get n.states name) (ack_taken n) n (λ s at. either s.ack_wanted _ n (released-apart n s.name k) k) k
+taken-apart n b (message.Update r) k = on_some (maps.get n.states r.name) _ _ (λ s at. merge-apart n s _ k (under_its_name n r.name s k at)) (insert-apart n b r false k)
+taken-apart n b (message.UpdateShort u) k = on_some (maps.get n.states u.name) _ _ (λ s at. merge-apart n s _ k (under_its_name n u.name s k at)) k
+taken-apart n b (message.UpdateRequest name) k = request-apart n name k
+taken-apart n b (message.Delete r) k = either (is_known n r.name) _ _ (forgotten-apart n r.name k) k
+taken-apart n b (message.DeleteShort name) k = either (is_known n name) _ _ (forgotten-apart n name k) k
+taken-apart n b (message.Bulk creator status) k = status-apart n status k
+
+-- ---- packets
+
+one_of : (b : Bool) (x y : Handled) → Apart x.node → Apart y.node → Apart (cond b x y).node
+one_of true x y k l = k
+one_of false x y k l = l
+
+one_by : (b : Bool) (x y : Handled) → (b ≡ true → Apart x.node) → (b ≡ false → Apart y.node) → Apart (cond b x y).node
+one_by true x y k l = k refl
+one_by false x y k l = l refl
+
+of_some : {X : Type 0} (o : Option X) (f : X → Handled) (d : Handled) → ((x : X) → o ≡ Some x → Apart (f x).node) → Apart d.node → Apart (option_map_or f o d).node
+of_some None f d k l = l
+of_some (Some x) f d k l = k x refl
+
+room-has : (n : Node) (s : State) → Apart n → maps.get n.states s.name ≡ Some s → Has (with_room n) s
+room-has n s k at = by (pushed_out n.held)
+  where
+    by : (o : Option Held) → Has (option_map_or (λ h. released n h.name) o n) s
+    by None = record { state = s; at = at; same = SameKeys-itself s }
+    by (Some h) = released-has n h.name s k at
+
+room-apart : (n : Node) → Apart n → Apart (with_room n)
+room-apart n k = on_some (pushed_out n.held) _ n (λ h at. released-apart n h.name k) k
+
+hold-apart : (n : Node) (s : State) (p : Packet) → Apart n → Has n s → Apart (hold n s p).node
+hold-apart n s p k has =
+    let there : maps.get n.states has.state.name ≡ Some has.state = ap (maps.get n.states) has.same.name ∙ has.at in
+    put-known n has.state (record s { ack_wanted = true }) k there
+    (record { name = sym has.same.name; wire = sym has.same.wire; stack = sym has.same.stack })
+
+announced-apart : (n : Node) (s : State) (dir : Dir) (p : Packet) → Apart n → maps.get n.states s.name ≡ Some s → Apart (announced n s dir p).node
+announced-apart n s dir p k at =
+    one_of s.no_sync _ _ k
+    (one_of (is_deferred n dir) _ _ (hold-apart (with_room (mark n s.name Insert)) s p (room-apart (mark n s.name Insert) k) (room-has (mark n s.name Insert) s k at)) k)
+
+started-apart : (n : Node) (dir : Dir) (p : Packet) (number : ℕ) (r : Rule) → Apart n → Apart (started n dir p number r).node
+unfolding started
+started-apart n dir p number r k =
+    one_of (is_at_max n number r) _ _ k
+    (one_of (nat_le n.limits.states (maps.len n.states)) _ _ k
+    (one_by (key_in_use n.states (wire_key (key p dir) r.nat) (key p dir)) _ _ (λ e. k) (λ e.
+    announced-apart (with_new n (new_state n dir p number r)) (new_state n dir p number r) dir p
+    (put-unused n (new_state n dir p number r) k e)
+    (get-set_at_same names_total names_exact n.states (new_state n dir p number r).name (Some (new_state n dir p number r))))))
+
+judged-apart : (n : Node) (dir : Dir) (p : Packet) → Apart n → Apart (judged n dir p).node
+unfolding judged
+judged-apart n dir p k = one_of (verdict n.rules.list p dir).pass _ _ (by_number (verdict n.rules.list p dir).rule) k
+  where
+    by_number : (rule : Option ℕ) → Apart (by_rule n dir p rule).node
+    by_number None = k
+    by_number (Some number) = of_some (rule_at n.rules.list (Some number)) (started n dir p number) _ (λ r e. started-apart n dir p number r k) k
+
+accepted-apart : (n : Node) (s t : State) → Apart n → maps.get n.states s.name ≡ Some s → SameKeys s t → Apart (accepted n t).node
+accepted-apart n s t k at same =
+    changed-apart (freed n t.name) s (record t { ack_wanted = false }) (freed-apart n t.name k) (ap (λ m. maps.get m s.name) (freed-states n t.name) ∙ at)
+    (record { name = same.name; wire = same.wire; stack = same.stack })
+
+followed-apart : (n : Node) (dir : Dir) (p : Packet) (s : State) (x : Tracked) → Apart n → maps.get n.states s.name ≡ Some s → Stays s x → Apart (followed n dir p s x).node
+followed-apart n dir p s (Moved t) k at stays = accepted-apart n s t k at (record { name = stays.name; wire = stays.wire; stack = stays.stack })
+followed-apart n dir p s OutOfWindow k at stays = k
+followed-apart n dir p s Reused k at stays = judged-apart (deleted n s) dir p (deleted-apart n s k)
+
+-- no packet brings two states under one key
+pub handled-apart : (n : Node) (dir : Dir) (p : Packet) → AreStates n.states → AreStates (handled n dir p).node.states
+unfolding handled
+handled-apart n dir p k = by (found n.states (key p dir) dir) refl
+  where
+    by : (o : Option State) → found n.states (key p dir) dir ≡ o → Apart (handled_by n dir p o).node
+    by None e = judged-apart n dir p k
+    by (Some s) e = followed-apart n dir p s (tracked s p dir n.clock) k (found-stands n.states (key p dir) dir s k e) (tracked-stays s p dir n.clock)

@@ -1,0 +1,9 @@
+pub mod Limits
+pub mod Nodes
+pub mod Changes
+pub mod Starting
+pub mod Packets
+pub mod Receiving
+pub mod Flushing
+pub mod Events
+pub mod Laws

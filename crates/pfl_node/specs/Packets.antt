@@ -1,0 +1,47 @@
+-- What a packet does at a node (pf(4)).
+use Rattle.std.specs.Prelude.{false, List, [], ◌∷◌, Option, Some, None}
+use Rattle.pfl_base.specs.declared.direction.Dir.{Dir}
+use Rattle.pfl_base.specs.declared.packet.Packet.{Packet}
+use Rattle.pfl_base.specs.Keys.{key}
+use Rattle.pfl_track.specs.declared.State.{State}
+use Rattle.pfl_track.specs.declared.Tracked.{Tracked}
+use Rattle.pfl_track.specs.declared.Tracked.TheVariants.{Moved, OutOfWindow, Reused}
+use Rattle.pfl_track.specs.Tracking.{tracked}
+use Rattle.pfl_table.specs.Tables.{found}
+use Rattle.pfl_node.specs.declared.Reason.TheVariants as reason
+use Rattle.pfl_node.specs.Nodes.{Node}
+use Rattle.pfl_node.specs.Changes.{freed, changed, deleted}
+use Rattle.pfl_node.specs.Starting.{Handled, pass, drop, judged}
+
+-- a packet that was accepted on the state: it lets a held one go, and changes the state
+abbrev pub accepted : Node → State → Handled
+accepted n s = pass (changed (freed n s.name) (record s { ack_wanted = false })) (Some s.name)
+
+-- a packet of the state s, as tracking has it; a new connection over a closed one is a packet that no state takes
+abbrev pub followed : Node → Dir → Packet → State → Tracked → Handled
+followed n dir p s (Moved t) = accepted n t
+followed n dir p s OutOfWindow = drop n reason.Window
+followed n dir p s Reused = judged (deleted n s) dir p
+
+-- a packet, by the state that was found
+abbrev pub handled_by : Node → Dir → Packet → Option State → Handled
+handled_by n dir p None = judged n dir p
+handled_by n dir p (Some s) = followed n dir p s (tracked s p dir n.clock)
+
+-- the packet at the node; a packet of a state is not tested against rules (pf.conf(5))
+unfoldable pub handled : Node → Dir → Packet → Handled
+handled n dir p = handled_by n dir p (found n.states (key p dir) dir)
+
+-- the node after the closed connection is deleted, where it is
+abbrev pub on_the_way : Node → State → Tracked → List Node
+on_the_way n s Reused = deleted n s ∷ []
+on_the_way n s _ = []
+
+-- the point that a packet goes through before its rules are asked
+abbrev pub before_rules : Node → Dir → Packet → Option State → List Node
+before_rules n dir p None = []
+before_rules n dir p (Some s) = on_the_way n s (tracked s p dir n.clock)
+
+-- the points that the packet goes through
+unfoldable pub packet_points : Node → Dir → Packet → List Node
+packet_points n dir p = (handled n dir p).node ∷ before_rules n dir p (found n.states (key p dir) dir)

@@ -1,0 +1,6 @@
+pub mod Revisions
+pub mod Seats
+pub mod Views
+pub mod Rule
+pub mod Steps
+pub mod SeatInvariants

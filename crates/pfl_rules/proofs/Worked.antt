@@ -1,0 +1,63 @@
+-- Worked examples, computed.
+use Rattle.std.specs.Prelude.{◌≡◌, false, Some, None, [], ◌∷◌, replicate, refl, codes}
+use Rattle.pfl_rules.specs.declared.Rule.{Rule}
+use Rattle.pfl_rules.specs.declared.Action.TheVariants.{Pass}
+use Rattle.pfl_base.specs.declared.addr.Addr.TheVariants.{V4}
+use Rattle.pfl_rules.specs.declared.RuleDir.TheVariants.{Out, Any}
+use Rattle.pfl_rules.specs.declared.RuleFault.TheVariants.{TooMany, NatNotOut, ZeroMax}
+use Rattle.pfl_rules.specs.Rules.{rule_fault}
+use Rattle.pfl_rules.specs.Texts.{canonical_text}
+use Rattle.md5.specs.Md5.{md5, digest_bytes, hash_after, compress, rounds, block_words}
+
+pass_out : Rule
+pass_out = record {
+  action = Pass;
+  direction = Out;
+  quick = false;
+  proto = None;
+  from = None;
+  from_port = None;
+  to = None;
+  to_port = None;
+  any_flags = false;
+  no_sync = false;
+  max = None;
+  nat = None;
+  timeouts = replicate 14 None;
+}
+
+text : canonical_text (pass_out ∷ []) ≡ codes "pass out\n"
+unfolding canonical_text pass_out
+text = refl
+
+no_rules : md5 [] ≡ 0xd4 ∷ 0x1d ∷ 0x8c ∷ 0xd9 ∷ 0x8f ∷ 0x00 ∷ 0xb2 ∷ 0x04 ∷ 0xe9 ∷ 0x80 ∷ 0x09 ∷ 0x98 ∷ 0xec ∷ 0xf8 ∷ 0x42 ∷ 0x7e ∷ []
+unfolding md5 digest_bytes hash_after compress rounds block_words
+no_rules = refl
+
+-- ---- faults: the first that holds of the whole set
+
+abbrev any_nat : Rule
+any_nat = record pass_out { direction = Any; nat = Some (record { addr = V4 0xc6336401; port = 4000 }) }
+
+abbrev no_states : Rule
+no_states = record pass_out { max = Some 0 }
+
+fine : rule_fault (pass_out ∷ []) ≡ None
+unfolding pass_out
+fine = refl
+
+nat_on_any : rule_fault (any_nat ∷ []) ≡ Some NatNotOut
+unfolding pass_out
+nat_on_any = refl
+
+zero_max : rule_fault (no_states ∷ []) ≡ Some ZeroMax
+unfolding pass_out
+zero_max = refl
+
+lower_first : rule_fault (no_states ∷ any_nat ∷ []) ≡ Some NatNotOut
+unfolding pass_out
+lower_first = refl
+
+too_many : rule_fault (replicate 257 no_states) ≡ Some TooMany
+unfolding pass_out
+too_many = refl

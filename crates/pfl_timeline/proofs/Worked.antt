@@ -1,0 +1,94 @@
+-- Worked cases of timelines, computed.
+use Rattle.std.specs.Prelude.{◌≡◌, ℕ, List, [], ◌∷◌, Some, refl, codes}
+use Rattle.pfl_base.specs.declared.direction.Dir.TheVariants.{Outbound}
+use Rattle.pfl_base.specs.declared.node_id.NodeId.TheVariants.{A}
+use Rattle.pfl_base.specs.declared.packet.Packet.{Packet}
+use Rattle.pfl_base.specs.declared.refusal.Refusal.TheVariants as refusal
+use Rattle.pfl_world.specs.declared.Event.{Event}
+use Rattle.pfl_world.specs.declared.Event.TheVariants as event
+use Rattle.pfl_world.specs.Outcomes as outcome
+use Rattle.pfl_world.proofs.Lab.{limits, opening, u1, u2, u3, name, computing as of_worlds}
+use Rattle.pfl_timeline.specs.declared.Refused.TheVariants as refused
+use Rattle.pfl_timeline.specs.Timelines.{Timeline, new_timeline, main_name}
+use Rattle.pfl_timeline.specs.Timelines as timelines
+use Rattle.pfl_timeline.specs.Commands as commands
+use Rattle.pfl_timeline.specs.Commands.{step_command, back_command, forward_command, fork_command, drop_command, show_command, names_command}
+use Rattle.pfl_timeline.specs.Replies as reply
+use Rattle.pfl_timeline.specs.Replies.{Reply, Replied}
+use Rattle.pfl_timeline.specs.Summaries.{summary}
+
+-- ---- commands, each by its own definition
+
+data Asked : Type 0 where
+  step : Event → Asked
+  back : ℕ → Asked
+  forward : ℕ → Asked
+  fork : List ℕ → ℕ → List ℕ → Asked
+  drop : List ℕ → Asked
+  show : List ℕ → Asked
+  names : Asked
+
+-- what it gives; steps and moves are on `main`
+unfoldable gives : Timeline → Asked → Replied
+gives t (step e) = step_command t main_name e
+gives t (back n) = back_command t main_name n
+gives t (forward n) = forward_command t main_name n
+gives t (fork of k new) = fork_command t of k new
+gives t (drop of) = drop_command t of
+gives t (show of) = show_command t of
+gives t names = names_command t
+
+abbrev packet : Packet → Asked
+packet p = step (event.Packet A Outbound p)
+
+abbrev tick : ℕ → Asked
+tick ms = step (event.Tick A ms)
+
+-- the replies to the commands, each on the timeline that those before it left
+unfoldable replies : Timeline → List Asked → List Reply
+replies t [] = []
+replies t (c ∷ cs) = let r = gives t c in r.reply ∷ replies r.timeline cs
+
+-- the timeline that the commands leave
+unfoldable final : Timeline → List Asked → Timeline
+final t [] = t
+final t (c ∷ cs) = final (gives t c).timeline cs
+
+unfoldable computing : ℕ
+unfolding of_worlds replies final gives timelines.world_of commands.step_command commands.back_command commands.forward_command commands.fork_command commands.drop_command commands.show_command commands.names_command summary
+computing = 0
+
+abbrev t : Timeline
+t = new_timeline (opening limits)
+
+abbrev passed : ℕ → ℕ → ℕ → Reply
+passed creator id dropped = reply.Stepped (outcome.Pass (Some (name creator id))) dropped
+
+there_and_back : replies (t) (packet u1 ∷ back 1 ∷ show main_name ∷ []) ≡ passed 1 1 0 ∷ reply.At 0 ∷ reply.Shown main_name 1 0 (opening limits) ∷ []
+unfolding computing
+there_and_back = refl
+
+cut_and_fork : replies (t) (packet u1 ∷ packet u2 ∷ packet u3 ∷ back 3 ∷ tick 5 ∷ forward 1 ∷ back 2 ∷ fork main_name 0 (codes "t") ∷ show (codes "t") ∷ names ∷ drop (codes "t") ∷ drop main_name ∷ []) ≡ passed 1 1 0 ∷ passed 1 2 0 ∷ passed 1 3 0 ∷ reply.At 0 ∷ reply.Stepped (outcome.Clock 5) 3 ∷ reply.Refused refused.NothingForward ∷ reply.Refused refused.TooFarBack ∷ reply.Forked ∷ reply.Shown (codes "t") 0 0 (opening limits) ∷ reply.Names (main_name ∷ codes "t" ∷ []) ∷ reply.Removed ∷ reply.Refused refused.LastBranch ∷ []
+unfolding computing
+cut_and_fork = refl
+
+fork_refused : replies (t) (fork main_name 1 main_name ∷ fork main_name 1 (codes "T") ∷ fork main_name 1 (codes "t") ∷ fork (codes "x") 0 (codes "t") ∷ []) ≡ reply.Refused refused.NameTaken ∷ reply.Refused refused.BadName ∷ reply.Refused refused.NothingForward ∷ reply.Refused refused.NoBranch ∷ []
+unfolding computing
+fork_refused = refl
+
+branches_full : replies (t) (fork main_name 0 (codes "b1") ∷ fork main_name 0 (codes "b2") ∷ fork main_name 0 (codes "b3") ∷ fork main_name 0 (codes "b4") ∷ fork main_name 0 (codes "b5") ∷ fork main_name 0 (codes "b6") ∷ fork main_name 0 (codes "b7") ∷ fork main_name 0 (codes "b8") ∷ fork main_name 0 (codes "b9") ∷ fork main_name 0 (codes "b10") ∷ fork main_name 0 (codes "b11") ∷ fork main_name 0 (codes "b12") ∷ fork main_name 0 (codes "b13") ∷ fork main_name 0 (codes "b14") ∷ fork main_name 0 (codes "b15") ∷ fork main_name 0 (codes "b16") ∷ []) ≡ reply.Forked ∷ reply.Forked ∷ reply.Forked ∷ reply.Forked ∷ reply.Forked ∷ reply.Forked ∷ reply.Forked ∷ reply.Forked ∷ reply.Forked ∷ reply.Forked ∷ reply.Forked ∷ reply.Forked ∷ reply.Forked ∷ reply.Forked ∷ reply.Forked ∷ reply.Refused refused.BranchesFull ∷ []
+unfolding computing
+branches_full = refl
+
+counted_once : summary (final t (packet u1 ∷ [])) 1 ≡ 1 ∷ 1 ∷ 1 ∷ 1 ∷ 1 ∷ 0 ∷ 0 ∷ 1 ∷ []
+unfolding computing
+counted_once = refl
+
+counted : summary (final t (packet u1 ∷ back 1 ∷ packet u1 ∷ [])) 3 ≡ 3 ∷ 1 ∷ 1 ∷ 1 ∷ 1 ∷ 0 ∷ 0 ∷ 1 ∷ []
+unfolding computing
+counted = refl
+
+-- a refused event cuts nothing
+refused_step : replies (t) (packet u1 ∷ back 1 ∷ tick 1000000000001 ∷ forward 1 ∷ []) ≡ passed 1 1 0 ∷ reply.At 0 ∷ reply.Refused (refused.Event refusal.ClockFull) ∷ reply.At 1 ∷ []
+unfolding computing
+refused_step = refl

@@ -1,0 +1,125 @@
+-- The commands over a timeline: the timeline after each, and the reply. A refused command changes nothing (this project's profile).
+use Rattle.std.specs.Prelude.{ℕ, ◌+◌, ◌-◌, Bool, not, nat_lt, nat_le, List, [], ◌∷◌, ◌++◌, length, map, filter, take, Option, Some, None, is_some, Result, Ok, Err, if◌then◌else◌}
+use Rattle.std.specs.List.{fold}
+use Rattle.std.specs.Option.{option_map_or}
+use Rattle.pfl_base.specs.declared.refusal.Refusal.{Refusal}
+use Rattle.pfl_world.specs.declared.Event.{Event}
+use Rattle.pfl_node.specs.Nodes.{refused_by}
+use Rattle.pfl_world.specs.Outcomes.{Stepped}
+use Rattle.pfl_world.specs.Events.{step}
+use Rattle.pfl_timeline.specs.declared.Command.{Command}
+use Rattle.pfl_timeline.specs.declared.Command.TheVariants as command
+use Rattle.pfl_timeline.specs.declared.Refused.{Refused}
+use Rattle.pfl_timeline.specs.declared.Refused.TheVariants as refused
+use Rattle.pfl_timeline.specs.Replies.{Reply, Stepped as StepReply, At, Forked, Removed, Shown, Names, Refused as Refusing, Replied}
+use Rattle.pfl_timeline.specs.Timelines.{Branch, Timeline, branch_of, same_name, is_branch_name, standing, world_of}
+
+-- the timeline with a reply
+abbrev pub replied : Timeline → Reply → Replied
+replied t reply = record { timeline = t; reply = reply }
+
+-- the refusal, or else what was done
+abbrev pub answered : Timeline → Option Refused → Replied → Replied
+answered t None done = done
+answered t (Some r) done = replied t (Refusing r)
+
+-- what the command gives, unless a test refuses it
+abbrev pub unless : Timeline → List (Bool × Refused) → Replied → Replied
+unless t tests done = answered t (refused_by tests) done
+
+-- what is done with the branch of the name
+abbrev pub with_branch : Timeline → List ℕ → (Branch → Replied) → Replied
+with_branch t name done = option_map_or done (branch_of t name) (replied t (Refusing refused.NoBranch))
+
+-- the branch in place of the one of its name
+abbrev pub with_changed : Timeline → Branch → Timeline
+with_changed t b = record t { branches = map (λ c. if same_name c.name b.name then b else c) t.branches }
+
+-- the event after those that stand, in place of what was undone
+abbrev pub extended : Branch → Event → Branch
+extended b e = record b { events = standing b ++ e ∷ []; cursor = b.cursor + 1 }
+
+-- how many events stand no more
+abbrev pub undone : Branch → ℕ
+undone b = length b.events - b.cursor
+
+-- an accepted event extends the branch; a refused one changes nothing
+abbrev pub step_answered : Timeline → Branch → Event → Result Stepped Refusal → Replied
+step_answered t b e (Ok s) = replied (with_changed t (extended b e)) (StepReply s.outcome (undone b))
+step_answered t b e (Err r) = replied t (Refusing (refused.Event r))
+
+-- an event on the branch; the branch has a world, since all its events were accepted
+abbrev pub step_reply : Timeline → Event → Branch → Replied
+step_reply t e b = option_map_or (λ w. step_answered t b e (step w e)) (world_of t b) (replied t (Refusing refused.NoBranch))
+
+-- the cursor moved; the events stay
+abbrev pub at_cursor : Timeline → Branch → ℕ → Replied
+at_cursor t b cursor = replied (with_changed t (record b { cursor = cursor })) (At cursor)
+
+-- n events undone
+abbrev pub back_reply : Timeline → ℕ → Branch → Replied
+back_reply t n b = unless t ((nat_lt b.cursor n, refused.TooFarBack) ∷ []) (at_cursor t b (b.cursor - n))
+
+-- n events done again
+abbrev pub forward_reply : Timeline → ℕ → Branch → Replied
+forward_reply t n b = unless t ((nat_lt (undone b) n, refused.NothingForward) ∷ []) (at_cursor t b (b.cursor + n))
+
+-- the first k events under a new name, behind all branches
+abbrev pub fork_reply : Timeline → ℕ → List ℕ → Branch → Replied
+fork_reply t k name b =
+    unless t (
+    (is_some (branch_of t name), refused.NameTaken) ∷ (not (is_branch_name name), refused.BadName)
+    ∷ (nat_lt (length b.events) k, refused.NothingForward) ∷ (nat_le 16 (length t.branches), refused.BranchesFull) ∷ [])
+    (replied (record t { branches = t.branches ++ record { name = name; events = take k b.events; cursor = k } ∷ [] }) Forked)
+
+-- the branch removed
+abbrev pub drop_reply : Timeline → Branch → Replied
+drop_reply t b =
+    unless t ((nat_le (length t.branches) 1, refused.LastBranch) ∷ [])
+    (replied (record t { branches = filter (λ c. not (same_name c.name b.name)) t.branches }) Removed)
+
+-- the branch with its world
+abbrev pub show_reply : Timeline → Branch → Replied
+show_reply t b = option_map_or (λ w. replied t (Shown b.name (length b.events) b.cursor w)) (world_of t b) (replied t (Refusing refused.NoBranch))
+
+-- ---- each command, by the branch that it names
+
+-- an event behind those that stand
+unfoldable pub step_command : Timeline → List ℕ → Event → Replied
+step_command t name e = with_branch t name (step_reply t e)
+
+-- the last n events undone
+unfoldable pub back_command : Timeline → List ℕ → ℕ → Replied
+back_command t name n = with_branch t name (back_reply t n)
+
+-- the next n events done again
+unfoldable pub forward_command : Timeline → List ℕ → ℕ → Replied
+forward_command t name n = with_branch t name (forward_reply t n)
+
+-- a new branch of the first k events
+unfoldable pub fork_command : Timeline → List ℕ → ℕ → List ℕ → Replied
+fork_command t name k new = with_branch t name (fork_reply t k new)
+
+-- a branch less
+unfoldable pub drop_command : Timeline → List ℕ → Replied
+drop_command t name = with_branch t name (drop_reply t)
+
+-- the world of a branch
+unfoldable pub show_command : Timeline → List ℕ → Replied
+show_command t name = with_branch t name (show_reply t)
+
+-- the branches by name
+unfoldable pub names_command : Timeline → Replied
+names_command t = replied t (Names (map (λ b. b.name) t.branches))
+
+-- ---- over the commands that the code has
+
+-- a command over the timeline
+unfoldable pub command_step : Timeline → Command → Replied
+command_step t (command.Step name e) = step_command t name e
+command_step t (command.Back name n) = back_command t name n
+command_step t (command.Show name) = show_command t name
+
+-- the timeline after commands
+unfoldable pub replayed : Timeline → List Command → Timeline
+replayed t cs = fold (λ at c. (command_step at c).timeline) t cs

@@ -1,0 +1,70 @@
+-- A timeline: an opening world, and branches of events over it (this project's profile).
+use Rattle.std.specs.Prelude.{◌≤◌, ℕ, Bool, false, ◌&&◌, ◌||◌, ◌==◌, nat_le, List, [], ◌∷◌, length, map, find, take, Option, is_some, IsTrue}
+use Rattle.std.specs.List.{list_all, IsDistinct}
+use Rattle.std.specs.List.{AllByRecursion}
+use Rattle.std.specs.Cmp.Lexicographic.{pointwise}
+use Rattle.pfl_world.specs.declared.Event.{Event}
+use Rattle.pfl_world.specs.Worlds.{World, IsWorld}
+use Rattle.pfl_world.specs.Runs.{run}
+
+-- a branch: events, and how many of them stand
+pub record Branch : Type 0 where
+  pub name : List ℕ
+  pub events : List Event
+  pub cursor : ℕ
+
+-- branches in the order of their making
+pub record Timeline : Type 0 where
+  pub opening : World
+  pub branches : List Branch
+
+-- a letter a to z
+abbrev pub is_letter : ℕ → Bool
+is_letter c = nat_le 97 c && nat_le c 122
+
+-- a letter, a digit or a dash
+abbrev pub is_name_byte : ℕ → Bool
+is_name_byte c = is_letter c || (nat_le 48 c && nat_le c 57) || (c == 45)
+
+-- a letter, and at most 15 letters, digits and dashes
+abbrev pub is_branch_name : List ℕ → Bool
+is_branch_name [] = false
+is_branch_name (c ∷ cs) = is_letter c && list_all is_name_byte cs && nat_le (length cs) 15
+
+-- both are one name
+abbrev pub same_name : List ℕ → List ℕ → Bool
+same_name = pointwise ◌==◌
+
+-- the branch of the name
+abbrev pub branch_of : Timeline → List ℕ → Option Branch
+branch_of t name = find (λ b. same_name b.name name) t.branches
+
+-- the events that stand
+abbrev pub standing : Branch → List Event
+standing b = take b.cursor b.events
+
+-- the world that a branch shows
+unfoldable pub world_of : Timeline → Branch → Option World
+world_of t b = run t.opening (standing b)
+
+-- a branch of the timeline
+pub record IsBranch (opening : World) (b : Branch) : Type 0 where
+  pub name : IsTrue (is_branch_name b.name)
+  pub within : b.cursor ≤ length b.events
+  pub runs : IsTrue (is_some (run opening b.events))
+
+-- a timeline: 1 to 16 branches under names of their own
+pub record IsTimeline (t : Timeline) : Type 0 where
+  pub opening : IsWorld t.opening
+  pub some : 1 ≤ length t.branches
+  pub few : length t.branches ≤ 16
+  pub names : IsDistinct same_name (map (λ b. b.name) t.branches)
+  pub branches : AllByRecursion (IsBranch t.opening) t.branches
+
+-- m, a, i, n
+abbrev pub main_name : List ℕ
+main_name = 109 ∷ 97 ∷ 105 ∷ 110 ∷ []
+
+-- the one branch `main`, empty
+abbrev pub new_timeline : World → Timeline
+new_timeline opening = record { opening = opening; branches = record { name = main_name; events = []; cursor = 0 } ∷ [] }

@@ -1,0 +1,21 @@
+-- What a state is: levels and scales in their ranges, and all four ends of one family and one protocol (pf(4); the ranges are
+-- this project's profile).
+use Rattle.std.specs.Prelude.{◌≡◌, ◌≤◌, true, IfSome}
+use Rattle.pfl_base.specs.Ends.{same_family, IsProto}
+use Rattle.pfl_track.specs.declared.Peer.{Peer}
+use Rattle.pfl_track.specs.declared.State.{State}
+
+-- an end
+pub record IsPeer (e : Peer) : Type 0 where
+  pub level : e.level ≤ 10
+  pub scale : IfSome e.scale (λ s. s ≤ 14)
+
+-- a state
+pub record IsState (s : State) : Type 0 where
+  pub src : IsPeer s.src
+  pub dst : IsPeer s.dst
+  pub proto : IsProto s.wire.proto
+  pub one_proto : s.stack.proto ≡ s.wire.proto
+  pub wire_family : same_family s.wire.far.addr s.wire.near.addr ≡ true
+  pub stack_family : same_family s.stack.far.addr s.stack.near.addr ≡ true
+  pub one_family : same_family s.wire.far.addr s.stack.far.addr ≡ true

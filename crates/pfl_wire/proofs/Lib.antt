@@ -1,0 +1,7 @@
+mod Worked
+pub mod Fields
+pub mod Values
+pub mod Records
+pub mod Groups
+pub mod Loop
+pub mod Laws

@@ -1,0 +1,8 @@
+use Rattle.std.proofs.Common.{◌-◌}
+use Rattle.pfl_wire.specs.Reading.{records_at}
+use Rattle.pfl_wire.specs.Answers.{kept_items}
+use Rattle.pfl_wire.proofs.Loop.{Goes}
+use Rattle.pfl_wire.proofs.read_frame.read_records.Given as goal
+
+abbrev pub invariant-loop : goal.invariant-loop
+invariant-loop g l = Goes (kept_items l.kept) (records_at l.action (l.count - l.counter) l.rest) (records_at l.action l.count l.bytes)

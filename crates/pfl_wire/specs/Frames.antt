@@ -1,0 +1,122 @@
+-- Frames, and which of them have a spelling (this project's profile; the messages are those of pfsync(4)).
+use Rattle.std.specs.Prelude.{◌≡◌, ◌<◌, ℕ, map, Vec, ◌-◌, ◌+◌, ◌^◌, true, List, [], ◌∷◌, length, IfSome}
+use Rattle.std.specs.List.{AllByRecursion, sum_by}
+use Rattle.pfl_base.specs.declared.addr.Addr.{Addr}
+use Rattle.pfl_base.specs.declared.addr.Addr.TheVariants.{V4, V6}
+use Rattle.pfl_base.specs.declared.addr.End.{End}
+use Rattle.pfl_base.specs.declared.flow.Key.{Key}
+use Rattle.pfl_base.specs.declared.state_name.StateName.{StateName}
+use Rattle.pfl_base.specs.Ends.{IsProto, proto_number, same_family}
+use Rattle.pfl_track.specs.declared.Peer.{Peer}
+use Rattle.pfl_track.specs.States.{IsPeer}
+use Rattle.pfl_wire.specs.declared.action.Action.{Action}
+use Rattle.pfl_wire.specs.declared.action.Action.TheVariants as action
+use Rattle.pfl_wire.specs.declared.message.StateRecord.{StateRecord}
+use Rattle.pfl_wire.specs.declared.message.UpdateRecord.{UpdateRecord}
+use Rattle.pfl_wire.specs.declared.message.Message.{Message}
+use Rattle.pfl_wire.specs.declared.message.Message.TheVariants.{Clear, Insert, InsertAck, Update, UpdateShort, UpdateRequest, Delete, DeleteShort, Bulk}
+use Rattle.pfl_wire.specs.Actions.{record_len}
+
+-- a frame: the checksum of the sender's rules, and groups of records
+pub record Frame : Type 0 where
+  pub print : List ℕ
+  pub groups : List (List Message)
+
+-- the records in vectors, without where they lie
+abbrev pub lists : {A : Type 0} → List (Vec Message A) → List (List Message)
+lists {A = A} groups = map (λ (g : Vec Message A). g.items) groups
+
+-- what a record is for (pfsync(4))
+abbrev pub action_of : Message → Action
+action_of (Clear creator bound) = action.Clear
+action_of (Insert s) = action.Insert
+action_of (InsertAck name) = action.InsertAck
+action_of (Update s) = action.Update
+action_of (UpdateShort u) = action.UpdateShort
+action_of (UpdateRequest name) = action.UpdateRequest
+action_of (Delete s) = action.Delete
+action_of (DeleteShort name) = action.DeleteShort
+action_of (Bulk creator status) = action.Bulk
+
+-- ---- what has a spelling: each number within its field, and what is spelled once equal
+
+-- a name
+pub record FitsName (n : StateName) : Type 0 where
+  pub creator : n.creator < 2 ^ 32
+  pub id : n.id < 2 ^ 64
+
+-- an address
+abbrev pub FitsAddr : Addr → Type 0
+FitsAddr (V4 a) = a < 2 ^ 32
+FitsAddr (V6 a) = a < 2 ^ 128
+
+-- an address with a port
+pub record FitsEnd (e : End) : Type 0 where
+  pub addr : FitsAddr e.addr
+  pub port : e.port < 2 ^ 16
+
+-- the two ends of a flow, which are of one family
+pub record FitsKey (k : Key) : Type 0 where
+  pub far : FitsEnd k.far
+  pub near : FitsEnd k.near
+  pub family : same_family k.far.addr k.near.addr ≡ true
+
+-- an end of a connection
+pub record FitsPeer (e : Peer) : Type 0 where
+  pub is : IsPeer e
+  pub window : e.window < 2 ^ 16
+  pub lo : e.lo < 2 ^ 32
+  pub hi : e.hi < 2 ^ 32
+
+-- a whole state; its keys are of one protocol and one family, each of which is written once
+pub record FitsState (s : StateRecord) : Type 0 where
+  pub name : FitsName s.name
+  pub proto : IsProto s.wire.proto
+  pub number : proto_number s.wire.proto < 2 ^ 8
+  pub one_proto : s.stack.proto ≡ s.wire.proto
+  pub wire : FitsKey s.wire
+  pub stack : FitsKey s.stack
+  pub one_family : same_family s.wire.far.addr s.stack.far.addr ≡ true
+  pub src : FitsPeer s.src
+  pub dst : FitsPeer s.dst
+  pub remaining : s.remaining < 2 ^ 32
+  pub rule : IfSome s.rule (λ n. n < 2 ^ 32 - 1)
+
+-- what changes of a state
+pub record FitsUpdate (u : UpdateRecord) : Type 0 where
+  pub name : FitsName u.name
+  pub src : FitsPeer u.src
+  pub dst : FitsPeer u.dst
+  pub remaining : u.remaining < 2 ^ 32
+
+-- a record
+abbrev pub Fits : Message → Type 0
+Fits (Clear creator bound) = (creator < 2 ^ 32) × (bound < 2 ^ 64)
+Fits (Insert s) = FitsState s
+Fits (InsertAck name) = FitsName name
+Fits (Update s) = FitsState s
+Fits (UpdateShort u) = FitsUpdate u
+Fits (UpdateRequest name) = FitsName name
+Fits (Delete s) = FitsState s
+Fits (DeleteShort name) = FitsName name
+Fits (Bulk creator status) = creator < 2 ^ 32
+
+-- a group: at least one record, and no more than a group can count, all of one action
+abbrev pub IsGroup : List Message → Type 0
+IsGroup [] = ⊥
+IsGroup (m ∷ ms) = (length (m ∷ ms) < 2 ^ 16) × AllByRecursion (λ n. action_of n ≡ action_of m) ms × AllByRecursion Fits (m ∷ ms)
+
+-- the bytes of a group: 4, and those of its records
+abbrev pub group_len : List Message → ℕ
+group_len ms = 4 + sum_by (λ m. record_len (action_of m)) ms
+
+-- the bytes of a frame: 20, and those of its groups
+abbrev pub frame_len : List (List Message) → ℕ
+frame_len groups = 20 + sum_by group_len groups
+
+-- a frame that has a spelling
+pub record IsFrame (f : Frame) : Type 0 where
+  pub print : length f.print ≡ 16
+  pub print_bytes : AllByRecursion (λ b. b < 256) f.print
+  pub groups : AllByRecursion IsGroup f.groups
+  pub short : frame_len f.groups < 2 ^ 16

@@ -1,0 +1,172 @@
+//! Frames, read from bytes.
+
+ghost use Rattle.std.specs.Prelude.{◌≡◌, List, [], length, IfOk, Ok, Some, None};
+ghost use Rattle.pfl_wire.specs.Frames.{Frame as FrameValue, lists};
+ghost use Rattle.pfl_wire.specs.Spelling.{Spells};
+ghost use Rattle.pfl_wire.specs.Reading.{is_counted, records_at, group_at, groups_at, print_at, header_at, reading};
+ghost use Rattle.pfl_wire.specs.Answers.{Gives, GivesKept, GivesFrame, Decodes, Joins, kept_items, kept_lists};
+
+use crate::action::Action;
+use crate::fault::{BadFrame, FrameFault};
+use crate::frame::Frame;
+use crate::message::Message;
+use crate::read_fields::{read_byte, read_u16};
+use crate::read_records::read_record;
+use std::alloc::Allocator;
+
+/// Whether the count is not 0, and the bytes hold the records that it counts.
+fn has_records(action: Action, count: u16, rest: &[u8]) -> bool
+    ensures { result ≡ is_counted action count rest.now }
+{
+    0 < count && usize::from(count) * action.record_len() <= rest.len()
+}
+
+/// The list with the item at its end; nothing where either is lost, or memory is wanting.
+fn keep<T: Drop, A: Allocator>(kept: Option<Vec<T, A>>, item: Option<T>) -> Option<Vec<T, A>>
+    ensures { Joins (kept_items kept) item (kept_items result) }
+{
+    let mut list = kept?;
+    match item {
+        None => None,
+        Some(item) => match list.push(item) {
+            Ok(()) => Some(list),
+            Err(_) => None,
+        },
+    }
+}
+
+/// The records of a group. Where memory is wanting they are read all the same, and not kept: the first fault comes
+/// before want of memory.
+fn read_records<A: Allocator + Copy>(
+    alloc: A,
+    action: Action,
+    count: u16,
+    bytes: &[u8],
+) -> Result<(Option<Vec<Message, A>>, &[u8]), BadFrame>
+    ensures { GivesKept (λ x. kept_items x.0) (λ x. x.1.now) result (records_at action count bytes.now) }
+{
+    let mut kept = Vec::with_capacity(alloc, usize::from(count)).ok();
+    let mut rest = bytes;
+    for _ in 0..count {
+        let (message, after) = match read_record(action, rest) {
+            Ok(read) => read,
+            Err(bad) => return Err(bad),
+        };
+        kept = keep(kept, Some(message));
+        rest = after;
+    }
+    Ok((kept, rest))
+}
+
+/// A group, kept as its records are.
+#[tactic(auto, unfolding(crate::specs::Reading::group_at))]
+fn read_group<A: Allocator + Copy>(
+    alloc: A,
+    bytes: &[u8],
+) -> Result<(Option<Vec<Message, A>>, &[u8]), BadFrame>
+    ensures { GivesKept (λ x. kept_items x.0) (λ x. x.1.now) result (group_at bytes.now) }
+{
+    if bytes.len() < 4 {
+        return Err(BadFrame::Length);
+    }
+    let (number, rest) = read_byte(bytes)?;
+    let action = Action::of_number(number).ok_or(BadFrame::Action)?;
+    let (pad, rest) = read_byte(rest)?;
+    let (count, rest) = read_u16(rest)?;
+    if !has_records(action, count, rest) {
+        return Err(BadFrame::Count);
+    }
+    if pad != 0 {
+        return Err(BadFrame::Value);
+    }
+    read_records(alloc, action, count, rest)
+}
+
+/// The groups to the end of the bytes.
+fn read_groups<A: Allocator + Copy>(
+    alloc: A,
+    bytes: &[u8],
+) -> Result<Option<Vec<Vec<Message, A>, A>>, BadFrame>
+    ensures { GivesKept (λ x. kept_lists x) (λ x. []) result (groups_at (length bytes.now) bytes.now) }
+{
+    let mut kept = Some(Vec::new(alloc));
+    let mut rest = bytes;
+    while !rest.is_empty() {
+        let (group, after) = read_group(alloc, rest)?;
+        kept = keep(kept, group);
+        rest = after;
+    }
+    Ok(kept)
+}
+
+/// The checksum of the sender's rules.
+#[tactic(auto, unfolding(crate::specs::Reading::print_at))]
+fn read_print(bytes: &[u8]) -> Result<([u8; 16], &[u8]), BadFrame>
+    ensures { Gives (λ x. (x.0, x.1.now)) result (print_at bytes.now) }
+{
+    if bytes.len() < 16 {
+        return Err(BadFrame::Short);
+    }
+    let (front, rest) = bytes.split_at(16);
+    let mut print = [0; 16];
+    print.copy_from_slice(front);
+    Ok((print, rest))
+}
+
+/// The checksum of a frame, and its groups' bytes.
+#[tactic(auto, unfolding(crate::specs::Reading::header_at))]
+fn read_header(bytes: &[u8]) -> Result<([u8; 16], &[u8]), BadFrame>
+    ensures { Gives (λ x. (x.0, x.1.now)) result (header_at bytes.now) }
+{
+    if bytes.len() < 20 {
+        return Err(BadFrame::Short);
+    }
+    let (version, rest) = read_byte(bytes)?;
+    if version != 5 {
+        return Err(BadFrame::Version);
+    }
+    let (padding, rest) = read_byte(rest)?;
+    let (len, rest) = read_u16(rest)?;
+    if usize::from(len) != bytes.len() {
+        return Err(BadFrame::Length);
+    }
+    if padding != 0 {
+        return Err(BadFrame::Value);
+    }
+    read_print(rest)
+}
+
+/// The frame, or none where memory is wanting.
+#[tactic(auto, unfolding(crate::specs::Reading::reading))]
+fn read_frame<A: Allocator + Copy>(alloc: A, bytes: &[u8]) -> Result<Option<Frame<A>>, BadFrame>
+    ensures { GivesFrame (λ x. x) result (reading bytes.now) }
+{
+    let (print, rest) = read_header(bytes)?;
+    match read_groups(alloc, rest)? {
+        Some(groups) => Ok(Some(Frame::new(print, groups))),
+        None => Ok(None),
+    }
+}
+
+/// Decodes by one clause, from which the laws of `decode` follow.
+fn decoded<A: Allocator + Copy>(alloc: A, bytes: &[u8]) -> Result<Frame<A>, FrameFault>
+    ensures { Decodes (λ f. f) result (reading bytes.now) }
+{
+    match read_frame(alloc, bytes)? {
+        Some(frame) => Ok(frame),
+        None => Err(FrameFault::NoMemory),
+    }
+}
+
+/// The frame that the bytes spell, or the first fault in reading order; want of memory is answered only where the bytes
+/// are a frame.
+pub fn decode<A: Allocator + Copy>(alloc: A, bytes: &[u8]) -> Result<Frame<A>, FrameFault>
+    // What is read is spelled so.
+    ensures found { IfOk result (λ f. Spells bytes.now f) }
+    // What is spelled so is read, unless memory is wanting.
+    ensures only { (f : FrameValue) → Spells bytes.now f → Decodes (λ g. g) result (Ok f) }
+    // Which fault it is; want of memory only where there is none.
+    ensures exact { Decodes (λ f. f) result (reading bytes.now) }
+{
+    decoded(alloc, bytes)
+}

@@ -1,0 +1,294 @@
+-- A laboratory for worked cases: packets and rules as values, and what is seen after a list of events.
+use Rattle.std.specs.Prelude.{ℕ, Bool, false, List, [], ◌∷◌, map, replicate, Option, Some, None, Result, Ok, Err}
+use Rattle.pfl_base.specs.declared.addr.Addr.TheVariants.{V4}
+use Rattle.pfl_base.specs.declared.addr.End.{End}
+use Rattle.pfl_base.specs.declared.proto.Proto.{Proto}
+use Rattle.pfl_base.specs.declared.proto.Proto.TheVariants.{Tcp, Udp}
+use Rattle.pfl_base.specs.declared.direction.Dir.{Dir}
+use Rattle.pfl_base.specs.declared.direction.Dir.TheVariants.{Inbound, Outbound}
+use Rattle.pfl_base.specs.declared.packet.Packet.{Packet}
+use Rattle.pfl_base.specs.declared.refusal.Refusal.{Refusal}
+use Rattle.pfl_base.specs.declared.class.Class.{Class}
+use Rattle.pfl_base.specs.declared.node_id.NodeId.{NodeId}
+use Rattle.pfl_base.specs.declared.node_id.NodeId.TheVariants.{A}
+use Rattle.pfl_base.specs.declared.state_name.StateName.{StateName}
+use Rattle.pfl_edits.specs.Maps as maps
+use Rattle.pfl_rules.specs.declared.Rule.{Rule}
+use Rattle.pfl_rules.specs.declared.Action.TheVariants.{Pass}
+use Rattle.pfl_rules.specs.declared.RuleDir.TheVariants.{Out}
+use Rattle.pfl_rules.specs.Rules.{Rules}
+use Rattle.pfl_track.specs.declared.Peer.{Peer}
+use Rattle.pfl_track.specs.declared.State.{State}
+use Rattle.pfl_queue.specs.declared.Kind.{Kind}
+use Rattle.pfl_queue.specs.declared.Entry.{Entry}
+use Rattle.pfl_queue.specs.declared.Entry.TheVariants.{Marked}
+use Rattle.pfl_node.specs.declared.Counters.{Counters}
+use Rattle.pfl_queue.specs.Taking.{in_turn}
+use Rattle.pfl_node.specs.declared.Limits.{Limits}
+use Rattle.pfl_node.specs.Nodes.{Node}
+use Rattle.pfl_link.specs.Links.{InFlight}
+use Rattle.pfl_queue.specs.declared.Mark.{Mark}
+use Rattle.pfl_queue.specs.declared.Cleared.{Cleared}
+use Rattle.pfl_wire.specs.declared.message.BulkStatus.{BulkStatus}
+use Rattle.pfl_defer.specs.declared.Held.{Held}
+use Rattle.pfl_bulk.specs.declared.BulkServer.{BulkServer}
+use Rattle.pfl_bulk.specs.declared.BulkClient.{BulkClient}
+use Rattle.pfl_world.specs.Outcomes as outcome
+use Rattle.pfl_world.specs.Outcomes.{Outcome, Stepped}
+use Rattle.pfl_world.specs.Worlds.{World, new_world, node_at}
+use Rattle.pfl_world.specs.Events as one
+use Rattle.pfl_world.specs.Runs as runs
+use Rattle.pfl_world.specs.Steps as steps
+use Rattle.pfl_world.specs.Steps.{packet_step, flush_step, deliver_step, lose_step, repeat_step, cut_step, tick_step, purge_step, release_step, kill_step, clear_step, restart_step, turn_step, retry_step}
+use Rattle.pfl_wire.specs.Spelling as spelling
+use Rattle.pfl_wire.specs.Reading as reading
+use Rattle.pfl_queue.specs.Taking as taking
+use Rattle.pfl_node.specs.Changes as changes
+use Rattle.pfl_node.specs.Starting as starting
+use Rattle.pfl_node.specs.Packets as packets
+use Rattle.pfl_node.specs.Receiving as receiving
+use Rattle.pfl_node.specs.Flushing as flushing
+use Rattle.pfl_node.specs.Events as events
+
+abbrev pub limits : Limits
+limits = record { states = 64; queue = 256; frames = 64; mtu = 1500; held = 128; defer = false; defer_ms = 20; maxupd = 128; batch = 16; bulk_ms = 10000 }
+
+abbrev pub pass_out : Rule
+pass_out = record {
+  action = Pass;
+  direction = Out;
+  quick = false;
+  proto = None;
+  from = None;
+  from_port = None;
+  to = None;
+  to_port = None;
+  any_flags = false;
+  no_sync = false;
+  max = None;
+  nat = None;
+  timeouts = replicate 14 None;
+}
+
+-- rules under a checksum of 16 equal bytes, which stands for their MD5
+abbrev pub rules_under : ℕ → List Rule → Rules
+rules_under byte list = record { list = list; print = replicate 16 byte }
+
+abbrev pub rules : List Rule → Rules
+rules list = rules_under 7 list
+
+-- both nodes have the one rule `pass out`
+abbrev pub opening : Limits → World
+opening l = new_world l (rules (pass_out ∷ [])) (rules (pass_out ∷ []))
+
+abbrev pub host : ℕ → ℕ → End
+host addr port = record { addr = V4 addr; port = port }
+
+abbrev pub inside : ℕ → End
+inside port = host 0x0a000001 port
+
+abbrev pub outside : ℕ → End
+outside port = host 0xc0000209 port
+
+abbrev pub plain : Proto → End → End → ℕ → Packet
+plain proto src dst len = record { proto = proto; src = src; dst = dst; flags = 0; seq = 0; ack = 0; window = 0; len = len; scale = None }
+
+abbrev pub u1 : Packet
+u1 = plain Udp (inside 1000) (outside 53) 40
+
+abbrev pub u2 : Packet
+u2 = plain Udp (inside 1001) (outside 53) 40
+
+abbrev pub u3 : Packet
+u3 = plain Udp (inside 1002) (outside 53) 40
+
+abbrev pub v1 : Packet
+v1 = plain Udp (outside 53) (inside 1000) 80
+
+-- ---- events
+
+-- each event of the pair, by its own definition
+pub data Happening : Type 0 where
+  packet : NodeId → Dir → Packet → Happening
+  flush : NodeId → Happening
+  deliver : ℕ → Happening
+  lose : ℕ → Happening
+  repeat : ℕ → Happening
+  cut : ℕ → ℕ → Happening
+  tick : NodeId → ℕ → Happening
+  purge : NodeId → Happening
+  release : NodeId → Happening
+  kill : NodeId → StateName → Happening
+  clear : NodeId → Happening
+  restart : NodeId → Happening
+  turn : NodeId → Happening
+  retry : NodeId → Happening
+
+-- what it gives
+unfoldable pub happens : World → Happening → Result Stepped Refusal
+happens w (packet node dir p) = packet_step w node dir p
+happens w (flush node) = flush_step w node
+happens w (deliver ticket) = deliver_step w ticket
+happens w (lose ticket) = lose_step w ticket
+happens w (repeat ticket) = repeat_step w ticket
+happens w (cut ticket len) = cut_step w ticket len
+happens w (tick node ms) = tick_step w node ms
+happens w (purge node) = purge_step w node
+happens w (release node) = release_step w node
+happens w (kill node n) = kill_step w node n
+happens w (clear node) = clear_step w node
+happens w (restart node) = restart_step w node
+happens w (turn node) = turn_step w node
+happens w (retry node) = retry_step w node
+
+abbrev pub out : NodeId → Packet → Happening
+out node p = packet node Outbound p
+
+abbrev pub into : NodeId → Packet → Happening
+into node p = packet node Inbound p
+
+abbrev pub tcp_out : ℕ → ℕ → ℕ → ℕ → Happening
+tcp_out flags seq ack window = out A (record { proto = Tcp; src = inside 1000; dst = outside 80; flags = flags; seq = seq; ack = ack; window = window; len = 0; scale = None })
+
+abbrev pub tcp_in : ℕ → ℕ → ℕ → ℕ → Happening
+tcp_in flags seq ack window = into A (record { proto = Tcp; src = outside 80; dst = inside 1000; flags = flags; seq = seq; ack = ack; window = window; len = 0; scale = None })
+
+abbrev pub name : ℕ → ℕ → StateName
+name creator id = record { creator = creator; id = id }
+
+-- ---- answers
+
+abbrev pub Answer : Type 0
+Answer = Result Outcome Refusal
+
+abbrev pub passed : ℕ → ℕ → Answer
+passed creator id = Ok (outcome.Pass (Some (name creator id)))
+
+abbrev pub sent : ℕ → ℕ → Answer
+sent ticket len = Ok (outcome.Sent ticket len)
+
+abbrev pub taken : ℕ → Answer
+taken n = Ok (outcome.Taken n)
+
+abbrev pub clock : ℕ → Answer
+clock ms = Ok (outcome.Clock ms)
+
+-- the world after an event; a refused one leaves it
+abbrev pub world_after : World → Result Stepped Refusal → World
+world_after w (Ok s) = s.world
+world_after w (Err r) = w
+
+abbrev pub outcome_after : Result Stepped Refusal → Result Outcome Refusal
+outcome_after (Ok s) = Ok s.outcome
+outcome_after (Err r) = Err r
+
+-- the answers to the events, each on the world that those before it left
+unfoldable pub answers : World → List Happening → List (Result Outcome Refusal)
+answers w [] = []
+answers w (e ∷ es) = let r = happens w e in outcome_after r ∷ answers (world_after w r) es
+
+-- the world that the events leave
+unfoldable pub final : World → List Happening → World
+final w [] = w
+final w (e ∷ es) = final (world_after w (happens w e)) es
+
+-- what a run needs to compute on literals
+unfoldable pub computing : ℕ
+unfolding answers final happens maps.computing spelling.number_bytes spelling.name_bytes spelling.peer_bytes spelling.end_bytes spelling.key_bytes spelling.class_bytes spelling.state_bytes spelling.update_bytes spelling.record_bytes spelling.group_bytes spelling.spelling reading.computing taking.next_frame changes.changed changes.deleted changes.forgotten starting.started starting.judged packets.handled packets.packet_points receiving.taken flushing.frame_of flushing.flushed events.purged events.purge_points events.released_due events.cleared events.restarted events.turn_of events.turned events.retried_client steps.packet_step steps.flush_step steps.deliver_step steps.lose_step steps.repeat_step steps.cut_step steps.tick_step steps.purge_step steps.release_step steps.kill_step steps.clear_step steps.restart_step steps.turn_step steps.retry_step one.step runs.run
+computing = 0
+
+-- what is pending at a node
+abbrev pub queue_at : World → NodeId → List Entry
+queue_at w node = in_turn (node_at w node).queue
+
+-- the states of a node
+abbrev pub states_at : World → NodeId → List State
+states_at w node = maps.values (node_at w node).states
+
+abbrev pub push_at : World → NodeId → Bool
+push_at w node = (node_at w node).push
+
+abbrev pub counts_at : World → NodeId → Counters
+counts_at w node = (node_at w node).counters
+
+abbrev pub requests_at : World → NodeId → List StateName
+requests_at w node = (node_at w node).queue.requests
+
+abbrev pub held_at : World → NodeId → List (StateName × ℕ)
+held_at w node = map (λ h. (h.name, h.held_at)) (node_at w node).held.list
+
+abbrev pub names_at : World → NodeId → List StateName
+names_at w node = maps.keys (node_at w node).states
+
+-- the seven counters
+abbrev pub counts : ℕ → ℕ → ℕ → ℕ → ℕ → ℕ → ℕ → Counters
+counts passed blocked freed lost bad stale broken = record { passed = passed; blocked = blocked; freed = freed; lost = lost; bad = bad; stale = stale; broken = broken }
+
+-- a mark as it is shown
+abbrev pub queued : Kind → ℕ → StateName → Entry
+queued kind number n = Marked kind number n
+
+-- levels and class
+abbrev pub seen : State → ℕ × ℕ × Class
+seen s = (s.src.level, s.dst.level, s.class)
+
+abbrev pub levels : State → ℕ × ℕ
+levels s = (s.src.level, s.dst.level)
+
+-- both ends, and the update count
+abbrev pub ends : State → Peer × Peer × ℕ
+ends s = (s.src, s.dst, s.updates)
+
+-- the last use, and the last change by the peer
+abbrev pub times : State → ℕ × Option ℕ
+times s = (s.last, s.peer_change)
+
+-- two things that are seen
+abbrev pub both : {X Y : Type 0} → X → Y → X × Y
+both x y = (x, y)
+
+-- ---- a whole world as plain data
+
+pub record NodeShot : Type 0 where
+  pub states : List State
+  pub marks : List Mark
+  pub next : ℕ
+  pub requests : List StateName
+  pub statuses : List BulkStatus
+  pub clears : List Cleared
+  pub held : List Held
+  pub server : BulkServer
+  pub client : BulkClient
+  pub clock : ℕ
+  pub creator : ℕ
+  pub next_id : ℕ
+  pub push : Bool
+  pub counters : Counters
+
+pub record Shot : Type 0 where
+  pub a : NodeShot
+  pub b : NodeShot
+  pub frames : List (ℕ × InFlight)
+  pub ticket : ℕ
+  pub boot : ℕ
+
+abbrev pub node_shot : Node → NodeShot
+node_shot n = record {
+  states = maps.values n.states;
+  marks = maps.values n.queue.marks;
+  next = n.queue.next;
+  requests = n.queue.requests;
+  statuses = n.queue.statuses;
+  clears = n.queue.clears;
+  held = n.held.list;
+  server = n.server;
+  client = n.client;
+  clock = n.clock;
+  creator = n.creator;
+  next_id = n.next_id;
+  push = n.push;
+  counters = n.counters;
+}
+
+abbrev pub shot : World → Shot
+shot w = record { a = node_shot w.a; b = node_shot w.b; frames = maps.entries w.link.frames; ticket = w.link.next; boot = w.next_boot }

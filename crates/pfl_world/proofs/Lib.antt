@@ -1,0 +1,6 @@
+pub mod Lab
+mod Packets
+mod Frames
+mod Bulk
+mod Refusals
+pub mod NewWorlds

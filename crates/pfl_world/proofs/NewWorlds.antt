@@ -1,0 +1,42 @@
+-- The pair before any event is a world.
+use Rattle.std.specs.Prelude.{◌≡◌, ◌≤◌, ℕ, Some, refl}
+use Rattle.std.specs.Ordering.{nat_cmp}
+use Rattle.std.proofs.Common.{◌∙◌, sym, subst, arith}
+use Rattle.pfl_edits.specs.Maps as maps
+use Rattle.pfl_edits.specs.Maps.{get-empty, len-empty}
+use Rattle.pfl_edits.specs.Rows.{some_is_none}
+use Rattle.pfl_rules.specs.Rules.{Rules, AreRules}
+use Rattle.pfl_node.specs.declared.Limits.{Limits}
+use Rattle.pfl_node.specs.Limits.{AreLimits}
+use Rattle.pfl_node.specs.Nodes.{greatest}
+use Rattle.pfl_node.proofs.NewNodes.{new_node-is}
+use Rattle.pfl_link.specs.Links.{InFlight, IsLink, empty_link}
+use Rattle.pfl_world.specs.Laws.{NewWorldsAreWorlds, LateWorldsAreWorlds}
+use Rattle.pfl_world.specs.Worlds.{IsWorld, new_world, new_world_at}
+
+none_in_flight : (limit next : ℕ) → next ≤ greatest → IsLink (empty_link limit next)
+none_in_flight limit next low = record {
+  few = subst (λ (k : ℕ). k ≤ limit) (sym (len-empty nat_cmp InFlight)) (omega arith);
+  below = λ ticket f is. absurd (some_is_none f (sym is ∙ get-empty nat_cmp ticket));
+  countable = low;
+}
+
+pub late_world-is : LateWorldsAreWorlds
+late_world-is l a b start limits rules_a rules_b low = record {
+  a = new_node-is l a 1 start 0 limits rules_a low (omega arith);
+  b = new_node-is l b 2 start 0 limits rules_b low (omega arith);
+  link = none_in_flight l.frames start low;
+  one_limits = refl;
+  link_limit = refl;
+  countable = low;
+}
+
+pub new_world-is : NewWorldsAreWorlds
+new_world-is l a b limits rules_a rules_b = record {
+  a = new_node-is l a 1 1 0 limits rules_a (omega arith) (omega arith);
+  b = new_node-is l b 2 1 0 limits rules_b (omega arith) (omega arith);
+  link = none_in_flight l.frames 1 (omega arith);
+  one_limits = refl;
+  link_limit = refl;
+  countable = omega arith;
+}

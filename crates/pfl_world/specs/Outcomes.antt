@@ -1,0 +1,31 @@
+-- What comes of an event (this project's profile).
+use Rattle.std.specs.Prelude.{ℕ, Option}
+use Rattle.pfl_base.specs.declared.state_name.StateName.{StateName}
+use Rattle.pfl_wire.specs.declared.fault.BadFrame.{BadFrame}
+use Rattle.pfl_node.specs.declared.Reason.{Reason}
+use Rattle.pfl_world.specs.Worlds.{World}
+
+-- the outcome of an event that is accepted; the code's enum has those of the events that it has
+pub data Outcome : Type 0 where
+  Pass : Option StateName → Outcome
+  Held : StateName → Outcome
+  Dropped : Reason → Outcome
+  Sent : ℕ → ℕ → Outcome
+  Taken : ℕ → Outcome
+  Broken : BadFrame → Outcome
+  Lost : Outcome
+  CutTo : ℕ → Outcome
+  Clock : ℕ → Outcome
+  Purged : ℕ → Outcome
+  Released : ℕ → Outcome
+  Killed : Outcome
+  Cleared : ℕ → Outcome
+  Boot : ℕ → Outcome
+  Queued : ℕ → Outcome
+  Asked : ℕ → Outcome
+  Served : Outcome
+
+-- what an event gives: the world after it, and its outcome
+pub record Stepped : Type 0 where
+  pub world : World
+  pub outcome : Outcome

@@ -1,0 +1,78 @@
+-- How many edits an event may take: by the states, records or packets that it is about (this project's profile).
+use Rattle.std.specs.Prelude.{ℕ, ◌+◌, ◌*◌, List, ◌∷◌, length, Result, Ok, Err}
+use Rattle.std.specs.List.{zip, sum_by}
+use Rattle.std.specs.Option.{option_map_or}
+use Rattle.pfl_base.specs.Lists.{folds}
+use Rattle.pfl_base.specs.declared.node_id.NodeId.{NodeId}
+use Rattle.pfl_edits.specs.Maps as maps
+use Rattle.pfl_wire.specs.declared.fault.BadFrame.{BadFrame}
+use Rattle.pfl_wire.specs.declared.message.Message.{Message}
+use Rattle.pfl_wire.specs.declared.message.Message.TheVariants as message
+use Rattle.pfl_wire.specs.Frames.{Frame}
+use Rattle.pfl_wire.specs.Reading.{reading}
+use Rattle.pfl_queue.specs.Taking.{next_frame}
+use Rattle.pfl_node.specs.Nodes.{Node}
+use Rattle.pfl_node.specs.Receiving.{taken, cleared_names}
+use Rattle.pfl_node.specs.Events.{expired_states, due_names, turn_of}
+use Rattle.pfl_link.specs.Links.{InFlight}
+use Rattle.pfl_world.specs.declared.Event.{Event}
+use Rattle.pfl_world.specs.declared.Event.TheVariants as event
+use Rattle.pfl_world.specs.Worlds.{World, node_at}
+use Rattle.pfl_world.specs.Steps.{records_of, same_rules}
+
+-- the edits of an event that is about so many states, records or packets
+abbrev pub edits_for : ℕ → ℕ
+edits_for n = 12 + 12 * n
+
+-- the states that a record removes by its bound
+abbrev pub cleared_by : Node → Message → ℕ
+cleared_by n (message.Clear creator bound) = length (cleared_names n creator bound)
+cleared_by n _ = 0
+
+-- the records of a frame, and the states that they clear
+abbrev pub frame_work : Node → Frame → ℕ
+frame_work n f =
+    let nodes = n ∷ folds (λ m r. taken m (same_rules n f) r) n (records_of f) in
+    length (records_of f) + sum_by (λ at. cleared_by at.0 at.1) (zip nodes (records_of f))
+
+-- of what was read
+abbrev pub read_work : Node → Result Frame BadFrame → ℕ
+read_work n (Ok f) = frame_work n f
+read_work n (Err why) = 0
+
+-- a packet is about one state, and so is a kill
+abbrev pub packet_work : ℕ
+packet_work = 1
+
+-- a flush: the records that it sends
+abbrev pub flush_work : World → NodeId → ℕ
+flush_work w node = let n = node_at w node in length (next_frame n.queue n.limits.mtu)
+
+-- a frame's coming: its records, and the states that they clear
+abbrev pub deliver_work : World → ℕ → ℕ
+deliver_work w ticket = option_map_or (λ f. read_work (node_at w f.to) (reading f.bytes)) (maps.get w.link.frames ticket) 0
+
+-- a purge: the states that have expired
+abbrev pub purge_work : World → NodeId → ℕ
+purge_work w node = length (expired_states (node_at w node))
+
+-- a release: the packets that are due
+abbrev pub release_work : World → NodeId → ℕ
+release_work w node = length (due_names (node_at w node))
+
+-- a clear: all states
+abbrev pub clear_work : World → NodeId → ℕ
+clear_work w node = maps.len (node_at w node).states
+
+-- a turn of a bulk update: the names that it queues
+abbrev pub turn_work : World → NodeId → ℕ
+turn_work w node = length (turn_of (node_at w node))
+
+-- what an event is about; a loss, a repeat, a cut, a tick, a restart and a retry are about none
+abbrev pub work : World → Event → ℕ
+work w (event.Packet node dir p) = packet_work
+work w (event.Tick node ms) = 0
+
+-- an event takes at most so many edits
+abbrev pub weight : World → Event → ℕ
+weight w e = edits_for (work w e)

@@ -1,0 +1,66 @@
+-- The pair of nodes and the link between them (this project's profile).
+use Rattle.std.specs.Prelude.{◌≡◌, ◌≤◌, ℕ, nat_lt, List, [], ◌∷◌, Option, Some, None, if◌then◌else◌}
+use Rattle.std.specs.List.{list_any}
+use Rattle.pfl_base.specs.declared.node_id.NodeId.{NodeId}
+use Rattle.pfl_base.specs.declared.node_id.NodeId.TheVariants.{A, B}
+use Rattle.pfl_rules.specs.Rules.{Rules}
+use Rattle.pfl_node.specs.declared.Limits.{Limits}
+use Rattle.pfl_node.specs.Limits.{ranges}
+use Rattle.pfl_node.specs.Nodes.{Node, IsNode, new_node}
+use Rattle.pfl_link.specs.Links.{Link, IsLink, empty_link}
+use Rattle.pfl_world.specs.declared.WorldFault.{WorldFault}
+use Rattle.pfl_world.specs.declared.WorldFault.TheVariants.{TooSmall, TooLarge}
+
+-- the whole state of the pair
+pub record World : Type 0 where
+  pub a : Node
+  pub b : Node
+  pub link : Link
+  pub next_boot : ℕ
+
+-- a world
+pub record IsWorld (w : World) : Type 0 where
+  pub a : IsNode w.a
+  pub b : IsNode w.b
+  pub link : IsLink w.link
+  pub one_limits : w.b.limits ≡ w.a.limits
+  pub link_limit : w.link.limit ≡ w.a.limits.frames
+  pub countable : w.next_boot ≤ 4294967295
+
+-- the node of the name
+abbrev pub node_at : World → NodeId → Node
+node_at w A = w.a
+node_at w B = w.b
+
+-- the world with this node
+abbrev pub with_node : World → NodeId → Node → World
+with_node w A n = record w { a = n }
+with_node w B n = record w { b = n }
+
+-- the world with this link
+abbrev pub with_link : World → Link → World
+with_link w l = record w { link = l }
+
+-- the pair before any event; the nodes are boots 1 and 2
+abbrev pub new_world : Limits → Rules → Rules → World
+new_world limits rules_a rules_b = record {
+  a = new_node limits rules_a 1 1 0;
+  b = new_node limits rules_b 2 1 0;
+  link = empty_link limits.frames 1;
+  next_boot = 3;
+}
+
+-- the same with all numbers from `start` on
+abbrev pub new_world_at : Limits → Rules → Rules → ℕ → World
+new_world_at limits rules_a rules_b start = record {
+  a = new_node limits rules_a 1 start 0;
+  b = new_node limits rules_b 2 start 0;
+  link = empty_link limits.frames start;
+  next_boot = start;
+}
+
+-- why these limits are none: the first reason that holds of any of them
+abbrev pub world_fault : Limits → Option WorldFault
+world_fault l =
+    if list_any (λ r. nat_lt r.0 r.1) (ranges l) then Some TooSmall else
+    if list_any (λ r. nat_lt r.2 r.0) (ranges l) then Some TooLarge else None
