@@ -1,9 +1,16 @@
 -- The bulk update (pfsync(4); turns and tries are this project's profile).
-use Rattle.std.specs.Prelude.{ℕ, ◌+◌, Bool, true, false, nat_le, nat_lt, List, [], filter, take, length, if◌then◌else◌, unwrap_or}
+use Rattle.std.specs.Prelude.{◌≡◌, ◌<◌, ℕ, zero, suc, ◌+◌, Bool, true, false, not, nat_le, nat_lt, List, [], ◌∷◌, filter, take, length, if◌then◌else◌, unwrap_or, Option, Some, None, refl}
+use Rattle.std.proofs.Common.{cond, ◌∙◌, ap, arith}
+use Rattle.std.proofs.lemmas.Bool.Decides.{nat_tests}
+use Rattle.std.proofs.lemmas.List.{length-take, take-take}
 use Rattle.std.specs.Ordering.{is_lt}
 use Rattle.pfl_base.specs.Lists.{last_of}
+use Rattle.pfl_base.specs.declared.refusal.Refusal.{Refusal}
+use Rattle.pfl_base.specs.declared.refusal.Refusal.TheVariants.{NotSyncing, TooEarly}
 use Rattle.pfl_base.specs.declared.state_name.StateName.{StateName}
 use Rattle.pfl_base.specs.Names.{name_cmp}
+use Rattle.pfl_wire.specs.declared.message.BulkStatus.{BulkStatus}
+use Rattle.pfl_wire.specs.declared.message.BulkStatus.TheVariants.{Start, End as Finish}
 use Rattle.pfl_bulk.specs.declared.BulkServer.{BulkServer}
 use Rattle.pfl_bulk.specs.declared.BulkServer.TheVariants as server
 use Rattle.pfl_bulk.specs.declared.BulkClient.{BulkClient}
@@ -13,9 +20,9 @@ use Rattle.pfl_bulk.specs.declared.BulkClient.TheVariants as client
 abbrev pub no_name : StateName
 no_name = record { creator = 0; id = 0 }
 
--- a server that begins now
-abbrev pub started : ℕ → BulkServer
-started now = server.Serving no_name now
+-- a server after a request for all: it begins now, also where one runs; without states it stays as it was
+abbrev pub started : BulkServer → Bool → ℕ → BulkServer
+started s has_states now = if has_states then server.Serving no_name now else s
 
 -- the names after the cursor
 abbrev pub after : StateName → List StateName → List StateName
@@ -26,7 +33,7 @@ abbrev pub turn_names : BulkServer → List StateName → ℕ → List StateName
 turn_names server.Idle names batch = []
 turn_names (server.Serving cursor since) names batch = take batch (after cursor names)
 
--- none is left after the turn
+-- none is left after the turn; an idle server has no turn, and this value of it is not asked for
 abbrev pub is_last_turn : BulkServer → List StateName → ℕ → Bool
 is_last_turn server.Idle names batch = true
 is_last_turn (server.Serving cursor since) names batch = nat_le (length (after cursor names)) batch
@@ -38,6 +45,11 @@ after_turn (server.Serving cursor since) names batch =
     if nat_le (length (after cursor names)) batch then server.Idle
     else server.Serving (unwrap_or (last_of (take batch (after cursor names))) cursor) since
 
+-- the first n of the names after the cursor
+abbrev pub first_names : BulkServer → List StateName → ℕ → List StateName
+first_names server.Idle names n = []
+first_names (server.Serving cursor since) names n = take n (after cursor names)
+
 -- the client that asked for the first time
 abbrev pub first_asked : ℕ → BulkClient
 first_asked now = client.Waiting 1 now
@@ -46,6 +58,11 @@ first_asked now = client.Waiting 1 now
 abbrev pub heard : BulkClient → ℕ → BulkClient
 heard client.Idle now = client.Idle
 heard (client.Waiting tries asked) now = client.Waiting tries now
+
+-- the client after a status: a START is heard, and an END ends the waiting
+abbrev pub after_status : BulkClient → BulkStatus → ℕ → BulkClient
+after_status c Start now = heard c now
+after_status c Finish now = client.Idle
 
 -- the client waits for the end of an update
 abbrev pub is_waiting : BulkClient → Bool
@@ -62,6 +79,13 @@ abbrev pub is_due : BulkClient → ℕ → ℕ → Bool
 is_due client.Idle bulk_ms now = false
 is_due (client.Waiting tries asked) bulk_ms now = nat_le (asked + bulk_ms) now
 
+-- why it can't ask again, the first reason first: it does not wait, or it is too early
+abbrev pub retry_refusal : BulkClient → ℕ → ℕ → Option Refusal
+retry_refusal client bulk_ms now =
+    if not (is_waiting client) then Some NotSyncing
+    else if not (is_due client bulk_ms now) then Some TooEarly
+    else None
+
 -- it asks again, after fewer than 12 tries
 abbrev pub asks_again : BulkClient → Bool
 asks_again client.Idle = false
@@ -76,3 +100,39 @@ retried (client.Waiting tries asked) now = if nat_lt tries 12 then client.Waitin
 abbrev pub tries_of : BulkClient → ℕ
 tries_of client.Idle = 0
 tries_of (client.Waiting tries asked) = tries
+
+-- ---- A turn sees no more than the first names after the cursor, one more than it sends. Proofs of the crates above cite
+-- the lemmas, so that they need not hand in all names.
+
+keeps : {X : Type 0} (p : X → Bool) (xs : List X) (n : ℕ) → filter p (take n (filter p xs)) ≡ take n (filter p xs)
+keeps p xs zero = refl
+keeps p [] (suc n) = refl
+keeps p (x ∷ xs) (suc n) =
+    elim (p x) as (λ b. p x ≡ b → filter p (take (suc n) (cond b (x ∷ filter p xs) (filter p xs))) ≡ take (suc n) (cond b (x ∷ filter p xs) (filter p xs))) [
+      | true ↦ λ e. ap (λ b. cond b (x ∷ filter p (take n (filter p xs))) (filter p (take n (filter p xs)))) e ∙ ap (λ (ys : List _). x ∷ ys) (keeps p xs n)
+      | false ↦ λ e. keeps p xs (suc n)
+    ] refl
+
+few_tests : {X : Type 0} (xs : List X) (n batch : ℕ) → batch < n → nat_le (length (take n xs)) batch ≡ nat_le (length xs) batch
+few_tests xs n batch h = grind (arith, nat_tests, length-take n xs)
+
+-- the names of the turn
+pub turn_names-first : (s : BulkServer) (names : List StateName) (n batch : ℕ) → batch < n → turn_names s (first_names s names n) batch ≡ turn_names s names batch
+turn_names-first server.Idle names n batch h = refl
+turn_names-first (server.Serving cursor since) names n batch h =
+    ap (take batch) (keeps (λ m. is_lt (name_cmp cursor m)) names n) ∙ take-take batch n (after cursor names) (omega arith)
+
+-- whether it is the last
+pub is_last_turn-first : (s : BulkServer) (names : List StateName) (n batch : ℕ) → batch < n → is_last_turn s (first_names s names n) batch ≡ is_last_turn s names batch
+is_last_turn-first server.Idle names n batch h = refl
+is_last_turn-first (server.Serving cursor since) names n batch h =
+    ap (λ (ms : List StateName). nat_le (length ms) batch) (keeps (λ m. is_lt (name_cmp cursor m)) names n) ∙ few_tests (after cursor names) n batch h
+
+-- and the server after it
+pub after_turn-first : (s : BulkServer) (names : List StateName) (n batch : ℕ) → batch < n → after_turn s (first_names s names n) batch ≡ after_turn s names batch
+after_turn-first server.Idle names n batch h = refl
+after_turn-first (server.Serving cursor since) names n batch h =
+    let last = is_last_turn-first (server.Serving cursor since) names n batch h in
+    let sent = turn_names-first (server.Serving cursor since) names n batch h in
+    ap (λ b. cond b server.Idle (server.Serving (unwrap_or (last_of (turn_names (server.Serving cursor since) (first_names (server.Serving cursor since) names n) batch)) cursor) since)) last
+    ∙ ap (λ (ms : List StateName). cond (nat_le (length (after cursor names)) batch) server.Idle (server.Serving (unwrap_or (last_of ms) cursor) since)) sent

@@ -1,7 +1,9 @@
 -- The link: frames in flight by ticket (this project's profile).
-use Rattle.std.specs.Prelude.{◌≡◌, ◌≤◌, ◌<◌, ℕ, ◌+◌, Bool, nat_le, List, take, Some}
+use Rattle.std.specs.Prelude.{◌≡◌, ◌≤◌, ◌<◌, ℕ, ◌+◌, Bool, nat_le, List, take, Some, refl}
 use Rattle.std.specs.Ordering.{nat_cmp}
+use Rattle.std.specs.Coded.{Coded, code_by, coded×, coded_ℕ, coded_list}
 use Rattle.pfl_base.specs.declared.node_id.NodeId.{NodeId}
+use Rattle.pfl_base.specs.contracts.node_id.NodeId as node_id
 use Rattle.pfl_edits.specs.Maps as maps
 use Rattle.pfl_edits.specs.Maps.{Map}
 
@@ -49,3 +51,11 @@ cut_to f n = record f { bytes = take n f.bytes }
 -- the link with this frame under the ticket
 abbrev pub with_frame : Link → ℕ → InFlight → Link
 with_frame l ticket f = record l { frames = maps.insert l.frames ticket f }
+
+-- a frame is stored as its receiver and its bytes
+abbrev pub coded_in_flight : Coded InFlight
+coded_in_flight = code_by (NodeId × List ℕ) (coded× node_id.the_row.coded (coded_list coded_ℕ)) (λ f. (f.to, f.bytes)) (λ p. record { to = p.0; bytes = p.1 }) (λ _. refl)
+
+-- a link is stored as the tuple of its fields
+abbrev pub coded_link : Coded Link
+coded_link = code_by (ℕ × (ℕ × Map nat_cmp InFlight)) (coded× coded_ℕ (coded× coded_ℕ (maps.code coded_ℕ coded_in_flight))) (λ l. (l.limit, (l.next, l.frames))) (λ p. record { limit = p.0; next = p.1.0; frames = p.1.1 }) (λ _. refl)

@@ -8,16 +8,15 @@ use Rattle.pfl_base.specs.Packets.{is_tcp}
 use Rattle.pfl_edits.specs.Maps as maps
 use Rattle.pfl_rules.specs.Rules.{Rules, timeout}
 use Rattle.pfl_merge.specs.Merging.{merged}
-use Rattle.pfl_track.specs.declared.State.{State}
+use Rattle.pfl_track.specs.declared.state.State.{State}
 use Rattle.pfl_wire.specs.declared.message.BulkStatus.{BulkStatus}
-use Rattle.pfl_wire.specs.declared.message.BulkStatus.TheVariants.{Start, End as Finish}
 use Rattle.pfl_wire.specs.declared.message.StateRecord.{StateRecord}
 use Rattle.pfl_wire.specs.declared.message.Message.{Message}
 use Rattle.pfl_wire.specs.declared.message.Message.TheVariants as message
 use Rattle.pfl_queue.specs.Queues.{kind_of}
-use Rattle.pfl_merge.specs.declared.Received.{Received}
-use Rattle.pfl_merge.specs.declared.Merged.{Merged}
-use Rattle.pfl_node.specs.declared.Limits.{Limits}
+use Rattle.pfl_merge.specs.declared.received.Received.{Received}
+use Rattle.pfl_merge.specs.declared.merged.Merged.{Merged}
+use Rattle.pfl_node.specs.declared.limits.Limits.{Limits}
 use Rattle.pfl_node.specs.Laws.{LeavesTheRest, RecordsLeaveTheRest}
 use Rattle.pfl_node.specs.Nodes.{Node}
 use Rattle.pfl_node.specs.Changes.{is_held, lost, freed, released, is_untold, changed, forgotten}
@@ -71,11 +70,10 @@ merge-keeps n s r = go (lost n s.name) (merged s r (timeout n.rules.list s.rule 
     go m x = either (x.stale_src || x.stale_dst) m _ _ (changed-keeps _ _) refl
 
 request-keeps : (n : Node) (name : StateName) → Keeps n (request_taken n name)
-request-keeps n name = either _ n (bulk_taken n) _ (either _ n _ _ refl refl) (on_some (maps.get n.states name) (answered n) n _ (λ s. either _ n _ n refl refl) refl)
+request-keeps n name = either _ n (bulk_taken n) _ refl (on_some (maps.get n.states name) (answered n) n _ (λ s. either _ n _ n refl refl) refl)
 
 status-keeps : (n : Node) (status : BulkStatus) → Keeps n (status_taken n status)
-status-keeps n Start = refl
-status-keeps n Finish = refl
+status-keeps n status = refl
 
 taken-keeps : (n : Node) (same_rules : Bool) (m : Message) → Keeps n (taken n same_rules m)
 unfolding taken

@@ -1,3 +1,12 @@
+pub mod Growing
+pub mod Fated
+pub mod Judging
 pub mod Keeping
+pub mod Keeps
+pub mod Stating
+pub mod Meeting
 pub mod NewNodes
 pub mod OneState
+pub mod Telling
+pub mod Putting
+pub mod Recording

@@ -9,15 +9,19 @@ use Rattle.pfl_edits.specs.Maps as maps
 use Rattle.pfl_edits.specs.Maps.{get-empty, len-empty}
 use Rattle.pfl_edits.specs.Rows.{some_is_none}
 use Rattle.pfl_rules.specs.Rules.{Rules, AreRules}
-use Rattle.pfl_track.specs.declared.State.{State}
-use Rattle.pfl_table.specs.Tables.{States, AreStates}
+use Rattle.pfl_track.specs.declared.state.State.{State}
+use Rattle.pfl_table.specs.Tables.{Table, States, AreStates, states_of, states_of-empty}
 use Rattle.pfl_queue.specs.declared.Mark.{Mark}
-use Rattle.pfl_queue.specs.Queues.{IsQueue, empty_queue}
-use Rattle.pfl_defer.specs.Deferring.{IsDeferrals, no_deferrals}
-use Rattle.pfl_node.specs.declared.Limits.{Limits}
+use Rattle.pfl_queue.specs.Queues.{Queue, IsQueue, empty_queue}
+use Rattle.pfl_defer.specs.Deferring.{Deferrals, IsDeferrals, no_deferrals}
+use Rattle.pfl_bulk.specs.declared.BulkServer.TheVariants as server
+use Rattle.pfl_bulk.specs.declared.BulkClient.TheVariants as client
+use Rattle.pfl_node.specs.declared.limits.Limits.{Limits}
 use Rattle.pfl_node.specs.Limits.{AreLimits}
 use Rattle.pfl_node.specs.Laws.{NewNodesAreNodes}
-use Rattle.pfl_node.specs.Nodes.{IsNode, new_node, greatest, last_millisecond}
+use Rattle.pfl_node.specs.declared.counters.Counters.{Counters}
+use Rattle.pfl_node.specs.Kept.{node_of}
+use Rattle.pfl_node.specs.Nodes.{Node, IsNode, new_node, no_counts, greatest, last_millisecond}
 
 -- an empty map has nothing at a name
 nothing : {X : Type 0} {A : Type 0} (n : StateName) (x : X) → maps.get (maps.empty {R = name_cmp}) n ≡ Some x → A
@@ -38,7 +42,7 @@ none_pending limit next low = record {
   below = λ n m is. nothing n m is;
   one_number = λ n o m k is there. nothing n m is;
   asked_once = tt;
-  countable = low;
+  countable = omega (arith, low);
 }
 
 none_held : (limit : ℕ) → IsDeferrals (no_deferrals limit)
@@ -72,3 +76,9 @@ new_node-is l r creator next clock limits rules low on_time = record {
       let high : nat_lt greatest next ≡ false = le-ltb greatest next low in
       neither (nat_lt greatest next) _ high (neither (nat_lt greatest next) false high refl);
 }
+
+-- empty parts make a node that has seen nothing
+pub made_new : (l : Limits) (r : Rules) (t : Table) (q : Queue) (d : Deferrals) (c : Counters) (creator : ℕ)
+    → t.rows ≡ maps.empty → q ≡ empty_queue l.queue 1 → d ≡ no_deferrals l.held → c ≡ no_counts
+    → node_of l r t q d server.Idle client.Idle 0 creator 1 false c ≡ new_node l r creator 1 0
+made_new l r t q d c creator rows queue held counts = rw (states_of-empty t rows, queue, held, counts) refl

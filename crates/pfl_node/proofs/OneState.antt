@@ -11,17 +11,16 @@ use Rattle.pfl_base.specs.Names.{names_total, names_exact}
 use Rattle.pfl_base.specs.Packets.{is_tcp}
 use Rattle.pfl_edits.specs.Maps as maps
 use Rattle.pfl_edits.specs.Places.{get-set_at_same, get-set_at_other, key_cases}
-use Rattle.pfl_rules.specs.declared.Rule.{Rule}
+use Rattle.pfl_rules.specs.declared.rule.Rule.{Rule}
 use Rattle.pfl_rules.specs.Rules.{timeout, verdict, rule_at}
-use Rattle.pfl_track.specs.declared.State.{State}
-use Rattle.pfl_track.specs.declared.Tracked.{Tracked}
-use Rattle.pfl_track.specs.declared.Tracked.TheVariants.{Moved, OutOfWindow, Reused}
+use Rattle.pfl_track.specs.declared.state.State.{State}
+use Rattle.pfl_track.specs.declared.tracked.Tracked.{Tracked}
+use Rattle.pfl_track.specs.declared.tracked.Tracked.TheVariants.{Moved, OutOfWindow, Reused}
 use Rattle.pfl_track.specs.Tracking.{tracked}
 use Rattle.pfl_track.proofs.Names.{Stays, tracked-stays}
 use Rattle.pfl_table.specs.Tables.{AreStates, found, key_in_use}
 use Rattle.pfl_table.proofs.Apart.{OwnsKeys, OwnsKeys-unused, OwnsKeys-known, SameKeys, SameKeys-itself, AreStates-with, AreStates-without, found-stands}
 use Rattle.pfl_wire.specs.declared.message.BulkStatus.{BulkStatus}
-use Rattle.pfl_wire.specs.declared.message.BulkStatus.TheVariants.{Start, End as Finish}
 use Rattle.pfl_wire.specs.declared.message.StateRecord.{StateRecord}
 use Rattle.pfl_wire.specs.declared.message.UpdateRecord.{UpdateRecord}
 use Rattle.pfl_wire.specs.declared.message.Message.{Message}
@@ -29,15 +28,16 @@ use Rattle.pfl_wire.specs.declared.message.Message.TheVariants as message
 use Rattle.pfl_queue.specs.declared.Kind.{Kind}
 use Rattle.pfl_queue.specs.declared.Kind.TheVariants.{Insert}
 use Rattle.pfl_queue.specs.Queues.{kind_of, is_requested}
-use Rattle.pfl_merge.specs.declared.Received.{Received}
-use Rattle.pfl_merge.specs.declared.Merged.{Merged}
+use Rattle.pfl_merge.specs.declared.received.Received.{Received}
+use Rattle.pfl_merge.specs.declared.merged.Merged.{Merged}
 use Rattle.pfl_merge.specs.Merging.{merged, stale_src, stale_dst}
 use Rattle.pfl_defer.specs.declared.Held.{Held}
 use Rattle.pfl_defer.specs.Deferring.{pushed_out}
 use Rattle.pfl_bulk.specs.Bulk.{no_name}
 use Rattle.pfl_node.specs.Nodes.{Node}
 use Rattle.pfl_node.specs.Changes.{put_state, without_state, mark, unmark, push_if, counted, is_untold, is_recent, is_insert, is_held, freed, lost, not_waiting, released, changed, deleted, deletion_told, forgotten, ask, tell_status, count_bad, count_stale, count_freed, count_lost, without_held}
-use Rattle.pfl_node.specs.Starting.{Handled, pass, drop, started, judged, by_rule, announced, hold, with_room, with_new, new_state, is_at_max, is_deferred, wire_key}
+use Rattle.pfl_track.specs.Keys.{wire_key}
+use Rattle.pfl_node.specs.Starting.{Handled, pass, drop, started, judged, by_rule, announced, hold, with_room, with_new, new_state, is_at_max, is_deferred}
 use Rattle.pfl_node.specs.Packets.{handled, handled_by, followed, accepted}
 use Rattle.pfl_node.specs.Receiving.{taken, insert_taken, can_import, imported, merge_taken, merged_into, of_state, of_update, bulk_taken, answered, request_taken, ack_taken, delete_taken, is_known, is_not_given, is_delete, cleared_names, status_taken, is_partly_told}
 
@@ -171,7 +171,7 @@ not_not true e = absurd (subst T e tt)
 not_not false e = refl
 
 -- what may be taken over has keys that are not in use
-can_import-unused : (n : Node) (r : StateRecord) → not (can_import n r) ≡ false → key_in_use n.states r.wire r.stack ≡ false
+can_import-unused : (n : Node) (r : StateRecord) → not (can_import n r) ≡ false → key_in_use n.states r.keys.wire r.keys.stack ≡ false
 can_import-unused n r e =
     let all = not_not _ e in
     (or_false _ _ (or_false _ _ all).0).1
@@ -201,11 +201,10 @@ merge-apart n s r k at = go (lost n s.name) (merged s r (timeout n.rules.list s.
         either (x.stale_src || x.stale_dst) _ _ (changed-apart (count_stale m) s (record x.state { ack_wanted = false }) k at calm) (put-known m s (record x.state { ack_wanted = false }) k at calm)
 
 request-apart : (n : Node) (name : StateName) → Apart n → Apart (request_taken n name)
-request-apart n name k = either _ (bulk_taken n) _ (either _ _ _ k k) (on_some (maps.get n.states name) (answered n) _ (λ s at. either _ _ n k k) k)
+request-apart n name k = either _ (bulk_taken n) _ k (on_some (maps.get n.states name) (answered n) _ (λ s at. either _ _ n k k) k)
 
 status-apart : (n : Node) (status : BulkStatus) → Apart n → Apart (status_taken n status)
-status-apart n Start k = k
-status-apart n Finish k = k
+status-apart n status k = k
 
 -- no record brings two states under one key
 pub taken-apart : (n : Node) (same_rules : Bool) (m : Message) → AreStates n.states → AreStates (taken n same_rules m).states

@@ -5,7 +5,7 @@ use Rattle.std.specs.Option.{option_map_or}
 use Rattle.pfl_base.specs.declared.state_name.StateName.{StateName}
 use Rattle.pfl_base.specs.Packets.{is_tcp}
 use Rattle.pfl_edits.specs.Maps as maps
-use Rattle.pfl_track.specs.declared.State.{State}
+use Rattle.pfl_track.specs.declared.state.State.{State}
 use Rattle.pfl_wire.specs.declared.message.BulkStatus.{BulkStatus}
 use Rattle.pfl_queue.specs.declared.Kind.{Kind}
 use Rattle.pfl_queue.specs.declared.Kind.TheVariants.{Insert, InsertAck, UpdateShort, Delete}
@@ -120,12 +120,13 @@ counted n s =
     then push_if (nat_le n.limits.maxupd (min 255 (s.updates + 1))) (put_state n (record s { updates = min 255 (s.updates + 1) }))
     else put_state n s
 
+-- the peer is told of the state by an update, which stands for all that are not sent yet
+abbrev pub told : Node → State → Node
+told n s = if is_untold (kind_of n.queue s.name) then mark (put_state n (record s { updates = 0 })) s.name UpdateShort else counted n s
+
 -- the node with its state s changed by itself
 unfoldable pub changed : Node → State → Node
-changed n s =
-    if s.no_sync then put_state n s else
-    push_if (is_recent n s)
-    (if is_untold (kind_of n.queue s.name) then mark (put_state n (record s { updates = 0 })) s.name UpdateShort else counted n s)
+changed n s = if s.no_sync then put_state n s else push_if (is_recent n s) (told n s)
 
 -- the peer has not heard of it
 abbrev pub is_insert : Option Kind → Bool

@@ -1,13 +1,15 @@
 -- The other events of a node (pf(4), pfsync(4); their forms are this project's profile).
-use Rattle.std.specs.Prelude.{ℕ, ◌+◌, ◌-◌, Bool, true, not, ◌&&◌, ◌||◌, ◌==◌, nat_lt, nat_le, List, [], map, filter, is_none, if◌then◌else◌}
+use Rattle.std.specs.Prelude.{ℕ, ◌+◌, ◌-◌, Bool, true, not, ◌&&◌, ◌||◌, ◌==◌, nat_lt, nat_le, List, [], map, filter, Option, Some, None, is_none, if◌then◌else◌}
 use Rattle.std.specs.List.{fold}
 use Rattle.std.specs.Option.{option_map_or}
 use Rattle.std.specs.Ordering.{is_lt}
 use Rattle.pfl_base.specs.Lists.{in_order, folds}
+use Rattle.pfl_base.specs.declared.refusal.Refusal.{Refusal}
+use Rattle.pfl_base.specs.declared.refusal.Refusal.TheVariants.{ClockFull}
 use Rattle.pfl_base.specs.declared.state_name.StateName.{StateName}
 use Rattle.pfl_base.specs.Names.{name_cmp}
 use Rattle.pfl_edits.specs.Maps as maps
-use Rattle.pfl_track.specs.declared.State.{State}
+use Rattle.pfl_track.specs.declared.state.State.{State}
 use Rattle.pfl_track.specs.Tracking.{expired}
 use Rattle.pfl_wire.specs.declared.message.BulkStatus.TheVariants.{End as Finish}
 use Rattle.pfl_queue.specs.declared.Kind.TheVariants.{Update}
@@ -16,14 +18,18 @@ use Rattle.pfl_defer.specs.Deferring.{due}
 use Rattle.pfl_bulk.specs.Bulk.{no_name, turn_names, is_last_turn, after_turn, first_asked, asks_again, retried, tries_of}
 use Rattle.pfl_bulk.specs.declared.BulkServer.{BulkServer}
 use Rattle.pfl_bulk.specs.declared.BulkServer.TheVariants as server
-use Rattle.pfl_node.specs.declared.Retried.{Retried}
-use Rattle.pfl_node.specs.declared.Retried.TheVariants.{Asked, Served}
-use Rattle.pfl_node.specs.Nodes.{Node, new_node, timeout_of, expiry_at}
+use Rattle.pfl_node.specs.declared.retried.Retried.{Retried}
+use Rattle.pfl_node.specs.declared.retried.Retried.TheVariants.{Asked, Served}
+use Rattle.pfl_node.specs.Nodes.{Node, new_node, timeout_of, expiry_at, last_millisecond}
 use Rattle.pfl_node.specs.Changes.{mark, ask, tell_status, tell_clear, released, deleted, forgotten}
 
 -- the clock goes on
 abbrev pub ticked : Node → ℕ → Node
 ticked n ms = record n { clock = n.clock + ms }
+
+-- it does not go past its last millisecond
+abbrev pub tick_refusal : Node → ℕ → Option Refusal
+tick_refusal n ms = if nat_lt last_millisecond (n.clock + ms) then Some ClockFull else None
 
 -- ---- purge (pf.conf(5), `interval`)
 

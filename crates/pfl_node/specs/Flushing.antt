@@ -5,7 +5,7 @@ use Rattle.std.specs.Option.{option_map_or}
 use Rattle.pfl_base.specs.Lists.{neighbours}
 use Rattle.pfl_base.specs.declared.state_name.StateName.{StateName}
 use Rattle.pfl_edits.specs.Maps as maps
-use Rattle.pfl_track.specs.declared.State.{State}
+use Rattle.pfl_track.specs.declared.state.State.{State}
 use Rattle.pfl_wire.specs.declared.message.StateRecord.{StateRecord}
 use Rattle.pfl_wire.specs.declared.message.UpdateRecord.{UpdateRecord}
 use Rattle.pfl_wire.specs.declared.message.Message.{Message}
@@ -27,8 +27,7 @@ remaining n s = (expiry_at n s - n.clock) / 1000
 abbrev pub state_record : Node → State → StateRecord
 state_record n s = record {
   name = s.name;
-  wire = s.wire;
-  stack = s.stack;
+  keys = record { wire = s.wire; stack = s.stack };
   direction = s.direction;
   ack_wanted = s.ack_wanted;
   src = s.src;

@@ -5,7 +5,7 @@ use Rattle.pfl_base.specs.declared.packet.Packet.{Packet}
 use Rattle.pfl_table.specs.Tables.{AreStates}
 use Rattle.pfl_wire.specs.declared.message.Message.{Message}
 use Rattle.pfl_rules.specs.Rules.{Rules, AreRules}
-use Rattle.pfl_node.specs.declared.Limits.{Limits}
+use Rattle.pfl_node.specs.declared.limits.Limits.{Limits}
 use Rattle.pfl_node.specs.Limits.{AreLimits}
 use Rattle.pfl_node.specs.Nodes.{Node, IsNode, new_node, greatest, last_millisecond}
 use Rattle.pfl_node.specs.Packets.{handled}

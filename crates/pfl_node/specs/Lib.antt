@@ -1,8 +1,12 @@
 pub mod Limits
 pub mod Nodes
+pub mod Codes
+pub mod Edits
+pub mod Kept
 pub mod Changes
 pub mod Starting
 pub mod Packets
+pub mod Demands
 pub mod Receiving
 pub mod Flushing
 pub mod Events

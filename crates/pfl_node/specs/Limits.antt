@@ -1,7 +1,7 @@
 -- The limits of a node and of the link, each with its least and its greatest value (this project's profile).
 use Rattle.std.specs.Prelude.{◌≤◌, ℕ, List, [], ◌∷◌}
 use Rattle.std.specs.List.{AllByRecursion}
-use Rattle.pfl_node.specs.declared.Limits.{Limits}
+use Rattle.pfl_node.specs.declared.limits.Limits.{Limits}
 
 -- each limit with its least and its greatest value
 abbrev pub ranges : Limits → List (ℕ × ℕ × ℕ)

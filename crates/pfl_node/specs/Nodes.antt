@@ -3,12 +3,12 @@ use Rattle.std.specs.Prelude.{◌≡◌, ◌≤◌, ◌<◌, ℕ, Bool, false, n
 use Rattle.std.specs.List.{list_any, slice_get}
 use Rattle.std.specs.Option.{option_map}
 use Rattle.pfl_base.specs.declared.refusal.Refusal.{Refusal}
-use Rattle.pfl_base.specs.declared.refusal.Refusal.TheVariants.{QueueFull, CountFull}
+use Rattle.pfl_base.specs.declared.refusal.Refusal.TheVariants.{QueueFull, CountFull, NoMemory}
 use Rattle.pfl_base.specs.declared.state_name.StateName.{StateName}
 use Rattle.pfl_edits.specs.Maps as maps
 use Rattle.pfl_edits.specs.Maps.{Map}
 use Rattle.pfl_rules.specs.Rules.{Rules, AreRules, timeout}
-use Rattle.pfl_track.specs.declared.State.{State}
+use Rattle.pfl_track.specs.declared.state.State.{State}
 use Rattle.pfl_track.specs.States.{IsState}
 use Rattle.pfl_track.specs.Tracking.{expiry}
 use Rattle.pfl_table.specs.Tables.{States, AreStates}
@@ -21,8 +21,8 @@ use Rattle.pfl_bulk.specs.declared.BulkServer.{BulkServer}
 use Rattle.pfl_bulk.specs.declared.BulkServer.TheVariants as server
 use Rattle.pfl_bulk.specs.declared.BulkClient.{BulkClient}
 use Rattle.pfl_bulk.specs.declared.BulkClient.TheVariants as client
-use Rattle.pfl_node.specs.declared.Limits.{Limits}
-use Rattle.pfl_node.specs.declared.Counters.{Counters}
+use Rattle.pfl_node.specs.declared.limits.Limits.{Limits}
+use Rattle.pfl_node.specs.declared.counters.Counters.{Counters}
 use Rattle.pfl_node.specs.Limits.{AreLimits}
 
 -- a node: its limits and rules never change
@@ -95,6 +95,15 @@ full_tests points = (list_any is_overfull points, QueueFull) ∷ (list_any is_ov
 -- the first refusal whose test holds; the tests stand in the order of the refusals
 abbrev pub refused_by : {R : Type 0} → List (Bool × R) → Option R
 refused_by tests = option_map (λ t. t.1) (find (λ t. t.0) tests)
+
+-- why an event that goes through these points is refused, if there is a reason: the first one
+abbrev pub points_refusal : List Node → Option Refusal
+points_refusal points = refused_by (full_tests points)
+
+-- an event that is refused tells this refusal; where there is none, it wanted memory
+abbrev pub IsRefusal : Option Refusal → Refusal → Type 0
+IsRefusal (Some first) r = r ≡ first
+IsRefusal None r = r ≡ NoMemory
 
 -- ---- what is true of each node
 

@@ -3,12 +3,12 @@ use Rattle.std.specs.Prelude.{false, List, [], ◌∷◌, Option, Some, None}
 use Rattle.pfl_base.specs.declared.direction.Dir.{Dir}
 use Rattle.pfl_base.specs.declared.packet.Packet.{Packet}
 use Rattle.pfl_base.specs.Keys.{key}
-use Rattle.pfl_track.specs.declared.State.{State}
-use Rattle.pfl_track.specs.declared.Tracked.{Tracked}
-use Rattle.pfl_track.specs.declared.Tracked.TheVariants.{Moved, OutOfWindow, Reused}
+use Rattle.pfl_track.specs.declared.state.State.{State}
+use Rattle.pfl_track.specs.declared.tracked.Tracked.{Tracked}
+use Rattle.pfl_track.specs.declared.tracked.Tracked.TheVariants.{Moved, OutOfWindow, Reused}
 use Rattle.pfl_track.specs.Tracking.{tracked}
 use Rattle.pfl_table.specs.Tables.{found}
-use Rattle.pfl_node.specs.declared.Reason.TheVariants as reason
+use Rattle.pfl_node.specs.declared.fate.Reason.TheVariants as reason
 use Rattle.pfl_node.specs.Nodes.{Node}
 use Rattle.pfl_node.specs.Changes.{freed, changed, deleted}
 use Rattle.pfl_node.specs.Starting.{Handled, pass, drop, judged}

@@ -7,7 +7,7 @@ use Rattle.pfl_base.specs.declared.state_name.StateName.{StateName}
 use Rattle.pfl_base.specs.Names.{is_name}
 use Rattle.pfl_edits.specs.Maps as maps
 use Rattle.pfl_rules.specs.Rules.{timeout}
-use Rattle.pfl_track.specs.declared.State.{State}
+use Rattle.pfl_track.specs.declared.state.State.{State}
 use Rattle.pfl_table.specs.Tables.{key_in_use}
 use Rattle.pfl_wire.specs.declared.message.BulkStatus.{BulkStatus}
 use Rattle.pfl_wire.specs.declared.message.BulkStatus.TheVariants.{Start, End as Finish}
@@ -18,11 +18,10 @@ use Rattle.pfl_wire.specs.declared.message.Message.TheVariants as message
 use Rattle.pfl_queue.specs.declared.Kind.{Kind}
 use Rattle.pfl_queue.specs.declared.Kind.TheVariants.{InsertAck, Update, UpdateShort, Delete}
 use Rattle.pfl_queue.specs.Queues.{kind_of}
-use Rattle.pfl_merge.specs.declared.Received.{Received}
-use Rattle.pfl_merge.specs.declared.Merged.{Merged}
+use Rattle.pfl_merge.specs.declared.received.Received.{Received}
+use Rattle.pfl_merge.specs.declared.merged.Merged.{Merged}
 use Rattle.pfl_merge.specs.Merging.{merged, last_use}
-use Rattle.pfl_bulk.specs.declared.BulkClient.TheVariants as client
-use Rattle.pfl_bulk.specs.Bulk.{no_name, started, heard}
+use Rattle.pfl_bulk.specs.Bulk.{no_name, started, after_status}
 use Rattle.pfl_node.specs.Nodes.{Node}
 use Rattle.pfl_node.specs.Changes.{put_state, mark, push_if, ask, tell_status, count_bad, count_stale, lost, released, changed, forgotten}
 
@@ -45,7 +44,7 @@ is_delete _ = false
 abbrev pub can_import : Node → StateRecord → Bool
 can_import n r = not (
     is_known n r.name || is_not_given n r.name || is_delete (kind_of n.queue r.name)
-    || key_in_use n.states r.wire r.stack || nat_le n.limits.states (maps.len n.states))
+    || key_in_use n.states r.keys.wire r.keys.stack || nat_le n.limits.states (maps.len n.states))
 
 -- a rule number means a rule only under the same rules
 abbrev pub kept_rule : Node → Bool → Option ℕ → Option ℕ
@@ -57,8 +56,8 @@ imported n same_rules r =
     let rule = kept_rule n same_rules r.rule in
     record {
       name = r.name;
-      wire = r.wire;
-      stack = r.stack;
+      wire = r.keys.wire;
+      stack = r.keys.stack;
       direction = r.direction;
       src = r.src;
       dst = r.dst;
@@ -101,12 +100,13 @@ of_update u = record { src = u.src; dst = u.dst; class = u.class; remaining = u.
 
 -- ---- requests and bulk updates
 
+-- it has states to send
+abbrev pub has_states : Node → Bool
+has_states n = nat_lt 0 (maps.len n.states)
+
 -- all states are asked for: a node without states is done at once
 abbrev pub bulk_taken : Node → Node
-bulk_taken n =
-    if nat_lt 0 (maps.len n.states)
-    then record (tell_status n Start) { server = started n.clock }
-    else tell_status n Finish
+bulk_taken n = record (tell_status n (if has_states n then Start else Finish)) { server = started n.server (has_states n) n.clock }
 
 -- on no queue, or on one that tells less than the whole state
 abbrev pub is_partly_told : Option Kind → Bool
@@ -144,8 +144,7 @@ clear_taken n creator bound = fold forgotten n (cleared_names n creator bound)
 
 -- a bulk status: the client was heard, or is done
 abbrev pub status_taken : Node → BulkStatus → Node
-status_taken n Start = record n { client = heard n.client n.clock }
-status_taken n Finish = record n { client = client.Idle }
+status_taken n status = record n { client = after_status n.client status n.clock }
 
 -- the node after a record of the peer's; same_rules says that the peer's rules are the node's own
 unfoldable pub taken : Node → Bool → Message → Node

@@ -4,25 +4,23 @@ use Rattle.std.specs.Prelude.{ℕ, ◌+◌, Bool, true, false, ◌&&◌, nat_le,
 use Rattle.std.specs.Option.{option_map_or}
 use Rattle.pfl_base.specs.declared.direction.Dir.{Dir}
 use Rattle.pfl_base.specs.declared.direction.Dir.TheVariants.{Outbound}
-use Rattle.pfl_base.specs.declared.addr.End.{End}
 use Rattle.pfl_base.specs.declared.flow.Key.{Key}
 use Rattle.pfl_base.specs.declared.packet.Packet.{Packet}
-use Rattle.pfl_base.specs.declared.proto.Proto.{Proto}
-use Rattle.pfl_base.specs.declared.proto.Proto.TheVariants.{Icmp, Other}
 use Rattle.pfl_base.specs.declared.state_name.StateName.{StateName}
 use Rattle.pfl_base.specs.Keys.{key, is_dir}
 use Rattle.pfl_edits.specs.Maps as maps
-use Rattle.pfl_rules.specs.declared.Rule.{Rule}
+use Rattle.pfl_rules.specs.declared.rule.Rule.{Rule}
 use Rattle.pfl_rules.specs.Rules.{verdict, rule_at}
-use Rattle.pfl_track.specs.declared.State.{State}
+use Rattle.pfl_track.specs.declared.state.State.{State}
+use Rattle.pfl_track.specs.Keys.{wire_key}
 use Rattle.pfl_track.specs.Tracking.{start_state}
 use Rattle.pfl_table.specs.Tables.{key_in_use, count_of_rule}
 use Rattle.pfl_queue.specs.declared.Kind.TheVariants.{Insert}
 use Rattle.pfl_defer.specs.Deferring.{pushed_out, with_held}
-use Rattle.pfl_node.specs.declared.Fate.{Fate}
-use Rattle.pfl_node.specs.declared.Fate.TheVariants as fate
-use Rattle.pfl_node.specs.declared.Reason.{Reason}
-use Rattle.pfl_node.specs.declared.Reason.TheVariants as reason
+use Rattle.pfl_node.specs.declared.fate.Fate.{Fate}
+use Rattle.pfl_node.specs.declared.fate.Fate.TheVariants as fate
+use Rattle.pfl_node.specs.declared.fate.Reason.{Reason}
+use Rattle.pfl_node.specs.declared.fate.Reason.TheVariants as reason
 use Rattle.pfl_node.specs.Nodes.{Node}
 use Rattle.pfl_node.specs.Changes.{put_state, mark, push_if, count_passed, count_blocked, released}
 
@@ -38,16 +36,6 @@ pass n name = record { fate = fate.Pass name; node = count_passed n }
 -- the packet is dropped
 abbrev pub drop : Node → Reason → Handled
 drop n why = record { fate = fate.Dropped why; node = count_blocked n }
-
--- the wire key of a translation to e: (pf.conf(5), `nat`); ICMP has e's port as its identifier, and protocols without ports have none (this project's profile)
-abbrev pub translated_to : Key → End → Proto → Key
-translated_to k e Icmp = record k { far = record k.far { port = e.port }; near = e }
-translated_to k e (Other n) = record k { near = record e { port = 0 } }
-translated_to k e _ = record k { near = e }
-
--- the key on the wire
-abbrev pub wire_key : Key → Option End → Key
-wire_key k nat = option_map_or (λ e. translated_to k e k.proto) nat k
 
 -- the rule has as many states as it may
 abbrev pub is_at_max : Node → ℕ → Rule → Bool

@@ -1,10 +1,10 @@
 -- Worked examples of full queues, computed.
-use Rattle.std.specs.Prelude.{◌≡◌, Some, None, refl}
+use Rattle.std.specs.Prelude.{◌≡◌, true, false, Some, None, refl}
 use Rattle.pfl_base.specs.declared.state_name.StateName.{StateName}
 use Rattle.pfl_edits.specs.Maps as maps
 use Rattle.pfl_queue.specs.declared.Kind.TheVariants.{Insert}
 use Rattle.pfl_queue.specs.declared.QueueFault.TheVariants.{QueueFull, CountFull}
-use Rattle.pfl_queue.specs.Queues.{empty_queue, mark_fault, marked, requested, request_fault}
+use Rattle.pfl_queue.specs.Queues.{empty_queue, is_counted_out, room_fault, mark_fault, marked, requested, request_fault}
 
 abbrev name : StateName
 name = record { creator = 1; id = 1 }
@@ -15,6 +15,24 @@ other = record { creator = 1; id = 2 }
 last_number : mark_fault (empty_queue 4 4294967295) name ≡ Some CountFull
 unfolding maps.computing
 last_number = refl
+
+one_before_the_last : mark_fault (empty_queue 4 4294967294) name ≡ None
+unfolding maps.computing
+one_before_the_last = refl
+
+room_past_the_last : room_fault (empty_queue 4 4294967295) name ≡ None
+unfolding maps.computing
+room_past_the_last = refl
+
+counted_out : is_counted_out (marked (empty_queue 4 4294967295) name Insert) ≡ true
+counted_out = refl
+
+not_yet : is_counted_out (marked (empty_queue 4 4294967294) name Insert) ≡ false
+not_yet = refl
+
+full_after_the_last : room_fault (marked (empty_queue 1 4294967295) name Insert) other ≡ Some QueueFull
+unfolding maps.computing
+full_after_the_last = refl
 
 full : mark_fault (marked (empty_queue 1 1) name Insert) other ≡ Some QueueFull
 unfolding maps.computing

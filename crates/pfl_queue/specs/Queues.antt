@@ -1,13 +1,17 @@
 -- The pending queues: names with a kind and a number, and lists of requests, statuses and clears (pfsync(4); the numbers are
 -- this project's profile).
-use Rattle.std.specs.Prelude.{◌≡◌, ◌≤◌, ◌<◌, ℕ, ◌+◌, Bool, not, ◌&&◌, nat_le, List, [], ◌∷◌, ◌++◌, length, Option, Some, None, is_some, if◌then◌else◌}
+use Rattle.std.specs.Prelude.{◌≡◌, ◌≤◌, ◌<◌, ℕ, ◌+◌, ◌^◌, Bool, not, ◌&&◌, nat_lt, nat_le, List, [], ◌∷◌, ◌++◌, length, refl, Option, Some, None, is_some, if◌then◌else◌}
 use Rattle.std.specs.List.{list_any, IsDistinct}
 use Rattle.std.specs.Option.{option_map}
+use Rattle.std.specs.Coded.{Coded, code_by, coded×, coded_ℕ, coded_list}
 use Rattle.pfl_base.specs.declared.state_name.StateName.{StateName}
-use Rattle.pfl_base.specs.Names.{name_cmp, is_name}
+use Rattle.pfl_base.specs.Names.{name_cmp, is_name, coded_state_name}
 use Rattle.pfl_edits.specs.Maps as maps
 use Rattle.pfl_edits.specs.Maps.{Map}
+use Rattle.pfl_wire.specs.contracts.message.BulkStatus as status_type
 use Rattle.pfl_wire.specs.declared.message.BulkStatus.{BulkStatus}
+use Rattle.pfl_queue.specs.contracts.Cleared as cleared_type
+use Rattle.pfl_queue.specs.contracts.Mark as mark_type
 use Rattle.pfl_queue.specs.declared.Kind.{Kind}
 use Rattle.pfl_queue.specs.declared.Mark.{Mark}
 use Rattle.pfl_queue.specs.declared.Cleared.{Cleared}
@@ -23,9 +27,27 @@ pub record Queue : Type 0 where
   pub statuses : List BulkStatus
   pub clears : List Cleared
 
+-- as its six fields
+abbrev pub coded_queue : Coded Queue
+coded_queue =
+    code_by (ℕ × (ℕ × (Map name_cmp Mark × (List StateName × (List BulkStatus × List Cleared)))))
+    (coded× coded_ℕ (coded× coded_ℕ (coded× (maps.code coded_state_name mark_type.the_row.coded) (coded× (coded_list coded_state_name) (coded× (coded_list status_type.the_row.coded) (coded_list cleared_type.the_row.coded))))))
+    (λ q. (q.limit, (q.next, (q.marks, (q.requests, (q.statuses, q.clears))))))
+    (λ p. record { limit = p.0; next = p.1.0; marks = p.1.1.0; requests = p.1.1.1.0; statuses = p.1.1.1.1.0; clears = p.1.1.1.1.1 })
+    (λ _. refl)
+
 -- how much is pending
 abbrev pub pending : Queue → ℕ
 pending q = maps.len q.marks + length q.requests + length q.statuses + length q.clears
+
+-- Inside an event numbers may pass the greatest, 4294967295, since an event is judged as it would go: this is only a bound that
+-- no event comes near.
+abbrev pub most_numbers : ℕ
+most_numbers = 2 ^ 63
+
+-- the numbers have passed the greatest
+abbrev pub is_counted_out : Queue → Bool
+is_counted_out q = nat_lt 4294967295 q.next
 
 -- the pending queues: each mark under its own name with a number of its own below the next one, and no request twice
 pub record IsQueue (q : Queue) : Type 0 where
@@ -34,7 +56,7 @@ pub record IsQueue (q : Queue) : Type 0 where
   pub below : (n : StateName) (m : Mark) → maps.get q.marks n ≡ Some m → m.number < q.next
   pub one_number : (n o : StateName) (m k : Mark) → maps.get q.marks n ≡ Some m → maps.get q.marks o ≡ Some k → m.number ≡ k.number → n ≡ o
   pub asked_once : IsDistinct is_name q.requests
-  pub countable : q.next ≤ 4294967295
+  pub countable : q.next ≤ most_numbers
 
 -- nothing is pending, and the next number is this
 abbrev pub empty_queue : ℕ → ℕ → Queue
@@ -67,6 +89,10 @@ with_status q status = record q { statuses = q.statuses ++ status ∷ [] }
 -- the clear listed
 abbrev pub with_clear : Queue → ℕ → ℕ → Queue
 with_clear q creator bound = record q { clears = q.clears ++ record { creator = creator; bound = bound } ∷ [] }
+
+-- why there is no room to mark a name: one that is marked already takes none
+abbrev pub room_fault : Queue → StateName → Option QueueFault
+room_fault q name = if not (is_some (maps.get q.marks name)) && nat_le q.limit (pending q) then Some QueueFull else None
 
 -- why a name may not be marked, if there is a reason: the first one
 abbrev pub mark_fault : Queue → StateName → Option QueueFault

@@ -1,10 +1,10 @@
 -- Worked examples, computed.
 use Rattle.std.specs.Prelude.{◌≡◌, false, Some, None, [], ◌∷◌, replicate, refl, codes}
-use Rattle.pfl_rules.specs.declared.Rule.{Rule}
-use Rattle.pfl_rules.specs.declared.Action.TheVariants.{Pass}
+use Rattle.pfl_rules.specs.declared.rule.Rule.{Rule}
+use Rattle.pfl_rules.specs.declared.action.Action.TheVariants.{Pass}
 use Rattle.pfl_base.specs.declared.addr.Addr.TheVariants.{V4}
-use Rattle.pfl_rules.specs.declared.RuleDir.TheVariants.{Out, Any}
-use Rattle.pfl_rules.specs.declared.RuleFault.TheVariants.{TooMany, NatNotOut, ZeroMax}
+use Rattle.pfl_rules.specs.declared.rule_dir.RuleDir.TheVariants.{Out, Any}
+use Rattle.pfl_rules.specs.declared.fault.RuleFault.TheVariants.{TooMany, NatNotOut, ZeroMax}
 use Rattle.pfl_rules.specs.Rules.{rule_fault}
 use Rattle.pfl_rules.specs.Texts.{canonical_text}
 use Rattle.md5.specs.Md5.{md5, digest_bytes, hash_after, compress, rounds, block_words}

@@ -1,33 +1,16 @@
 -- Which packets a rule matches (pf.conf(5)).
-use Rattle.std.specs.Prelude.{ℕ, ◌-◌, ◌/◌, ◌^◌, Bool, true, false, not, ◌&&◌, ◌||◌, ◌==◌, nat_le, Option, Some, None, is_some, if◌then◌else◌}
-use Rattle.pfl_base.specs.declared.addr.Addr.{Addr}
-use Rattle.pfl_base.specs.declared.addr.Addr.TheVariants.{V4, V6}
+use Rattle.std.specs.Prelude.{Bool, true, false, not, ◌&&◌, ◌||◌, ◌==◌, Option, Some, None, is_some}
 use Rattle.pfl_base.specs.declared.direction.Dir.{Dir}
 use Rattle.pfl_base.specs.declared.direction.Dir.TheVariants.{Inbound, Outbound}
 use Rattle.pfl_base.specs.declared.packet.Packet.{Packet}
 use Rattle.pfl_base.specs.Ends.{same_family, proto_number}
 use Rattle.pfl_base.specs.Packets.{is_tcp, has_ports, is_request}
-use Rattle.pfl_rules.specs.declared.Action.{Action}
-use Rattle.pfl_rules.specs.declared.Action.TheVariants.{Pass, Block}
-use Rattle.pfl_rules.specs.declared.RuleDir.{RuleDir}
-use Rattle.pfl_rules.specs.declared.RuleDir.TheVariants.{In, Out, Any}
-use Rattle.pfl_rules.specs.declared.Net.{Net}
-use Rattle.pfl_rules.specs.declared.Rule.{Rule}
-
--- how many bits an address has (RFC 791, RFC 8200)
-abbrev pub addr_bits : Addr → ℕ
-addr_bits (V4 a) = 32
-addr_bits (V6 a) = 128
-
--- the net of the first `len` bits, if an address has so many
-abbrev pub net_of : Addr → ℕ → Option Net
-net_of addr len = if nat_le len (addr_bits addr) then Some (record { addr = addr; len = len }) else None
-
--- the address begins with the net's bits; one of the other family does not
-abbrev pub in_net : Addr → ℕ → Addr → Bool
-in_net (V4 net) len (V4 a) = (a / 2 ^ (32 - len)) == (net / 2 ^ (32 - len))
-in_net (V6 net) len (V6 a) = (a / 2 ^ (128 - len)) == (net / 2 ^ (128 - len))
-in_net _ len _ = false
+use Rattle.pfl_rules.specs.declared.action.Action.{Action}
+use Rattle.pfl_rules.specs.declared.action.Action.TheVariants.{Pass, Block}
+use Rattle.pfl_rules.specs.declared.rule_dir.RuleDir.{RuleDir}
+use Rattle.pfl_rules.specs.declared.rule_dir.RuleDir.TheVariants.{In, Out, Any}
+use Rattle.pfl_rules.specs.declared.rule.Rule.{Rule}
+use Rattle.pfl_rules.specs.Nets.{in_net}
 
 -- the rule is for this way
 abbrev pub goes : RuleDir → Dir → Bool

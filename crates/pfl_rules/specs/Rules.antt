@@ -8,12 +8,12 @@ use Rattle.pfl_base.specs.declared.class.Class.{Class}
 use Rattle.pfl_base.specs.Classes.{class_number, default_timeout}
 use Rattle.pfl_base.specs.Lists.{up_to_first, last_of}
 use Rattle.md5.specs.Md5.{md5}
-use Rattle.pfl_rules.specs.declared.Rule.{Rule}
-use Rattle.pfl_rules.specs.declared.RuleDir.{RuleDir}
-use Rattle.pfl_rules.specs.declared.RuleDir.TheVariants.{Out}
-use Rattle.pfl_rules.specs.declared.RuleFault.{RuleFault}
-use Rattle.pfl_rules.specs.declared.RuleFault.TheVariants.{TooMany, NatNotOut, ZeroMax}
-use Rattle.pfl_rules.specs.declared.Verdict.{Verdict}
+use Rattle.pfl_rules.specs.declared.rule.Rule.{Rule}
+use Rattle.pfl_rules.specs.declared.rule_dir.RuleDir.{RuleDir}
+use Rattle.pfl_rules.specs.declared.rule_dir.RuleDir.TheVariants.{Out}
+use Rattle.pfl_rules.specs.declared.fault.RuleFault.{RuleFault}
+use Rattle.pfl_rules.specs.declared.fault.RuleFault.TheVariants.{TooMany, NatNotOut, ZeroMax}
+use Rattle.pfl_rules.specs.declared.verdict.Verdict.{Verdict}
 use Rattle.pfl_rules.specs.Matching.{matches, is_pass}
 use Rattle.pfl_rules.specs.Texts.{canonical_text}
 

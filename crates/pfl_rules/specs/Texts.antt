@@ -5,12 +5,12 @@ use Rattle.std.specs.Fmt.{decimal}
 use Rattle.pfl_base.specs.declared.class.Class.{Class}
 use Rattle.pfl_base.specs.Classes.{classes}
 use Rattle.pfl_base.specs.Texts.{address_text, end_text, proto_text, class_text}
-use Rattle.pfl_rules.specs.declared.Action.{Action}
-use Rattle.pfl_rules.specs.declared.Action.TheVariants.{Pass, Block}
-use Rattle.pfl_rules.specs.declared.RuleDir.{RuleDir}
-use Rattle.pfl_rules.specs.declared.RuleDir.TheVariants.{In, Out, Any}
-use Rattle.pfl_rules.specs.declared.Net.{Net}
-use Rattle.pfl_rules.specs.declared.Rule.{Rule}
+use Rattle.pfl_rules.specs.declared.action.Action.{Action}
+use Rattle.pfl_rules.specs.declared.action.Action.TheVariants.{Pass, Block}
+use Rattle.pfl_rules.specs.declared.rule_dir.RuleDir.{RuleDir}
+use Rattle.pfl_rules.specs.declared.rule_dir.RuleDir.TheVariants.{In, Out, Any}
+use Rattle.pfl_rules.specs.declared.net.Net.{Net}
+use Rattle.pfl_rules.specs.declared.rule.Rule.{Rule}
 
 -- an address and a number of bits
 abbrev pub net_text : Net → List ℕ
@@ -53,10 +53,14 @@ rule_words r =
     ++ option_words (codes "nat") end_text r.nat
     ++ flat_map timeout_words (zip classes r.timeouts)
 
--- the words joined by one space, and a line feed
-abbrev pub rule_text : Rule → List ℕ
-rule_text r = join_with_byte 32 (rule_words r) ++ 10 ∷ []
+-- the words joined by one space
+abbrev pub rule_line : Rule → List ℕ
+rule_line r = join_with_byte 32 (rule_words r)
 
--- the text whose MD5 is the checksum
+-- the rule in a line of its own
+abbrev pub rule_text : Rule → List ℕ
+rule_text r = rule_line r ++ 10 ∷ []
+
+-- the text whose MD5 is the checksum: each rule in a line of its own
 unfoldable pub canonical_text : List Rule → List ℕ
 canonical_text rules = flat_map rule_text rules

@@ -13,10 +13,10 @@ use Rattle.pfl_base.specs.Ends.{is_addr, is_end}
 use Rattle.pfl_base.specs.Keys.{is_key}
 use Rattle.pfl_base.specs.Names.{names_total, names_exact}
 use Rattle.pfl_edits.specs.Maps as maps
-use Rattle.pfl_edits.specs.Places.{get-set_at_cases, get-set_at_same, get-set_at_other}
+use Rattle.pfl_edits.specs.Places.{get-set_at_cases}
 use Rattle.pfl_edits.specs.Rows.{some_is_none}
-use Rattle.pfl_edits.specs.Scans.{first_value, first_value-stands, no_value_passes}
-use Rattle.pfl_track.specs.declared.State.{State}
+use Rattle.pfl_edits.specs.Scans.{first_value-stands, no_value_passes}
+use Rattle.pfl_track.specs.declared.state.State.{State}
 use Rattle.pfl_table.specs.Tables.{States, AreStates, by_wire, by_stack, found, key_in_use}
 
 -- ---- a key is itself

@@ -1,1 +1,5 @@
 pub mod Apart
+pub mod Expiring
+pub mod Rowed
+pub mod Scanned
+pub mod Setting

@@ -1,21 +1,28 @@
--- The table of states: a map from names, with one state for each wire key and each stack key (pf(4)).
-use Rattle.std.specs.Prelude.{◌≡◌, ℕ, Bool, false, ◌&&◌, ◌||◌, ◌==◌, nat_lt, nat_le, find, Option, Some, None, is_some, if◌then◌else◌}
+-- The table of states: a map from names, with one state for each wire key and each stack key (pf(4)), and the edits of it.
+use Rattle.std.specs.Prelude.{◌≡◌, ◌≤◌, ℕ, Bool, false, ◌&&◌, ◌||◌, ◌==◌, nat_lt, nat_le, find, List, codes, [], ◌∷◌, map, filter, Option, Some, None, is_some, if◌then◌else◌, refl}
 use Rattle.std.specs.List.{count_by, slice_get}
-use Rattle.std.specs.Option.{option_map_or}
+use Rattle.std.specs.Option.{option_map, option_map_or}
 use Rattle.std.specs.Ordering.{is_lt}
+use Rattle.std.specs.Coded.{Coded, code_by, coded×, coded_ℕ}
+use Rattle.std.proofs.Common.{◌∙◌, ap, subst}
 use Rattle.pfl_base.specs.Lists.{in_order}
 use Rattle.pfl_base.specs.declared.direction.Dir.{Dir}
 use Rattle.pfl_base.specs.declared.direction.Dir.TheVariants.{Inbound, Outbound}
 use Rattle.pfl_base.specs.declared.flow.Key.{Key}
 use Rattle.pfl_base.specs.declared.state_name.StateName.{StateName}
 use Rattle.pfl_base.specs.Keys.{is_key}
-use Rattle.pfl_base.specs.Names.{name_cmp}
+use Rattle.pfl_base.specs.Names.{name_cmp, names_total, names_exact, coded_state_name}
+use Rattle.pfl_edits.specs.Changes.{LeadsBack, LeadsBack-one, LeadsBothWays}
 use Rattle.pfl_edits.specs.Maps as maps
-use Rattle.pfl_edits.specs.Maps.{Map}
-use Rattle.pfl_track.specs.declared.State.{State}
-use Rattle.pfl_table.specs.declared.Row.{Row}
-use Rattle.pfl_table.specs.declared.PutFault.{PutFault}
-use Rattle.pfl_table.specs.declared.PutFault.TheVariants.{Full, NameInUse, WireInUse, StackInUse}
+use Rattle.pfl_edits.specs.Maps.{Map, set_at}
+use Rattle.pfl_edits.specs.Places.{part-both_ways, key-both_ways, get-set_at_same, set_at-back}
+use Rattle.pfl_track.specs.declared.state.State.{State}
+use Rattle.pfl_table.specs.declared.row.Row.{Row}
+use Rattle.pfl_table.specs.declared.fault.PutFault.{PutFault}
+use Rattle.pfl_table.specs.declared.fault.PutFault.TheVariants.{Full, NameInUse, WireInUse, StackInUse}
+use Rattle.pfl_table.specs.declared.edit.TableEdit.{TableEdit}
+use Rattle.pfl_table.specs.contracts.row.Row as row
+use Rattle.pfl_table.specs.Mapped.{map_values, map_values-empty, map_values-set_at, get-map_values, keys-map_values, len-map_values, values-map_values}
 
 -- states by name
 abbrev pub States : Type 0
@@ -55,6 +62,19 @@ pub record Table : Type 0 where
   pub limit : ℕ
   pub rows : Map name_cmp Row
 
+-- as a pair of a number and a map
+abbrev pub coded_table : Coded Table
+coded_table = code_by (ℕ × Map name_cmp Row) (coded× coded_ℕ (maps.code coded_state_name row.the_row.coded)) (λ t. (t.limit, t.rows)) (λ p. record { limit = p.0; rows = p.1 }) (λ _. refl)
+
+-- its states
+abbrev pub states_of : Table → States
+states_of t = map_values (λ r. r.state) t.rows
+
+-- a table: at most `limit` states, each under its own name, and no two with one wire key or one stack key
+pub record IsTable (t : Table) : Type 0 where
+  pub few : maps.len t.rows ≤ t.limit
+  pub states : AreStates (states_of t)
+
 -- by expiry, then by name
 abbrev pub row_before : Row → Row → Bool
 row_before r q = nat_lt r.expires q.expires || ((r.expires == q.expires) && is_lt (name_cmp r.state.name q.state.name))
@@ -63,10 +83,102 @@ row_before r q = nat_lt r.expires q.expires || ((r.expires == q.expires) && is_l
 abbrev pub first_expiring : Table → Option Row
 first_expiring t = slice_get (in_order row_before (maps.values t.rows)) 0
 
+-- the rows whose names are above this one
+abbrev pub rows_after : Table → StateName → List Row
+rows_after t name = filter (λ r. is_lt (name_cmp name r.state.name)) (maps.values t.rows)
+
 -- why a state may not be put, if there is a reason: the first one
 abbrev pub put_fault : Table → State → Option PutFault
 put_fault t s =
     if nat_le t.limit (maps.len t.rows) then Some Full else
-    if is_some (maps.get t.rows s.name) then Some NameInUse else
-    if is_some (find (λ r. is_key r.state.wire s.wire) (maps.values t.rows)) then Some WireInUse else
-    if is_some (find (λ r. is_key r.state.stack s.stack) (maps.values t.rows)) then Some StackInUse else None
+    if is_some (maps.get (states_of t) s.name) then Some NameInUse else
+    if is_some (by_wire (states_of t) s.wire) then Some WireInUse else
+    if is_some (by_stack (states_of t) s.stack) then Some StackInUse else None
+
+-- their numbers
+abbrev pub put_fault_number : PutFault → ℕ
+put_fault_number Full = 1
+put_fault_number NameInUse = 2
+put_fault_number WireInUse = 3
+put_fault_number StackInUse = 4
+
+-- the fault in words (this project's profile)
+abbrev pub put_fault_text : PutFault → List ℕ
+put_fault_text Full = codes "the table is full"
+put_fault_text NameInUse = codes "the name is in use"
+put_fault_text WireInUse = codes "the wire key is in use"
+put_fault_text StackInUse = codes "the stack key is in use"
+
+-- ---- edits: each names one place, that of a name
+
+-- the table with this under the name
+abbrev pub with_row : Table → StateName → Option Row → Table
+with_row t name at = record { limit = t.limit; rows = set_at t.rows name at }
+
+-- the edit of setting this under the name
+abbrev pub edit_of : Table → StateName → Option Row → TableEdit
+edit_of t name at = record { name = name; before = maps.get t.rows name; after = at }
+
+-- the edit's new value is in its place
+abbrev pub Finds : TableEdit → Table → Type 0
+Finds e t = maps.get t.rows e.name ≡ e.after
+
+-- its former value is
+abbrev pub FindsFormer : TableEdit → Table → Type 0
+FindsFormer e t = maps.get t.rows e.name ≡ e.before
+
+-- the former value in its place
+abbrev pub put_back : TableEdit → Table → Table
+put_back e t = with_row t e.name e.before
+
+-- the new value in its place
+abbrev pub redone : TableEdit → Table → Table
+redone e t = with_row t e.name e.after
+
+-- the edits lead from one table to another and back
+abbrev pub TableLeadsBack : List TableEdit → Table → Table → Type 0
+TableLeadsBack = LeadsBack Finds IsTable put_back
+
+-- an edit knows both values of its place
+pub table-both_ways : (e : TableEdit) → LeadsBothWays (FindsFormer e) (Finds e) (put_back e) (redone e)
+table-both_ways e =
+    part-both_ways (λ (t : Table). t.rows) (λ t m. record { limit = t.limit; rows = m }) (λ t m. refl) (λ t. refl) (λ t m n. refl)
+    (λ m. maps.get m e.name ≡ e.before) (λ m. maps.get m e.name ≡ e.after) (λ m. set_at m e.name e.before) (λ m. set_at m e.name e.after)
+    (key-both_ways names_total names_exact e.name e.before e.after)
+
+-- the edit of what was set under a name leads back
+pub edit_of-leads_back : (t : Table) (name : StateName) (at : Option Row) → IsTable t → TableLeadsBack (edit_of t name at ∷ []) t (with_row t name at)
+edit_of-leads_back t name at is =
+    LeadsBack-one Finds IsTable put_back (edit_of t name at) t (with_row t name at)
+    (get-set_at_same names_total names_exact t.rows name at) is
+    (ap (λ m. record { limit = t.limit; rows = m }) (set_at-back names_total names_exact t.rows name (maps.get t.rows name) at refl))
+
+-- ---- the states of a table
+
+-- what stands under a name
+pub get-states_of : (t : Table) (name : StateName) → maps.get (states_of t) name ≡ option_map (λ r. r.state) (maps.get t.rows name)
+get-states_of t name = get-map_values name_cmp (λ r. r.state) t.rows name
+
+-- a row that is set sets its state
+pub states_of-with_row : (t : Table) (name : StateName) (at : Option Row) → states_of (with_row t name at) ≡ set_at (states_of t) name (option_map (λ r. r.state) at)
+states_of-with_row t name at = map_values-set_at names_total names_exact (λ r. r.state) t.rows name at
+
+-- as many states as rows
+pub len-states_of : (t : Table) → maps.len (states_of t) ≡ maps.len t.rows
+len-states_of t = len-map_values name_cmp (λ r. r.state) t.rows
+
+-- in the order of the names, they are those of the rows
+pub values-states_of : (t : Table) → maps.values (states_of t) ≡ map (λ r. r.state) (maps.values t.rows)
+values-states_of t = values-map_values name_cmp (λ r. r.state) t.rows
+
+-- their names are those of the rows
+pub keys-states_of : (t : Table) → maps.keys (states_of t) ≡ maps.keys t.rows
+keys-states_of t = keys-map_values name_cmp (λ r. r.state) t.rows
+
+-- what makes a table is said of its states alone
+pub IsTable-states : (t : Table) → maps.len (states_of t) ≤ t.limit → AreStates (states_of t) → IsTable t
+IsTable-states t few are = record { few = subst (λ (n : ℕ). n ≤ t.limit) (len-states_of t) few; states = are }
+
+-- a table without rows has none
+pub states_of-empty : (t : Table) → t.rows ≡ maps.empty → states_of t ≡ maps.empty
+states_of-empty t none = ap (map_values (λ r. r.state)) none ∙ map_values-empty name_cmp (λ r. r.state)

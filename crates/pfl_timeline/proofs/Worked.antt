@@ -4,11 +4,11 @@ use Rattle.pfl_base.specs.declared.direction.Dir.TheVariants.{Outbound}
 use Rattle.pfl_base.specs.declared.node_id.NodeId.TheVariants.{A}
 use Rattle.pfl_base.specs.declared.packet.Packet.{Packet}
 use Rattle.pfl_base.specs.declared.refusal.Refusal.TheVariants as refusal
-use Rattle.pfl_world.specs.declared.Event.{Event}
-use Rattle.pfl_world.specs.declared.Event.TheVariants as event
+use Rattle.pfl_world.specs.declared.event.Event.{Event}
+use Rattle.pfl_world.specs.declared.event.Event.TheVariants as event
 use Rattle.pfl_world.specs.Outcomes as outcome
 use Rattle.pfl_world.proofs.Lab.{limits, opening, u1, u2, u3, name, computing as of_worlds}
-use Rattle.pfl_timeline.specs.declared.Refused.TheVariants as refused
+use Rattle.pfl_timeline.specs.declared.refused.Refused.TheVariants as refused
 use Rattle.pfl_timeline.specs.Timelines.{Timeline, new_timeline, main_name}
 use Rattle.pfl_timeline.specs.Timelines as timelines
 use Rattle.pfl_timeline.specs.Commands as commands

@@ -3,14 +3,14 @@ use Rattle.std.specs.Prelude.{ℕ, ◌+◌, ◌-◌, Bool, not, nat_lt, nat_le, 
 use Rattle.std.specs.List.{fold}
 use Rattle.std.specs.Option.{option_map_or}
 use Rattle.pfl_base.specs.declared.refusal.Refusal.{Refusal}
-use Rattle.pfl_world.specs.declared.Event.{Event}
+use Rattle.pfl_world.specs.declared.event.Event.{Event}
 use Rattle.pfl_node.specs.Nodes.{refused_by}
 use Rattle.pfl_world.specs.Outcomes.{Stepped}
 use Rattle.pfl_world.specs.Events.{step}
-use Rattle.pfl_timeline.specs.declared.Command.{Command}
-use Rattle.pfl_timeline.specs.declared.Command.TheVariants as command
-use Rattle.pfl_timeline.specs.declared.Refused.{Refused}
-use Rattle.pfl_timeline.specs.declared.Refused.TheVariants as refused
+use Rattle.pfl_timeline.specs.declared.command.Command.{Command}
+use Rattle.pfl_timeline.specs.declared.command.Command.TheVariants as command
+use Rattle.pfl_timeline.specs.declared.refused.Refused.{Refused}
+use Rattle.pfl_timeline.specs.declared.refused.Refused.TheVariants as refused
 use Rattle.pfl_timeline.specs.Replies.{Reply, Stepped as StepReply, At, Forked, Removed, Shown, Names, Refused as Refusing, Replied}
 use Rattle.pfl_timeline.specs.Timelines.{Branch, Timeline, branch_of, same_name, is_branch_name, standing, world_of}
 

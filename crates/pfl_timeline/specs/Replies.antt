@@ -2,7 +2,7 @@
 use Rattle.std.specs.Prelude.{ℕ, List}
 use Rattle.pfl_world.specs.Outcomes.{Outcome}
 use Rattle.pfl_world.specs.Worlds.{World}
-use Rattle.pfl_timeline.specs.declared.Refused.{Refused as Refusal}
+use Rattle.pfl_timeline.specs.declared.refused.Refused.{Refused as Refusal}
 use Rattle.pfl_timeline.specs.Timelines.{Timeline}
 
 -- a reply; the code's enum has those of the commands that it has

@@ -1,5 +1,5 @@
 -- Words in arrays that are filled up with zeros (this project's profile).
-use Rattle.std.specs.Prelude.{◌≡◌, ◌≤◌, ℕ, ◌-◌, List, ◌++◌, length, take, drop, replicate}
+use Rattle.std.specs.Prelude.{◌≡◌, ◌≤◌, ℕ, ◌-◌, nat_lt, List, ◌++◌, length, take, drop, replicate, Option, Some, None, if◌then◌else◌}
 use Rattle.std.proofs.Common.{arith, ap, sym, ◌∙◌}
 use Rattle.std.proofs.lemmas.List.{take-append-drop, length-take-le}
 
@@ -8,6 +8,10 @@ pub record IsWord (bytes : List ℕ) (len : ℕ) : Type 0 where
   pub whole : length bytes ≡ 32
   pub short : len ≤ 32
   pub padded : drop len bytes ≡ replicate (32 - len) 0
+
+-- the word of these bytes, if there are at most 32
+abbrev pub branch_word : List ℕ → Option (List ℕ)
+branch_word bytes = if nat_lt 32 (length bytes) then None else Some bytes
 
 -- the word filled up again
 abbrev pub filled : List ℕ → List ℕ

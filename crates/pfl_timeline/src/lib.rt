@@ -1,34 +1,12 @@
 //! Branches of events.
 #![tactic(auto)]
 
+mod command;
 mod laws;
+mod refused;
 mod word;
 
+pub use command::Command;
 pub use laws::new_timelines_are_timelines;
-use pfl_base::Refusal;
-use pfl_world::Event;
+pub use refused::Refused;
 pub use word::BranchWord;
-
-/// What is asked of a timeline.
-#[derive(Clone, Copy, Debug)]
-pub enum Command {
-    /// Puts an event behind those before the branch's cursor.
-    Step { branch: BranchWord, event: Event },
-    /// Undoes the last `n` events before the cursor; they stay in the branch.
-    Back { branch: BranchWord, n: u32 },
-    /// Asks for the branch's world.
-    Show { branch: BranchWord },
-}
-
-/// Why a command is refused: the first that applies.
-#[derive(Clone, Copy, Debug, PartialEq, Eq)]
-pub enum Refused {
-    NoBranch,
-    NameTaken,
-    BadName,
-    TooFarBack,
-    NothingForward,
-    LastBranch,
-    BranchesFull,
-    Event(Refusal),
-}

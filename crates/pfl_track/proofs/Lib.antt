@@ -1,3 +1,7 @@
 pub mod Names
 pub mod Rising
+pub mod Moving
+pub mod Keeping
+pub mod Along
+pub mod Families
 mod Worked

@@ -4,10 +4,10 @@ use Rattle.std.proofs.Common.{cond}
 use Rattle.pfl_base.specs.declared.direction.Dir.{Dir}
 use Rattle.pfl_base.specs.declared.packet.Packet.{Packet}
 use Rattle.pfl_base.specs.Packets.{is_tcp, is_request}
-use Rattle.pfl_track.specs.declared.Peer.{Peer}
-use Rattle.pfl_track.specs.declared.State.{State}
-use Rattle.pfl_track.specs.declared.Tracked.{Tracked}
-use Rattle.pfl_track.specs.declared.Tracked.TheVariants.{Moved, OutOfWindow, Reused}
+use Rattle.pfl_track.specs.declared.peer.Peer.{Peer}
+use Rattle.pfl_track.specs.declared.state.State.{State}
+use Rattle.pfl_track.specs.declared.tracked.Tracked.{Tracked}
+use Rattle.pfl_track.specs.declared.tracked.Tracked.TheVariants.{Moved, OutOfWindow, Reused}
 use Rattle.pfl_track.specs.Windows.{in_window}
 use Rattle.pfl_track.specs.Tracking.{sender, receiver, moved, used, from_src, tracked, tracked_tcp, tracked_other, is_closed}
 

@@ -9,10 +9,10 @@ use Rattle.pfl_base.specs.declared.packet.Packet.{Packet}
 use Rattle.pfl_base.specs.declared.class.Class.{Class}
 use Rattle.pfl_base.specs.declared.class.Class.TheVariants.{TcpFirst, TcpOpening, TcpEstablished, TcpClosing, TcpFinWait, TcpClosed, UdpFirst, UdpSingle, UdpMultiple}
 use Rattle.pfl_base.specs.Keys.{key}
-use Rattle.pfl_track.specs.declared.Peer.{Peer}
-use Rattle.pfl_track.specs.declared.State.{State}
-use Rattle.pfl_track.specs.declared.Tracked.{Tracked}
-use Rattle.pfl_track.specs.declared.Tracked.TheVariants.{Moved, OutOfWindow, Reused}
+use Rattle.pfl_track.specs.declared.peer.Peer.{Peer}
+use Rattle.pfl_track.specs.declared.state.State.{State}
+use Rattle.pfl_track.specs.declared.tracked.Tracked.{Tracked}
+use Rattle.pfl_track.specs.declared.tracked.Tracked.TheVariants.{Moved, OutOfWindow, Reused}
 use Rattle.pfl_track.specs.Tracking.{start_state, tracked}
 
 abbrev inside : End

@@ -1,17 +1,12 @@
 -- What a state is: levels and scales in their ranges, and all four ends of one family and one protocol (pf(4); the ranges are
 -- this project's profile).
-use Rattle.std.specs.Prelude.{◌≡◌, ◌≤◌, true, IfSome}
+use Rattle.std.specs.Prelude.{◌≡◌, true}
 use Rattle.pfl_base.specs.Ends.{same_family, IsProto}
-use Rattle.pfl_track.specs.declared.Peer.{Peer}
-use Rattle.pfl_track.specs.declared.State.{State}
-
--- an end
-pub record IsPeer (e : Peer) : Type 0 where
-  pub level : e.level ≤ 10
-  pub scale : IfSome e.scale (λ s. s ≤ 14)
+use Rattle.pfl_track.specs.declared.state.StateFields.{StateFields}
+use Rattle.pfl_track.specs.Peers.{IsPeer}
 
 -- a state
-pub record IsState (s : State) : Type 0 where
+pub record IsState (s : StateFields) : Type 0 where
   pub src : IsPeer s.src
   pub dst : IsPeer s.dst
   pub proto : IsProto s.wire.proto

@@ -7,10 +7,10 @@ use Rattle.pfl_base.specs.declared.state_name.StateName.{StateName}
 use Rattle.pfl_base.specs.Keys.{is_dir}
 use Rattle.pfl_base.specs.Packets.{is_tcp, is_request}
 use Rattle.pfl_base.specs.Sequence.{add32}
-use Rattle.pfl_track.specs.declared.Peer.{Peer}
-use Rattle.pfl_track.specs.declared.State.{State}
-use Rattle.pfl_track.specs.declared.Tracked.{Tracked}
-use Rattle.pfl_track.specs.declared.Tracked.TheVariants.{Moved, OutOfWindow, Reused}
+use Rattle.pfl_track.specs.declared.peer.Peer.{Peer}
+use Rattle.pfl_track.specs.declared.state.State.{State}
+use Rattle.pfl_track.specs.declared.tracked.Tracked.{Tracked}
+use Rattle.pfl_track.specs.declared.tracked.Tracked.TheVariants.{Moved, OutOfWindow, Reused}
 use Rattle.pfl_track.specs.Levels.{syn_sent, fin_wait_2, single, multiple, first_class, class_after}
 use Rattle.pfl_track.specs.Windows.{end_of, begun, in_window, sender_after, receiver_after}
 

@@ -3,7 +3,7 @@ use Rattle.std.specs.Prelude.{ℕ, ◌+◌, ◌-◌, ◌*◌, ◌^◌, Bool, not
 use Rattle.pfl_base.specs.declared.packet.Packet.{Packet}
 use Rattle.pfl_base.specs.Packets.{syn, fin, ack}
 use Rattle.pfl_base.specs.Sequence.{add32, sub32, seq_gt, seq_geq}
-use Rattle.pfl_track.specs.declared.Peer.{Peer}
+use Rattle.pfl_track.specs.declared.peer.Peer.{Peer}
 use Rattle.pfl_track.specs.Levels.{syn_sent, sender_level, receiver_level}
 
 -- 1 where it holds
@@ -50,12 +50,16 @@ left_edge s window p = seq_geq p.seq (sub32 s.lo window)
 abbrev pub ack_near : ℕ → Peer → Packet → Bool
 ack_near ahead d p = nat_le (sub32 d.lo p.ack) ahead || nat_le (2 ^ 32 - 67035) (sub32 d.lo p.ack)
 
+-- the packet of s, which has begun, to d is inside the window
+abbrev pub is_inside : Peer → Peer → Packet → Bool
+is_inside s d p =
+    right_edge s p
+    && left_edge s (at_scale (is_scaled s d p) d d.window) p
+    && (not (acknowledges d p) || ack_near (at_scale (is_scaled s d p) s 67035) d p)
+
 -- the packet of s to d is inside the window
 abbrev pub in_window : Peer → Peer → Packet → Bool
-in_window s d p =
-    right_edge (begun s d p) p
-    && left_edge (begun s d p) (at_scale (is_scaled (begun s d p) d p) d d.window) p
-    && (not (acknowledges d p) || ack_near (at_scale (is_scaled (begun s d p) d p) (begun s d p) 67035) d p)
+in_window s d p = is_inside (begun s d p) d p
 
 -- the sender after it
 abbrev pub sender_after : Peer → Packet → Peer

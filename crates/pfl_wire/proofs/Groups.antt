@@ -13,7 +13,8 @@ use Rattle.pfl_base.specs.declared.addr.Addr.{Addr}
 use Rattle.pfl_base.specs.declared.addr.Addr.TheVariants.{V4, V6}
 use Rattle.pfl_base.specs.declared.addr.End.{End}
 use Rattle.pfl_base.specs.declared.flow.Key.{Key}
-use Rattle.pfl_track.specs.declared.Peer.{Peer}
+use Rattle.pfl_track.specs.declared.key_pair.KeyPair.{KeyPair}
+use Rattle.pfl_track.specs.declared.peer.Peer.{Peer}
 use Rattle.pfl_wire.specs.declared.action.Action.{Action}
 use Rattle.pfl_wire.specs.declared.action.Action.TheVariants as action
 use Rattle.pfl_wire.specs.declared.message.Message.{Message}
@@ -22,7 +23,7 @@ use Rattle.pfl_wire.specs.declared.fault.BadFrame.{BadFrame}
 use Rattle.pfl_wire.specs.declared.fault.BadFrame.TheVariants as bad
 use Rattle.pfl_wire.specs.Frames.{Fits, IsGroup, action_of}
 use Rattle.pfl_wire.specs.Actions.{action_number, action_with, record_len}
-use Rattle.pfl_wire.specs.Spelling.{number_bytes, name_bytes, peer_bytes, address_bytes, end_bytes, key_bytes, class_bytes, state_bytes, update_bytes, status_byte, record_bytes, group_bytes}
+use Rattle.pfl_wire.specs.Spelling.{number_bytes, name_bytes, peer_bytes, address_bytes, end_bytes, key_bytes, keys_bytes, class_bytes, state_bytes, update_bytes, status_byte, record_bytes, group_bytes}
 use Rattle.pfl_wire.specs.Fields.{Read, ◌>>=◌, wanted, byte_at, number_at, pads_at, name_at, status_of}
 use Rattle.pfl_wire.specs.Records.{state_at, update_at, clear_at, bulk_at, read_as, record_at}
 use Rattle.pfl_wire.specs.Reading.{records_at, is_counted, group_at, groups_at}
@@ -128,15 +129,19 @@ length-key_bytes : (k : Key) → length (key_bytes k) ≡ 36
 unfolding key_bytes
 length-key_bytes k = simp (length-append, length-end_bytes)
 
+length-keys_bytes : (k : KeyPair) → length (keys_bytes k) ≡ 72
+unfolding keys_bytes
+length-keys_bytes k = simp (length-append, length-key_bytes)
+
 pub length-record_bytes : (m : Message) → length (record_bytes m) ≡ record_len (action_of m)
 unfolding record_bytes state_bytes update_bytes class_bytes
 length-record_bytes (Clear creator bound) = simp (length-append, length-number_bytes)
-length-record_bytes (Insert s) = simp (length-append, length-number_bytes, length-name_bytes, length-peer_bytes, length-key_bytes)
+length-record_bytes (Insert s) = simp (length-append, length-number_bytes, length-name_bytes, length-peer_bytes, length-keys_bytes)
 length-record_bytes (InsertAck n) = length-name_bytes n
-length-record_bytes (Update s) = simp (length-append, length-number_bytes, length-name_bytes, length-peer_bytes, length-key_bytes)
+length-record_bytes (Update s) = simp (length-append, length-number_bytes, length-name_bytes, length-peer_bytes, length-keys_bytes)
 length-record_bytes (UpdateShort u) = simp (length-append, length-number_bytes, length-name_bytes, length-peer_bytes)
 length-record_bytes (UpdateRequest n) = length-name_bytes n
-length-record_bytes (Delete s) = simp (length-append, length-number_bytes, length-name_bytes, length-peer_bytes, length-key_bytes)
+length-record_bytes (Delete s) = simp (length-append, length-number_bytes, length-name_bytes, length-peer_bytes, length-keys_bytes)
 length-record_bytes (DeleteShort n) = length-name_bytes n
 length-record_bytes (Bulk creator status) = simp (length-append, length-number_bytes)
 

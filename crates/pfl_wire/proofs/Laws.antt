@@ -1,20 +1,21 @@
 -- The two laws of frames: what is read is spelled so, and what is spelled is read again.
-use Rattle.std.proofs.Common.{◌≡◌, ℕ, zero, suc, All, ◌*◌, ◌+◌, ◌^◌, ◌<◌, ◌≤◌, true, false, ltb, List, [], ◌∷◌, ◌++◌, length, take, drop, Some, Result, Ok, Err, refl, sym, ap, subst, ◌∙◌, append_assoc, arith, inl, inr}
-use Rattle.std.specs.Prelude.{◌==◌, nat_le, IfOk, Vec, slice_get}
+use Rattle.std.proofs.Common.{◌≡◌, ℕ, zero, suc, All, ◌*◌, ◌+◌, ◌^◌, ◌<◌, ◌≤◌, true, false, ltb, List, [], ◌∷◌, ◌++◌, length, get_or, take, drop, Some, Result, Ok, Err, refl, sym, ap, subst, ◌∙◌, append_assoc, arith, inl, inr}
+use Rattle.std.specs.Prelude.{◌==◌, nat_le, IfOk, OnOk, Vec, slice_get}
 use Rattle.std.specs.List.{flat_map, AllByRecursion, sum_by}
 use Rattle.std.proofs.lemmas.Bool.{eqb-true, ltb-false, le-ltb, cases_lt}
 use Rattle.std.proofs.lemmas.Bool.Decides.{nat_tests}
-use Rattle.std.proofs.lemmas.List.{length-append, take-append-drop, length-take-le, length-take, take_at, drop_at, get_or-take, get_or_past}
-use Rattle.std.proofs.lemmas.List.Concat.{flat_map-cons}
+use Rattle.std.proofs.lemmas.List.{append-nil, take_more, map_push, length-append, take-append-drop, length-take-le, length-take, take_at, drop_at, get_or-take, get_or_past}
+use Rattle.std.proofs.lemmas.List.Concat.{flat_map-cons, flat_map-append}
 use Rattle.std.proofs.lemmas.List.Sums.{sum_by-cons}
-use Rattle.std.proofs.lemmas.List.Elements.{All-from_recursion}
+use Rattle.std.proofs.lemmas.List.Elements.{All-from_recursion, recursion_from_All, All-same, All-push}
 use Rattle.pfl_wire.specs.declared.action.Action.{Action}
 use Rattle.pfl_wire.specs.declared.message.Message.{Message}
+use Rattle.pfl_wire.specs.declared.message.Message.TheVariants.{Clear, Insert, InsertAck, Update, UpdateShort, UpdateRequest, Delete, DeleteShort, Bulk}
 use Rattle.pfl_wire.specs.declared.fault.FrameFault.{FrameFault}
 use Rattle.pfl_wire.specs.declared.fault.BadFrame.{BadFrame}
 use Rattle.pfl_wire.specs.declared.fault.BadFrame.TheVariants as bad
 use Rattle.pfl_wire.specs.Faults.{frame_fault}
-use Rattle.pfl_wire.specs.Frames.{Frame, lists, IsGroup, IsFrame, action_of, group_len, frame_len}
+use Rattle.pfl_wire.specs.Frames.{Frame, lists, Fits, RuleFits, IsGroupOf, IsGroup, IsFrame, IsSendable, action_of, group_len, frame_len}
 use Rattle.pfl_wire.specs.Actions.{record_len}
 use Rattle.pfl_wire.specs.Spelling.{number_bytes, record_bytes, group_bytes, spelling, Spells}
 use Rattle.pfl_wire.specs.Fields.{wanted, byte_at, number_at}
@@ -173,12 +174,71 @@ pub group_len-first : (a : Action) (ms : List Message) → AllByRecursion (λ n.
 group_len-first a ms are = omega (arith, length-all_records ms, length-records a ms are)
 
 -- the groups in vectors, one by one
-pub groups_are : {A : Type 0} (gs : List (Vec Message A)) → AllByRecursion IsGroup (lists gs) → AllByRecursion (λ (g : Vec Message A). IsGroup g.items) gs
-groups_are [] are = tt
-groups_are (g ∷ gs) are = (are.0, groups_are gs are.1)
+groups_are : {A : Type 0} (P : Message → Type 0) (gs : List (Vec Message A)) → AllByRecursion (IsGroupOf P) (lists gs) → AllByRecursion (λ (g : Vec Message A). IsGroupOf P g.items) gs
+groups_are P [] are = tt
+groups_are P (g ∷ gs) are = (are.0, groups_are P gs are.1)
 
-pub each_group : {A : Type 0} (gs : List (Vec Message A)) → AllByRecursion IsGroup (lists gs) → All (λ (g : Vec Message A). IsGroup g.items) gs
-each_group {A = A} gs are = All-from_recursion (λ (g : Vec Message A). IsGroup g.items) gs (groups_are gs are)
+pub each_group : {A : Type 0} (P : Message → Type 0) (gs : List (Vec Message A)) → AllByRecursion (IsGroupOf P) (lists gs) → All (λ (g : Vec Message A). IsGroupOf P g.items) gs
+each_group {A = A} P gs are = All-from_recursion (λ (g : Vec Message A). IsGroupOf P g.items) gs (groups_are P gs are)
+
+pub each_record : (P : Message → Type 0) (ms : List Message) → IsGroupOf P ms → All P ms
+each_record P [] is = absurd is
+each_record P (m ∷ ms) is = All-from_recursion P (m ∷ ms) is.2
+
+-- a group whose records have a spelling
+pub group_is : (ms : List Message) → IsGroupOf RuleFits ms → All Fits ms → IsGroup ms
+group_is [] is fit = absurd is
+group_is (m ∷ ms) is fit = (is.0, is.1, recursion_from_All Fits (m ∷ ms) fit)
+
+pub group_ok : {E : Type 0} (r : Result (Unit {0}) E) (ms : List Message) → IsGroupOf RuleFits ms → OnOk r (All Fits ms) → OnOk r (IsGroup ms)
+group_ok (Ok x) ms is fit = group_is ms is fit
+group_ok (Err e) ms is fit = tt
+
+-- ---- what has a spelling can be sent
+
+rule_fits : (m : Message) → Fits m → RuleFits m
+rule_fits (Clear creator bound) fits = tt
+rule_fits (Insert s) fits = fits.rule
+rule_fits (InsertAck name) fits = tt
+rule_fits (Update s) fits = fits.rule
+rule_fits (UpdateShort u) fits = tt
+rule_fits (UpdateRequest name) fits = tt
+rule_fits (Delete s) fits = fits.rule
+rule_fits (DeleteShort name) fits = tt
+rule_fits (Bulk creator status) fits = tt
+
+rules_fit : (ms : List Message) → AllByRecursion Fits ms → AllByRecursion RuleFits ms
+rules_fit [] fit = tt
+rules_fit (m ∷ ms) fit = (rule_fits m fit.0, rules_fit ms fit.1)
+
+group_sent : (ms : List Message) → IsGroup ms → IsGroupOf RuleFits ms
+group_sent [] is = absurd is
+group_sent (m ∷ ms) is = (is.0, is.1, rules_fit (m ∷ ms) is.2)
+
+groups_sent : (gs : List (List Message)) → AllByRecursion IsGroup gs → AllByRecursion (IsGroupOf RuleFits) gs
+groups_sent [] are = tt
+groups_sent (g ∷ gs) are = (group_sent g are.0, groups_sent gs are.1)
+
+pub frame_sent : (f : Frame) → IsFrame f → IsSendable f
+frame_sent f is = record { groups = groups_sent f.groups is.groups; short = is.short }
+
+-- ---- one item more was written
+
+pub bytes_more : {X : Type 0} (f : X → List ℕ) (xs ys : List X) (y : X) (a b c : List ℕ) → ys ≡ xs ++ y ∷ [] → b ≡ a ++ flat_map f xs → c ≡ b ++ f y → c ≡ a ++ flat_map f ys
+bytes_more f xs ys y a b c more before after =
+    after ∙ ap (λ (t : List ℕ). t ++ f y) before ∙ append_assoc a (flat_map f xs) (f y)
+    ∙ ap (λ (t : List ℕ). a ++ t) (sym (ap (flat_map f) more ∙ flat_map-append f xs (y ∷ []) ∙ ap (λ (t : List ℕ). flat_map f xs ++ t) (append-nil (f y))))
+
+pub all_more : {X : Type 0} (P : X → Type 0) (xs ys : List X) (y : X) → ys ≡ xs ++ y ∷ [] → All P xs → P y → All P ys
+all_more P xs ys y more are is = All-same P ys (xs ++ y ∷ []) more (All-push P xs y are is)
+
+pub record_more : (ms : List Message) (i : ℕ) (m : Message) → i < length ms → m ≡ get_or ms i m → take (i + 1) ms ≡ take i ms ++ m ∷ []
+record_more ms i m lt is = take_more ms i m lt ∙ ap (λ (n : Message). take i ms ++ n ∷ []) (sym is)
+
+pub group_more : {A : Type 0} (gs : List (Vec Message A)) (i : ℕ) (g : Vec Message A) (ms : List Message) → i < length gs → g ≡ get_or gs i g → ms ≡ g.items → lists (take (i + 1) gs) ≡ lists (take i gs) ++ ms ∷ []
+group_more {A = A} gs i g ms lt is e =
+    ap lists (take_more gs i g lt ∙ ap (λ (h : Vec Message A). take i gs ++ h ∷ []) (sym is)) ∙ map_push (λ (h : Vec Message A). h.items) (take i gs) g
+    ∙ ap (λ (ns : List Message). lists (take i gs) ++ ns ∷ []) (sym e)
 
 -- what decoding answers where reading meets a fault
 pub fault_decodes : {Y : Type 0} (view : Y → Frame) (e : BadFrame) (read : Result Frame BadFrame) → read ≡ Err e → Decodes view (Err (frame_fault e)) read
@@ -204,30 +264,36 @@ sum_by-take_lists (suc n) [] = omega arith
 sum_by-take_lists (suc n) (g ∷ gs) = omega (arith, sum_by-cons group_len g.items (lists (take n gs)), sum_by-cons group_len g.items (lists gs), sum_by-take_lists n gs)
 
 -- what was spelled is read again
-pub spelled_again : {A E : Type 0} (r : Result (Vec ℕ A) E) (f : Frame) → IsFrame f → IfOk r (λ v. v.items ≡ spelling f) → IfOk r (λ v. reading v.items ≡ Ok f)
-spelled_again (Ok v) f is given = ap reading given ∙ reading_again f is
-spelled_again (Err e) f is given = tt
+pub spelled_again : {A E : Type 0} (r : Result (Vec ℕ A) E) (f : Frame) → IfOk r (λ v. Spells v.items f) → IfOk r (λ v. reading v.items ≡ Ok f)
+spelled_again (Ok v) f given = ap reading given.spelled ∙ reading_again f given.is_frame
+spelled_again (Err e) f given = tt
 
 -- nothing else spells the frame
-pub spelled_only : {A E : Type 0} (r : Result (Vec ℕ A) E) (f : Frame) → IfOk r (λ v. v.items ≡ spelling f) → IfOk r (λ v. (bytes : List ℕ) → Spells bytes f → bytes ≡ v.items)
-spelled_only (Ok v) f given = λ bytes spells. spells.spelled ∙ sym given
+pub spelled_only : {A E : Type 0} (r : Result (Vec ℕ A) E) (f : Frame) → IfOk r (λ v. Spells v.items f) → IfOk r (λ v. (bytes : List ℕ) → Spells bytes f → bytes ≡ v.items)
+spelled_only (Ok v) f given = λ bytes spells. spells.spelled ∙ sym given.spelled
 spelled_only (Err e) f given = tt
+
+-- a frame has a spelling, if what types keep of it is so
+pub frame_is : (f : Frame) → IsSendable f → length f.print ≡ 16 → All (λ b. b < 256) f.print → All IsGroup f.groups → IsFrame f
+frame_is f is long bytes are =
+    record { print = long; print_bytes = recursion_from_All (λ b. b < 256) f.print bytes; groups = recursion_from_All IsGroup f.groups are; short = is.short }
 
 -- what the code wrote, with the size that it computed, is the spelling
 pub spelled_as : (f : Frame) (out : List ℕ) (size : ℕ) → IsFrame f → size ≡ frame_len f.groups
-    → out ≡ ((((5 ∷ []) ++ (0 ∷ [])) ++ number_bytes 2 size) ++ f.print) ++ flat_map group_bytes f.groups → out ≡ spelling f
+    → out ≡ ((((5 ∷ []) ++ (0 ∷ [])) ++ number_bytes 2 size) ++ f.print) ++ flat_map group_bytes f.groups → Spells out f
 unfolding spelling
 spelled_as f out size is e made =
-    made ∙ ap (λ (n : ℕ). ((((5 ∷ []) ++ (0 ∷ [])) ++ number_bytes 2 n) ++ f.print) ++ flat_map group_bytes f.groups) (omega (arith, e, length-groups f.groups is.groups))
+    let spelled : out ≡ spelling f = made ∙ ap (λ (n : ℕ). ((((5 ∷ []) ++ (0 ∷ [])) ++ number_bytes 2 n) ++ f.print) ++ flat_map group_bytes f.groups) (omega (arith, e, length-groups f.groups is.groups)) in
+    record { is_frame = is; spelled = spelled }
 
 some_same : {X : Type 0} (x y : X) → Some x ≡ Some y → x ≡ y
 some_same x y e = cc
 
 -- the size of a group, from its first record
-pub group_size_is : (g : List Message) (first : Message) (a : Action) (size : ℕ) → IsGroup g → Some first ≡ slice_get g 0 → a ≡ action_of first → size ≡ record_len a
+pub group_size_is : (P : Message → Type 0) (g : List Message) (first : Message) (a : Action) (size : ℕ) → IsGroupOf P g → Some first ≡ slice_get g 0 → a ≡ action_of first → size ≡ record_len a
     → 4 + length g * size ≡ group_len g
-group_size_is [] first a size is at e f = absurd is
-group_size_is (m ∷ ms) first a size is at e f =
+group_size_is P [] first a size is at e f = absurd is
+group_size_is P (m ∷ ms) first a size is at e f =
     let of_first : action_of m ≡ a = ap action_of (sym (some_same first m at)) ∙ sym e in
     let size_is : size ≡ record_len (action_of m) = f ∙ ap record_len (sym of_first) in
     ap (λ (n : ℕ). 4 + length (m ∷ ms) * n) size_is ∙ sym (group_len-first (action_of m) (m ∷ ms) (refl, is.1))

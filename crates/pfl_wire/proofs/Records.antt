@@ -13,13 +13,15 @@ use Rattle.pfl_base.specs.declared.class.Class.{Class}
 use Rattle.pfl_base.specs.declared.flow.Key.{Key}
 use Rattle.pfl_base.specs.declared.state_name.StateName.{StateName}
 use Rattle.pfl_base.specs.Ends.{is_v4, proto_number, proto_of}
-use Rattle.pfl_track.specs.declared.Peer.{Peer}
+use Rattle.pfl_track.specs.declared.key_pair.KeyPair.{KeyPair}
+use Rattle.pfl_track.specs.declared.peer.Peer.{Peer}
+use Rattle.pfl_track.specs.Keys.{AreKeys}
 use Rattle.pfl_wire.specs.declared.fault.BadFrame.{BadFrame}
 use Rattle.pfl_wire.specs.declared.fault.BadFrame.TheVariants as bad
-use Rattle.pfl_wire.specs.Frames.{FitsName, FitsPeer, FitsAddr, FitsEnd, FitsKey, FitsUpdate, FitsState}
-use Rattle.pfl_wire.specs.Spelling.{number_bytes, name_bytes, scale_byte, peer_bytes, address_bytes, end_bytes, key_bytes, class_bytes, update_bytes, state_bytes, family_byte, dir_byte, flags_byte, rule_bytes}
+use Rattle.pfl_wire.specs.Frames.{FitsName, FitsPeer, FitsAddr, FitsEnd, FitsKey, FitsKeys, FitsUpdate, FitsState}
+use Rattle.pfl_wire.specs.Spelling.{number_bytes, name_bytes, scale_byte, peer_bytes, address_bytes, end_bytes, key_bytes, keys_bytes, class_bytes, update_bytes, state_bytes, family_byte, dir_byte, flags_byte, rule_bytes}
 use Rattle.pfl_wire.specs.Fields.{◌>>=◌, wanted, byte_at, number_at, pads_at, name_at, scale_of, peer_at, address_at, end_at, ends_at, class_at, is_v4_of, dir_of, ack_wanted_of, rule_of}
-use Rattle.pfl_wire.specs.Records.{key_with, update_at, state_at}
+use Rattle.pfl_wire.specs.Records.{key_with, keys_at, update_at, state_at}
 use Rattle.pfl_wire.proofs.Fields.{IsBytes, bind_then, wanted_ok, ok_is, Takes, Takes-then, byte_takes, number_takes, number_again, pads_take, pads_again}
 use Rattle.pfl_wire.proofs.Values.{scale_back, scale_again, class_back, class_again, ok_or_ok, family_back, family_again, dir_back, dir_again, flags_back, flags_again, proto_back, rule_back, rule_again, one_family, family_same}
 
@@ -146,7 +148,8 @@ end_again v4 e rest fits is =
 -- what is read of the two ends of a flow
 pub record IsKeyOf (v4 : Bool) (k : Key) : Type 0 where
   pub fits : FitsKey k
-  pub family : is_v4 k.far.addr ≡ v4
+  pub far : is_v4 k.far.addr ≡ v4
+  pub near : is_v4 k.near.addr ≡ v4
 
 pub ends_take : (n : ℕ) (v4 : Bool) (bytes : List ℕ) (x : (End × End) × List ℕ) → IsBytes bytes → ends_at v4 bytes ≡ Ok x → Takes bytes (key_bytes (key_with n x.0)) x.1 × IsKeyOf v4 (key_with n x.0)
 unfolding ends_at key_bytes
@@ -159,15 +162,50 @@ ends_take n v4 bytes x fits e =
     subst (λ (y : (End × End) × List ℕ). Takes bytes (key_bytes (key_with n y.0)) y.1 × IsKeyOf v4 (key_with n y.0)) (ok_is made x e2) (
       Takes-then bytes _ far.1 _ near.1 t0.0 t1.0,
       record {
-        fits = record { far = t0.1.fits; near = t1.1.fits; family = one_family far.0.addr near.0.addr v4 t0.1.family t1.1.family };
-        family = t0.1.family;
+        fits = record { far = t0.1.fits; near = t1.1.fits };
+        far = t0.1.family;
+        near = t1.1.family;
       },
     )))
 
-pub ends_again : (v4 : Bool) (k : Key) (rest : List ℕ) → FitsKey k → is_v4 k.far.addr ≡ v4 → ends_at v4 (key_bytes k ++ rest) ≡ Ok ((k.far, k.near), rest)
+pub ends_again : (v4 : Bool) (k : Key) (rest : List ℕ) → FitsKey k → is_v4 k.far.addr ≡ v4 → is_v4 k.near.addr ≡ v4 → ends_at v4 (key_bytes k ++ rest) ≡ Ok ((k.far, k.near), rest)
 unfolding ends_at key_bytes
-ends_again v4 k rest fits family =
-    simp append_assoc (bind_again _ _ _ _ (end_again v4 k.far _ fits.far family) (bind_again _ _ _ _ (end_again v4 k.near rest fits.near (family_same _ _ fits.family ∙ family)) refl))
+ends_again v4 k rest fits far near =
+    simp append_assoc (bind_again _ _ _ _ (end_again v4 k.far _ fits.far far) (bind_again _ _ _ _ (end_again v4 k.near rest fits.near near) refl))
+
+-- what is read of the keys of a state
+pub record IsKeysOf (n : ℕ) (v4 : Bool) (k : KeyPair) : Type 0 where
+  pub fits : FitsKeys k
+  pub number : proto_number k.wire.proto ≡ n
+  pub family : is_v4 k.wire.far.addr ≡ v4
+
+pub keys_take : (n : ℕ) (v4 : Bool) (bytes : List ℕ) (x : KeyPair × List ℕ) → IsBytes bytes → keys_at n v4 bytes ≡ Ok x → Takes bytes (keys_bytes x.0) x.1 × IsKeysOf n v4 x.0
+unfolding keys_at keys_bytes
+keys_take n v4 bytes x fits e =
+    bind_then (ends_at v4 bytes) _ x e (λ wire wire_is e1.
+    bind_then (ends_at v4 wire.1) _ x e1 (λ stack stack_is e2.
+    let t0 = ends_take n v4 bytes wire fits wire_is in
+    let t1 = ends_take n v4 wire.1 stack t0.0.rest_fits stack_is in
+    let are : AreKeys (key_with n wire.0) (key_with n stack.0) = record {
+      proto = ap proto_of (proto_back n);
+      one_proto = refl;
+      wire_family = one_family wire.0.0.addr wire.0.1.addr v4 t0.1.far t0.1.near;
+      stack_family = one_family stack.0.0.addr stack.0.1.addr v4 t1.1.far t1.1.near;
+      one_family = one_family wire.0.0.addr stack.0.0.addr v4 t0.1.far t1.1.far;
+    } in
+    let made : KeyPair × List ℕ = (record { wire = key_with n wire.0; stack = key_with n stack.0 }, stack.1) in
+    subst (λ (y : KeyPair × List ℕ). Takes bytes (keys_bytes y.0) y.1 × IsKeysOf n v4 y.0) (ok_is made x e2)
+    (Takes-then bytes _ wire.1 _ stack.1 t0.0 t1.0, record { fits = record { are = are; wire = t0.1.fits; stack = t1.1.fits }; number = proto_back n; family = t0.1.far })))
+
+pub keys_again : (v4 : Bool) (k : KeyPair) (rest : List ℕ) → FitsKeys k → is_v4 k.wire.far.addr ≡ v4 → keys_at (proto_number k.wire.proto) v4 (keys_bytes k ++ rest) ≡ Ok (k, rest)
+unfolding keys_at keys_bytes
+keys_again v4 k rest fits family =
+    let are = fits.are in
+    let far : is_v4 k.stack.far.addr ≡ v4 = family_same _ _ are.one_family ∙ family in
+    simp append_assoc
+    (bind_again _ _ _ _ (ends_again v4 k.wire _ fits.wire family (family_same _ _ are.wire_family ∙ family))
+    (bind_again _ _ _ _ (ends_again v4 k.stack rest fits.stack far (family_same _ _ are.stack_family ∙ far))
+    (λ i. Ok (record k { wire = record k.wire { proto = are.proto i }; stack = record k.stack { proto = (are.proto ∙ sym are.one_proto) i } }, rest))))
 
 pub class_takes : (bytes : List ℕ) (x : Class × List ℕ) → IsBytes bytes → class_at bytes ≡ Ok x → Takes bytes (class_bytes x.0) x.1
 unfolding class_at class_bytes
@@ -225,47 +263,43 @@ state_takes bytes x fits e =
     bind_then (dir_of direction.0) _ x e5 (λ dir dir_is e6.
     bind_then (byte_at direction.1) _ x e6 (λ flags flags_is e7.
     bind_then (ack_wanted_of flags.0) _ x e7 (λ ack ack_is e8.
-    bind_then (ends_at v4 flags.1) _ x e8 (λ wire wire_is e9.
-    bind_then (ends_at v4 wire.1) _ x e9 (λ stack stack_is e10.
-    bind_then (peer_at stack.1) _ x e10 (λ src src_is e11.
-    bind_then (peer_at src.1) _ x e11 (λ dst dst_is e12.
-    bind_then (class_at dst.1) _ x e12 (λ class class_is e13.
-    bind_then (number_at 4 class.1) _ x e13 (λ remaining remaining_is e14.
-    bind_then (number_at 4 remaining.1) _ x e14 (λ rule rule_is e15.
+    bind_then (keys_at proto.0 v4 flags.1) _ x e8 (λ keys keys_is e9.
+    bind_then (peer_at keys.1) _ x e9 (λ src src_is e10.
+    bind_then (peer_at src.1) _ x e10 (λ dst dst_is e11.
+    bind_then (class_at dst.1) _ x e11 (λ class class_is e12.
+    bind_then (number_at 4 class.1) _ x e12 (λ remaining remaining_is e13.
+    bind_then (number_at 4 remaining.1) _ x e13 (λ rule rule_is e14.
     let t0 = name_takes bytes name fits name_is in
     let t1 = byte_takes name.1 proto t0.0.rest_fits proto_is in
     let t2 = byte_takes proto.1 family t1.0.rest_fits family_is in
     let t3 = byte_takes family.1 direction t2.0.rest_fits direction_is in
     let t4 = byte_takes direction.1 flags t3.0.rest_fits flags_is in
-    let t5 = ends_take proto.0 v4 flags.1 wire t4.0.rest_fits wire_is in
-    let t6 = ends_take proto.0 v4 wire.1 stack t5.0.rest_fits stack_is in
-    let t7 = peer_takes stack.1 src t6.0.rest_fits src_is in
-    let t8 = peer_takes src.1 dst t7.0.rest_fits dst_is in
-    let t9 = class_takes dst.1 class t8.0.rest_fits class_is in
-    let t10 = number_takes 4 class.1 remaining t9.rest_fits remaining_is in
-    let t11 = number_takes 4 remaining.1 rule t10.0.rest_fits rule_is in
-    let b1 = Takes-byte name.1 proto.1 proto.0 (proto_number (proto_of proto.0)) t1.0 (proto_back proto.0) in
-    let b2 = Takes-byte proto.1 family.1 family.0 (family_byte wire.0.0.addr) t2.0 (family_back family.0 v4 wire.0.0.addr v4_is t5.1.family) in
+    let t5 = keys_take proto.0 v4 flags.1 keys t4.0.rest_fits keys_is in
+    let t6 = peer_takes keys.1 src t5.0.rest_fits src_is in
+    let t7 = peer_takes src.1 dst t6.0.rest_fits dst_is in
+    let t8 = class_takes dst.1 class t7.0.rest_fits class_is in
+    let t9 = number_takes 4 class.1 remaining t8.rest_fits remaining_is in
+    let t10 = number_takes 4 remaining.1 rule t9.0.rest_fits rule_is in
+    let b1 = Takes-byte name.1 proto.1 proto.0 (proto_number keys.0.wire.proto) t1.0 t5.1.number in
+    let b2 = Takes-byte proto.1 family.1 family.0 (family_byte keys.0.wire.far.addr) t2.0 (family_back family.0 v4 keys.0.wire.far.addr v4_is t5.1.family) in
     let b3 = Takes-byte family.1 direction.1 direction.0 (dir_byte dir) t3.0 (dir_back direction.0 dir dir_is) in
     let b4 = Takes-byte direction.1 flags.1 flags.0 (flags_byte ack) t4.0 (flags_back flags.0 ack ack_is) in
-    let r = rule_back rule.0 t11.1 in
-    let b11 : Takes remaining.1 (rule_bytes (rule_of rule.0)) rule.1 = subst (λ (n : ℕ). Takes remaining.1 (number_bytes 4 n) rule.1) (sym r.0) t11.0 in
+    let r = rule_back rule.0 t10.1 in
+    let b10 : Takes remaining.1 (rule_bytes (rule_of rule.0)) rule.1 = subst (λ (n : ℕ). Takes remaining.1 (number_bytes 4 n) rule.1) (sym r.0) t10.0 in
     let c1 = Takes-then bytes _ name.1 _ proto.1 t0.0 b1 in
     let c2 = Takes-then bytes _ proto.1 _ family.1 c1 b2 in
     let c3 = Takes-then bytes _ family.1 _ direction.1 c2 b3 in
     let c4 = Takes-then bytes _ direction.1 _ flags.1 c3 b4 in
-    let c5 = Takes-then bytes _ flags.1 _ wire.1 c4 t5.0 in
-    let c6 = Takes-then bytes _ wire.1 _ stack.1 c5 t6.0 in
-    let c7 = Takes-then bytes _ stack.1 _ src.1 c6 t7.0 in
-    let c8 = Takes-then bytes _ src.1 _ dst.1 c7 t8.0 in
-    let c9 = Takes-then bytes _ dst.1 _ class.1 c8 t9 in
-    let c10 = Takes-then bytes _ class.1 _ remaining.1 c9 t10.0 in
-    let c11 = Takes-then bytes _ remaining.1 _ rule.1 c10 b11 in
+    let c5 = Takes-then bytes _ flags.1 _ keys.1 c4 t5.0 in
+    let c6 = Takes-then bytes _ keys.1 _ src.1 c5 t6.0 in
+    let c7 = Takes-then bytes _ src.1 _ dst.1 c6 t7.0 in
+    let c8 = Takes-then bytes _ dst.1 _ class.1 c7 t8 in
+    let c9 = Takes-then bytes _ class.1 _ remaining.1 c8 t9.0 in
+    let c10 = Takes-then bytes _ remaining.1 _ rule.1 c9 b10 in
     let made : StateRecord × List ℕ = (
       record {
         name = name.0;
-        wire = key_with proto.0 wire.0;
-        stack = key_with proto.0 stack.0;
+        keys = keys.0;
         direction = dir;
         ack_wanted = ack;
         src = src.0;
@@ -276,40 +310,35 @@ state_takes bytes x fits e =
       },
       rule.1,
     ) in
-    subst (λ (y : StateRecord × List ℕ). Takes bytes (state_bytes y.0) y.1 × FitsState y.0) (ok_is made x e15) (
-      c11,
+    subst (λ (y : StateRecord × List ℕ). Takes bytes (state_bytes y.0) y.1 × FitsState y.0) (ok_is made x e14) (
+      c10,
       record {
         name = t0.1;
-        proto = ap proto_of (proto_back proto.0);
-        number = subst (λ (n : ℕ). n < 256) (sym (proto_back proto.0)) t1.1;
-        one_proto = refl;
-        wire = t5.1.fits;
-        stack = t6.1.fits;
-        one_family = one_family wire.0.0.addr stack.0.0.addr v4 t5.1.family t6.1.family;
-        src = t7.1;
-        dst = t8.1;
-        remaining = t10.1;
+        proto = subst (λ (n : ℕ). n < 256) (sym t5.1.number) t1.1;
+        keys = t5.1.fits;
+        src = t6.1;
+        dst = t7.1;
+        remaining = t9.1;
         rule = r.1;
       },
-    ))))))))))))))))
+    )))))))))))))))
 
 pub state_again : (s : StateRecord) (rest : List ℕ) → FitsState s → state_at (state_bytes s ++ rest) ≡ Ok (s, rest)
 unfolding state_at state_bytes
 state_again s rest fits =
-    let v4 = is_v4 s.wire.far.addr in
+    let v4 = is_v4 s.keys.wire.far.addr in
     simp append_assoc
     (bind_again _ _ _ _ (name_again s.name _ fits.name)
-    (bind_again _ _ _ _ (family_again s.wire.far.addr)
+    (bind_again _ _ _ _ (family_again s.keys.wire.far.addr)
     (bind_again _ _ _ _ (dir_again s.direction)
     (bind_again _ _ _ _ (flags_again s.ack_wanted)
-    (bind_again _ _ _ _ (ends_again v4 s.wire _ fits.wire refl)
-    (bind_again _ _ _ _ (ends_again v4 s.stack _ fits.stack (family_same _ _ fits.one_family))
+    (bind_again _ _ _ _ (keys_again v4 s.keys _ fits.keys refl)
     (bind_again _ _ _ _ (peer_again s.src _ fits.src)
     (bind_again _ _ _ _ (peer_again s.dst _ fits.dst)
     (bind_again _ _ _ _ (class_again_at s.class _)
     (bind_again _ _ _ _ (number_again 4 s.remaining _ fits.remaining)
     (bind_again _ _ _ _ (number_again 4 (unwrap_or s.rule 4294967295) rest (rule_fits s.rule fits.rule))
-    (λ i. Ok (record s { wire = record s.wire { proto = fits.proto i }; stack = record s.stack { proto = (fits.proto ∙ sym fits.one_proto) i }; rule = rule_again s.rule fits.rule i }, rest)))))))))))))
+    (λ i. Ok (record s { rule = rule_again s.rule fits.rule i }, rest))))))))))))
   where
     rule_fits : (o : Option ℕ) → IfSome o (λ n. n < 2 ^ 32 - 1) → unwrap_or o 4294967295 < 256 ^ 4
     rule_fits None h = omega arith

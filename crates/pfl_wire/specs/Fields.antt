@@ -11,7 +11,7 @@ use Rattle.pfl_base.specs.declared.direction.Dir.TheVariants.{Inbound, Outbound}
 use Rattle.pfl_base.specs.declared.class.Class.{Class}
 use Rattle.pfl_base.specs.declared.state_name.StateName.{StateName}
 use Rattle.pfl_base.specs.Classes.{class_of}
-use Rattle.pfl_track.specs.declared.Peer.{Peer}
+use Rattle.pfl_track.specs.declared.peer.Peer.{Peer}
 use Rattle.pfl_wire.specs.declared.fault.BadFrame.{BadFrame}
 use Rattle.pfl_wire.specs.declared.fault.BadFrame.TheVariants as bad
 use Rattle.pfl_wire.specs.declared.message.BulkStatus.{BulkStatus}

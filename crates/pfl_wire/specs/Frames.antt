@@ -1,14 +1,16 @@
 -- Frames, and which of them have a spelling (this project's profile; the messages are those of pfsync(4)).
-use Rattle.std.specs.Prelude.{◌≡◌, ◌<◌, ℕ, map, Vec, ◌-◌, ◌+◌, ◌^◌, true, List, [], ◌∷◌, length, IfSome}
+use Rattle.std.specs.Prelude.{◌≡◌, ◌<◌, ℕ, map, Vec, ◌-◌, ◌+◌, ◌^◌, List, [], ◌∷◌, length, IfSome}
 use Rattle.std.specs.List.{AllByRecursion, sum_by}
 use Rattle.pfl_base.specs.declared.addr.Addr.{Addr}
 use Rattle.pfl_base.specs.declared.addr.Addr.TheVariants.{V4, V6}
 use Rattle.pfl_base.specs.declared.addr.End.{End}
 use Rattle.pfl_base.specs.declared.flow.Key.{Key}
 use Rattle.pfl_base.specs.declared.state_name.StateName.{StateName}
-use Rattle.pfl_base.specs.Ends.{IsProto, proto_number, same_family}
-use Rattle.pfl_track.specs.declared.Peer.{Peer}
-use Rattle.pfl_track.specs.States.{IsPeer}
+use Rattle.pfl_base.specs.Ends.{proto_number}
+use Rattle.pfl_track.specs.declared.key_pair.KeyPair.{KeyPair}
+use Rattle.pfl_track.specs.declared.peer.Peer.{Peer}
+use Rattle.pfl_track.specs.Keys.{AreKeys}
+use Rattle.pfl_track.specs.Peers.{IsPeer}
 use Rattle.pfl_wire.specs.declared.action.Action.{Action}
 use Rattle.pfl_wire.specs.declared.action.Action.TheVariants as action
 use Rattle.pfl_wire.specs.declared.message.StateRecord.{StateRecord}
@@ -55,11 +57,16 @@ pub record FitsEnd (e : End) : Type 0 where
   pub addr : FitsAddr e.addr
   pub port : e.port < 2 ^ 16
 
--- the two ends of a flow, which are of one family
+-- the two ends of a flow
 pub record FitsKey (k : Key) : Type 0 where
   pub far : FitsEnd k.far
   pub near : FitsEnd k.near
-  pub family : same_family k.far.addr k.near.addr ≡ true
+
+-- the keys of a state; they are of one protocol and one family, each of which is written once
+pub record FitsKeys (k : KeyPair) : Type 0 where
+  pub are : AreKeys k.wire k.stack
+  pub wire : FitsKey k.wire
+  pub stack : FitsKey k.stack
 
 -- an end of a connection
 pub record FitsPeer (e : Peer) : Type 0 where
@@ -68,15 +75,11 @@ pub record FitsPeer (e : Peer) : Type 0 where
   pub lo : e.lo < 2 ^ 32
   pub hi : e.hi < 2 ^ 32
 
--- a whole state; its keys are of one protocol and one family, each of which is written once
+-- a whole state
 pub record FitsState (s : StateRecord) : Type 0 where
   pub name : FitsName s.name
-  pub proto : IsProto s.wire.proto
-  pub number : proto_number s.wire.proto < 2 ^ 8
-  pub one_proto : s.stack.proto ≡ s.wire.proto
-  pub wire : FitsKey s.wire
-  pub stack : FitsKey s.stack
-  pub one_family : same_family s.wire.far.addr s.stack.far.addr ≡ true
+  pub proto : proto_number s.keys.wire.proto < 2 ^ 8
+  pub keys : FitsKeys s.keys
   pub src : FitsPeer s.src
   pub dst : FitsPeer s.dst
   pub remaining : s.remaining < 2 ^ 32
@@ -101,10 +104,14 @@ Fits (Delete s) = FitsState s
 Fits (DeleteShort name) = FitsName name
 Fits (Bulk creator status) = creator < 2 ^ 32
 
--- a group: at least one record, and no more than a group can count, all of one action
+-- a group: at least one record, and no more than a group can count, all of one action, and each as wanted
+abbrev pub IsGroupOf : (Message → Type 0) → List Message → Type 0
+IsGroupOf P [] = ⊥
+IsGroupOf P (m ∷ ms) = (length (m ∷ ms) < 2 ^ 16) × AllByRecursion (λ n. action_of n ≡ action_of m) ms × AllByRecursion P (m ∷ ms)
+
+-- a group of records that have a spelling
 abbrev pub IsGroup : List Message → Type 0
-IsGroup [] = ⊥
-IsGroup (m ∷ ms) = (length (m ∷ ms) < 2 ^ 16) × AllByRecursion (λ n. action_of n ≡ action_of m) ms × AllByRecursion Fits (m ∷ ms)
+IsGroup ms = IsGroupOf Fits ms
 
 -- the bytes of a group: 4, and those of its records
 abbrev pub group_len : List Message → ℕ
@@ -119,4 +126,18 @@ pub record IsFrame (f : Frame) : Type 0 where
   pub print : length f.print ≡ 16
   pub print_bytes : AllByRecursion (λ b. b < 256) f.print
   pub groups : AllByRecursion IsGroup f.groups
+  pub short : frame_len f.groups < 2 ^ 16
+
+-- ---- what of it the types of the fields leave open
+
+-- a state's rule has not the number that stands for none
+abbrev pub RuleFits : Message → Type 0
+RuleFits (Insert s) = IfSome s.rule (λ n. n < 2 ^ 32 - 1)
+RuleFits (Update s) = IfSome s.rule (λ n. n < 2 ^ 32 - 1)
+RuleFits (Delete s) = IfSome s.rule (λ n. n < 2 ^ 32 - 1)
+RuleFits _ = Unit {0}
+
+-- a frame that can be sent
+pub record IsSendable (f : Frame) : Type 0 where
+  pub groups : AllByRecursion (IsGroupOf RuleFits) f.groups
   pub short : frame_len f.groups < 2 ^ 16

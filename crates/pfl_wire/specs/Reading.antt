@@ -8,7 +8,7 @@ use Rattle.pfl_wire.specs.declared.message.Message.{Message}
 use Rattle.pfl_wire.specs.Actions.{action_with, record_len}
 use Rattle.pfl_wire.specs.Frames.{Frame}
 use Rattle.pfl_wire.specs.Fields.{◌>>=◌, Read, wanted, byte_at, number_at, pads_at, name_at, peer_at, address_at, end_at, ends_at, class_at}
-use Rattle.pfl_wire.specs.Records.{state_at, update_at, clear_at, bulk_at, record_at}
+use Rattle.pfl_wire.specs.Records.{keys_at, state_at, update_at, clear_at, bulk_at, record_at}
 
 -- n records of the action
 unfoldable pub records_at : Action → ℕ → List ℕ → Read (List Message)
@@ -68,5 +68,5 @@ reading bytes = do
 
 -- what reading needs to compute on literals
 unfoldable pub computing : ℕ
-unfolding number_at pads_at address_at name_at peer_at end_at ends_at class_at state_at update_at clear_at bulk_at record_at records_at group_at groups_at print_at header_at reading
+unfolding number_at pads_at address_at name_at peer_at end_at ends_at class_at keys_at state_at update_at clear_at bulk_at record_at records_at group_at groups_at print_at header_at reading
 computing = 0

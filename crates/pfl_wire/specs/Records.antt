@@ -1,8 +1,9 @@
 -- How records are read from the front of bytes, each field after the other (this project's profile).
-use Rattle.std.specs.Prelude.{ℕ, List, Ok, Err}
+use Rattle.std.specs.Prelude.{ℕ, Bool, List, Ok, Err}
 use Rattle.pfl_base.specs.declared.addr.End.{End}
 use Rattle.pfl_base.specs.declared.flow.Key.{Key}
 use Rattle.pfl_base.specs.Ends.{proto_of}
+use Rattle.pfl_track.specs.declared.key_pair.KeyPair.{KeyPair}
 use Rattle.pfl_wire.specs.declared.action.Action.{Action}
 use Rattle.pfl_wire.specs.declared.action.Action.TheVariants as action
 use Rattle.pfl_wire.specs.declared.message.StateRecord.{StateRecord}
@@ -15,6 +16,13 @@ use Rattle.pfl_wire.specs.Fields.{◌>>=◌, Read, byte_at, number_at, pads_at, 
 abbrev pub key_with : ℕ → End × End → Key
 key_with n ends = record { proto = proto_of n; far = ends.0; near = ends.1 }
 
+-- the keys of a state of the protocol with the number, all ends of one family: wire, stack
+unfoldable pub keys_at : ℕ → Bool → List ℕ → Read KeyPair
+keys_at n v4 bytes = do
+  wire ← ends_at v4 bytes
+  stack ← ends_at v4 wire.1
+  Ok (record { wire = key_with n wire.0; stack = key_with n stack.0 }, stack.1)
+
 -- a whole state
 unfoldable pub state_at : List ℕ → Read StateRecord
 state_at bytes = do
@@ -26,9 +34,8 @@ state_at bytes = do
   dir ← dir_of direction.0
   flags ← byte_at direction.1
   ack_wanted ← ack_wanted_of flags.0
-  wire ← ends_at v4 flags.1
-  stack ← ends_at v4 wire.1
-  src ← peer_at stack.1
+  keys ← keys_at proto.0 v4 flags.1
+  src ← peer_at keys.1
   dst ← peer_at src.1
   class ← class_at dst.1
   remaining ← number_at 4 class.1
@@ -36,8 +43,7 @@ state_at bytes = do
   Ok (
     record {
       name = name.0;
-      wire = key_with proto.0 wire.0;
-      stack = key_with proto.0 stack.0;
+      keys = keys.0;
       direction = dir;
       ack_wanted = ack_wanted;
       src = src.0;

@@ -12,7 +12,8 @@ use Rattle.pfl_base.specs.declared.flow.Key.{Key}
 use Rattle.pfl_base.specs.declared.state_name.StateName.{StateName}
 use Rattle.pfl_base.specs.Ends.{proto_number, is_v4}
 use Rattle.pfl_base.specs.Classes.{class_number}
-use Rattle.pfl_track.specs.declared.Peer.{Peer}
+use Rattle.pfl_track.specs.declared.key_pair.KeyPair.{KeyPair}
+use Rattle.pfl_track.specs.declared.peer.Peer.{Peer}
 use Rattle.pfl_wire.specs.declared.message.BulkStatus.{BulkStatus}
 use Rattle.pfl_wire.specs.declared.message.BulkStatus.TheVariants.{Start, End as Finish}
 use Rattle.pfl_wire.specs.declared.message.StateRecord.{StateRecord}
@@ -51,6 +52,10 @@ end_bytes e = address_bytes e.addr ++ number_bytes 2 e.port
 unfoldable pub key_bytes : Key → List ℕ
 key_bytes k = end_bytes k.far ++ end_bytes k.near
 
+-- the keys of a state, 72 bytes: wire, stack
+unfoldable pub keys_bytes : KeyPair → List ℕ
+keys_bytes k = key_bytes k.wire ++ key_bytes k.stack
+
 -- a family: 4 or 6
 abbrev pub family_byte : Addr → ℕ
 family_byte a = if is_v4 a then 4 else 6
@@ -76,9 +81,8 @@ rule_bytes rule = number_bytes 4 (unwrap_or rule 4294967295)
 unfoldable pub state_bytes : StateRecord → List ℕ
 state_bytes s =
     name_bytes s.name
-    ++ (proto_number s.wire.proto ∷ []) ++ (family_byte s.wire.far.addr ∷ []) ++ (dir_byte s.direction ∷ []) ++ (flags_byte s.ack_wanted ∷ [])
-    ++ key_bytes s.wire ++ key_bytes s.stack
-    ++ peer_bytes s.src ++ peer_bytes s.dst ++ class_bytes s.class ++ number_bytes 4 s.remaining ++ rule_bytes s.rule
+    ++ (proto_number s.keys.wire.proto ∷ []) ++ (family_byte s.keys.wire.far.addr ∷ []) ++ (dir_byte s.direction ∷ []) ++ (flags_byte s.ack_wanted ∷ [])
+    ++ keys_bytes s.keys ++ peer_bytes s.src ++ peer_bytes s.dst ++ class_bytes s.class ++ number_bytes 4 s.remaining ++ rule_bytes s.rule
 
 -- what changes of a state, 44 bytes: name, source end, destination end, class, remaining seconds
 unfoldable pub update_bytes : UpdateRecord → List ℕ

@@ -3,8 +3,8 @@
 ghost use Rattle.std.specs.Prelude.{◌≡◌};
 
 use crate::action::Action;
-use pfl_base::{Class, Dir, Key, StateName};
-use pfl_track::Peer;
+use pfl_base::{Class, Dir, StateName};
+use pfl_track::{KeyPair, Peer};
 
 /// How far a bulk update is.
 #[derive(Clone, Copy, Debug, PartialEq, Eq)]
@@ -28,8 +28,7 @@ impl BulkStatus {
 #[derive(Clone, Copy, Debug, PartialEq, Eq)]
 pub struct StateRecord {
     pub name: StateName,
-    pub wire: Key,
-    pub stack: Key,
+    pub keys: KeyPair,
     pub direction: Dir,
     /// Whether the sender waits for an acknowledgement.
     pub ack_wanted: bool,

@@ -1,8 +1,11 @@
 //! The fields of records, read from the front of bytes. A reader answers its value and the bytes behind it; its fault
 //! is [`BadFrame::Value`], also where bytes are missing.
 
-ghost use Rattle.std.specs.Prelude.{◌≡◌, ◌==◌};
+ghost use Rattle.std.specs.Prelude.{◌≡◌, true, false, ◌==◌, IfOk};
 ghost use Rattle.std.specs.List.{list_all};
+ghost use Rattle.pfl_base.specs.Ends.{is_v4 as is_ipv4};
+ghost use Rattle.pfl_base.specs.Packets.{scale_too_large};
+ghost use Rattle.pfl_track.specs.Peers.{is_peer};
 ghost use Rattle.pfl_wire.specs.Answers.{Gives};
 ghost use Rattle.pfl_wire.specs.Fields.{byte_at, number_at, pads_at, name_at, scale_of, peer_at, address_at, end_at, ends_at, is_v4_of, dir_of, ack_wanted_of, status_of, class_at, rule_of};
 
@@ -10,7 +13,7 @@ use crate::fault::BadFrame;
 use crate::message::BulkStatus;
 use byteorder::{BigEndian, ByteOrder};
 use pfl_base::{Addr, Class, Dir, End, StateName};
-use pfl_track::Peer;
+use pfl_track::{Peer, PeerFields};
 
 pub fn read_byte(bytes: &[u8]) -> Result<(u8, &[u8]), BadFrame>
     ensures { Gives (λ x. (x.0, x.1.now)) result (byte_at bytes.now) }
@@ -95,7 +98,8 @@ pub fn read_name(bytes: &[u8]) -> Result<(StateName, &[u8]), BadFrame>
 
 /// The scale, of which 255 is none.
 fn scale_with(number: u8) -> Result<Option<u8>, BadFrame>
-    ensures { result ≡ scale_of number }
+    ensures read { result ≡ scale_of number }
+    ensures small { IfOk result (λ scale. scale_too_large scale ≡ false) }
 {
     if number == 255 {
         Ok(None)
@@ -106,10 +110,11 @@ fn scale_with(number: u8) -> Result<Option<u8>, BadFrame>
     }
 }
 
-/// An end of a connection, 12 bytes: level, scale, window, lo, hi.
+/// What an end of a connection is made from, 12 bytes: level, scale, window, lo, hi.
 #[tactic(auto, unfolding(crate::specs::Fields::peer_at))]
-pub fn read_peer(bytes: &[u8]) -> Result<(Peer, &[u8]), BadFrame>
-    ensures { Gives (λ x. (x.0, x.1.now)) result (peer_at bytes.now) }
+fn read_peer_fields(bytes: &[u8]) -> Result<(PeerFields, &[u8]), BadFrame>
+    ensures read { Gives (λ x. (x.0, x.1.now)) result (peer_at bytes.now) }
+    ensures is_peer { IfOk result (λ x. is_peer x.0 ≡ true) }
 {
     let (level, rest) = read_byte(bytes)?;
     if level > 10 {
@@ -120,20 +125,32 @@ pub fn read_peer(bytes: &[u8]) -> Result<(Peer, &[u8]), BadFrame>
     let (window, rest) = read_u16(rest)?;
     let (lo, rest) = read_u32(rest)?;
     let (hi, rest) = read_u32(rest)?;
-    let peer = Peer {
+    let fields = PeerFields {
         level,
         scale,
         window,
         lo,
         hi,
     };
-    Ok((peer, rest))
+    Ok((fields, rest))
+}
+
+/// An end of a connection, 12 bytes.
+pub fn read_peer(bytes: &[u8]) -> Result<(Peer, &[u8]), BadFrame>
+    ensures { Gives (λ x. (x.0, x.1.now)) result (peer_at bytes.now) }
+{
+    let (fields, rest) = read_peer_fields(bytes)?;
+    match Peer::of(fields) {
+        Some(peer) => Ok((peer, rest)),
+        None => Err(BadFrame::Value),
+    }
 }
 
 /// An address, 16 bytes in either family.
 #[tactic(auto, unfolding(crate::specs::Fields::address_at))]
 fn read_address(is_v4: bool, bytes: &[u8]) -> Result<(Addr, &[u8]), BadFrame>
-    ensures { Gives (λ x. (x.0, x.1.now)) result (address_at is_v4 bytes.now) }
+    ensures family { IfOk result (λ x. is_ipv4 x.0 ≡ is_v4) }
+    ensures read { Gives (λ x. (x.0, x.1.now)) result (address_at is_v4 bytes.now) }
 {
     if is_v4 {
         let (number, rest) = read_u32(bytes)?;
@@ -148,7 +165,8 @@ fn read_address(is_v4: bool, bytes: &[u8]) -> Result<(Addr, &[u8]), BadFrame>
 /// An address with a port, 18 bytes.
 #[tactic(auto, unfolding(crate::specs::Fields::end_at))]
 pub fn read_end(is_v4: bool, bytes: &[u8]) -> Result<(End, &[u8]), BadFrame>
-    ensures { Gives (λ x. (x.0, x.1.now)) result (end_at is_v4 bytes.now) }
+    ensures family { IfOk result (λ x. is_ipv4 x.0.addr ≡ is_v4) }
+    ensures read { Gives (λ x. (x.0, x.1.now)) result (end_at is_v4 bytes.now) }
 {
     let (addr, rest) = read_address(is_v4, bytes)?;
     let (port, rest) = read_u16(rest)?;
@@ -158,7 +176,9 @@ pub fn read_end(is_v4: bool, bytes: &[u8]) -> Result<(End, &[u8]), BadFrame>
 /// A far end and a near end.
 #[tactic(auto, unfolding(crate::specs::Fields::ends_at))]
 pub fn read_ends(is_v4: bool, bytes: &[u8]) -> Result<((End, End), &[u8]), BadFrame>
-    ensures { Gives (λ x. (x.0, x.1.now)) result (ends_at is_v4 bytes.now) }
+    ensures far_family { IfOk result (λ x. is_ipv4 x.0.0.addr ≡ is_v4) }
+    ensures near_family { IfOk result (λ x. is_ipv4 x.0.1.addr ≡ is_v4) }
+    ensures read { Gives (λ x. (x.0, x.1.now)) result (ends_at is_v4 bytes.now) }
 {
     let (far, rest) = read_end(is_v4, bytes)?;
     let (near, rest) = read_end(is_v4, rest)?;

@@ -2,7 +2,7 @@
 
 ghost use Rattle.std.specs.Prelude.{◌≡◌};
 ghost use Rattle.pfl_wire.specs.Answers.{Gives};
-ghost use Rattle.pfl_wire.specs.Records.{key_with, state_at, update_at, clear_at, bulk_at, record_at};
+ghost use Rattle.pfl_wire.specs.Records.{key_with, keys_at, state_at, update_at, clear_at, bulk_at, record_at};
 
 use crate::action::Action;
 use crate::fault::BadFrame;
@@ -12,6 +12,7 @@ use crate::read_fields::{
     read_peer, read_u32, read_u64, rule_with, skip_pads, status_with,
 };
 use pfl_base::{End, Key, Proto};
+use pfl_track::KeyPair;
 
 /// The key of the protocol with the number, between a far end and a near end.
 fn key_between(proto: u8, ends: (End, End)) -> Key
@@ -22,6 +23,19 @@ fn key_between(proto: u8, ends: (End, End)) -> Key
         proto: Proto::of(proto),
         far,
         near,
+    }
+}
+
+/// The keys of a state of the protocol with the number, 72 bytes: wire, stack.
+#[tactic(auto, unfolding(crate::specs::Records::keys_at))]
+fn read_keys(proto: u8, is_v4: bool, bytes: &[u8]) -> Result<(KeyPair, &[u8]), BadFrame>
+    ensures { Gives (λ x. (x.0, x.1.now)) result (keys_at proto is_v4 bytes.now) }
+{
+    let (wire, rest) = read_ends(is_v4, bytes)?;
+    let (stack, rest) = read_ends(is_v4, rest)?;
+    match KeyPair::of(key_between(proto, wire), key_between(proto, stack)) {
+        Some(keys) => Ok((keys, rest)),
+        None => Err(BadFrame::Value),
     }
 }
 
@@ -38,17 +52,24 @@ pub fn read_state(bytes: &[u8]) -> Result<(StateRecord, &[u8]), BadFrame>
     let direction = direction_with(direction)?;
     let (flags, rest) = read_byte(rest)?;
     let ack_wanted = ack_wanted_with(flags)?;
-    let (wire, rest) = read_ends(is_v4, rest)?;
-    let (stack, rest) = read_ends(is_v4, rest)?;
-    let (src, rest) = read_peer(rest)?;
-    let (dst, rest) = read_peer(rest)?;
+    let (keys, rest) = match read_keys(proto, is_v4, rest) {
+        Ok(read) => read,
+        Err(bad) => return Err(bad),
+    };
+    let (src, rest) = match read_peer(rest) {
+        Ok(read) => read,
+        Err(bad) => return Err(bad),
+    };
+    let (dst, rest) = match read_peer(rest) {
+        Ok(read) => read,
+        Err(bad) => return Err(bad),
+    };
     let (class, rest) = read_class(rest)?;
     let (remaining, rest) = read_u32(rest)?;
     let (rule, rest) = read_u32(rest)?;
     let state = StateRecord {
         name,
-        wire: key_between(proto, wire),
-        stack: key_between(proto, stack),
+        keys,
         direction,
         ack_wanted,
         src,
@@ -66,8 +87,14 @@ pub fn read_update(bytes: &[u8]) -> Result<(UpdateRecord, &[u8]), BadFrame>
     ensures { Gives (λ x. (x.0, x.1.now)) result (update_at bytes.now) }
 {
     let (name, rest) = read_name(bytes)?;
-    let (src, rest) = read_peer(rest)?;
-    let (dst, rest) = read_peer(rest)?;
+    let (src, rest) = match read_peer(rest) {
+        Ok(read) => read,
+        Err(bad) => return Err(bad),
+    };
+    let (dst, rest) = match read_peer(rest) {
+        Ok(read) => read,
+        Err(bad) => return Err(bad),
+    };
     let (class, rest) = read_class(rest)?;
     let (remaining, rest) = read_u32(rest)?;
     let update = UpdateRecord {
@@ -121,10 +148,10 @@ pub fn read_record(action: Action, bytes: &[u8]) -> Result<(Message, &[u8]), Bad
             Ok((state, rest)) => Ok((Message::Update(state), rest)),
             Err(bad) => Err(bad),
         },
-        Action::UpdateShort => {
-            let (update, rest) = read_update(bytes)?;
-            Ok((Message::UpdateShort(update), rest))
-        }
+        Action::UpdateShort => match read_update(bytes) {
+            Ok((update, rest)) => Ok((Message::UpdateShort(update), rest)),
+            Err(bad) => Err(bad),
+        },
         Action::UpdateRequest => {
             let (name, rest) = read_name(bytes)?;
             Ok((Message::UpdateRequest(name), rest))

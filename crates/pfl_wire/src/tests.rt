@@ -3,7 +3,8 @@ mod refusing;
 
 use super::*;
 use pfl_base::{Addr, Class, Dir, End, Key, Proto, StateName};
-use pfl_track::Peer;
+use pfl_edits::NoMemory;
+use pfl_track::{KeyPair, Peer, PeerFields};
 use refusing::Refusing;
 use std::alloc::{AllocError, Global};
 use std::test::Fail;
@@ -46,40 +47,44 @@ fn end(addr: u32, port: u16) -> End {
     }
 }
 
-fn state() -> StateRecord {
+fn state() -> Option<StateRecord> {
     let far = end(0x0a00_0001, 1000);
-    StateRecord {
+    let wire = Key {
+        proto: Proto::Tcp,
+        far,
+        near: end(0xc000_0209, 80),
+    };
+    let stack = Key {
+        proto: Proto::Tcp,
+        far,
+        near: end(0xc0a8_0009, 8080),
+    };
+    let keys = KeyPair::of(wire, stack)?;
+    let src = Peer::of(PeerFields {
+        level: 2,
+        scale: Some(7),
+        window: 1024,
+        lo: 100,
+        hi: 102,
+    })?;
+    let dst = Peer::of(PeerFields {
+        level: 0,
+        scale: None,
+        window: 0,
+        lo: 0,
+        hi: 0,
+    })?;
+    Some(StateRecord {
         name: StateName { creator: 1, id: 2 },
-        wire: Key {
-            proto: Proto::Tcp,
-            far,
-            near: end(0xc000_0209, 80),
-        },
-        stack: Key {
-            proto: Proto::Tcp,
-            far,
-            near: end(0xc0a8_0009, 8080),
-        },
+        keys,
         direction: Dir::Inbound,
         ack_wanted: false,
-        src: Peer {
-            level: 2,
-            scale: Some(7),
-            window: 1024,
-            lo: 100,
-            hi: 102,
-        },
-        dst: Peer {
-            level: 0,
-            scale: None,
-            window: 0,
-            lo: 0,
-            hi: 0,
-        },
+        src,
+        dst,
         class: Class::TcpFirst,
         remaining: 120,
         rule: None,
-    }
+    })
 }
 
 /// The frame of a head and of so many states.
@@ -172,9 +177,10 @@ fn one_state(rt: HostRuntime) -> Result<(), Fail> {
     assert_eq!(rt; bytes.len(), 148);
     let frame = decode(alloc, bytes.as_slice())?;
     assert_eq!(rt; frame.groups().len(), 1);
+    assert_eq!(rt; frame.groups()[0].len(), 1);
     assert_eq!(rt;
-        frame.groups()[0].as_slice(),
-        [Message::Insert(state())].as_slice()
+        frame.groups()[0].first().copied(),
+        state().map(Message::Insert)
     );
     assert_eq!(rt;
         spelled_again(alloc, bytes.as_slice())?.as_slice(),
@@ -234,10 +240,8 @@ fn no_memory(rt: HostRuntime) -> Result<(), Fail> {
     bytes[22] = 1;
     assert_eq!(rt; decode(Refusing, &bytes).err(), Some(FrameFault::Count));
     bytes[3] = 20;
-    match decode(Refusing, &bytes[..20]) {
-        Ok(frame) => assert!(rt; encode(Refusing, &frame).is_err()),
-        Err(fault) => assert_eq!(rt; fault, FrameFault::NoMemory, "a header alone takes none"),
-    }
+    let header_alone = decode(Refusing, &bytes[..20])?;
+    assert_eq!(rt; encode(Refusing, &header_alone).err(), Some(NoMemory));
     Ok(())
 }
 

@@ -1,15 +1,18 @@
-//! The fields of records, written at the end of bytes.
+//! The fields of records, written at the end of bytes. A writer that has written also tells what the types of its fields
+//! keep.
 
-ghost use Rattle.std.specs.Prelude.{◌≡◌, [], ◌∷◌, ◌++◌, OnOk};
-ghost use Rattle.pfl_wire.specs.Spelling.{number_bytes, name_bytes, peer_bytes, address_bytes, end_bytes, key_bytes, family_byte, dir_byte, flags_byte, class_bytes, rule_bytes};
+ghost use Rattle.std.specs.Prelude.{◌≡◌, ◌<◌, ◌^◌, [], ◌∷◌, ◌++◌, OnOk};
+ghost use Rattle.pfl_wire.specs.Frames.{FitsName, FitsPeer, FitsAddr, FitsEnd, FitsKey, FitsKeys};
+ghost use Rattle.pfl_wire.specs.Spelling.{number_bytes, name_bytes, peer_bytes, address_bytes, end_bytes, key_bytes, keys_bytes, family_byte, dir_byte, flags_byte, class_bytes, rule_bytes};
 
 use byteorder::{BigEndian, ByteOrder};
 use pfl_base::{Addr, Class, Dir, End, Key, StateName};
-use pfl_track::Peer;
+use pfl_track::{KeyPair, Peer};
 use std::alloc::{AllocError, Allocator};
 
 pub fn put_byte<A: Allocator>(out: &mut Vec<u8, A>, byte: u8) -> Result<(), AllocError>
-    ensures { OnOk result (out.new.items ≡ out.old.items ++ byte ∷ []) }
+    ensures written { OnOk result (out.new.items ≡ out.old.items ++ byte ∷ []) }
+    ensures small { byte < 2 ^ 8 }
 {
     out.push(byte)?;
     Ok(())
@@ -17,7 +20,8 @@ pub fn put_byte<A: Allocator>(out: &mut Vec<u8, A>, byte: u8) -> Result<(), Allo
 
 #[tactic(auto, unfolding(crate::specs::Spelling::number_bytes))]
 pub fn put_u16<A: Allocator>(out: &mut Vec<u8, A>, number: u16) -> Result<(), AllocError>
-    ensures { OnOk result (out.new.items ≡ out.old.items ++ number_bytes 2 number) }
+    ensures written { OnOk result (out.new.items ≡ out.old.items ++ number_bytes 2 number) }
+    ensures small { number < 2 ^ 16 }
 {
     let mut bytes = [0u8; 2];
     BigEndian::write_u16(&mut bytes, number);
@@ -27,7 +31,8 @@ pub fn put_u16<A: Allocator>(out: &mut Vec<u8, A>, number: u16) -> Result<(), Al
 
 #[tactic(auto, unfolding(crate::specs::Spelling::number_bytes))]
 pub fn put_u32<A: Allocator>(out: &mut Vec<u8, A>, number: u32) -> Result<(), AllocError>
-    ensures { OnOk result (out.new.items ≡ out.old.items ++ number_bytes 4 number) }
+    ensures written { OnOk result (out.new.items ≡ out.old.items ++ number_bytes 4 number) }
+    ensures small { number < 2 ^ 32 }
 {
     let mut bytes = [0u8; 4];
     BigEndian::write_u32(&mut bytes, number);
@@ -37,7 +42,8 @@ pub fn put_u32<A: Allocator>(out: &mut Vec<u8, A>, number: u32) -> Result<(), Al
 
 #[tactic(auto, unfolding(crate::specs::Spelling::number_bytes))]
 pub fn put_u64<A: Allocator>(out: &mut Vec<u8, A>, number: u64) -> Result<(), AllocError>
-    ensures { OnOk result (out.new.items ≡ out.old.items ++ number_bytes 8 number) }
+    ensures written { OnOk result (out.new.items ≡ out.old.items ++ number_bytes 8 number) }
+    ensures small { number < 2 ^ 64 }
 {
     let mut bytes = [0u8; 8];
     BigEndian::write_u64(&mut bytes, number);
@@ -47,7 +53,8 @@ pub fn put_u64<A: Allocator>(out: &mut Vec<u8, A>, number: u64) -> Result<(), Al
 
 #[tactic(auto, unfolding(crate::specs::Spelling::number_bytes))]
 pub fn put_u128<A: Allocator>(out: &mut Vec<u8, A>, number: u128) -> Result<(), AllocError>
-    ensures { OnOk result (out.new.items ≡ out.old.items ++ number_bytes 16 number) }
+    ensures written { OnOk result (out.new.items ≡ out.old.items ++ number_bytes 16 number) }
+    ensures small { number < 2 ^ 128 }
 {
     let mut bytes = [0u8; 16];
     BigEndian::write_u128(&mut bytes, number);
@@ -58,7 +65,8 @@ pub fn put_u128<A: Allocator>(out: &mut Vec<u8, A>, number: u128) -> Result<(), 
 /// A name, 12 bytes: id, creator.
 #[tactic(auto, unfolding(crate::specs::Spelling::name_bytes))]
 pub fn put_name<A: Allocator>(out: &mut Vec<u8, A>, name: StateName) -> Result<(), AllocError>
-    ensures { OnOk result (out.new.items ≡ out.old.items ++ name_bytes name) }
+    ensures written { OnOk result (out.new.items ≡ out.old.items ++ name_bytes name) }
+    ensures fits { OnOk result (FitsName name) }
 {
     put_u64(out, name.id)?;
     put_u32(out, name.creator)
@@ -67,18 +75,21 @@ pub fn put_name<A: Allocator>(out: &mut Vec<u8, A>, name: StateName) -> Result<(
 /// An end of a connection, 12 bytes: level, scale, window, lo, hi.
 #[tactic(auto, unfolding(crate::specs::Spelling::peer_bytes))]
 pub fn put_peer<A: Allocator>(out: &mut Vec<u8, A>, peer: Peer) -> Result<(), AllocError>
-    ensures { OnOk result (out.new.items ≡ out.old.items ++ peer_bytes peer) }
+    ensures written { OnOk result (out.new.items ≡ out.old.items ++ peer_bytes peer) }
+    ensures fits { OnOk result (FitsPeer peer) }
 {
-    put_byte(out, peer.level)?;
-    put_byte(out, peer.scale.unwrap_or(255))?;
-    put_u16(out, peer.window)?;
-    put_u32(out, peer.lo)?;
-    put_u32(out, peer.hi)
+    peer.known();
+    put_byte(out, peer.level())?;
+    put_byte(out, peer.scale().unwrap_or(255))?;
+    put_u16(out, peer.window())?;
+    put_u32(out, peer.lo())?;
+    put_u32(out, peer.hi())
 }
 
 /// An address, 16 bytes in either family.
 fn put_address<A: Allocator>(out: &mut Vec<u8, A>, address: Addr) -> Result<(), AllocError>
-    ensures { OnOk result (out.new.items ≡ out.old.items ++ address_bytes address) }
+    ensures written { OnOk result (out.new.items ≡ out.old.items ++ address_bytes address) }
+    ensures fits { OnOk result (FitsAddr address) }
 {
     match address {
         Addr::V4(number) => {
@@ -93,7 +104,8 @@ fn put_address<A: Allocator>(out: &mut Vec<u8, A>, address: Addr) -> Result<(), 
 /// An address with a port, 18 bytes.
 #[tactic(auto, unfolding(crate::specs::Spelling::end_bytes))]
 pub fn put_end<A: Allocator>(out: &mut Vec<u8, A>, end: End) -> Result<(), AllocError>
-    ensures { OnOk result (out.new.items ≡ out.old.items ++ end_bytes end) }
+    ensures written { OnOk result (out.new.items ≡ out.old.items ++ end_bytes end) }
+    ensures fits { OnOk result (FitsEnd end) }
 {
     put_address(out, end.addr)?;
     put_u16(out, end.port)
@@ -102,10 +114,22 @@ pub fn put_end<A: Allocator>(out: &mut Vec<u8, A>, end: End) -> Result<(), Alloc
 /// The two ends of a flow, 36 bytes: far, near.
 #[tactic(auto, unfolding(crate::specs::Spelling::key_bytes))]
 pub fn put_key<A: Allocator>(out: &mut Vec<u8, A>, key: Key) -> Result<(), AllocError>
-    ensures { OnOk result (out.new.items ≡ out.old.items ++ key_bytes key) }
+    ensures written { OnOk result (out.new.items ≡ out.old.items ++ key_bytes key) }
+    ensures fits { OnOk result (FitsKey key) }
 {
     put_end(out, key.far)?;
     put_end(out, key.near)
+}
+
+/// The keys of a state, 72 bytes: wire, stack.
+#[tactic(auto, unfolding(crate::specs::Spelling::keys_bytes))]
+pub fn put_keys<A: Allocator>(out: &mut Vec<u8, A>, keys: &KeyPair) -> Result<(), AllocError>
+    ensures written { OnOk result (out.new.items ≡ out.old.items ++ keys_bytes keys.now) }
+    ensures fits { OnOk result (FitsKeys keys.now) }
+{
+    keys.known();
+    put_key(out, keys.wire())?;
+    put_key(out, keys.stack())
 }
 
 /// The family: 4, or 6.

@@ -1,9 +1,9 @@
 //! Frames, written as bytes.
 
-ghost use Rattle.std.specs.Prelude.{◌≡◌, ℕ, ◌<◌, ◌^◌, List, ◌++◌, IfOk, OnOk, Ok};
-ghost use Rattle.std.specs.List.{flat_map, AllByRecursion};
-ghost use Rattle.pfl_wire.specs.Frames.{IsFrame, IsGroup, group_len, frame_len, lists};
-ghost use Rattle.pfl_wire.specs.Spelling.{Spells, record_bytes, group_bytes, spelling};
+ghost use Rattle.std.specs.Prelude.{◌≡◌, ℕ, ◌<◌, ◌^◌, List, ◌++◌, length, IfOk, OnOk, Ok};
+ghost use Rattle.std.specs.List.{flat_map, All, AllByRecursion};
+ghost use Rattle.pfl_wire.specs.Frames.{Fits, RuleFits, IsGroupOf, IsGroup, IsSendable, group_len, frame_len, lists};
+ghost use Rattle.pfl_wire.specs.Spelling.{Spells, record_bytes, group_bytes};
 ghost use Rattle.pfl_wire.specs.Reading.{reading};
 
 use crate::frame::Frame;
@@ -14,7 +14,9 @@ use pfl_edits::NoMemory;
 use std::alloc::{AllocError, Allocator};
 
 fn put_records<A: Allocator>(out: &mut Vec<u8, A>, messages: &[Message]) -> Result<(), AllocError>
-    ensures { OnOk result (out.new.items ≡ out.old.items ++ flat_map record_bytes messages.now) }
+    requires { All RuleFits messages.now }
+    ensures written { OnOk result (out.new.items ≡ out.old.items ++ flat_map record_bytes messages.now) }
+    ensures fit { OnOk result (All Fits messages.now) }
 {
     for message in messages {
         put_record(out, message)?;
@@ -24,8 +26,9 @@ fn put_records<A: Allocator>(out: &mut Vec<u8, A>, messages: &[Message]) -> Resu
 
 #[tactic(auto, unfolding(crate::specs::Spelling::group_bytes))]
 fn put_group<A: Allocator>(out: &mut Vec<u8, A>, group: &[Message]) -> Result<(), AllocError>
-    requires { IsGroup group.now }
-    ensures { OnOk result (out.new.items ≡ out.old.items ++ group_bytes group.now) }
+    requires { IsGroupOf RuleFits group.now }
+    ensures written { OnOk result (out.new.items ≡ out.old.items ++ group_bytes group.now) }
+    ensures is { OnOk result (IsGroup group.now) }
 {
     let Some(first) = group.first() else {
         return Ok(());
@@ -40,8 +43,9 @@ fn put_groups<A: Allocator>(
     out: &mut Vec<u8, A>,
     groups: &[Vec<Message, A>],
 ) -> Result<(), AllocError>
-    requires { AllByRecursion IsGroup (lists groups.now) }
-    ensures { OnOk result (out.new.items ≡ out.old.items ++ flat_map group_bytes (lists groups.now)) }
+    requires { AllByRecursion (IsGroupOf RuleFits) (lists groups.now) }
+    ensures written { OnOk result (out.new.items ≡ out.old.items ++ flat_map group_bytes (lists groups.now)) }
+    ensures are { OnOk result (All IsGroup (lists groups.now)) }
 {
     for group in groups {
         put_group(out, group)?;
@@ -51,7 +55,7 @@ fn put_groups<A: Allocator>(
 
 /// How many bytes the group takes.
 fn group_size(group: &[Message]) -> usize
-    requires { IsGroup group.now }
+    requires { IsGroupOf RuleFits group.now }
     ensures size { result ≡ group_len group.now }
     ensures small { result < 2 ^ 24 }
 {
@@ -63,7 +67,7 @@ fn group_size(group: &[Message]) -> usize
 
 /// How many bytes a frame of the groups takes.
 fn frame_size<A: Allocator>(groups: &[Vec<Message, A>]) -> usize
-    requires are { AllByRecursion IsGroup (lists groups.now) }
+    requires are { AllByRecursion (IsGroupOf RuleFits) (lists groups.now) }
     requires short { frame_len (lists groups.now) < 2 ^ 16 }
     ensures { result ≡ frame_len (lists groups.now) }
 {
@@ -74,27 +78,36 @@ fn frame_size<A: Allocator>(groups: &[Vec<Message, A>]) -> usize
     size
 }
 
-/// Encodes by one clause, from which the law of `encode` follows.
-#[tactic(auto, unfolding(crate::specs::Spelling::spelling))]
+/// The checksum, 16 bytes.
+fn put_print<A: Allocator>(out: &mut Vec<u8, A>, print: &[u8; 16]) -> Result<(), AllocError>
+    ensures written { OnOk result (out.new.items ≡ out.old.items ++ print.now) }
+    ensures long { length print.now ≡ 16 }
+    ensures bytes { All (λ b. b < 256) print.now }
+{
+    out.extend_from_slice(print)?;
+    Ok(())
+}
+
+/// Encodes by one clause, from which the laws of `encode` follow.
 fn spelled<A: Allocator + Copy>(alloc: A, frame: &Frame<A>) -> Result<Vec<u8, A>, NoMemory>
-    requires { IsFrame frame.now }
-    ensures { IfOk result (λ v. v.items ≡ spelling frame.now) }
+    requires { IsSendable frame.now }
+    ensures { IfOk result (λ v. Spells v.items frame.now) }
 {
     let size = frame_size(frame.groups());
     let mut out = Vec::with_capacity(alloc, size)?;
     put_byte(&mut out, 5)?;
     put_byte(&mut out, 0)?;
     put_u16(&mut out, size as u16)?;
-    out.extend_from_slice(frame.print())?;
+    put_print(&mut out, frame.print())?;
     put_groups(&mut out, frame.groups())?;
     Ok(out)
 }
 
-/// The spelling of the frame, in one allocation. The frame has one: groups of records of one action, each field within
-/// its range, and at most 65535 bytes.
+/// The spelling of the frame, in one allocation. A caller sees to what types leave open: groups of records of one action,
+/// at least one record and at most 65535 in each, no rule with the number that stands for none, and at most 65535 bytes.
 pub fn encode<A: Allocator + Copy>(alloc: A, frame: &Frame<A>) -> Result<Vec<u8, A>, NoMemory>
-    requires { IsFrame frame.now }
-    ensures spelled { IfOk result (λ v. v.items ≡ spelling frame.now) }
+    requires { IsSendable frame.now }
+    ensures spelled { IfOk result (λ v. Spells v.items frame.now) }
     // No other bytes spell the frame.
     ensures only { IfOk result (λ v. (bytes : List ℕ) → Spells bytes frame.now → bytes ≡ v.items) }
     // They are read again as the frame.

@@ -1,6 +1,5 @@
 -- Worked examples of bulk updates, clears and restarts, computed.
-use Rattle.std.specs.Prelude.{◌≡◌, ℕ, [], ◌∷◌, Some, Result, Ok, Err, refl}
-use Rattle.pfl_base.specs.declared.refusal.Refusal.{Refusal}
+use Rattle.std.specs.Prelude.{◌≡◌, [], ◌∷◌, Ok, Err, refl}
 use Rattle.pfl_base.specs.declared.refusal.Refusal.TheVariants as refusal
 use Rattle.pfl_base.specs.declared.node_id.NodeId.TheVariants.{A, B}
 use Rattle.pfl_wire.specs.declared.message.BulkStatus.TheVariants as status
@@ -8,7 +7,7 @@ use Rattle.pfl_bulk.specs.declared.BulkClient.TheVariants as client
 use Rattle.pfl_world.specs.Outcomes.{Outcome}
 use Rattle.pfl_world.specs.Outcomes as outcome
 use Rattle.pfl_world.specs.Worlds.{World, node_at}
-use Rattle.pfl_world.proofs.Lab.{limits, opening, u1, u2, out, name, answers, final, computing, counts_at, counts, names_at, both, flush, deliver, lose, tick, clear, restart, turn, retry, Answer, passed, sent, taken, clock}
+use Rattle.pfl_world.proofs.Lab.{limits, opening, u1, u2, out, name, answers, final, computing, counts_at, counts, names_at, both, flush, deliver, lose, tick, clear, restart, turn, retry, passed, sent, taken, clock}
 
 abbrev s : World
 s = opening limits

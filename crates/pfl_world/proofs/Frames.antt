@@ -1,7 +1,6 @@
 -- Worked examples of frames, computed.
 use Rattle.std.specs.Prelude.{◌≡◌, ℕ, true, false, List, [], ◌∷◌, ◌++◌, map, length, Option, Some, None, Result, Ok, Err, refl}
 use Rattle.pfl_base.specs.declared.proto.Proto.TheVariants.{Udp}
-use Rattle.pfl_base.specs.declared.refusal.Refusal.{Refusal}
 use Rattle.pfl_base.specs.declared.refusal.Refusal.TheVariants as refusal
 use Rattle.pfl_base.specs.declared.class.Class.TheVariants.{UdpSingle}
 use Rattle.pfl_base.specs.declared.node_id.NodeId.TheVariants.{A, B}
@@ -23,7 +22,7 @@ use Rattle.pfl_world.specs.Weights.{edits_for, packet_work, deliver_work}
 use Rattle.pfl_world.specs.Outcomes.{Outcome}
 use Rattle.pfl_world.specs.Outcomes as outcome
 use Rattle.pfl_world.specs.Worlds.{World, node_at, new_world}
-use Rattle.pfl_world.proofs.Lab.{limits, rules, opening, inside, outside, plain, u1, u2, u3, v1, out, into, tcp_out, tcp_in, name, answers, final, computing, queue_at, queued, states_at, push_at, counts_at, counts, requests_at, held_at, names_at, seen, levels, times, both, flush, deliver, lose, repeat, cut, tick, purge, release, kill, Answer, passed, sent, taken, clock, rules_under, pass_out}
+use Rattle.pfl_world.proofs.Lab.{limits, rules, opening, inside, outside, plain, u1, u2, u3, v1, out, into, tcp_out, tcp_in, name, answers, final, computing, queue_at, queued, states_at, push_at, counts_at, counts, requests_at, held_at, names_at, seen, levels, times, both, flush, deliver, lose, repeat, cut, tick, purge, release, kill, passed, sent, taken, clock, rules_under, pass_out}
 
 abbrev s : World
 s = opening limits

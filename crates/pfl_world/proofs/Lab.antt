@@ -13,18 +13,18 @@ use Rattle.pfl_base.specs.declared.node_id.NodeId.{NodeId}
 use Rattle.pfl_base.specs.declared.node_id.NodeId.TheVariants.{A}
 use Rattle.pfl_base.specs.declared.state_name.StateName.{StateName}
 use Rattle.pfl_edits.specs.Maps as maps
-use Rattle.pfl_rules.specs.declared.Rule.{Rule}
-use Rattle.pfl_rules.specs.declared.Action.TheVariants.{Pass}
-use Rattle.pfl_rules.specs.declared.RuleDir.TheVariants.{Out}
+use Rattle.pfl_rules.specs.declared.rule.Rule.{Rule}
+use Rattle.pfl_rules.specs.declared.action.Action.TheVariants.{Pass}
+use Rattle.pfl_rules.specs.declared.rule_dir.RuleDir.TheVariants.{Out}
 use Rattle.pfl_rules.specs.Rules.{Rules}
-use Rattle.pfl_track.specs.declared.Peer.{Peer}
-use Rattle.pfl_track.specs.declared.State.{State}
+use Rattle.pfl_track.specs.declared.peer.Peer.{Peer}
+use Rattle.pfl_track.specs.declared.state.State.{State}
 use Rattle.pfl_queue.specs.declared.Kind.{Kind}
 use Rattle.pfl_queue.specs.declared.Entry.{Entry}
 use Rattle.pfl_queue.specs.declared.Entry.TheVariants.{Marked}
-use Rattle.pfl_node.specs.declared.Counters.{Counters}
+use Rattle.pfl_node.specs.declared.counters.Counters.{Counters}
 use Rattle.pfl_queue.specs.Taking.{in_turn}
-use Rattle.pfl_node.specs.declared.Limits.{Limits}
+use Rattle.pfl_node.specs.declared.limits.Limits.{Limits}
 use Rattle.pfl_node.specs.Nodes.{Node}
 use Rattle.pfl_link.specs.Links.{InFlight}
 use Rattle.pfl_queue.specs.declared.Mark.{Mark}
@@ -194,7 +194,7 @@ final w (e ∷ es) = final (world_after w (happens w e)) es
 
 -- what a run needs to compute on literals
 unfoldable pub computing : ℕ
-unfolding answers final happens maps.computing spelling.number_bytes spelling.name_bytes spelling.peer_bytes spelling.end_bytes spelling.key_bytes spelling.class_bytes spelling.state_bytes spelling.update_bytes spelling.record_bytes spelling.group_bytes spelling.spelling reading.computing taking.next_frame changes.changed changes.deleted changes.forgotten starting.started starting.judged packets.handled packets.packet_points receiving.taken flushing.frame_of flushing.flushed events.purged events.purge_points events.released_due events.cleared events.restarted events.turn_of events.turned events.retried_client steps.packet_step steps.flush_step steps.deliver_step steps.lose_step steps.repeat_step steps.cut_step steps.tick_step steps.purge_step steps.release_step steps.kill_step steps.clear_step steps.restart_step steps.turn_step steps.retry_step one.step runs.run
+unfolding answers final happens maps.computing spelling.number_bytes spelling.name_bytes spelling.peer_bytes spelling.end_bytes spelling.key_bytes spelling.keys_bytes spelling.class_bytes spelling.state_bytes spelling.update_bytes spelling.record_bytes spelling.group_bytes spelling.spelling reading.computing taking.next_frame changes.changed changes.deleted changes.forgotten starting.started starting.judged packets.handled packets.packet_points receiving.taken flushing.frame_of flushing.flushed events.purged events.purge_points events.released_due events.cleared events.restarted events.turn_of events.turned events.retried_client steps.packet_step steps.flush_step steps.deliver_step steps.lose_step steps.repeat_step steps.cut_step steps.tick_step steps.purge_step steps.release_step steps.kill_step steps.clear_step steps.restart_step steps.turn_step steps.retry_step one.step runs.run
 computing = 0
 
 -- what is pending at a node

@@ -4,3 +4,6 @@ mod Frames
 mod Bulk
 mod Refusals
 pub mod NewWorlds
+pub mod Leads
+pub mod Stepping
+pub mod Ranges

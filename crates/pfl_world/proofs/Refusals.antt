@@ -1,13 +1,12 @@
 -- Worked examples of refusals, computed.
-use Rattle.std.specs.Prelude.{◌≡◌, ℕ, [], ◌∷◌, map, Some, None, Result, Ok, Err, refl}
-use Rattle.pfl_base.specs.declared.refusal.Refusal.{Refusal}
+use Rattle.std.specs.Prelude.{◌≡◌, ℕ, [], ◌∷◌, map, Some, None, Ok, Err, refl}
 use Rattle.pfl_base.specs.declared.refusal.Refusal.TheVariants as refusal
 use Rattle.pfl_base.specs.declared.node_id.NodeId.TheVariants.{A, B}
 use Rattle.pfl_world.specs.Outcomes.{Outcome}
 use Rattle.pfl_world.specs.Outcomes as outcome
-use Rattle.pfl_world.specs.declared.WorldFault.TheVariants as world
+use Rattle.pfl_world.specs.declared.fault.WorldFault.TheVariants as world
 use Rattle.pfl_world.specs.Worlds.{World, node_at, new_world_at, world_fault}
-use Rattle.pfl_world.proofs.Lab.{limits, rules, opening, pass_out, u1, u2, out, name, answers, computing, flush, deliver, repeat, tick, kill, clear, restart, turn, retry, Answer, passed, sent, taken, clock, final, lose}
+use Rattle.pfl_world.proofs.Lab.{limits, rules, opening, pass_out, u1, u2, out, name, answers, computing, flush, deliver, repeat, tick, kill, clear, restart, turn, retry, passed, sent, taken, clock, final, lose}
 
 abbrev s : World
 s = opening limits

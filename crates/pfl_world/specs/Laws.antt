@@ -1,7 +1,7 @@
 -- Laws of the pair, in their own words (this project's profile).
 use Rattle.std.specs.Prelude.{◌≤◌, ℕ}
 use Rattle.pfl_rules.specs.Rules.{Rules, AreRules}
-use Rattle.pfl_node.specs.declared.Limits.{Limits}
+use Rattle.pfl_node.specs.declared.limits.Limits.{Limits}
 use Rattle.pfl_node.specs.Limits.{AreLimits}
 use Rattle.pfl_node.specs.Nodes.{greatest}
 use Rattle.pfl_world.specs.Worlds.{IsWorld, new_world, new_world_at}

@@ -1,4 +1,6 @@
 pub mod Worlds
+pub mod Codes
+pub mod WorldEdits
 pub mod Outcomes
 pub mod Steps
 pub mod Events

@@ -2,7 +2,9 @@
 use Rattle.std.specs.Prelude.{ℕ, Option}
 use Rattle.pfl_base.specs.declared.state_name.StateName.{StateName}
 use Rattle.pfl_wire.specs.declared.fault.BadFrame.{BadFrame}
-use Rattle.pfl_node.specs.declared.Reason.{Reason}
+use Rattle.pfl_node.specs.declared.fate.Reason.{Reason}
+use Rattle.pfl_world.specs.declared.outcome.Outcome.{Outcome as Answer}
+use Rattle.pfl_world.specs.declared.outcome.Outcome.TheVariants as answer
 use Rattle.pfl_world.specs.Worlds.{World}
 
 -- the outcome of an event that is accepted; the code's enum has those of the events that it has
@@ -29,3 +31,10 @@ pub data Outcome : Type 0 where
 pub record Stepped : Type 0 where
   pub world : World
   pub outcome : Outcome
+
+-- what the code's outcome tells
+abbrev pub told : Answer → Outcome
+told (answer.Pass name) = Pass name
+told (answer.Held name) = Held name
+told (answer.Dropped why) = Dropped why
+told (answer.Clock time) = Clock time

@@ -13,7 +13,7 @@ use Rattle.pfl_base.specs.declared.refusal.Refusal.TheVariants.{NoSuchFrame, Not
 use Rattle.pfl_base.specs.declared.node_id.NodeId.{NodeId}
 use Rattle.pfl_base.specs.declared.state_name.StateName.{StateName}
 use Rattle.pfl_edits.specs.Maps as maps
-use Rattle.pfl_track.specs.declared.State.{State}
+use Rattle.pfl_track.specs.declared.state.State.{State}
 use Rattle.pfl_wire.specs.declared.fault.BadFrame.{BadFrame}
 use Rattle.pfl_wire.specs.declared.message.Message.{Message}
 use Rattle.pfl_wire.specs.Frames.{Frame}
@@ -21,10 +21,10 @@ use Rattle.pfl_wire.specs.Spelling.{spelling}
 use Rattle.pfl_wire.specs.Reading.{reading}
 use Rattle.pfl_queue.specs.Queues.{pending}
 use Rattle.pfl_bulk.specs.Bulk.{is_serving, is_waiting, is_due}
-use Rattle.pfl_node.specs.declared.Fate.{Fate}
-use Rattle.pfl_node.specs.declared.Fate.TheVariants as fate
-use Rattle.pfl_node.specs.declared.Retried.{Retried}
-use Rattle.pfl_node.specs.declared.Retried.TheVariants as retried
+use Rattle.pfl_node.specs.declared.fate.Fate.{Fate}
+use Rattle.pfl_node.specs.declared.fate.Fate.TheVariants as fate
+use Rattle.pfl_node.specs.declared.retried.Retried.{Retried}
+use Rattle.pfl_node.specs.declared.retried.Retried.TheVariants as retried
 use Rattle.pfl_node.specs.Nodes.{Node, greatest, last_millisecond, full_tests, refused_by, is_overfull, is_overcounted}
 use Rattle.pfl_node.specs.Changes.{count_broken, deleted}
 use Rattle.pfl_node.specs.Packets.{handled, packet_points}

@@ -1,5 +1,5 @@
 -- How many edits an event may take: by the states, records or packets that it is about (this project's profile).
-use Rattle.std.specs.Prelude.{ℕ, ◌+◌, ◌*◌, List, ◌∷◌, length, Result, Ok, Err}
+use Rattle.std.specs.Prelude.{ℕ, ◌+◌, ◌*◌, ◌∷◌, length, Result, Ok, Err}
 use Rattle.std.specs.List.{zip, sum_by}
 use Rattle.std.specs.Option.{option_map_or}
 use Rattle.pfl_base.specs.Lists.{folds}
@@ -14,9 +14,8 @@ use Rattle.pfl_queue.specs.Taking.{next_frame}
 use Rattle.pfl_node.specs.Nodes.{Node}
 use Rattle.pfl_node.specs.Receiving.{taken, cleared_names}
 use Rattle.pfl_node.specs.Events.{expired_states, due_names, turn_of}
-use Rattle.pfl_link.specs.Links.{InFlight}
-use Rattle.pfl_world.specs.declared.Event.{Event}
-use Rattle.pfl_world.specs.declared.Event.TheVariants as event
+use Rattle.pfl_world.specs.declared.event.Event.{Event}
+use Rattle.pfl_world.specs.declared.event.Event.TheVariants as event
 use Rattle.pfl_world.specs.Worlds.{World, node_at}
 use Rattle.pfl_world.specs.Steps.{records_of, same_rules}
 

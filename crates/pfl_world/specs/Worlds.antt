@@ -1,15 +1,15 @@
 -- The pair of nodes and the link between them (this project's profile).
-use Rattle.std.specs.Prelude.{◌≡◌, ◌≤◌, ℕ, nat_lt, List, [], ◌∷◌, Option, Some, None, if◌then◌else◌}
+use Rattle.std.specs.Prelude.{◌≡◌, ◌≤◌, ℕ, nat_lt, Option, Some, None, if◌then◌else◌}
 use Rattle.std.specs.List.{list_any}
 use Rattle.pfl_base.specs.declared.node_id.NodeId.{NodeId}
 use Rattle.pfl_base.specs.declared.node_id.NodeId.TheVariants.{A, B}
 use Rattle.pfl_rules.specs.Rules.{Rules}
-use Rattle.pfl_node.specs.declared.Limits.{Limits}
+use Rattle.pfl_node.specs.declared.limits.Limits.{Limits}
 use Rattle.pfl_node.specs.Limits.{ranges}
 use Rattle.pfl_node.specs.Nodes.{Node, IsNode, new_node}
 use Rattle.pfl_link.specs.Links.{Link, IsLink, empty_link}
-use Rattle.pfl_world.specs.declared.WorldFault.{WorldFault}
-use Rattle.pfl_world.specs.declared.WorldFault.TheVariants.{TooSmall, TooLarge}
+use Rattle.pfl_world.specs.declared.fault.WorldFault.{WorldFault}
+use Rattle.pfl_world.specs.declared.fault.WorldFault.TheVariants.{TooSmall, TooLarge, NoMemory}
 
 -- the whole state of the pair
 pub record World : Type 0 where
@@ -64,3 +64,8 @@ abbrev pub world_fault : Limits → Option WorldFault
 world_fault l =
     if list_any (λ r. nat_lt r.0 r.1) (ranges l) then Some TooSmall else
     if list_any (λ r. nat_lt r.2 r.0) (ranges l) then Some TooLarge else None
+
+-- a fault that is told: the one of the limits; where they have none, want of memory
+abbrev pub IsFault : Option WorldFault → WorldFault → Type 0
+IsFault (Some first) f = f ≡ first
+IsFault None f = f ≡ NoMemory

@@ -5,4 +5,4 @@ pub returns-clause-only : goal.returns-clause-only
 returns-clause-only g c = spelled_only c.spelled.result c.args.frame.now c.spelled.ensures
 
 pub returns-clause-read : goal.returns-clause-read
-returns-clause-read g c = spelled_again c.spelled.result c.args.frame.now c.requires c.spelled.ensures
+returns-clause-read g c = spelled_again c.spelled.result c.args.frame.now c.spelled.ensures

@@ -1,0 +1,137 @@
+-- How commands and their events are written (this project's profile).
+use Rattle.std.specs.Prelude.{ℕ, Bool, ◌&&◌, ◌||◌, ◌==◌, nat_le, nat_lt, List, [], ◌∷◌, length, codes, bytes_eq, if◌then◌else◌, Option, Some, None, Result, Ok, Err}
+use Rattle.std.specs.List.{list_all}
+use Rattle.pfl_base.specs.declared.direction.Dir.{Dir}
+use Rattle.pfl_base.specs.declared.node_id.NodeId.{NodeId}
+use Rattle.pfl_base.specs.declared.fields.PacketFields.{PacketFields}
+use Rattle.pfl_base.specs.declared.fields.BadPacket.{BadPacket}
+use Rattle.pfl_base.specs.Packets.{bad_packet}
+use Rattle.pfl_world.specs.declared.event.Event.{Event}
+use Rattle.pfl_world.specs.declared.event.Event.TheVariants as events
+use Rattle.pfl_timeline.specs.declared.command.Command.{Command}
+use Rattle.pfl_timeline.specs.declared.command.Command.TheVariants as commands
+use Rattle.pfl_lines.specs.declared.fault.LineFault.{LineFault}
+use Rattle.pfl_lines.specs.declared.fault.LineFault.TheVariants as faults
+use Rattle.pfl_lines.specs.declared.draft.EventDraft.{EventDraft}
+use Rattle.pfl_lines.specs.declared.draft.EventDraft.TheVariants as event_draft
+use Rattle.pfl_lines.specs.declared.draft.CommandDraft.{CommandDraft}
+use Rattle.pfl_lines.specs.declared.draft.CommandDraft.TheVariants as draft
+use Rattle.pfl_lines.specs.Words.{words}
+use Rattle.pfl_lines.specs.Readings.{◌>>=◌, Reading, word_at}
+use Rattle.pfl_lines.specs.Parts.{number_at, node_at, dir_at, branch_at}
+use Rattle.pfl_lines.specs.Packets.{greatest, fields_at}
+
+-- ---- events
+
+-- NODE in|out, and a packet's fields
+unfoldable pub packet_at : List (List ℕ) → Reading EventDraft
+packet_at ws = do
+  node ← node_at ws
+  dir ← dir_at node.1
+  fields ← fields_at dir.1
+  Ok (event_draft.Packet node.0 dir.0 fields.0, fields.1)
+
+-- NODE MS
+unfoldable pub tick_at : List (List ℕ) → Reading EventDraft
+tick_at ws = do
+  node ← node_at ws
+  ms ← number_at 18446744073709551615 node.1
+  Ok (event_draft.Whole (events.Tick node.0 ms.0), ms.1)
+
+-- what belongs to an event's word
+abbrev pub event_by : List ℕ → List (List ℕ) → Reading EventDraft
+event_by word ws =
+    if bytes_eq word (codes "packet") then packet_at ws else
+    if bytes_eq word (codes "tick") then tick_at ws else Err faults.Unknown
+
+-- an event's word and what belongs to it
+unfoldable pub event_at : List (List ℕ) → Reading EventDraft
+event_at ws = do
+  word ← word_at ws
+  event_by word.0 word.1
+
+-- ---- commands
+
+-- BR EVENT
+unfoldable pub step_at : List (List ℕ) → Reading CommandDraft
+step_at ws = do
+  branch ← branch_at ws
+  event ← event_at branch.1
+  Ok (draft.Step branch.0 event.0, event.1)
+
+-- BR N
+unfoldable pub back_at : List (List ℕ) → Reading CommandDraft
+back_at ws = do
+  branch ← branch_at ws
+  n ← number_at greatest branch.1
+  Ok (draft.Whole (commands.Back branch.0 n.0), n.1)
+
+-- BR
+unfoldable pub show_at : List (List ℕ) → Reading CommandDraft
+show_at ws = do
+  branch ← branch_at ws
+  Ok (draft.Whole (commands.Show branch.0), branch.1)
+
+-- what belongs to a command's word
+abbrev pub command_by : List ℕ → List (List ℕ) → Reading CommandDraft
+command_by word ws =
+    if bytes_eq word (codes "step") then step_at ws else
+    if bytes_eq word (codes "back") then back_at ws else
+    if bytes_eq word (codes "show") then show_at ws else Err faults.Unknown
+
+-- a command's word and what belongs to it
+unfoldable pub command_at : List (List ℕ) → Reading CommandDraft
+command_at ws = do
+  word ← word_at ws
+  command_by word.0 word.1
+
+-- ---- lines
+
+-- no word is left over
+abbrev pub finished : {X : Type 0} → X × List (List ℕ) → Result X LineFault
+finished (x, []) = Ok x
+finished (x, word ∷ ws) = Err faults.Extra
+
+-- a packet is one, unless its fields have a fault
+abbrev pub packet_unless : NodeId → Dir → PacketFields → Option BadPacket → Result Event LineFault
+packet_unless node dir fields None = Ok (events.Packet node dir fields)
+packet_unless node dir fields (Some why) = Err (faults.Packet why)
+
+-- the event, once its packet is judged
+abbrev pub whole_event : EventDraft → Result Event LineFault
+whole_event (event_draft.Packet node dir fields) = packet_unless node dir fields (bad_packet fields)
+whole_event (event_draft.Whole event) = Ok event
+
+-- an event on a branch
+unfoldable pub whole_step : List ℕ → EventDraft → Result Command LineFault
+whole_step branch event = do
+  whole ← whole_event event
+  Ok (commands.Step branch whole)
+
+-- the command, once its packet is judged
+abbrev pub whole_command : CommandDraft → Result Command LineFault
+whole_command (draft.Step branch event) = whole_step branch event
+whole_command (draft.Whole command) = Ok command
+
+-- what words say: words left over come before a packet that is none
+unfoldable pub command_of : List (List ℕ) → Result Command LineFault
+command_of ws = do
+  read ← command_at ws
+  command ← finished read
+  whole_command command
+
+-- a tab, or a printable byte
+abbrev pub is_text : ℕ → Bool
+is_text b = (b == 9) || (nat_le 32 b && nat_le b 126)
+
+-- a line of at most 512 bytes of text
+abbrev pub checked : List ℕ → Result (List ℕ) LineFault
+checked line =
+    if nat_lt 512 (length line) then Err faults.Long else
+    if list_all is_text line then Ok line else Err faults.NotAscii
+
+-- what a line says
+unfoldable pub parsed : List ℕ → Result Command LineFault
+parsed line = do
+  text ← checked line
+  command_of (words text)

@@ -1,0 +1,10 @@
+pub mod Words
+pub mod Readings
+pub mod Faults
+pub mod Numbers
+pub mod Addresses
+pub mod Parts
+pub mod Packets
+pub mod Commands
+pub mod Rules
+pub mod Setup

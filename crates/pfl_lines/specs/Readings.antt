@@ -1,0 +1,31 @@
+-- What is read from the words of a line: a value and the words behind it, or the first fault from the left.
+use Rattle.std.specs.Prelude.{◌≡◌, ℕ, List, [], ◌∷◌, Result, Ok, Err}
+use Rattle.pfl_lines.specs.declared.fault.LineFault.{LineFault}
+use Rattle.pfl_lines.specs.declared.fault.LineFault.TheVariants.{Missing}
+
+infixl 10 ◌>>=◌
+-- one reading after another
+abbrev pub ◌>>=◌ : {X Y : Type 0} → Result X LineFault → (X → Result Y LineFault) → Result Y LineFault
+(Ok x) >>= f = f x
+(Err e) >>= f = Err e
+
+-- a value, and the words behind it
+abbrev pub Reading : Type 0 → Type 0
+Reading X = Result (X × List (List ℕ)) LineFault
+
+-- what a function returned, seen by `view`, is what the definition reads
+abbrev pub Gives : {X Y : Type 0} → (X → Y) → Result X LineFault → Result Y LineFault → Type 0
+Gives view (Ok x) read = read ≡ Ok (view x)
+Gives view (Err e) read = read ≡ Err e
+
+-- a word that is wanted, and the words behind it
+abbrev pub word_at : List (List ℕ) → Reading (List ℕ)
+word_at [] = Err Missing
+word_at (word ∷ ws) = Ok (word, ws)
+
+-- what one word says
+abbrev pub one_word : {X : Type 0} → (List ℕ → Result X LineFault) → List (List ℕ) → Reading X
+one_word said ws = do
+  word ← word_at ws
+  x ← said word.0
+  Ok (x, word.1)

@@ -1,0 +1,197 @@
+//! Commands.
+
+ghost use Rattle.std.specs.Prelude.{◌≡◌};
+ghost use Rattle.std.specs.List.{list_all};
+ghost use Rattle.pfl_lines.specs.Words.{words};
+ghost use Rattle.pfl_lines.specs.Readings.{Gives};
+ghost use Rattle.pfl_lines.specs.Commands.{packet_at, tick_at, event_by, event_at, step_at, back_at, show_at, command_by, command_at, finished, whole_event, whole_step, whole_command, command_of, is_text, checked, parsed};
+
+use crate::draft::{CommandDraft, EventDraft};
+use crate::fault::LineFault;
+use crate::packets::{GREATEST, fields_at};
+use crate::parts::{branch_at, dir_at, node_at, number_at};
+use crate::words::{is_word, try_read, word_at};
+use pfl_base::Packet;
+use pfl_timeline::{BranchWord, Command};
+use pfl_world::Event;
+
+/// The most bytes of a line, its end not counted.
+pub const LONGEST: usize = 512;
+
+/// `NODE in|out`, and a packet's fields.
+#[tactic(auto, unfolding(crate::specs::Commands::packet_at))]
+fn packet_at(line: &[u8]) -> Result<(EventDraft, &[u8]), LineFault>
+    ensures { Gives (λ x. (x.0, words x.1.now)) result (packet_at (words line.now)) }
+{
+    let (node, rest) = node_at(line)?;
+    let (dir, rest) = dir_at(rest)?;
+    let (fields, rest) = try_read!(fields_at(rest));
+    Ok((EventDraft::Packet { node, dir, fields }, rest))
+}
+
+/// `NODE MS`.
+#[tactic(auto, unfolding(crate::specs::Commands::tick_at))]
+fn tick_at(line: &[u8]) -> Result<(EventDraft, &[u8]), LineFault>
+    ensures { Gives (λ x. (x.0, words x.1.now)) result (tick_at (words line.now)) }
+{
+    let (node, rest) = node_at(line)?;
+    let (ms, rest) = number_at(rest, u64::MAX)?;
+    Ok((EventDraft::Whole(Event::Tick { node, ms }), rest))
+}
+
+/// What belongs to an event's word.
+fn event_by<'a>(word: &[u8], line: &'a [u8]) -> Result<(EventDraft, &'a [u8]), LineFault>
+    ensures { Gives (λ x. (x.0, words x.1.now)) result (event_by word.now (words line.now)) }
+{
+    if is_word(word, "packet") {
+        return packet_at(line);
+    }
+    if is_word(word, "tick") {
+        return tick_at(line);
+    }
+    Err(LineFault::Unknown)
+}
+
+/// An event's word and what belongs to it.
+#[tactic(auto, unfolding(crate::specs::Commands::event_at))]
+fn event_at(line: &[u8]) -> Result<(EventDraft, &[u8]), LineFault>
+    ensures { Gives (λ x. (x.0, words x.1.now)) result (event_at (words line.now)) }
+{
+    let (word, rest) = word_at(line)?;
+    event_by(word, rest)
+}
+
+/// `BR EVENT`.
+#[tactic(auto, unfolding(crate::specs::Commands::step_at))]
+fn step_at(line: &[u8]) -> Result<(CommandDraft, &[u8]), LineFault>
+    ensures { Gives (λ x. (x.0, words x.1.now)) result (step_at (words line.now)) }
+{
+    let (branch, rest) = try_read!(branch_at(line));
+    let (event, rest) = try_read!(event_at(rest));
+    Ok((CommandDraft::Step { branch, event }, rest))
+}
+
+/// `BR N`.
+#[tactic(auto, unfolding(crate::specs::Commands::back_at))]
+fn back_at(line: &[u8]) -> Result<(CommandDraft, &[u8]), LineFault>
+    ensures { Gives (λ x. (x.0, words x.1.now)) result (back_at (words line.now)) }
+{
+    let (branch, rest) = try_read!(branch_at(line));
+    let (n, rest) = number_at(rest, GREATEST)?;
+    let n = n as u32;
+    Ok((CommandDraft::Whole(Command::Back { branch, n }), rest))
+}
+
+/// `BR`.
+#[tactic(auto, unfolding(crate::specs::Commands::show_at))]
+fn show_at(line: &[u8]) -> Result<(CommandDraft, &[u8]), LineFault>
+    ensures { Gives (λ x. (x.0, words x.1.now)) result (show_at (words line.now)) }
+{
+    let (branch, rest) = try_read!(branch_at(line));
+    Ok((CommandDraft::Whole(Command::Show { branch }), rest))
+}
+
+/// What belongs to a command's word.
+fn command_by<'a>(word: &[u8], line: &'a [u8]) -> Result<(CommandDraft, &'a [u8]), LineFault>
+    ensures { Gives (λ x. (x.0, words x.1.now)) result (command_by word.now (words line.now)) }
+{
+    if is_word(word, "step") {
+        return step_at(line);
+    }
+    if is_word(word, "back") {
+        return back_at(line);
+    }
+    if is_word(word, "show") {
+        return show_at(line);
+    }
+    Err(LineFault::Unknown)
+}
+
+/// A command's word and what belongs to it.
+#[tactic(auto, unfolding(crate::specs::Commands::command_at))]
+fn command_at(line: &[u8]) -> Result<(CommandDraft, &[u8]), LineFault>
+    ensures { Gives (λ x. (x.0, words x.1.now)) result (command_at (words line.now)) }
+{
+    let (word, rest) = word_at(line)?;
+    command_by(word, rest)
+}
+
+/// The event, once its packet is judged.
+fn whole_event(draft: EventDraft) -> Result<Event, LineFault>
+    ensures { result ≡ whole_event draft }
+{
+    match draft {
+        EventDraft::Packet { node, dir, fields } => match Packet::of(fields) {
+            Ok(packet) => Ok(Event::Packet { node, dir, packet }),
+            Err(why) => Err(LineFault::Packet(why)),
+        },
+        EventDraft::Whole(event) => Ok(event),
+    }
+}
+
+/// An event on a branch.
+#[tactic(auto, unfolding(crate::specs::Commands::whole_step))]
+fn whole_step(branch: BranchWord, event: EventDraft) -> Result<Command, LineFault>
+    ensures { result ≡ whole_step branch event }
+{
+    let event = whole_event(event)?;
+    Ok(Command::Step { branch, event })
+}
+
+/// The command, once its packet is judged.
+fn whole_command(draft: CommandDraft) -> Result<Command, LineFault>
+    ensures { result ≡ whole_command draft }
+{
+    match draft {
+        CommandDraft::Step { branch, event } => whole_step(branch, event),
+        CommandDraft::Whole(command) => Ok(command),
+    }
+}
+
+/// What the words of a line say.
+#[tactic(auto, unfolding(crate::specs::Commands::command_of))]
+fn command_of(line: &[u8]) -> Result<Command, LineFault>
+    ensures { result ≡ command_of (words line.now) }
+{
+    let (command, rest) = try_read!(command_at(line));
+    if word_at(rest).is_ok() {
+        return Err(LineFault::Extra);
+    }
+    whole_command(command)
+}
+
+/// Whether the byte is a tab, or printable.
+fn is_text(byte: u8) -> bool
+    ensures { result ≡ is_text byte }
+{
+    byte == b'\t' || (32..=126).contains(&byte)
+}
+
+/// Whether each byte is a tab, or printable.
+fn is_all_text(line: &[u8]) -> bool
+    ensures { result ≡ list_all is_text line.now }
+{
+    line.iter().all(|byte| is_text(*byte))
+}
+
+/// The line, which has at most 512 bytes, all of them text.
+pub fn checked(line: &[u8]) -> Result<&[u8], LineFault>
+    ensures { Gives (λ x. x.now) result (checked line.now) }
+{
+    if line.len() > LONGEST {
+        Err(LineFault::Long)
+    } else if is_all_text(line) {
+        Ok(line)
+    } else {
+        Err(LineFault::NotAscii)
+    }
+}
+
+/// What a line says. It takes no memory.
+#[tactic(auto, unfolding(crate::specs::Commands::parsed))]
+pub fn parse_line(line: &[u8]) -> Result<Command, LineFault>
+    ensures { result ≡ parsed line.now }
+{
+    let text = checked(line)?;
+    command_of(text)
+}

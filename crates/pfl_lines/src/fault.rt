@@ -1,0 +1,69 @@
+//! What is wrong with a line.
+
+ghost use Rattle.std.specs.Prelude.{◌≡◌, Some};
+ghost use Rattle.pfl_lines.specs.Faults.{fault_number, fault_text};
+
+use pfl_base::BadPacket;
+use std::error::Error;
+use std::fmt;
+
+/// Why a line says nothing: the first of these that applies.
+#[derive(Clone, Copy, Debug, PartialEq, Eq)]
+pub enum LineFault {
+    /// The line has more than 512 bytes.
+    Long,
+    /// A byte is neither a tab nor printable.
+    NotAscii,
+    /// There is no such command, event, setup word, option or limit.
+    Unknown,
+    /// A word is wanted and not there.
+    Missing,
+    /// A word is not of its form.
+    Number,
+    /// A word is left over, or out of its place.
+    Extra,
+    /// The fields are no packet.
+    Packet(BadPacket),
+}
+
+impl LineFault {
+    /// The number by which a reply names the fault, from 1 to 7.
+    pub fn number(self) -> u8
+        ensures { result ≡ fault_number self }
+    {
+        match self {
+            LineFault::Long => 1,
+            LineFault::NotAscii => 2,
+            LineFault::Unknown => 3,
+            LineFault::Missing => 4,
+            LineFault::Number => 5,
+            LineFault::Extra => 6,
+            LineFault::Packet(_) => 7,
+        }
+    }
+
+    /// The word by which a reply names the fault.
+    pub fn word(self) -> &'static str
+        ensures { result.now ≡ fault_text self }
+    {
+        match self {
+            LineFault::Long => "Long",
+            LineFault::NotAscii => "NotAscii",
+            LineFault::Unknown => "Unknown",
+            LineFault::Missing => "Missing",
+            LineFault::Number => "Number",
+            LineFault::Extra => "Extra",
+            LineFault::Packet(_) => "Packet",
+        }
+    }
+}
+
+impl fmt::Display for LineFault {
+    ghost output = { λ fault. Some (fault_text fault) };
+
+    fn fmt<W: fmt::Write>(&self, f: &mut fmt::Formatter<W>) -> fmt::Result {
+        f.write_str(self.word())
+    }
+}
+
+impl Error for LineFault {}

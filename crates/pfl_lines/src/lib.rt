@@ -1,0 +1,22 @@
+//! What lines say: the commands of a timeline, and the setup of a pair.
+#![tactic(auto)]
+
+mod addresses;
+mod commands;
+mod draft;
+mod fault;
+mod limit;
+mod numbers;
+mod packets;
+mod parts;
+mod rules;
+mod setup;
+mod words;
+
+pub use commands::{LONGEST, parse_line};
+pub use fault::LineFault;
+pub use limit::Limit;
+pub use setup::{SetupLine, parse_setup};
+
+#[cfg(test)]
+mod tests;

@@ -1,0 +1,143 @@
+//! Setup lines.
+
+ghost use Rattle.std.specs.Prelude.{◌≡◌, ◌≤◌};
+ghost use Rattle.pfl_lines.specs.Words.{words};
+ghost use Rattle.pfl_lines.specs.Readings.{Gives};
+ghost use Rattle.pfl_lines.specs.Commands.{finished};
+ghost use Rattle.pfl_lines.specs.Setup.{limit_of, limit_at, greatest_of, set_of, rule_line_of, setup_by, setup_of, parsed_setup};
+
+use crate::commands::checked;
+use crate::fault::LineFault;
+use crate::limit::Limit;
+use crate::packets::GREATEST;
+use crate::parts::{node_at, number_at};
+use crate::rules::rule_of;
+use crate::words::{is_word, word_at};
+use pfl_base::NodeId;
+use pfl_rules::Rule;
+
+/// What a setup line says.
+#[derive(Clone, Copy, Debug)]
+pub enum SetupLine {
+    /// A limit gets a value.
+    Set { limit: Limit, n: u32 },
+    /// A node gets its next rule.
+    Rule { node: NodeId, rule: Rule },
+    /// The setup ends.
+    Open,
+}
+
+/// The limit with the word.
+fn limit_of(word: &[u8]) -> Result<Limit, LineFault>
+    ensures { result ≡ limit_of word.now }
+{
+    if is_word(word, "states") {
+        Ok(Limit::States)
+    } else if is_word(word, "queue") {
+        Ok(Limit::Queue)
+    } else if is_word(word, "frames") {
+        Ok(Limit::Frames)
+    } else if is_word(word, "mtu") {
+        Ok(Limit::Mtu)
+    } else if is_word(word, "held") {
+        Ok(Limit::Held)
+    } else if is_word(word, "defer") {
+        Ok(Limit::Defer)
+    } else if is_word(word, "defer_ms") {
+        Ok(Limit::DeferMs)
+    } else if is_word(word, "maxupd") {
+        Ok(Limit::MaxUpdates)
+    } else if is_word(word, "batch") {
+        Ok(Limit::Batch)
+    } else if is_word(word, "bulk_ms") {
+        Ok(Limit::BulkMs)
+    } else {
+        Err(LineFault::Unknown)
+    }
+}
+
+/// A limit.
+fn limit_at(line: &[u8]) -> Result<(Limit, &[u8]), LineFault>
+    ensures { Gives (λ x. (x.0, words x.1.now)) result (limit_at (words line.now)) }
+{
+    let (word, rest) = word_at(line)?;
+    let limit = limit_of(word)?;
+    Ok((limit, rest))
+}
+
+/// The greatest number that may be written for a limit.
+fn greatest_of(limit: Limit) -> u64
+    ensures exact { result ≡ greatest_of limit }
+    ensures within { result ≤ 4294967295 }
+{
+    match limit {
+        Limit::Defer => 1,
+        _ => GREATEST,
+    }
+}
+
+/// The setup line, if no word is left over.
+fn ended(setup: SetupLine, line: &[u8]) -> Result<SetupLine, LineFault>
+    ensures { result ≡ finished (setup, words line.now) }
+{
+    match word_at(line) {
+        Ok(_) => Err(LineFault::Extra),
+        Err(_) => Ok(setup),
+    }
+}
+
+/// `NAME N`.
+#[tactic(auto, unfolding(crate::specs::Setup::set_of))]
+fn set_of(line: &[u8]) -> Result<SetupLine, LineFault>
+    ensures { result ≡ set_of (words line.now) }
+{
+    let (limit, rest) = limit_at(line)?;
+    let greatest = greatest_of(limit);
+    let (n, rest) = number_at(rest, greatest)?;
+    let n = n as u32;
+    ended(SetupLine::Set { limit, n }, rest)
+}
+
+/// `NODE RULE`.
+#[tactic(auto, unfolding(crate::specs::Setup::rule_line_of))]
+fn rule_line_of(line: &[u8]) -> Result<SetupLine, LineFault>
+    ensures { result ≡ rule_line_of (words line.now) }
+{
+    let (node, rest) = node_at(line)?;
+    let rule = rule_of(rest)?;
+    Ok(SetupLine::Rule { node, rule })
+}
+
+/// What belongs to a setup line's word.
+fn setup_by(word: &[u8], line: &[u8]) -> Result<SetupLine, LineFault>
+    ensures { result ≡ setup_by word.now (words line.now) }
+{
+    if is_word(word, "set") {
+        return set_of(line);
+    }
+    if is_word(word, "rule") {
+        return rule_line_of(line);
+    }
+    if is_word(word, "open") {
+        return ended(SetupLine::Open, line);
+    }
+    Err(LineFault::Unknown)
+}
+
+/// What the words of a line say.
+#[tactic(auto, unfolding(crate::specs::Setup::setup_of))]
+fn setup_of(line: &[u8]) -> Result<SetupLine, LineFault>
+    ensures { result ≡ setup_of (words line.now) }
+{
+    let (word, rest) = word_at(line)?;
+    setup_by(word, rest)
+}
+
+/// What a setup line says. It takes no memory.
+#[tactic(auto, unfolding(crate::specs::Setup::parsed_setup))]
+pub fn parse_setup(line: &[u8]) -> Result<SetupLine, LineFault>
+    ensures { result ≡ parsed_setup line.now }
+{
+    let text = checked(line)?;
+    setup_of(text)
+}

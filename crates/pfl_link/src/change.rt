@@ -1,0 +1,12 @@
+//! What the operations of a link do under a ticket.
+
+/// What was done under a ticket.
+#[derive(Clone, Copy)]
+pub(crate) enum LinkChange {
+    /// A frame came, and the next ticket rose.
+    Sent,
+    /// The frame left.
+    Taken,
+    /// The frame kept so many of its first bytes.
+    Cut(usize),
+}

@@ -1,0 +1,89 @@
+//! The merge, and what is behind.
+
+ghost use Rattle.std.specs.Prelude.{◌≡◌};
+ghost use Rattle.pfl_merge.specs.Merging.{is_ahead as is_further, stale_source, stale_destination, stale_src as behind_src, stale_dst as behind_dst, last_use as used_last, merged};
+ghost use Rattle.pfl_merge.specs.Laws.{Keeps, Rises, SourceInOrder, DestinationInOrder};
+
+use crate::merged::Merged;
+use crate::received::Received;
+use pfl_base::{Millis, Proto, seq_gt};
+use pfl_track::{Peer, State};
+
+/// The level at which an end of TCP has begun (SYN-SENT).
+const SYN_SENT: u8 = 2;
+
+/// The held end is further than the received one.
+fn is_ahead(held: &Peer, received: &Peer) -> bool
+    ensures { result ≡ is_further held.now received.now }
+{
+    received.level() < held.level()
+}
+
+/// TCP: the received source end is behind in level, or in sequence at one level.
+fn is_stale_source(held: &Peer, received: &Peer) -> bool
+    ensures { result ≡ stale_source held.now received.now }
+{
+    is_ahead(held, received)
+        || (held.level() == received.level() && seq_gt(held.lo(), received.lo()))
+}
+
+/// TCP: the received destination end is behind in level, or in sequence once the held one has begun.
+fn is_stale_destination(held: &Peer, received: &Peer) -> bool
+    ensures { result ≡ stale_destination held.now received.now }
+{
+    is_ahead(held, received) || (SYN_SENT <= held.level() && seq_gt(held.lo(), received.lo()))
+}
+
+/// The received source end is behind.
+fn is_source_behind(held: &State, received: &Received) -> bool
+    ensures { result ≡ behind_src held.now received.now }
+{
+    match held.wire().proto {
+        Proto::Tcp => is_stale_source(&held.src(), &received.src),
+        Proto::Udp | Proto::Icmp | Proto::Other(_) => is_ahead(&held.src(), &received.src),
+    }
+}
+
+/// The received destination end is behind.
+fn is_destination_behind(held: &State, received: &Received) -> bool
+    ensures { result ≡ behind_dst held.now received.now }
+{
+    match held.wire().proto {
+        Proto::Tcp => is_stale_destination(&held.dst(), &received.dst),
+        Proto::Udp | Proto::Icmp | Proto::Other(_) => is_ahead(&held.dst(), &received.dst),
+    }
+}
+
+/// When a state was last used that has `remaining` seconds left of its timeout; not before the clock began.
+fn last_use(remaining: u32, timeout: u32, now: Millis) -> Millis
+    ensures { result ≡ used_last remaining timeout now }
+{
+    let spent = timeout - remaining.min(timeout);
+    now.saturating_sub(u64::from(spent) * 1000)
+}
+
+/// The held state with what the peer tells of it: each end is the received one where that is not behind; the class and
+/// the last use go with them. `timeout` is the state's here, in seconds, for the received class.
+pub fn merge(held: &State, received: &Received, timeout: u32, now: Millis) -> Merged
+    ensures merged { result ≡ merged held.now received.now timeout now }
+    ensures keeps { Keeps held.now result.state }
+    ensures rises { Rises held.now result.state }
+    ensures source_in_order { SourceInOrder held.now received.now result.state }
+    ensures destination_in_order { DestinationInOrder held.now result.state }
+{
+    let stale_src = is_source_behind(held, received);
+    let stale_dst = is_destination_behind(held, received);
+    let src = if stale_src { held.src() } else { received.src };
+    let dst = if stale_dst { held.dst() } else { received.dst };
+    let told = held.with_ends(src, dst).with_peer_change(Some(now));
+    let state = if stale_src && stale_dst {
+        told
+    } else {
+        told.refreshed(received.class, last_use(received.remaining, timeout, now))
+    };
+    Merged {
+        state,
+        stale_src,
+        stale_dst,
+    }
+}

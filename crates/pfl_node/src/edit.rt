@@ -1,0 +1,60 @@
+//! Changes of nodes, each of one place.
+
+use pfl_base::{Millis, StateName};
+use pfl_bulk::{BulkClient, BulkServer};
+use pfl_defer::DeferEdit;
+use pfl_queue::QueueEdit;
+use pfl_track::State;
+
+/// What stands under a name among the states of a node. When a state expires follows from the rules.
+#[derive(Clone, Copy, Debug)]
+pub struct StateEdit {
+    pub name: StateName,
+    pub before: Option<State>,
+    pub after: Option<State>,
+}
+
+/// Which number of a node's counters.
+#[derive(Clone, Copy, Debug, PartialEq, Eq)]
+pub enum Counter {
+    Passed,
+    Blocked,
+    Freed,
+    Lost,
+    Bad,
+    Stale,
+    Broken,
+}
+
+/// A change of one place of a node.
+#[derive(Clone, Copy, Debug)]
+pub enum NodeEdit {
+    OfState(StateEdit),
+    OfQueue(QueueEdit),
+    OfHeld(DeferEdit),
+    Server {
+        before: BulkServer,
+        after: BulkServer,
+    },
+    Client {
+        before: BulkClient,
+        after: BulkClient,
+    },
+    Clock {
+        before: Millis,
+        after: Millis,
+    },
+    NextId {
+        before: u32,
+        after: u32,
+    },
+    Push {
+        before: bool,
+        after: bool,
+    },
+    Count {
+        counter: Counter,
+        before: u32,
+        after: u32,
+    },
+}

@@ -1,0 +1,126 @@
+-- A frame takes from the front of what is pending.
+use Rattle.std.proofs.Common.{◌≡◌, ℕ, Bool, true, false, cond, List, [], ◌∷◌, ◌++◌, map, drop, Some, refl, sym, ◌∙◌, ap, subst, arith}
+use Rattle.std.specs.Prelude.{filter, unwrap_or}
+use Rattle.std.specs.List.{AllByRecursion, sum_by}
+use Rattle.std.proofs.lemmas.List.Sums.{sum_by-cons}
+use Rattle.pfl_base.specs.declared.state_name.StateName.{StateName}
+use Rattle.pfl_base.specs.Lists.{last_of, prefixes, in_order}
+use Rattle.pfl_edits.specs.Maps as maps
+use Rattle.pfl_wire.specs.declared.message.BulkStatus.{BulkStatus}
+use Rattle.pfl_queue.specs.declared.Cleared.{Cleared}
+use Rattle.pfl_queue.specs.declared.Entry.{Entry}
+use Rattle.pfl_queue.specs.declared.Entry.TheVariants.{Request, Status}
+use Rattle.pfl_queue.specs.declared.Mark.{Mark}
+use Rattle.pfl_queue.specs.Queues.{Queue, IsQueue, unmarked}
+use Rattle.pfl_queue.specs.Taking.{mark_before, entry_of, clear_of, in_turn, gone, left_by}
+use Rattle.pfl_queue.specs.Fitting.{longest}
+use Rattle.pfl_queue.specs.Laws.{FramesTakeFromTheFront}
+use Rattle.pfl_queue.proofs.InTurn.{before_order, exact}
+use Rattle.pfl_queue.proofs.Keeping.{kept, gone_kept, unmarked_kept}
+use Rattle.pfl_queue.proofs.Sorting.{Rises, order-sum, order-all, order-rises, same_rising}
+use Rattle.pfl_queue.proofs.Taken.{next_frame-longest}
+use Rattle.pfl_queue.proofs.Values.{values_stand, sum_without}
+
+-- the list begins with these
+record BeginsWith {X : Type 0} (xs front : List X) : Type 0 where
+  rest : List X
+  is : front ++ rest ≡ xs
+
+all_map : {X Y : Type 0} (P : Y → Type 0) (f : X → Y) (xs : List X) → AllByRecursion (λ x. P (f x)) xs → AllByRecursion P (map f xs)
+all_map P f [] all = tt
+all_map P f (x ∷ xs) all = (all.0, all_map P f xs all.1)
+
+all_longer : {X : Type 0} (x : X) (xs : List X) (fronts : List (List X)) → AllByRecursion (BeginsWith xs) fronts → AllByRecursion (λ front. BeginsWith (x ∷ xs) (x ∷ front)) fronts
+all_longer x xs [] all = tt
+all_longer x xs (front ∷ fronts) all = (record { rest = all.0.rest; is = ap (λ ys. x ∷ ys) all.0.is }, all_longer x xs fronts all.1)
+
+prefixes_begin : {X : Type 0} (xs : List X) → AllByRecursion (BeginsWith xs) (prefixes xs)
+prefixes_begin [] = (record { rest = []; is = refl }, tt)
+prefixes_begin (x ∷ xs) = (record { rest = x ∷ xs; is = refl }, all_map (BeginsWith (x ∷ xs)) (λ front. x ∷ front) (prefixes xs) (all_longer x xs (prefixes xs) (prefixes_begin xs)))
+
+all_filter : {X : Type 0} (P : X → Type 0) (test : X → Bool) (xs : List X) → AllByRecursion P xs → AllByRecursion P (filter test xs)
+all_filter P test [] all = tt
+all_filter P test (x ∷ xs) all = elim (test x) as (λ b. AllByRecursion P (cond b (x ∷ filter test xs) (filter test xs))) [
+  | true ↦ (all.0, all_filter P test xs all.1)
+  | false ↦ all_filter P test xs all.1
+]
+
+last_or : {X : Type 0} (P : X → Type 0) (d : X) (xs : List X) → P d → AllByRecursion P xs → P (unwrap_or (last_of xs) d)
+last_or P d [] h all = h
+last_or P d (x ∷ []) h all = all.0
+last_or P d (x ∷ y ∷ ys) h all = last_or P d (y ∷ ys) h all.1
+
+longest_begins : (es : List Entry) (mtu : ℕ) → BeginsWith es (longest es mtu)
+longest_begins es mtu = last_or (BeginsWith es) [] _ (record { rest = es; is = refl }) (all_filter (BeginsWith es) _ (prefixes es) (prefixes_begin es))
+
+stood : (q : Queue) (is : IsQueue q) (name : StateName) (ms : List Mark) → AllByRecursion (λ m. maps.get (maps.remove q.marks name) m.name ≡ Some m) ms → AllByRecursion (λ m. maps.get q.marks m.name ≡ Some m) ms
+stood q is name [] all = tt
+stood q is name (m ∷ ms) all = (kept q is name m.name m all.0, stood q is name ms all.1)
+
+-- the marks in order, without their first
+first_mark_gone : (q : Queue) → IsQueue q → (m : Mark) (ms : List Mark) → in_order mark_before (maps.values q.marks) ≡ m ∷ ms → in_order mark_before (maps.values (maps.remove q.marks m.name)) ≡ ms
+first_mark_gone q is m ms first =
+    let values = maps.values q.marks in
+    let fewer = maps.values (maps.remove q.marks m.name) in
+    let stands = subst (AllByRecursion (λ m. maps.get q.marks m.name ≡ Some m)) first (order-all mark_before (λ m. maps.get q.marks m.name ≡ Some m) values (values_stand q is)) in
+    let stand_too = order-all mark_before (λ m. maps.get q.marks m.name ≡ Some m) fewer (stood q is m.name fewer (values_stand (unmarked q m.name) (unmarked_kept q is m.name))) in
+    let rises = subst (Rises mark_before) first (order-rises mark_before before_order values) in
+    same_rising mark_before before_order (λ m. maps.get q.marks m.name ≡ Some m) (exact q is) (in_order mark_before fewer) ms (order-rises mark_before before_order fewer) rises.1 stand_too stands.1
+    (λ f. omega (arith, order-sum mark_before f fewer, sum_without f q.marks m m.name stands.0, order-sum mark_before f values, ap (sum_by f) first, sum_by-cons f m ms))
+
+-- What is left where this is the first entry.
+module _ (q : Queue) (is : IsQueue q) (e : Entry) (rest : List Entry) where
+  abbrev parts : List Mark → List StateName → List BulkStatus → List Cleared → List Entry
+  parts ms rs ss cs = map entry_of ms ++ map Request rs ++ map Status ss ++ map clear_of cs
+
+  of_clears : in_order mark_before (maps.values q.marks) ≡ [] → q.requests ≡ [] → q.statuses ≡ [] → (cs : List Cleared) → q.clears ≡ cs → parts [] [] [] cs ≡ e ∷ rest → in_turn (gone q e) ≡ rest
+  of_clears marks requests statuses [] clears turn = absurd (cc)
+  of_clears marks requests statuses (c ∷ cs) clears turn =
+      let same : e ≡ clear_of c = cc in
+      let others : map clear_of cs ≡ rest = cc in
+      ap (λ x. in_turn (gone q x)) same
+      ∙ ap (λ ms. map entry_of ms ++ map Request q.requests ++ map Status q.statuses ++ map clear_of (drop 1 q.clears)) marks
+      ∙ ap (λ rs. map Request rs ++ map Status q.statuses ++ map clear_of (drop 1 q.clears)) requests
+      ∙ ap (λ ss. map Status ss ++ map clear_of (drop 1 q.clears)) statuses
+      ∙ ap (λ (xs : List Cleared). map clear_of (drop 1 xs)) clears ∙ others
+
+  of_statuses : in_order mark_before (maps.values q.marks) ≡ [] → q.requests ≡ [] → (ss : List BulkStatus) → q.statuses ≡ ss → parts [] [] ss q.clears ≡ e ∷ rest → in_turn (gone q e) ≡ rest
+  of_statuses marks requests [] statuses turn = of_clears marks requests statuses q.clears refl turn
+  of_statuses marks requests (s ∷ ss) statuses turn =
+      let same : e ≡ Status s = cc in
+      let others : map Status ss ++ map clear_of q.clears ≡ rest = cc in
+      ap (λ x. in_turn (gone q x)) same
+      ∙ ap (λ ms. map entry_of ms ++ map Request q.requests ++ map Status (drop 1 q.statuses) ++ map clear_of q.clears) marks
+      ∙ ap (λ rs. map Request rs ++ map Status (drop 1 q.statuses) ++ map clear_of q.clears) requests
+      ∙ ap (λ (xs : List BulkStatus). map Status (drop 1 xs) ++ map clear_of q.clears) statuses ∙ others
+
+  of_requests : in_order mark_before (maps.values q.marks) ≡ [] → (rs : List StateName) → q.requests ≡ rs → parts [] rs q.statuses q.clears ≡ e ∷ rest → in_turn (gone q e) ≡ rest
+  of_requests marks [] requests turn = of_statuses marks requests q.statuses refl turn
+  of_requests marks (n ∷ rs) requests turn =
+      let same : e ≡ Request n = cc in
+      let others : map Request rs ++ map Status q.statuses ++ map clear_of q.clears ≡ rest = cc in
+      ap (λ x. in_turn (gone q x)) same
+      ∙ ap (λ ms. map entry_of ms ++ map Request (drop 1 q.requests) ++ map Status q.statuses ++ map clear_of q.clears) marks
+      ∙ ap (λ (xs : List StateName). map Request (drop 1 xs) ++ map Status q.statuses ++ map clear_of q.clears) requests ∙ others
+
+  of_marks : (ms : List Mark) → in_order mark_before (maps.values q.marks) ≡ ms → parts ms q.requests q.statuses q.clears ≡ e ∷ rest → in_turn (gone q e) ≡ rest
+  of_marks [] marks turn = of_requests marks q.requests refl turn
+  of_marks (m ∷ ms) marks turn =
+      let same : e ≡ entry_of m = cc in
+      let others : map entry_of ms ++ map Request q.requests ++ map Status q.statuses ++ map clear_of q.clears ≡ rest = cc in
+      ap (λ x. in_turn (gone q x)) same
+      ∙ ap (λ ms. map entry_of ms ++ map Request q.requests ++ map Status q.statuses ++ map clear_of q.clears) (first_mark_gone q is m ms marks) ∙ others
+
+front_gone : (q : Queue) → IsQueue q → (e : Entry) (rest : List Entry) → in_turn q ≡ e ∷ rest → in_turn (gone q e) ≡ rest
+front_gone q is e rest turn = of_marks q is e rest (in_order mark_before (maps.values q.marks)) refl turn
+
+all_gone : (es : List Entry) (q : Queue) → IsQueue q → (rest : List Entry) → es ++ rest ≡ in_turn q → in_turn (left_by q es) ≡ rest
+all_gone [] q is rest turn = sym turn
+all_gone (e ∷ es) q is rest turn = all_gone es (gone q e) (gone_kept q is e) rest (sym (front_gone q is e (es ++ rest) (sym turn)))
+
+pub frames_take_from_the_front : FramesTakeFromTheFront
+frames_take_from_the_front q mtu is =
+    let begins = longest_begins (in_turn q) mtu in
+    let frame = next_frame-longest q mtu in
+    ap (λ es. es ++ in_turn (left_by q es)) frame
+    ∙ (ap (λ ys. longest (in_turn q) mtu ++ ys) (all_gone (longest (in_turn q) mtu) q is begins.rest begins.is) ∙ begins.is)

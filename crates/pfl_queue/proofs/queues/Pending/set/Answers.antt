@@ -1,0 +1,12 @@
+use Rattle.std.proofs.Common.{subst}
+use Rattle.pfl_base.specs.Names.{names_total, names_exact}
+use Rattle.pfl_edits.specs.Places.{set_at-keyed}
+use Rattle.pfl_queue.specs.declared.edits.QueueEdit.{QueueEdit}
+use Rattle.pfl_queue.specs.Queues.{IsQueue}
+use Rattle.pfl_queue.specs.Edits.{redone}
+use Rattle.pfl_queue.proofs.queues.Pending.set.Goals as goal
+
+pub set-requires-clause-keyed : goal.set-requires-clause-keyed
+set-requires-clause-keyed g c =
+    let is = subst (λ (e : QueueEdit). IsQueue (redone e c.args.self.now)) c.in-OfMark.is c.requires.allowed in
+    set_at-keyed names_total names_exact (λ m. m.name) c.args.self.now.marks c.in-OfMark.name c.in-OfMark.after is.filed

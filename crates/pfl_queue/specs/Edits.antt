@@ -1,0 +1,104 @@
+-- The edits of the pending queues, and what their operations record. This project's profile.
+use Rattle.std.specs.Prelude.{◌≡◌, ℕ, ◌+◌, List, [], ◌∷◌, length, Option, Some, None, slice_get, refl}
+use Rattle.std.proofs.Common.{ap, sym, ◌∙◌}
+use Rattle.pfl_base.specs.declared.state_name.StateName.{StateName}
+use Rattle.pfl_base.specs.Names.{names_total, names_exact}
+use Rattle.pfl_edits.specs.Changes.{LeadsBack, LeadsBothWays, LeadsBack-one}
+use Rattle.pfl_edits.specs.Maps as maps
+use Rattle.pfl_edits.specs.Maps.{set_at}
+use Rattle.pfl_edits.specs.Places.{StandsAt, with_position, position-both_ways, part-both_ways, get-set_at_same, set_at-back}
+use Rattle.pfl_wire.specs.declared.message.BulkStatus.{BulkStatus}
+use Rattle.pfl_queue.specs.declared.Kind.{Kind}
+use Rattle.pfl_queue.specs.declared.Mark.{Mark}
+use Rattle.pfl_queue.specs.declared.Entry.{Entry}
+use Rattle.pfl_queue.specs.declared.Entry.TheVariants.{Marked, Request, Status, Clear}
+use Rattle.pfl_queue.specs.declared.edits.QueueEdit.{QueueEdit}
+use Rattle.pfl_queue.specs.declared.edits.QueueEdit.TheVariants.{OfMark, OfRequest, OfStatus, OfClear}
+use Rattle.pfl_queue.specs.Queues.{Queue, IsQueue}
+
+-- what stands under the name, and the next number
+abbrev pub with_mark : Queue → StateName → Option Mark → ℕ → Queue
+with_mark q name at next = record q { next = next; marks = set_at q.marks name at }
+
+-- the edit with its former value and its new one exchanged
+abbrev pub reversed : QueueEdit → QueueEdit
+reversed (OfMark name before after next_before next_after) = OfMark name after before next_after next_before
+reversed (OfRequest position before after) = OfRequest position after before
+reversed (OfStatus position before after) = OfStatus position after before
+reversed (OfClear position before after) = OfClear position after before
+
+-- the edit finds its former value in its place
+abbrev pub FindsFormer : QueueEdit → Queue → Type 0
+FindsFormer (OfMark name before after next_before next_after) q = (maps.get q.marks name ≡ before) × (q.next ≡ next_before)
+FindsFormer (OfRequest position before after) q = StandsAt q.requests position before
+FindsFormer (OfStatus position before after) q = StandsAt q.statuses position before
+FindsFormer (OfClear position before after) q = StandsAt q.clears position before
+
+-- the queues with the edit's new value in its place
+abbrev pub redone : QueueEdit → Queue → Queue
+redone (OfMark name before after next_before next_after) q = with_mark q name after next_after
+redone (OfRequest position before after) q = record q { requests = with_position q.requests position before after }
+redone (OfStatus position before after) q = record q { statuses = with_position q.statuses position before after }
+redone (OfClear position before after) q = record q { clears = with_position q.clears position before after }
+
+-- the edit finds its new value in its place
+abbrev pub Finds : QueueEdit → Queue → Type 0
+Finds edit q = FindsFormer (reversed edit) q
+
+-- the queues with the edit's former value in its place
+abbrev pub put_back : QueueEdit → Queue → Queue
+put_back edit q = redone (reversed edit) q
+
+-- the edits lead from one state of the queues to another and back
+abbrev pub QueueLeadsBack : List QueueEdit → Queue → Queue → Type 0
+QueueLeadsBack = LeadsBack Finds IsQueue put_back
+
+-- what marking a name records,
+abbrev pub marking : Queue → StateName → Kind → QueueEdit
+marking q name kind = OfMark name (maps.get q.marks name) (Some (record { name = name; kind = kind; number = q.next })) q.next (q.next + 1)
+
+-- what taking a name off records,
+abbrev pub unmarking : Queue → StateName → QueueEdit
+unmarking q name = OfMark name (maps.get q.marks name) None q.next q.next
+
+-- what listing a request, a status and a clear records,
+abbrev pub requesting : Queue → StateName → QueueEdit
+requesting q name = OfRequest (length q.requests) None (Some name)
+
+abbrev pub listing_status : Queue → BulkStatus → QueueEdit
+listing_status q status = OfStatus (length q.statuses) None (Some status)
+
+abbrev pub listing_clear : Queue → ℕ → ℕ → QueueEdit
+listing_clear q creator bound = OfClear (length q.clears) None (Some (record { creator = creator; bound = bound }))
+
+-- and what a frame that takes the entry records
+abbrev pub taking : Queue → Entry → QueueEdit
+taking q (Marked kind number name) = unmarking q name
+taking q (Request name) = OfRequest 0 (slice_get q.requests 0) None
+taking q (Status status) = OfStatus 0 (slice_get q.statuses 0) None
+taking q (Clear creator bound) = OfClear 0 (slice_get q.clears 0) None
+
+mark-back : (q : Queue) (name : StateName) (was at : Option Mark) (next former : ℕ) → maps.get q.marks name ≡ was → q.next ≡ former → with_mark (with_mark q name at next) name was former ≡ q
+mark-back q name was at next former is same =
+    ap (λ m. record q { next = former; marks = m }) (set_at-back names_total names_exact q.marks name was at is) ∙ ap (λ n. record q { next = n }) (sym same)
+
+-- a name with the next number, a position of each list: an edit leads both ways
+pub edit-both_ways : (e : QueueEdit) → LeadsBothWays (FindsFormer e) (Finds e) (put_back e) (redone e)
+edit-both_ways (OfMark name before after next_before next_after) = record {
+  put_back_finds = λ q is. (get-set_at_same names_total names_exact q.marks name before, refl);
+  redone_finds = λ q is. (get-set_at_same names_total names_exact q.marks name after, refl);
+  redone_put_back = λ q is. mark-back q name after before next_before next_after is.0 is.1;
+  put_back_redone = λ q is. mark-back q name before after next_after next_before is.0 is.1;
+}
+edit-both_ways (OfRequest position before after) =
+    part-both_ways (λ (q : Queue). q.requests) (λ q xs. record q { requests = xs }) (λ q xs. refl) (λ q. refl) (λ q xs ys. refl) _ _ _ _ (position-both_ways position before after)
+edit-both_ways (OfStatus position before after) =
+    part-both_ways (λ (q : Queue). q.statuses) (λ q xs. record q { statuses = xs }) (λ q xs. refl) (λ q. refl) (λ q xs ys. refl) _ _ _ _ (position-both_ways position before after)
+edit-both_ways (OfClear position before after) =
+    part-both_ways (λ (q : Queue). q.clears) (λ q xs. record q { clears = xs }) (λ q xs. refl) (λ q. refl) (λ q xs ys. refl) _ _ _ _ (position-both_ways position before after)
+
+-- an edit that is made leads back
+pub redone-leads_back : (e : QueueEdit) (q : Queue) → IsQueue q → FindsFormer e q → QueueLeadsBack (e ∷ []) q (redone e q)
+redone-leads_back e q is found =
+    let both = edit-both_ways e in
+    LeadsBack-one Finds IsQueue put_back e q (redone e q) (both.redone_finds q found) is (both.put_back_redone q found)

@@ -1,0 +1,29 @@
+-- How the fields of the pending queues stand for them. This project's profile.
+use Rattle.std.specs.Prelude.{◌≡◌, ◌≤◌, ℕ, List}
+use Rattle.pfl_base.specs.declared.state_name.StateName.{StateName}
+use Rattle.pfl_base.specs.Names.{name_cmp}
+use Rattle.pfl_edits.specs.Ordered.{RowList}
+use Rattle.pfl_edits.specs.Rows.{map_of}
+use Rattle.pfl_wire.specs.declared.message.BulkStatus.{BulkStatus}
+use Rattle.pfl_queue.specs.declared.Mark.{Mark}
+use Rattle.pfl_queue.specs.declared.Cleared.{Cleared}
+use Rattle.pfl_queue.specs.Queues.{Queue, IsQueue}
+
+-- the queues that the fields stand for
+abbrev pub queue_of : ℕ → ℕ → RowList Mark → List StateName → List BulkStatus → List Cleared → Queue
+queue_of limit next marks requests statuses clears = record {
+  limit = limit;
+  next = next;
+  marks = map_of name_cmp (λ m. m.name) marks.list;
+  requests = requests;
+  statuses = statuses;
+  clears = clears;
+}
+
+-- there is room for `limit` marks and for as many entries of each list, and the fields stand for queues
+pub record IsKept (q : Queue) (marks requests statuses clears : ℕ) : Type 0 where
+  pub marks_room : marks ≡ q.limit
+  pub requests_room : q.limit ≤ requests
+  pub statuses_room : q.limit ≤ statuses
+  pub clears_room : q.limit ≤ clears
+  pub queue : IsQueue q

@@ -1,0 +1,43 @@
+-- Laws of the pending queues, in their own words (pfsync(4); the numbers are this project's profile).
+use Rattle.std.specs.Prelude.{◌≡◌, ◌≤◌, ◌==◌, ℕ, List, ◌++◌, map, is_some, if◌then◌else◌}
+use Rattle.std.specs.List.{fold, IsDistinct}
+use Rattle.pfl_base.specs.declared.state_name.StateName.{StateName}
+use Rattle.pfl_base.specs.Names.{is_name}
+use Rattle.pfl_edits.specs.Maps as maps
+use Rattle.pfl_wire.specs.declared.message.BulkStatus.{BulkStatus}
+use Rattle.pfl_queue.specs.declared.Kind.{Kind}
+use Rattle.pfl_queue.specs.Queues.{Queue, IsQueue, pending, empty_queue, marked, unmarked, requested, with_status, with_clear, mark_fault, request_fault, list_fault}
+use Rattle.pfl_queue.specs.Taking.{in_turn, next_frame, left_by}
+
+-- a call that changes the pending queues
+pub data Call : Type 0 where
+  Marking : StateName → Kind → Call
+  Unmarking : StateName → Call
+  Asking : StateName → Call
+  Telling : BulkStatus → Call
+  Clearing : ℕ → ℕ → Call
+  Sending : ℕ → Call
+
+-- the queues after a call: one that is refused changes nothing
+abbrev pub called : Queue → Call → Queue
+called q (Marking name kind) = if is_some (mark_fault q name) then q else marked q name kind
+called q (Unmarking name) = unmarked q name
+called q (Asking name) = if is_some (request_fault q name) then q else requested q name
+called q (Telling status) = if is_some (list_fault q) then q else with_status q status
+called q (Clearing creator bound) = if is_some (list_fault q) then q else with_clear q creator bound
+called q (Sending mtu) = left_by q (next_frame q mtu)
+
+-- no name stands on two queues, no number and no request stands twice, and no more is pending than there is room for
+pub record NothingTwice (q : Queue) : Type 0 where
+  pub names : IsDistinct is_name (map (λ m. m.name) (maps.values q.marks))
+  pub numbers : IsDistinct (λ a b. a == b) (map (λ m. m.number) (maps.values q.marks))
+  pub requests : IsDistinct is_name q.requests
+  pub room : pending q ≤ q.limit
+
+-- so it is after any calls
+abbrev pub NothingTwiceAfterCalls : Type 0
+NothingTwiceAfterCalls = (limit next : ℕ) (calls : List Call) → next ≤ 4294967295 → NothingTwice (fold called (empty_queue limit next) calls)
+
+-- a frame takes from the front of what is pending and skips nothing, and what it does not carry is still pending
+abbrev pub FramesTakeFromTheFront : Type 0
+FramesTakeFromTheFront = (q : Queue) (mtu : ℕ) → IsQueue q → next_frame q mtu ++ in_turn (left_by q (next_frame q mtu)) ≡ in_turn q

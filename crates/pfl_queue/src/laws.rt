@@ -1,0 +1,15 @@
+//! Laws of the pending queues. They have no code: each is a theorem over the definitions, which a function's contract names.
+
+ghost use Rattle.pfl_queue.specs.Laws.{NothingTwiceAfterCalls, FramesTakeFromTheFront};
+
+/// After any calls no name stands on two queues, no number and no request stands twice, and no more is pending than there
+/// is room for.
+pub fn nothing_is_queued_twice()
+    ensures { NothingTwiceAfterCalls }
+{}
+
+/// A frame takes its records from the front of what is pending and skips nothing, and what left the queues is exactly what
+/// the frame carries (pfsync(4)).
+pub fn frames_take_from_the_front()
+    ensures { FramesTakeFromTheFront }
+{}

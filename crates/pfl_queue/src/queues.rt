@@ -1,0 +1,508 @@
+//! The pending queues of a node.
+ghost use Rattle.std.specs.Prelude.{◌≡◌, ◌==◌, ◌≤◌, ◌<◌, [], ◌∷◌, List, IfOk, IfSome, IfErr, OnErr, OnOk, OnSome, IfNone, Some, None, is_some, nat_le, if◌then◌else◌};
+ghost use Rattle.pfl_edits.specs.Maps as maps;
+ghost use Rattle.pfl_queue.specs.Queues.{Queue, IsQueue, empty_queue, pending, kind_of, marked, unmarked, is_requested, requested, with_status, with_clear, most_numbers, is_counted_out, room_fault, mark_fault, list_fault, request_fault};
+ghost use Rattle.pfl_queue.specs.Laws.{NothingTwice};
+ghost use Rattle.pfl_base.specs.Lists.{in_order};
+ghost use Rattle.pfl_queue.specs.Taking.{mark_before, gone};
+ghost use Rattle.pfl_queue.specs.Edits.{QueueLeadsBack, taking, FindsFormer, redone, marking, unmarking, requesting, listing_status, listing_clear};
+
+use crate::edits::QueueEdit;
+use crate::lists::set_position;
+use crate::{Cleared, Entry, Kind, Mark, QueueFault};
+use pfl_base::StateName;
+use pfl_edits::{NoMemory, Reversible, Rows};
+use pfl_wire::BulkStatus;
+use std::alloc::Allocator;
+use std::marker::Model;
+
+/// The greatest queueing number that an event may end with as the next one.
+const GREATEST_NUMBER: u64 = 4294967295;
+
+/// What is to be told to the peer: names with a kind and a number, and lists of requests, statuses and clears. There are
+/// never more than `limit` of them all, and all room is made by `new`.
+#[derive(Drop)]
+pub struct Pending<A: Allocator> {
+    limit: usize,
+    next: u64,
+    marks: Rows<Mark, A>,
+    requests: Vec<StateName, A>,
+    statuses: Vec<BulkStatus, A>,
+    clears: Vec<Cleared, A>,
+}
+
+impl<A: Allocator> Model for Pending<A> {
+    ghost use Rattle.std.specs.Prelude.{vec_capacity};
+    ghost use Rattle.pfl_queue.specs.Queues.{Queue, coded_queue};
+
+    ghost Value = { Queue };
+
+    ghost coded = { coded_queue };
+
+    ghost use Rattle.pfl_queue.specs.Kept.{queue_of, IsKept};
+
+    ghost view = { λ q. queue_of q.limit q.next q.marks q.requests.items q.statuses.items q.clears.items };
+
+    ghost invariant = { λ q. IsKept (queue_of q.limit q.next q.marks q.requests.items q.statuses.items q.clears.items) q.marks.limit (vec_capacity q.requests) (vec_capacity q.statuses) (vec_capacity q.clears) };
+}
+
+impl<A: Allocator + Copy> Pending<A> {
+    /// Nothing pending, and room for `limit` entries. The first number is 1.
+    pub fn new(alloc: A, limit: usize) -> Result<Self, NoMemory>
+        ensures empty { IfOk result (λ q. q ≡ empty_queue limit 1) }
+    {
+        Pending::new_at(alloc, limit, 1)
+    }
+
+    /// Nothing pending, and room for `limit` entries. The first number is `next`.
+    pub fn new_at(alloc: A, limit: usize, next: u32) -> Result<Self, NoMemory>
+        ensures empty { IfOk result (λ q. q ≡ empty_queue limit next) }
+    {
+        Ok(Pending {
+            limit,
+            next: next as u64,
+            marks: Rows::new(alloc, limit)?,
+            requests: Vec::with_capacity(alloc, limit)?,
+            statuses: Vec::with_capacity(alloc, limit)?,
+            clears: Vec::with_capacity(alloc, limit)?,
+        })
+    }
+}
+
+impl<A: Allocator> Pending<A> {
+    /// How much there is room for.
+    pub fn limit(&self) -> usize
+        ensures limit { result ≡ self.now.limit }
+    {
+        self.limit
+    }
+
+    /// The number of the next marking.
+    pub fn next(&self) -> u64
+        ensures next { result ≡ self.now.next }
+    {
+        self.next
+    }
+
+    /// How much is pending.
+    pub fn len(&self) -> usize
+        ensures pending { result ≡ pending self.now }
+    {
+        let limit = self.limit;
+        self.marks.len() + self.requests.len() + self.statuses.len() + self.clears.len()
+    }
+
+    /// Nothing is pending.
+    pub fn is_empty(&self) -> bool
+        ensures empty { result ≡ (pending self.now == 0) }
+    {
+        self.len() == 0
+    }
+
+    /// There is no room for another entry.
+    pub fn is_full(&self) -> bool
+        ensures full { result ≡ nat_le self.now.limit (pending self.now) }
+    {
+        self.limit <= self.len()
+    }
+
+    /// The marks, in the order of their names.
+    pub fn marks(&self) -> &[Mark]
+        ensures marks { result.now ≡ maps.values self.now.marks }
+    {
+        let _limit = &self.limit;
+        self.marks.known();
+        self.marks.as_slice()
+    }
+
+    /// The requests, in the order in which they were listed.
+    pub fn requests(&self) -> &[StateName]
+        ensures requests { result.now ≡ self.now.requests }
+    {
+        &self.requests
+    }
+
+    /// The bulk statuses, in the order in which they were listed.
+    pub fn statuses(&self) -> &[BulkStatus]
+        ensures statuses { result.now ≡ self.now.statuses }
+    {
+        &self.statuses
+    }
+
+    /// The clears, in the order in which they were listed.
+    pub fn clears(&self) -> &[Cleared]
+        ensures clears { result.now ≡ self.now.clears }
+    {
+        &self.clears
+    }
+
+    /// What is known of all pending queues, also of a copy and after a change was taken back.
+    pub fn known(&self)
+        ensures queue { IsQueue self.now }
+        ensures nothing_twice { NothingTwice self.now }
+    {
+        let _limit = &self.limit;
+    }
+
+    /// The mark of a name.
+    pub fn mark_of(&self, name: StateName) -> Option<Mark>
+        ensures mark { result ≡ maps.get self.now.marks name }
+    {
+        self.marks.get(name).copied()
+    }
+
+    /// The queue that a name is on.
+    pub fn kind_of(&self, name: StateName) -> Option<Kind>
+        ensures kind { result ≡ kind_of self.now name }
+    {
+        let mark = self.mark_of(name)?;
+        Some(mark.kind)
+    }
+
+    /// The numbers have passed the greatest, so the event that has led here is refused with CountFull.
+    pub fn is_counted_out(&self) -> bool
+        ensures counted_out { result ≡ is_counted_out self.now }
+    {
+        GREATEST_NUMBER < self.next
+    }
+
+    /// Why there is no room to mark a name, if there is a reason. A name that is marked already takes no room.
+    pub fn room_fault(&self, name: StateName) -> Option<QueueFault>
+        ensures fault { result ≡ room_fault self.now name }
+    {
+        if self.mark_of(name).is_none() && self.is_full() {
+            return Some(QueueFault::QueueFull);
+        }
+        None
+    }
+
+    /// Why a name may not be marked, if there is a reason: the first one.
+    pub fn mark_fault(&self, name: StateName) -> Option<QueueFault>
+        ensures fault { result ≡ mark_fault self.now name }
+    {
+        if let Some(fault) = self.room_fault(name) {
+            return Some(fault);
+        }
+        if GREATEST_NUMBER <= self.next {
+            return Some(QueueFault::CountFull);
+        }
+        None
+    }
+
+    /// Puts a name on a queue, and off any other, with the next number.
+    pub fn mark(&mut self, name: StateName, kind: Kind) -> Result<QueueEdit, QueueFault>
+        ensures fault { IfErr result (λ f. mark_fault self.old name ≡ Some f) }
+        ensures unchanged { OnErr result (self.new ≡ self.old) }
+        ensures no_fault { OnOk result (mark_fault self.old name ≡ None) }
+        ensures marked { OnOk result (self.new ≡ marked self.old name kind) }
+        ensures edit { IfOk result (λ e. e ≡ marking self.old name kind) }
+        ensures leads_back { IfOk result (λ e. QueueLeadsBack (e ∷ []) self.old self.new) }
+    {
+        if let Some(fault) = self.mark_fault(name) {
+            return Err(fault);
+        }
+        Ok(self.put(name, kind))
+    }
+
+    /// Marks as `mark` does, also with a number past the greatest. An event goes on so, since one that meets QueueFull
+    /// later is refused with that; where it ends, `is_counted_out` tells of CountFull.
+    pub fn mark_on(&mut self, name: StateName, kind: Kind) -> Result<QueueEdit, QueueFault>
+        requires countable { self.old.next < most_numbers }
+        ensures fault { IfErr result (λ f. room_fault self.old name ≡ Some f) }
+        ensures unchanged { OnErr result (self.new ≡ self.old) }
+        ensures no_fault { OnOk result (room_fault self.old name ≡ None) }
+        ensures marked { OnOk result (self.new ≡ marked self.old name kind) }
+        ensures edit { IfOk result (λ e. e ≡ marking self.old name kind) }
+        ensures leads_back { IfOk result (λ e. QueueLeadsBack (e ∷ []) self.old self.new) }
+    {
+        if let Some(fault) = self.room_fault(name) {
+            return Err(fault);
+        }
+        Ok(self.put(name, kind))
+    }
+
+    /// Puts a name that there is room for on a queue.
+    fn put(&mut self, name: StateName, kind: Kind) -> QueueEdit
+        requires room { room_fault self.old name ≡ None }
+        requires countable { self.old.next < most_numbers }
+        ensures marked { self.new ≡ marked self.old name kind }
+        ensures edit { result ≡ marking self.old name kind }
+        ensures leads_back { QueueLeadsBack (result ∷ []) self.old self.new }
+    {
+        let before = self.mark_of(name);
+        let number = self.next;
+        let edit = QueueEdit::OfMark {
+            name,
+            before,
+            after: Some(Mark { name, kind, number }),
+            next_before: number,
+            next_after: number + 1,
+        };
+        self.make(edit);
+        edit
+    }
+
+    /// Takes a name off its queue.
+    pub fn unmark(&mut self, name: StateName) -> Option<QueueEdit>
+        ensures marked { is_some result ≡ is_some (kind_of self.old name) }
+        ensures unmarked { self.new ≡ unmarked self.old name }
+        ensures unchanged { IfNone result (self.new ≡ self.old) }
+        ensures edit { IfSome result (λ e. e ≡ unmarking self.old name) }
+        ensures leads_back { IfSome result (λ e. QueueLeadsBack (e ∷ []) self.old self.new) }
+    {
+        let mark = self.mark_of(name)?;
+        let number = self.next;
+        let edit = QueueEdit::OfMark {
+            name,
+            before: Some(mark),
+            after: None,
+            next_before: number,
+            next_after: number,
+        };
+        self.make(edit);
+        Some(edit)
+    }
+
+    /// The name is on the list of requests.
+    pub fn is_requested(&self, name: StateName) -> bool
+        ensures requested { result ≡ is_requested self.now name }
+    {
+        self.requests.iter().any(|listed| name == *listed)
+    }
+
+    /// Why no status and no clear may be listed, if there is a reason.
+    pub fn list_fault(&self) -> Option<QueueFault>
+        ensures fault { result ≡ list_fault self.now }
+    {
+        if self.is_full() {
+            return Some(QueueFault::QueueFull);
+        }
+        None
+    }
+
+    /// Why a name may not be asked for, if there is a reason. A request that is listed already takes no room.
+    pub fn request_fault(&self, name: StateName) -> Option<QueueFault>
+        ensures fault { result ≡ request_fault self.now name }
+    {
+        if self.is_requested(name) {
+            return None;
+        }
+        self.list_fault()
+    }
+
+    /// Lists a request, once. There is no edit where it is listed already.
+    pub fn request(&mut self, name: StateName) -> Result<Option<QueueEdit>, QueueFault>
+        ensures fault { IfErr result (λ f. request_fault self.old name ≡ Some f) }
+        ensures unchanged { OnErr result (self.new ≡ self.old) }
+        ensures no_fault { OnOk result (request_fault self.old name ≡ None) }
+        ensures requested { OnOk result (self.new ≡ requested self.old name) }
+        ensures edit { IfOk result (λ o. o ≡ if is_requested self.old name then None else Some (requesting self.old name)) }
+        ensures leads_back { IfOk result (λ o. IfSome o (λ e. QueueLeadsBack (e ∷ []) self.old self.new)) }
+    {
+        if self.is_requested(name) {
+            return Ok(None);
+        }
+        if let Some(fault) = self.list_fault() {
+            return Err(fault);
+        }
+        let edit = QueueEdit::OfRequest {
+            position: self.requests.len(),
+            before: None,
+            after: Some(name),
+        };
+        self.make(edit);
+        Ok(Some(edit))
+    }
+
+    /// Lists a bulk status.
+    pub fn status(&mut self, status: BulkStatus) -> Result<QueueEdit, QueueFault>
+        ensures fault { IfErr result (λ f. list_fault self.old ≡ Some f) }
+        ensures unchanged { OnErr result (self.new ≡ self.old) }
+        ensures no_fault { OnOk result (list_fault self.old ≡ None) }
+        ensures listed { OnOk result (self.new ≡ with_status self.old status) }
+        ensures edit { IfOk result (λ e. e ≡ listing_status self.old status) }
+        ensures leads_back { IfOk result (λ e. QueueLeadsBack (e ∷ []) self.old self.new) }
+    {
+        if let Some(fault) = self.list_fault() {
+            return Err(fault);
+        }
+        let edit = QueueEdit::OfStatus {
+            position: self.statuses.len(),
+            before: None,
+            after: Some(status),
+        };
+        self.make(edit);
+        Ok(edit)
+    }
+
+    /// Lists a clear: the states of a creator with an id of at most the bound are to go.
+    pub fn clear(&mut self, creator: u32, bound: u64) -> Result<QueueEdit, QueueFault>
+        ensures fault { IfErr result (λ f. list_fault self.old ≡ Some f) }
+        ensures unchanged { OnErr result (self.new ≡ self.old) }
+        ensures no_fault { OnOk result (list_fault self.old ≡ None) }
+        ensures listed { OnOk result (self.new ≡ with_clear self.old creator bound) }
+        ensures edit { IfOk result (λ e. e ≡ listing_clear self.old creator bound) }
+        ensures leads_back { IfOk result (λ e. QueueLeadsBack (e ∷ []) self.old self.new) }
+    {
+        if let Some(fault) = self.list_fault() {
+            return Err(fault);
+        }
+        let edit = QueueEdit::OfClear {
+            position: self.clears.len(),
+            before: None,
+            after: Some(Cleared { creator, bound }),
+        };
+        self.make(edit);
+        Ok(edit)
+    }
+
+    /// Takes an entry out, as a frame does.
+    pub(crate) fn take(&mut self, entry: Entry) -> QueueEdit
+        ensures gone { self.new ≡ gone self.old entry }
+        ensures edit { result ≡ taking self.old entry }
+        ensures leads_back { QueueLeadsBack (result ∷ []) self.old self.new }
+    {
+        self.known();
+        let edit = self.taking(entry);
+        self.make(edit);
+        edit
+    }
+
+    /// The edit that takes an entry out: what is first of its list.
+    fn taking(&self, entry: Entry) -> QueueEdit
+        ensures edit { result ≡ taking self.now entry }
+    {
+        match entry {
+            Entry::Marked { name, .. } => QueueEdit::OfMark {
+                name,
+                before: self.mark_of(name),
+                after: None,
+                next_before: self.next,
+                next_after: self.next,
+            },
+            Entry::Request(_) => QueueEdit::OfRequest {
+                position: 0,
+                before: self.requests.first().copied(),
+                after: None,
+            },
+            Entry::Status(_) => QueueEdit::OfStatus {
+                position: 0,
+                before: self.statuses.first().copied(),
+                after: None,
+            },
+            Entry::Clear { .. } => QueueEdit::OfClear {
+                position: 0,
+                before: self.clears.first().copied(),
+                after: None,
+            },
+        }
+    }
+
+    /// Makes an edit that leads back.
+    fn make(&mut self, edit: QueueEdit)
+        requires found { FindsFormer edit self.old }
+        requires allowed { IsQueue (redone edit self.old) }
+        ensures made { self.new ≡ redone edit self.old }
+        ensures leads_back { QueueLeadsBack (edit ∷ []) self.old self.new }
+    {
+        self.known();
+        self.set(edit);
+    }
+
+    /// Puts the edit's new value into its place.
+    fn set(&mut self, edit: QueueEdit)
+        requires found { FindsFormer edit self.old }
+        requires allowed { IsQueue (redone edit self.old) }
+        ensures set { self.new ≡ redone edit self.old }
+    {
+        match edit {
+            QueueEdit::OfMark {
+                name,
+                after,
+                next_after,
+                ..
+            } => {
+                self.marks.set(name, after);
+                self.next = next_after;
+            }
+            QueueEdit::OfRequest {
+                position,
+                before,
+                after,
+            } => set_position(&mut self.requests, position, before, after),
+            QueueEdit::OfStatus {
+                position,
+                before,
+                after,
+            } => set_position(&mut self.statuses, position, before, after),
+            QueueEdit::OfClear {
+                position,
+                before,
+                after,
+            } => set_position(&mut self.clears, position, before, after),
+        }
+    }
+}
+
+impl<A: Allocator> Reversible for Pending<A> {
+    ghost use Rattle.pfl_queue.specs.Edits.{FindsFormer, Finds, put_back, redone, edit-both_ways};
+
+    type Edit = QueueEdit;
+
+    ghost finds = { Finds };
+
+    ghost finds_former = { FindsFormer };
+
+    ghost put_back = { put_back };
+
+    ghost redone = { redone };
+
+    ghost allows = { IsQueue };
+
+    fn undo(&mut self, edit: QueueEdit) {
+        self.set(edit.reversed());
+    }
+
+    ghost both_ways = { edit-both_ways };
+}
+
+impl<A: Allocator + Copy> Pending<A> {
+    /// The allocator that the room was made with.
+    pub(crate) fn allocator(&self) -> A {
+        *self.requests.allocator()
+    }
+
+    /// The marks by kind and then by number, as a frame has them.
+    pub fn marks_in_turn(&self) -> Result<Vec<Mark, A>, NoMemory>
+        ensures turn { IfOk result (λ marks. marks.items ≡ in_order mark_before (maps.values self.now.marks)) }
+    {
+        let alloc = self.allocator();
+        self.known();
+        self.marks.known();
+        let mut marks = Vec::with_capacity(alloc, self.marks.len())?;
+        marks.extend_from_slice(self.marks.as_slice())?;
+        marks.sort_unstable_by_key(|mark| (mark.kind.place(), mark.number));
+        Ok(marks)
+    }
+
+    /// Equal queues, with room of their own.
+    pub fn copy(&self) -> Result<Self, NoMemory>
+        ensures same { IfOk result (λ copied. copied ≡ self.now) }
+    {
+        let alloc = *self.requests.allocator();
+        let mut requests = Vec::with_capacity(alloc, self.limit)?;
+        requests.extend_from_slice(&self.requests)?;
+        let mut statuses = Vec::with_capacity(alloc, self.limit)?;
+        statuses.extend_from_slice(&self.statuses)?;
+        let mut clears = Vec::with_capacity(alloc, self.limit)?;
+        clears.extend_from_slice(&self.clears)?;
+        Ok(Pending {
+            limit: self.limit,
+            next: self.next,
+            marks: self.marks.copy()?,
+            requests,
+            statuses,
+            clears,
+        })
+    }
+}

@@ -1,0 +1,51 @@
+//! Directions of rules.
+
+ghost use Rattle.std.specs.Prelude.{◌≡◌, Some};
+
+use pfl_base::Dir;
+use std::fmt;
+
+/// Which way a packet goes that a rule matches (pf.conf(5)). It prints as `in`, `out` or `any`.
+#[derive(Clone, Copy, Debug, PartialEq, Eq)]
+pub enum RuleDir {
+    In,
+    Out,
+    /// Either way.
+    Any,
+}
+
+impl RuleDir {
+    ghost use Rattle.pfl_rules.specs.Matching.{goes};
+    ghost use Rattle.pfl_rules.specs.Rules.{is_out};
+
+    /// Whether the rule is for packets that go this way.
+    pub(crate) fn goes(self, dir: Dir) -> bool
+        ensures { result ≡ goes self dir }
+    {
+        matches!(
+            (self, dir),
+            (RuleDir::In, Dir::Inbound) | (RuleDir::Out, Dir::Outbound) | (RuleDir::Any, _)
+        )
+    }
+
+    /// Whether the rule is for the way out alone.
+    pub(crate) fn is_out(self) -> bool
+        ensures { result ≡ is_out self }
+    {
+        matches!(self, RuleDir::Out)
+    }
+}
+
+impl fmt::Display for RuleDir {
+    ghost use Rattle.pfl_rules.specs.Texts.{direction_text};
+
+    ghost output = { λ direction. Some (direction_text direction) };
+
+    fn fmt<W: fmt::Write>(&self, f: &mut fmt::Formatter<W>) -> fmt::Result {
+        f.write_str(match self {
+            RuleDir::In => "in",
+            RuleDir::Out => "out",
+            RuleDir::Any => "any",
+        })
+    }
+}

@@ -1,0 +1,6 @@
+pub mod Keeping
+pub mod Taking
+pub mod Pieces
+pub mod Running
+pub mod Lists
+pub mod Setting

@@ -1,0 +1,197 @@
+-- A run of lines, line by line.
+use Rattle.std.proofs.Common.{◌≡◌, ◌≢◌, ℕ, ◌+◌, ◌<◌, ◌≤◌, Bool, true, false, List, [], ◌∷◌, ◌++◌, length, take, refl, sym, ◌∙◌, ap, subst, arith, length-append, append_assoc, ◌⊎◌, inl, inr, cond, Option, Some, None, Ok, Err}
+use Rattle.std.specs.Prelude.{Result, nat_lt, is_err, ◌&&◌, ⊤}
+use Rattle.std.specs.Io.KnownBytes.{Appends, Keeps as KeepsBytes, IsAtEnd}
+use Rattle.std.proofs.lemmas.Bool.{lt-ltb, le-ltb, cases_lt}
+use Rattle.std.proofs.lemmas.List.{append-nil, take_all}
+use Rattle.pfl_timeline.specs.declared.command.Command.{Command}
+use Rattle.pfl_lines.specs.declared.fault.LineFault.{LineFault}
+use Rattle.pfl_lines.specs.declared.fault.LineFault.TheVariants.{Long}
+use Rattle.pfl_lines.specs.Commands.{parsed}
+use Rattle.pfl_timeline.specs.Timelines.{Timeline}
+use Rattle.pfl_script.specs.Lines.{lines_of}
+use Rattle.pfl_script.specs.Scans.{Kept, Keeps, ReadsLine, TakesLine, TakesLines, IsOver, has_word, head_of}
+use Rattle.pfl_script.specs.Answers.{Answer, line_answer, is_bad, kept_answer, kept_bad, kept_said, answer_to, text, after, bad_lines, one_if, Breaks, AreLines, AreFirst, Drains, RunsWhole, RunsPart}
+use Rattle.pfl_script.proofs.Pieces.{appends_none, appends_then}
+
+-- lines were executed so far
+pub record Ran (old new : Option (List ℕ)) (t u : Timeline) (w v : Option (List ℕ)) (n bad : ℕ) : Type 0 where
+  pub lines : List (List ℕ)
+  pub left : TakesLines old new lines
+  pub timeline : u ≡ after lines t
+  pub written : Appends w v (text lines t)
+  pub counted : n ≡ length lines
+  pub faulty : bad ≡ bad_lines lines
+
+-- what is kept of a line says what the line says
+said-kept : (k : Kept) (body : List ℕ) → Keeps k body → kept_said k ≡ parsed body
+unfolding parsed
+said-kept k body h = elim (cases_lt 512 (length body)) [
+  | inl long ↦ rw (h.long, lt-ltb 512 (length body) long) refl
+  | inr short ↦ rw (h.long, le-ltb 512 (length body) short, h.bytes, take_all 512 body short, le-ltb 512 (length body) short) refl
+]
+
+-- the answer to what is kept of a line is the answer to the line
+answer-kept : (k : Kept) (body : List ℕ) (t : Timeline) → Keeps k body → kept_answer k t ≡ line_answer body t
+unfolding kept_answer line_answer
+answer-kept k body t h = rw (h.head, said-kept k body h) refl
+
+-- what is kept of a line is faulty where the line is
+bad-kept : (k : Kept) (body : List ℕ) → Keeps k body → kept_bad k ≡ is_bad body
+unfolding kept_bad is_bad
+bad-kept k body h = rw (h.head, said-kept k body h) refl
+
+-- one line more
+after-push : (lines : List (List ℕ)) (line : List ℕ) (t : Timeline) → after (lines ++ line ∷ []) t ≡ (line_answer line (after lines t)).timeline
+after-push [] line t = refl
+after-push (x ∷ lines) line t = after-push lines line (line_answer x t).timeline
+
+-- the text of one line more
+text-push : (lines : List (List ℕ)) (line : List ℕ) (t : Timeline) →
+    text (lines ++ line ∷ []) t ≡ text lines t ++ (line_answer line (after lines t)).text
+text-push [] line t = append-nil _
+text-push (x ∷ lines) line t =
+    ap (λ (s : List ℕ). (line_answer x t).text ++ s) (text-push lines line (line_answer x t).timeline)
+    ∙ sym (append_assoc (line_answer x t).text (text lines (line_answer x t).timeline) _)
+
+-- the faulty ones of one line more
+bad_lines-push : (lines : List (List ℕ)) (line : List ℕ) → bad_lines (lines ++ line ∷ []) ≡ bad_lines lines + one_if (is_bad line)
+bad_lines-push [] line = omega arith
+bad_lines-push (x ∷ lines) line = omega (arith, bad_lines-push lines line)
+
+-- the next line is taken
+pub taken-line : (old mid new : Option (List ℕ)) (lines : List (List ℕ)) (line : List ℕ) →
+    TakesLines old mid lines → TakesLine mid new line → TakesLines old new (lines ++ line ∷ [])
+taken-line None mid new lines line h t = tt
+taken-line (Some xs) None new lines line h t = absurd h
+taken-line (Some xs) (Some ys) None lines line h t = absurd t
+taken-line (Some xs) (Some ys) (Some zs) lines line h t =
+    h ∙ (ap (λ (ls : List (List ℕ)). lines ++ ls) t ∙ sym (append_assoc lines (line ∷ []) (lines_of zs)))
+
+-- lines that were taken are the first
+pub taken-first : (old new : Option (List ℕ)) (lines : List (List ℕ)) → TakesLines old new lines → AreFirst old lines
+taken-first None new lines h = tt
+taken-first (Some xs) None lines h = absurd h
+taken-first (Some xs) (Some ys) lines h = (lines_of ys, h)
+
+-- where nothing is left, the lines that were taken are all
+pub taken-all : (old mid new : Option (List ℕ)) (lines : List (List ℕ)) → TakesLines old mid lines → IsOver mid new → AreLines old lines
+taken-all None mid new lines h t = tt
+taken-all (Some xs) None new lines h t = absurd h
+taken-all (Some xs) (Some ys) None lines h t = absurd t
+taken-all (Some xs) (Some ys) (Some zs) lines h t =
+    let at : lines_of xs ≡ lines ++ lines_of [] = subst (λ (y : List ℕ). lines_of xs ≡ lines ++ lines_of y) t.0 h in
+    sym (at ∙ append-nil lines)
+
+-- where nothing was left, nothing is
+pub taken-drained : (old mid new : Option (List ℕ)) (lines : List (List ℕ)) → TakesLines old mid lines → IsOver mid new → Drains old new
+taken-drained None mid new lines h t = tt
+taken-drained (Some xs) None new lines h t = absurd h
+taken-drained (Some xs) (Some ys) None lines h t = absurd t
+taken-drained (Some xs) (Some ys) (Some zs) lines h t = t.1
+
+-- nothing more was written
+appends-keeps : (a b c : Option (List ℕ)) (s : List ℕ) → Appends a b s → KeepsBytes b c → Appends a c s
+appends-keeps None b c s h i = tt
+appends-keeps (Some xs) None c s h i = absurd h
+appends-keeps (Some xs) (Some ys) None s h i = absurd i
+appends-keeps (Some xs) (Some ys) (Some zs) s h i = i ∙ h
+
+-- no line was taken
+pub taken-none : (known : Option (List ℕ)) → TakesLines known known []
+taken-none None = tt
+taken-none (Some xs) = refl
+
+-- no line yet
+pub Ran-none : (old mid : Option (List ℕ)) (t : Timeline) (w : Option (List ℕ)) → mid ≡ old → Ran old mid t t w w 0 0
+Ran-none old mid t w e = record {
+  lines = [];
+  left = rw e (taken-none old);
+  timeline = refl;
+  written = appends_none w;
+  counted = refl;
+  faulty = refl;
+}
+
+-- one line more
+pub Ran-more : (old mid new : Option (List ℕ)) (t u s : Timeline) (w v x : Option (List ℕ)) (n bad : ℕ) (k : Kept) →
+    Ran old mid t u w v n bad → ReadsLine k mid new → s ≡ (kept_answer k u).timeline → Appends v x (kept_answer k u).text →
+    Ran old new t s w x (n + 1) (bad + one_if (kept_bad k))
+Ran-more old mid new t u s w v x n bad k ran reads moved appends =
+    let line = reads.body in
+    let lines = ran.lines in
+    let answer : kept_answer k u ≡ line_answer line (after lines t) =
+    answer-kept k line u reads.keeps ∙ ap (line_answer line) ran.timeline in
+    record {
+      lines = lines ++ line ∷ [];
+      left = taken-line old mid new lines line ran.left reads.takes;
+      timeline = moved ∙ (ap (λ (a : Answer). a.timeline) answer ∙ sym (after-push lines line t));
+      written = rw (text-push lines line t) (appends_then w v x (text lines t) _ ran.written (subst (λ (a : Answer). Appends v x a.text) answer appends));
+      counted = omega (arith, ran.counted, length-append lines (line ∷ []));
+      faulty = rw (ran.faulty, bad-kept k line reads.keeps, bad_lines-push lines line) refl;
+    }
+
+-- the end was reached
+pub Ran-whole : (old mid new : Option (List ℕ)) (t u : Timeline) (w v : Option (List ℕ)) (n bad : ℕ) →
+    Ran old mid t u w v n bad → IsOver mid new → RunsWhole old new t u w v n bad
+Ran-whole old mid new t u w v n bad ran over = record {
+  lines = ran.lines;
+  all = taken-all old mid new ran.lines ran.left over;
+  end = taken-drained old mid new ran.lines ran.left over;
+  timeline = ran.timeline;
+  written = ran.written;
+  counted = ran.counted;
+  faulty = ran.faulty;
+}
+
+-- no further line came
+pub Ran-part : (old mid : Option (List ℕ)) (t u : Timeline) (w v : Option (List ℕ)) (n bad : ℕ) →
+    Ran old mid t u w v n bad → RunsPart old t u w v
+Ran-part old mid t u w v n bad ran = record {
+  lines = ran.lines;
+  last = [];
+  few = omega arith;
+  first = rw append-nil (taken-first old mid ran.lines ran.left);
+  timeline = rw append-nil ran.timeline;
+  part = 0;
+  written = rw append-nil ran.written;
+}
+
+-- the last line's text was not written whole
+Ran-cut : (old mid new : Option (List ℕ)) (t u s : Timeline) (w v x : Option (List ℕ)) (n bad part : ℕ) (k : Kept) →
+    Ran old mid t u w v n bad → ReadsLine k mid new → s ≡ (kept_answer k u).timeline → Appends v x (take part (kept_answer k u).text) →
+    RunsPart old t s w x
+Ran-cut old mid new t u s w v x n bad part k ran reads moved appends =
+    let line = reads.body in
+    let lines = ran.lines in
+    let answer : kept_answer k u ≡ line_answer line (after lines t) =
+    answer-kept k line u reads.keeps ∙ ap (line_answer line) ran.timeline in
+    record {
+      lines = lines;
+      last = line ∷ [];
+      few = omega arith;
+      first = taken-first old new (lines ++ line ∷ []) (taken-line old mid new lines line ran.left reads.takes);
+      timeline = moved ∙ (ap (λ (a : Answer). a.timeline) answer ∙ sym (after-push lines line t));
+      part = part;
+      written = appends_then w v x (text lines t) _ ran.written
+          (rw append-nil (subst (λ (a : Answer). Appends v x (take part a.text)) answer appends));
+    }
+
+-- the last line's answer failed
+pub Ran-broken : (old mid new : Option (List ℕ)) (t u s : Timeline) (w v x : Option (List ℕ)) (n bad : ℕ) (k : Kept) →
+    Ran old mid t u w v n bad → ReadsLine k mid new → Breaks (kept_answer k u) u s v x → RunsPart old t s w x
+Ran-broken old mid new t u s w v x n bad k ran reads (inl h) = Ran-cut old mid new t u s w v x n bad h.1.0 k ran reads h.0 h.1.1
+Ran-broken old mid new t u s w v x n bad k ran reads (inr h) =
+    Ran-part old mid t s w x n bad (record {
+      lines = ran.lines;
+      left = ran.left;
+      timeline = h.0 ∙ ran.timeline;
+      written = appends-keeps w v x (text ran.lines t) ran.written h.1;
+      counted = ran.counted;
+      faulty = ran.faulty;
+    })
+
+-- one line is at most one faulty line
+pub one_if-le : (b : Bool) → one_if b ≤ 1
+one_if-le true = omega arith
+one_if-le false = omega arith

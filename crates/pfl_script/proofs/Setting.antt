@@ -1,0 +1,138 @@
+-- A setup is read line by line.
+use Rattle.std.proofs.Common.{◌≡◌, ℕ, ◌+◌, Bool, true, false, List, [], ◌∷◌, ◌++◌, length, refl, sym, ◌∙◌, ap, subst, arith, length-append, inl, inr, Option, Some, None, Ok, Err}
+use Rattle.std.specs.Prelude.{◌&&◌, Result, nat_lt, IfOk, IfErr}
+use Rattle.std.proofs.lemmas.Bool.{lt-ltb, le-ltb, cases_lt}
+use Rattle.std.proofs.lemmas.List.{take_all}
+use Rattle.std.proofs.lemmas.List.Folds.{list_all-append}
+use Rattle.std.proofs.lemmas.List.Sums.{fold-append}
+use Rattle.pfl_lines.specs.declared.fault.LineFault.{LineFault}
+use Rattle.pfl_lines.specs.declared.setup.SetupLine.{SetupLine}
+use Rattle.pfl_lines.specs.declared.setup.SetupLine.TheVariants as setup
+use Rattle.pfl_lines.specs.Setup.{parsed_setup}
+use Rattle.pfl_script.specs.Scans.{Kept, Keeps, ReadsLine, TakesLines, IsOver}
+use Rattle.pfl_script.specs.Answers.{kept_setup}
+use Rattle.pfl_script.specs.declared.setup_fault.SetupFault.{SetupFault}
+use Rattle.pfl_script.specs.declared.setup_fault.SetupFault.TheVariants as fault
+use Rattle.pfl_script.specs.Readers.{Source}
+use Rattle.pfl_script.specs.Setups.{first_rule_fault, IsSetupFault, IsTakeFault, IsRuleStop, Draft, nothing_set, said, kept_words, set_by_said, goes_on, drafted, all_go_on, Opens, IsFaultyAt, IsUnopened, Takes}
+use Rattle.pfl_script.proofs.Running.{taken-none, taken-line, taken-first, taken-all}
+
+-- lines were taken so far that set this
+pub record Going (old new : Option (List ℕ)) (n : ℕ) (d : Draft) : Type 0 where
+  pub lines : List (List ℕ)
+  pub taken : TakesLines old new lines
+  pub going : all_go_on lines ≡ true
+  pub draft : d ≡ drafted lines
+  pub number : n ≡ length lines
+
+-- what is kept of a line says what the line says
+setup-kept : (k : Kept) (body : List ℕ) → Keeps k body → kept_setup k ≡ parsed_setup body
+unfolding parsed_setup
+setup-kept k body h = elim (cases_lt 512 (length body)) [
+  | inl long ↦ rw (h.long, lt-ltb 512 (length body) long) refl
+  | inr short ↦ rw (h.long, le-ltb 512 (length body) short, h.bytes, take_all 512 body short, le-ltb 512 (length body) short) refl
+]
+
+words-kept : (k : Kept) (body : List ℕ) → Keeps k body → kept_words k ≡ said body
+unfolding kept_words said
+words-kept k body h = rw (h.head, setup-kept k body h) refl
+
+both : (a b : Bool) → a ≡ true → b ≡ true → (a && b) ≡ true
+both a b h i = rw (h, i) refl
+
+go-push : (lines : List (List ℕ)) (line : List ℕ) → all_go_on lines ≡ true → goes_on (said line) ≡ true → all_go_on (lines ++ line ∷ []) ≡ true
+unfolding all_go_on
+go-push lines line h i = list_all-append (λ l. goes_on (said l)) lines (line ∷ []) ∙ both _ _ h (both _ _ i refl)
+
+draft-push : (lines : List (List ℕ)) (line : List ℕ) → drafted (lines ++ line ∷ []) ≡ set_by_said (drafted lines) (said line)
+unfolding drafted
+draft-push lines line = fold-append (λ d l. set_by_said d (said l)) nothing_set lines (line ∷ [])
+
+-- no line yet
+pub Going-none : (old mid : Option (List ℕ)) → mid ≡ old → Going old mid 0 nothing_set
+unfolding drafted all_go_on
+Going-none old mid e = record {
+  lines = [];
+  taken = rw e (taken-none old);
+  going = refl;
+  draft = refl;
+  number = refl;
+}
+
+-- one line more that sets something, or nothing
+pub Going-more : (old mid new : Option (List ℕ)) (n : ℕ) (d e : Draft) (k : Kept) →
+    Going old mid n d → ReadsLine k mid new → Takes false (kept_words k) d e → Going old new (n + 1) e
+Going-more old mid new n d e k h reads takes =
+    let words = words-kept k reads.body reads.keeps in
+    record {
+      lines = h.lines ++ reads.body ∷ [];
+      taken = taken-line old mid new h.lines reads.body h.taken reads.takes;
+      going = go-push h.lines reads.body h.going (sym (ap goes_on words) ∙ takes.0);
+      draft = takes.1 ∙ (ap (set_by_said d) words ∙ (ap (λ (x : Draft). set_by_said x (said reads.body)) h.draft ∙ sym (draft-push h.lines reads.body)));
+      number = omega (arith, h.number, length-append h.lines (reads.body ∷ []));
+    }
+
+-- the line that ends the setup
+pub Going-open : (old mid new : Option (List ℕ)) (n : ℕ) (d e : Draft) (k : Kept) →
+    Going old mid n d → ReadsLine k mid new → Takes true (kept_words k) d e → Opens old new (n + 1) e
+Going-open old mid new n d e k h reads takes = record {
+  before = h.lines;
+  last = reads.body;
+  taken = taken-line old mid new h.lines reads.body h.taken reads.takes;
+  going = h.going;
+  opened = sym (words-kept k reads.body reads.keeps) ∙ takes.0;
+  draft = takes.1 ∙ h.draft;
+  number = omega (arith, h.number);
+}
+
+-- a faulty line
+pub Going-faulty : (old mid new : Option (List ℕ)) (n : ℕ) (d : Draft) (k : Kept) (why : LineFault) →
+    Going old mid n d → ReadsLine k mid new → kept_words k ≡ Some (Err why) → IsFaultyAt old (n + 1) why
+Going-faulty old mid new n d k why h reads faulty = record {
+  before = h.lines;
+  last = reads.body;
+  first = taken-first old new (h.lines ++ reads.body ∷ []) (taken-line old mid new h.lines reads.body h.taken reads.takes);
+  going = h.going;
+  faulty = sym (words-kept k reads.body reads.keeps) ∙ faulty;
+  number = omega (arith, h.number);
+}
+
+-- no line is left
+pub Going-end : (old mid new : Option (List ℕ)) (n : ℕ) (d : Draft) → Going old mid n d → IsOver mid new → IsUnopened old n
+Going-end old mid new n d h over = record {
+  lines = h.lines;
+  all = taken-all old mid new h.lines h.taken over;
+  going = h.going;
+  number = h.number;
+}
+
+-- a line that was not taken ends the setup
+pub stops-taken : (old mid : Option (List ℕ)) (new : Source) (n : ℕ) (d : Draft) (k : Kept) (e : SetupFault) →
+    Going old mid n d → ReadsLine k mid new.left → IsTakeFault e (n + 1) (kept_words k) → IsSetupFault e old new
+stops-taken old mid new n d k (fault.Line m why) h reads stop =
+    subst (λ (i : ℕ). IsFaultyAt old i why) (sym stop.0) (Going-faulty old mid new.left n d k why h reads stop.1)
+stops-taken old mid new n d k (fault.Rule m why) h reads stop = absurd stop
+stops-taken old mid new n d k (fault.NoOpen m) h reads stop = absurd stop
+stops-taken old mid new n d k fault.Read h reads stop = absurd stop
+stops-taken old mid new n d k fault.TooManyTurns h reads stop = absurd stop
+stops-taken old mid new n d k fault.NoMemory h reads stop = tt
+
+-- rules that are no rule sets end the setup
+pub stops-finished : (old : Option (List ℕ)) (new : Source) (n : ℕ) (d : Draft) (e : SetupFault) →
+    Opens old new.left n d → IsRuleStop e n (first_rule_fault d) → IsSetupFault e old new
+stops-finished old new n d (fault.Line m why) h stop = absurd stop
+stops-finished old new n d (fault.Rule m why) h stop = record { draft = d; opens = subst (λ (i : ℕ). Opens old new.left i d) (sym stop.0) h; first = stop.1 }
+stops-finished old new n d (fault.NoOpen m) h stop = absurd stop
+stops-finished old new n d fault.Read h stop = absurd stop
+stops-finished old new n d fault.TooManyTurns h stop = absurd stop
+stops-finished old new n d fault.NoMemory h stop = tt
+
+-- what is true of each good value
+pub on-ok : {X E : Type 0} {P Q : X → Type 0} (r : Result X E) → ((x : X) → P x → Q x) → IfOk r P → IfOk r Q
+on-ok (Ok x) f h = f x h
+on-ok (Err e) f h = h
+
+-- what is true of each fault
+pub on-err : {X E : Type 0} {P Q : E → Type 0} (r : Result X E) → ((e : E) → P e → Q e) → IfErr r P → IfErr r Q
+on-err (Ok x) f h = h
+on-err (Err e) f h = f e h

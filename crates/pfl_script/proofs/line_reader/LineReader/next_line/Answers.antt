@@ -1,0 +1,45 @@
+use Rattle.std.proofs.Common.{rules, arith, ◌≡◌, ℕ, Some, None, List, Option, subst, sym, ap, ◌∙◌, inl, inr, IfSome, ◌<◌}
+use Rattle.std.proofs.lemmas.Grind.{common_steps}
+use Rattle.pfl_script.specs.Scans.{TakesByte, ReadsLine, IsOver, Kept, added, nothing}
+use Rattle.pfl_script.specs.Readers.{room}
+use Rattle.pfl_script.proofs.Taking.{Reads-added, Reads-end, Reads-last, Reads-none}
+use Rattle.pfl_script.proofs.line_reader.LineReader.next_line.Goals as goal
+
+-- a line with its end
+pub returns-then-byte-eq-LINE_FEED-clause-line : goal.returns-then-byte-eq-LINE_FEED-clause-line
+returns-then-byte-eq-LINE_FEED-clause-line g c =
+    let is = c.in-Some.is ∙ ap Some c.if-byte-eq-LINE_FEED.true in
+    let taken = subst (TakesByte c.loop-byte.self.left c.take_byte.new.self.left) is c.in_ok-byte.ensures.byte in
+    rw c.count_line.ensures.left (Reads-end _ _ _ _ c.loop-byte.invariant.reads taken)
+
+-- one more byte of the line
+pub loop-byte-preserved : goal.loop-byte-preserved
+loop-byte-preserved g c =
+    let taken = subst (TakesByte c.loop-byte.self.left c.take_byte.new.self.left) c.in-Some.is c.in_ok-byte.ensures.byte in
+    let less : room c.take_byte.new.self < room c.loop-byte.self = subst (λ (o : Option ℕ). IfSome o (λ _. room c.take_byte.new.self < room c.loop-byte.self)) c.in-Some.is c.in_ok-byte.ensures.room in
+    record {
+      reads = rw c.add.ensures (Reads-added _ _ _ _ _ c.loop-byte.invariant.reads taken c.if-byte-eq-LINE_FEED.false);
+      within = omega (arith, less);
+      less = inr (omega (arith, less));
+      lines = c.take_byte.ensures.lines ∙ c.loop-byte.invariant.lines;
+      stays = c.in_ok-byte.ensures.stays ∙ c.loop-byte.invariant.stays;
+    }
+
+-- the end of the bytes, with no line before it
+pub returns-then-is_empty-clause-line : goal.returns-then-is_empty-clause-line
+returns-then-is_empty-clause-line g c =
+    let over = subst (TakesByte c.loop-byte.self.left c.take_byte.new.self.left) c.in_default.is c.in_ok-byte.ensures.byte in
+    Reads-none _ _ _ _ c.loop-byte.invariant.reads over (c.is_empty.ensures.empty c.if-is_empty.true)
+
+-- the last line, which has no end
+pub returns-clause-line : goal.returns-clause-line
+returns-clause-line g c =
+    let over = subst (TakesByte c.loop-byte.self.left c.take_byte.new.self.left) c.in_default.is c.in_ok-byte.ensures.byte in
+    rw (c.settle.ensures, c.count_line-2.ensures.left) (Reads-last _ _ _ _ c.loop-byte.invariant.reads over (c.is_empty.ensures.some c.if-is_empty.false))
+
+-- a line has a byte
+pub returns-clause-room : goal.returns-clause-room
+returns-clause-room g c = elim c.loop-byte.invariant.less [
+  | inl h ↦ absurd (c.is_empty.ensures.some c.if-is_empty.false h)
+  | inr h ↦ omega (arith, h, c.in_ok-byte.ensures.spent, c.count_line-2.ensures.room)
+]

@@ -1,0 +1,50 @@
+use Rattle.std.proofs.Common.{arith, ◌≡◌, ◌<◌, ◌+◌, ℕ, Bool, Option, Some, subst, sym, ◌∙◌, IfSome}
+use Rattle.std.proofs.lemmas.Result.{err_from_is_err_and}
+use Rattle.pfl_script.specs.Scans.{Kept, Gives}
+use Rattle.pfl_script.specs.Readers.{room}
+use Rattle.pfl_script.specs.Setups.{Takes, kept_words}
+use Rattle.pfl_script.proofs.Setting.{Going-none, Going-more, Going-open, stops-taken, stops-finished, on-ok, on-err}
+use Rattle.pfl_script.proofs.setup.read_setup.Goals as goal
+
+pub loop-draft-init : goal.loop-draft-init
+loop-draft-init g c = record {
+  going = rw c.new-draft.ensures (Going-none _ _ c.begin.ensures.left);
+  few = omega (arith, c.begin.ensures.room);
+  stays = c.begin.ensures.failed;
+}
+
+-- a line was not taken
+pub returns-in_err-take_line-clause-fault : goal.returns-in_err-take_line-clause-fault
+returns-in_err-take_line-clause-fault g c =
+    let reads = subst (Gives c.loop-draft.reader.left c.next_of.new.reader.left) c.in-Some.is c.in_ok-line.ensures.line in
+    let p = err_from_is_err_and c.from_residual-in_err-take_line.result c.from_residual-in_err-take_line.ensures.1 in
+    rw (p.1, p.2) (stops-taken _ _ c.next_of.new.reader c.loop-draft.number c.loop-draft.draft c.in-Some.line _ c.loop-draft.invariant.going reads c.in_err-take_line.ensures.fault)
+
+-- the setup ends
+pub returns-then-branch-clause-setup : goal.returns-then-branch-clause-setup
+returns-then-branch-clause-setup g c =
+    let reads = subst (Gives c.loop-draft.reader.left c.next_of.new.reader.left) c.in-Some.is c.in_ok-line.ensures.line in
+    let takes = subst (λ (b : Bool). Takes b (kept_words c.in-Some.line) c.loop-draft.draft c.take_line.new.self) c.if-branch.true c.in_ok-take_line.ensures.taken in
+    let opens = Going-open _ _ _ _ _ _ c.in-Some.line c.loop-draft.invariant.going reads takes in
+    on-ok c.finish.result (λ s finishes. record { draft = c.take_line.new.self; number = c.loop-draft.number + 1; opens = opens; finishes = finishes }) c.finish.ensures.setup
+
+-- the rules have a fault
+pub returns-then-branch-clause-fault : goal.returns-then-branch-clause-fault
+returns-then-branch-clause-fault g c =
+    let reads = subst (Gives c.loop-draft.reader.left c.next_of.new.reader.left) c.in-Some.is c.in_ok-line.ensures.line in
+    let takes = subst (λ (b : Bool). Takes b (kept_words c.in-Some.line) c.loop-draft.draft c.take_line.new.self) c.if-branch.true c.in_ok-take_line.ensures.taken in
+    let opens = Going-open _ _ _ _ _ _ c.in-Some.line c.loop-draft.invariant.going reads takes in
+    on-err c.finish.result (λ e stop. stops-finished _ c.next_of.new.reader (c.loop-draft.number + 1) c.take_line.new.self e opens stop) c.finish.ensures.fault
+
+-- one line more
+pub loop-draft-preserved : goal.loop-draft-preserved
+loop-draft-preserved g c =
+    let reads = subst (Gives c.loop-draft.reader.left c.next_of.new.reader.left) c.in-Some.is c.in_ok-line.ensures.line in
+    let takes = subst (λ (b : Bool). Takes b (kept_words c.in-Some.line) c.loop-draft.draft c.take_line.new.self) c.if-branch.false c.in_ok-take_line.ensures.taken in
+    let less : room c.next_of.new.reader < room c.loop-draft.reader =
+    subst (λ (o : Option Kept). IfSome o (λ _. room c.next_of.new.reader < room c.loop-draft.reader)) c.in-Some.is c.in_ok-line.ensures.room in
+    record {
+      going = Going-more _ _ _ _ _ _ c.in-Some.line c.loop-draft.invariant.going reads takes;
+      few = omega (arith, less, c.loop-draft.invariant.few);
+      stays = c.in_ok-line.ensures.stays ∙ c.loop-draft.invariant.stays;
+    }

@@ -1,0 +1,14 @@
+use Rattle.std.proofs.Common.{◌≡◌, ◌+◌, ◌≤◌, ◌^◌}
+use Rattle.pfl_script.specs.Readers.{room}
+use Rattle.pfl_script.proofs.Setting.{Going}
+use Rattle.pfl_script.proofs.setup.read_setup.Given as goal
+
+abbrev pub invariant-loop-draft : goal.invariant-loop-draft
+invariant-loop-draft g l = record {
+  going : Going l.fn.reader.left l.reader.left l.number l.draft;
+  few : l.number + room l.reader ≤ 2 ^ 40;
+  stays : l.reader.failed ≡ l.fn.reader.failed;
+}
+
+abbrev pub decreases-loop-draft : goal.decreases-loop-draft
+decreases-loop-draft g l = room l.reader

@@ -1,0 +1,109 @@
+-- What lines do to a timeline, and the text of their replies.
+use Rattle.std.specs.Prelude.{◌≡◌, ◌≤◌, ℕ, ◌+◌, Bool, true, false, ◌&&◌, is_err, List, [], ◌∷◌, ◌++◌, length, take, if◌then◌else◌, Option, Some, None, ⊤, ◌⊎◌, Result, Ok, Err}
+use Rattle.std.specs.Io.KnownBytes.{Appends, Keeps as KeepsBytes, IsAtEnd}
+use Rattle.pfl_timeline.specs.declared.command.Command.{Command}
+use Rattle.pfl_lines.specs.declared.fault.LineFault.{LineFault}
+use Rattle.pfl_lines.specs.declared.fault.LineFault.TheVariants.{Long}
+use Rattle.pfl_lines.specs.Commands.{parsed}
+use Rattle.pfl_lines.specs.declared.setup.SetupLine.{SetupLine}
+use Rattle.pfl_lines.specs.Setup.{parsed_setup}
+use Rattle.pfl_timeline.specs.Timelines.{Timeline}
+use Rattle.pfl_script.specs.Lines.{lines_of}
+use Rattle.pfl_script.specs.Scans.{Kept, head_of, has_word}
+use Rattle.pfl_timeline.specs.Commands.{command_step}
+use Rattle.pfl_script.specs.Texts.{bad_text}
+use Rattle.pfl_script.specs.Replies.{reply_text}
+
+-- what a line writes, and the timeline after it
+pub record Answer : Type 0 where
+  pub text : List ℕ
+  pub timeline : Timeline
+
+-- the answer to what a line says
+abbrev pub answer_to : Result Command LineFault → Timeline → Answer
+answer_to (Err fault) t = record { text = bad_text fault; timeline = t }
+answer_to (Ok command) t = record { text = reply_text (command_step t command).reply; timeline = (command_step t command).timeline }
+
+-- the answer to a line: none to a line without a word and to a comment
+unfoldable pub line_answer : List ℕ → Timeline → Answer
+line_answer line t = if has_word (head_of line) then answer_to (parsed line) t else record { text = []; timeline = t }
+
+-- the line is faulty
+unfoldable pub is_bad : List ℕ → Bool
+is_bad line = has_word (head_of line) && is_err (parsed line)
+
+-- what is written for lines
+abbrev pub text : List (List ℕ) → Timeline → List ℕ
+text [] t = []
+text (line ∷ lines) t = (line_answer line t).text ++ text lines (line_answer line t).timeline
+
+-- the timeline after lines
+abbrev pub after : List (List ℕ) → Timeline → Timeline
+after [] t = t
+after (line ∷ lines) t = after lines (line_answer line t).timeline
+
+-- one for a faulty line
+abbrev pub one_if : Bool → ℕ
+one_if true = 1
+one_if false = 0
+
+-- how many lines are faulty
+abbrev pub bad_lines : List (List ℕ) → ℕ
+bad_lines [] = 0
+bad_lines (line ∷ lines) = one_if (is_bad line) + bad_lines lines
+
+-- what is kept of a line says
+abbrev pub kept_said : Kept → Result Command LineFault
+kept_said k = if k.long then Err Long else parsed k.bytes
+
+-- what is kept of a line says as one of a setup
+abbrev pub kept_setup : Kept → Result SetupLine LineFault
+kept_setup k = if k.long then Err Long else parsed_setup k.bytes
+
+-- the answer to a line of which this is kept
+unfoldable pub kept_answer : Kept → Timeline → Answer
+kept_answer k t = if has_word k.head then answer_to (kept_said k) t else record { text = []; timeline = t }
+
+-- the line of which this is kept is faulty
+unfoldable pub kept_bad : Kept → Bool
+kept_bad k = has_word k.head && is_err (kept_said k)
+
+-- the answer stands and its text was written in part, or nothing was done
+abbrev pub Breaks : Answer → Timeline → Timeline → Option (List ℕ) → Option (List ℕ) → Type 0
+Breaks answer t u w v = ((u ≡ answer.timeline) × ((n : ℕ) × Appends w v (take n answer.text))) ⊎ ((u ≡ t) × KeepsBytes w v)
+
+-- the lines of known bytes are these
+abbrev pub AreLines : Option (List ℕ) → List (List ℕ) → Type 0
+AreLines None lines = ⊤
+AreLines (Some xs) lines = lines ≡ lines_of xs
+
+-- these are the first lines of known bytes
+abbrev pub AreFirst : Option (List ℕ) → List (List ℕ) → Type 0
+AreFirst None lines = ⊤
+AreFirst (Some xs) lines = (rest : List (List ℕ)) × (lines_of xs ≡ lines ++ rest)
+
+-- of known bytes none is left
+abbrev pub Drains : Option (List ℕ) → Option (List ℕ) → Type 0
+Drains None new = ⊤
+Drains (Some xs) None = ⊥
+Drains (Some xs) (Some ys) = ys ≡ []
+
+-- All lines were read: the timeline is the one that they give, their whole text was written, and they were counted.
+pub record RunsWhole (old new : Option (List ℕ)) (t u : Timeline) (w v : Option (List ℕ)) (n bad : ℕ) : Type 0 where
+  pub lines : List (List ℕ)
+  pub all : AreLines old lines
+  pub end : Drains old new
+  pub timeline : u ≡ after lines t
+  pub written : Appends w v (text lines t)
+  pub counted : n ≡ length lines
+  pub faulty : bad ≡ bad_lines lines
+
+-- First lines were read: the timeline is the one that they give, and their text was written but for a part of the last one's.
+pub record RunsPart (old : Option (List ℕ)) (t u : Timeline) (w v : Option (List ℕ)) : Type 0 where
+  pub lines : List (List ℕ)
+  pub last : List (List ℕ)
+  pub few : length last ≤ 1
+  pub first : AreFirst old (lines ++ last)
+  pub timeline : u ≡ after (lines ++ last) t
+  pub part : ℕ
+  pub written : Appends w v (text lines t ++ take part (text last (after lines t)))

@@ -1,0 +1,126 @@
+-- A line while it is read: what is kept of it.
+use Rattle.std.specs.Prelude.{◌≡◌, ℕ, Bool, true, false, ◌&&◌, ◌||◌, ◌==◌, nat_lt, List, [], ◌∷◌, ◌++◌, length, take, if◌then◌else◌, Option, Some, None, ⊤}
+use Rattle.pfl_script.specs.Lines.{lines_of, with_first, is_blank}
+use Rattle.pfl_script.specs.declared.head.Head.{Head}
+use Rattle.pfl_script.specs.declared.head.Head.TheVariants.{Blank, Comment, Word}
+
+-- what a line is after one more byte
+abbrev pub head_after : Head → ℕ → Head
+head_after Blank b = if is_blank b then Blank else if b == 35 then Comment else Word
+head_after Comment b = Comment
+head_after Word b = Word
+
+-- a line without a word, a comment, or a line with a word, from a head on
+abbrev pub head_from : Head → List ℕ → Head
+head_from h [] = h
+head_from h (b ∷ line) = head_from (head_after h b) line
+
+-- whether the line has a word, and whether the first begins with #
+abbrev pub head_of : List ℕ → Head
+head_of line = head_from Blank line
+
+-- the line has a word and is no comment
+abbrev pub has_word : Head → Bool
+has_word Word = true
+has_word Blank = false
+has_word Comment = false
+
+-- What is kept of a line: its first 512 bytes, whether it is longer, its head, and whether a CR
+-- came last that is not counted yet.
+pub record Kept : Type 0 where
+  pub bytes : List ℕ
+  pub long : Bool
+  pub head : Head
+  pub carriage : Bool
+
+-- nothing of a line
+abbrev pub nothing : Kept
+nothing = record { bytes = []; long = false; head = Blank; carriage = false }
+
+-- what is kept after one more byte of the line
+abbrev pub pushed : Kept → ℕ → Kept
+pushed k b = record {
+  bytes = if nat_lt (length k.bytes) 512 then k.bytes ++ (b ∷ []) else k.bytes;
+  long = if nat_lt (length k.bytes) 512 then k.long else true;
+  head = head_after k.head b;
+  carriage = k.carriage;
+}
+
+-- the CR that came last, if it is not counted yet
+abbrev pub carriage_of : Bool → List ℕ
+carriage_of true = 13 ∷ []
+carriage_of false = []
+
+-- the CR before this byte was one of the line
+abbrev pub counted : Kept → Kept
+counted k = record { bytes = (pushed k 13).bytes; long = (pushed k 13).long; head = (pushed k 13).head; carriage = false }
+
+-- what is kept once a CR that came last is counted
+abbrev pub settled : Kept → Kept
+settled k = if k.carriage then counted k else k
+
+-- what is kept after a byte that ends no line
+abbrev pub added : Kept → ℕ → Kept
+added k b =
+    if b == 13
+    then record { bytes = (settled k).bytes; long = (settled k).long; head = (settled k).head; carriage = true }
+    else pushed (settled k) b
+
+-- this is kept of a line that so far is body
+pub record Keeps (k : Kept) (body : List ℕ) : Type 0 where
+  pub bytes : k.bytes ≡ take 512 body
+  pub long : k.long ≡ nat_lt 512 (length body)
+  pub head : k.head ≡ head_of body
+
+-- the bytes go onto the front of the first line
+abbrev pub prepend : List ℕ → List (List ℕ) → List (List ℕ)
+prepend [] lines = lines
+prepend (b ∷ body) lines = with_first b (prepend body lines)
+
+-- of known bytes the line so far was taken, with the CR that came last
+abbrev pub Begins : Option (List ℕ) → Option (List ℕ) → List ℕ → Bool → Type 0
+Begins None new body carriage = ⊤
+Begins (Some xs) None body carriage = ⊥
+Begins (Some xs) (Some ys) body carriage = lines_of xs ≡ prepend body (lines_of (carriage_of carriage ++ ys))
+
+-- part of a line was taken, and this is kept of it
+pub record Reads (k : Kept) (old new : Option (List ℕ)) : Type 0 where
+  pub body : List ℕ
+  pub keeps : Keeps k body
+  pub begins : Begins old new body k.carriage
+
+-- of known bytes the first line was taken
+abbrev pub TakesLine : Option (List ℕ) → Option (List ℕ) → List ℕ → Type 0
+TakesLine None new body = ⊤
+TakesLine (Some xs) None body = ⊥
+TakesLine (Some xs) (Some ys) body = lines_of xs ≡ body ∷ lines_of ys
+
+-- of known bytes these lines were taken
+abbrev pub TakesLines : Option (List ℕ) → Option (List ℕ) → List (List ℕ) → Type 0
+TakesLines None new lines = ⊤
+TakesLines (Some xs) None lines = ⊥
+TakesLines (Some xs) (Some ys) lines = lines_of xs ≡ lines ++ lines_of ys
+
+-- a line was taken, and this is kept of it
+pub record ReadsLine (k : Kept) (old new : Option (List ℕ)) : Type 0 where
+  pub body : List ℕ
+  pub keeps : Keeps k body
+  pub takes : TakesLine old new body
+
+-- no known byte was left, nor is now
+abbrev pub IsOver : Option (List ℕ) → Option (List ℕ) → Type 0
+IsOver None new = ⊤
+IsOver (Some xs) None = ⊥
+IsOver (Some xs) (Some ys) = (xs ≡ []) × (ys ≡ [])
+
+-- what a reader of lines gave: a line, or nothing at the end
+abbrev pub Gives : Option (List ℕ) → Option (List ℕ) → Option Kept → Type 0
+Gives old new None = IsOver old new
+Gives old new (Some k) = ReadsLine k old new
+
+-- one byte of known bytes was taken, or there was none
+abbrev pub TakesByte : Option (List ℕ) → Option (List ℕ) → Option ℕ → Type 0
+TakesByte old new None = IsOver old new
+TakesByte None new (Some b) = ⊤
+TakesByte (Some xs) None (Some b) = ⊥
+TakesByte (Some xs) (Some ys) (Some b) = xs ≡ b ∷ ys

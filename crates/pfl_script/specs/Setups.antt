@@ -1,0 +1,174 @@
+-- How lines set up a pair (this project's profile).
+use Rattle.std.specs.Prelude.{◌≡◌, ℕ, ◌+◌, Bool, true, false, not, ◌==◌, List, [], ◌∷◌, ◌++◌, length, if◌then◌else◌, Option, Some, None, Result, Ok, Err}
+use Rattle.std.specs.List.{fold, list_all}
+use Rattle.std.specs.Option.{option_or}
+use Rattle.pfl_base.specs.declared.node_id.NodeId.{NodeId}
+use Rattle.pfl_base.specs.declared.node_id.NodeId.TheVariants.{A, B}
+use Rattle.pfl_rules.specs.declared.rule.Rule.{Rule}
+use Rattle.pfl_rules.specs.declared.fault.RuleFault.{RuleFault}
+use Rattle.pfl_rules.specs.Rules.{Rules, rule_set, rule_fault}
+use Rattle.pfl_node.specs.declared.Limits.{Limits}
+use Rattle.pfl_lines.specs.declared.fault.LineFault.{LineFault}
+use Rattle.pfl_lines.specs.declared.limit.Limit.{Limit}
+use Rattle.pfl_lines.specs.declared.limit.Limit.TheVariants.{States, Queue, Frames, Mtu, Held, Defer, DeferMs, MaxUpdates, Batch, BulkMs}
+use Rattle.pfl_lines.specs.declared.setup.SetupLine.{SetupLine}
+use Rattle.pfl_lines.specs.declared.setup.SetupLine.TheVariants as setup
+use Rattle.pfl_lines.specs.Setup.{parsed_setup}
+use Rattle.pfl_script.specs.declared.setup_fault.SetupFault.{SetupFault}
+use Rattle.pfl_script.specs.declared.setup_fault.SetupFault.TheVariants as fault
+use Rattle.pfl_script.specs.Scans.{Kept, head_of, has_word, TakesLines}
+use Rattle.pfl_script.specs.Readers.{Source}
+use Rattle.pfl_script.specs.Answers.{AreLines, AreFirst, kept_setup}
+
+-- what lines have set: limits, and the rules of either node
+pub record Draft : Type 0 where
+  pub limits : Limits
+  pub a : List Rule
+  pub b : List Rule
+
+-- the limits where no line sets them
+abbrev pub default_limits : Limits
+default_limits = record { states = 64; queue = 256; frames = 64; mtu = 1500; held = 128; defer = false; defer_ms = 20; maxupd = 128; batch = 16; bulk_ms = 10000 }
+
+-- nothing is set
+abbrev pub nothing_set : Draft
+nothing_set = record { limits = default_limits; a = []; b = [] }
+
+-- the limits with this value of one; of `defer`, 0 is no
+abbrev pub with_limit : Limits → Limit → ℕ → Limits
+with_limit l States n = record l { states = n }
+with_limit l Queue n = record l { queue = n }
+with_limit l Frames n = record l { frames = n }
+with_limit l Mtu n = record l { mtu = n }
+with_limit l Held n = record l { held = n }
+with_limit l Defer n = record l { defer = not (n == 0) }
+with_limit l DeferMs n = record l { defer_ms = n }
+with_limit l MaxUpdates n = record l { maxupd = n }
+with_limit l Batch n = record l { batch = n }
+with_limit l BulkMs n = record l { bulk_ms = n }
+
+-- one rule more of a node
+abbrev pub with_rule : Draft → NodeId → Rule → Draft
+with_rule d A rule = record d { a = d.a ++ rule ∷ [] }
+with_rule d B rule = record d { b = d.b ++ rule ∷ [] }
+
+-- what a setup line sets
+abbrev pub set_by : Draft → SetupLine → Draft
+set_by d (setup.Set limit n) = record d { limits = with_limit d.limits limit n }
+set_by d (setup.Rule node rule) = with_rule d node rule
+set_by d setup.Open = d
+
+-- the setup line ends the setup
+abbrev pub is_open : SetupLine → Bool
+is_open setup.Open = true
+is_open _ = false
+
+-- what a line says, if it has a word and is no comment
+unfoldable pub said : List ℕ → Option (Result SetupLine LineFault)
+said line = if has_word (head_of line) then Some (parsed_setup line) else None
+
+-- what a line of which this is kept says
+unfoldable pub kept_words : Kept → Option (Result SetupLine LineFault)
+kept_words k = if has_word k.head then Some (kept_setup k) else None
+
+-- what is set once this is said
+abbrev pub set_by_said : Draft → Option (Result SetupLine LineFault) → Draft
+set_by_said d None = d
+set_by_said d (Some (Err fault)) = d
+set_by_said d (Some (Ok line)) = set_by d line
+
+-- the setup goes on: nothing is said, or what sets something
+abbrev pub goes_on : Option (Result SetupLine LineFault) → Bool
+goes_on None = true
+goes_on (Some (Err fault)) = false
+goes_on (Some (Ok line)) = not (is_open line)
+
+-- what lines set, one after another: of each limit the last value, and each node's rules in their order
+unfoldable pub drafted : List (List ℕ) → Draft
+drafted lines = fold (λ d line. set_by_said d (said line)) nothing_set lines
+
+-- none of the lines ends the setup, and none is faulty
+unfoldable pub all_go_on : List (List ℕ) → Bool
+all_go_on lines = list_all (λ line. goes_on (said line)) lines
+
+-- the lines up to `open`, which is number n, were taken, and they set this
+pub record Opens (old new : Option (List ℕ)) (n : ℕ) (d : Draft) : Type 0 where
+  pub before : List (List ℕ)
+  pub last : List ℕ
+  pub taken : TakesLines old new (before ++ last ∷ [])
+  pub going : all_go_on before ≡ true
+  pub opened : said last ≡ Some (Ok setup.Open)
+  pub draft : d ≡ drafted before
+  pub number : n ≡ length before + 1
+
+-- line n is the first that goes on with no setup, by this fault
+pub record IsFaultyAt (old : Option (List ℕ)) (n : ℕ) (why : LineFault) : Type 0 where
+  pub before : List (List ℕ)
+  pub last : List ℕ
+  pub first : AreFirst old (before ++ last ∷ [])
+  pub going : all_go_on before ≡ true
+  pub faulty : said last ≡ Some (Err why)
+  pub number : n ≡ length before + 1
+
+-- none of all n lines ends the setup
+pub record IsUnopened (old : Option (List ℕ)) (n : ℕ) : Type 0 where
+  pub lines : List (List ℕ)
+  pub all : AreLines old lines
+  pub going : all_go_on lines ≡ true
+  pub number : n ≡ length lines
+
+-- the first fault of the rules: those of node a come first
+abbrev pub first_rule_fault : Draft → Option RuleFault
+first_rule_fault d = option_or (rule_fault d.a) (rule_fault d.b)
+
+-- limits and rule sets are those that lines set
+pub record Finishes (d : Draft) (limits : Limits) (a b : Rules) : Type 0 where
+  pub set : limits ≡ d.limits
+  pub rules_a : a ≡ rule_set d.a
+  pub rules_b : b ≡ rule_set d.b
+  pub faultless : first_rule_fault d ≡ None
+
+-- a setup was read up to its line `open`
+pub record ReadsSetup (old new : Option (List ℕ)) (limits : Limits) (a b : Rules) : Type 0 where
+  pub draft : Draft
+  pub number : ℕ
+  pub opens : Opens old new number draft
+  pub finishes : Finishes draft limits a b
+
+-- rules were set that are no rule sets
+pub record HasRuleFault (old new : Option (List ℕ)) (n : ℕ) (why : RuleFault) : Type 0 where
+  pub draft : Draft
+  pub opens : Opens old new n draft
+  pub first : first_rule_fault draft ≡ Some why
+
+-- why no setup was read
+abbrev pub IsSetupFault : SetupFault → Option (List ℕ) → Source → Type 0
+IsSetupFault (fault.Line n why) old new = IsFaultyAt old n why
+IsSetupFault (fault.Rule n why) old new = HasRuleFault old new.left n why
+IsSetupFault (fault.NoOpen n) old new = IsUnopened old n
+IsSetupFault fault.Read old new = new.failed ≡ true
+IsSetupFault fault.TooManyTurns old new = new.turns ≡ 16777216
+IsSetupFault fault.NoMemory old new = Unit {0}
+
+-- what a line was taken for: `opened` says that it is `open`
+abbrev pub Takes : Bool → Option (Result SetupLine LineFault) → Draft → Draft → Type 0
+Takes true s d e = (s ≡ Some (Ok setup.Open)) × (e ≡ d)
+Takes false s d e = (goes_on s ≡ true) × (e ≡ set_by_said d s)
+
+-- why line n was not taken
+abbrev pub IsTakeFault : SetupFault → ℕ → Option (Result SetupLine LineFault) → Type 0
+IsTakeFault (fault.Line m why) n s = (m ≡ n) × (s ≡ Some (Err why))
+IsTakeFault fault.NoMemory n s = Unit {0}
+IsTakeFault _ n s = ⊥
+
+-- why the rules of line n's setup are no rule sets, where this is their first fault
+abbrev pub IsRuleStop : SetupFault → ℕ → Option RuleFault → Type 0
+IsRuleStop (fault.Rule m why) n first = (m ≡ n) × (first ≡ Some why)
+IsRuleStop fault.NoMemory n first = Unit {0}
+IsRuleStop _ n first = ⊥
+
+-- why no line came
+abbrev pub IsReadStop : SetupFault → Source → Type 0
+IsReadStop fault.Read s = s.failed ≡ true
+IsReadStop fault.TooManyTurns s = s.turns ≡ 16777216
+IsReadStop _ s = ⊥

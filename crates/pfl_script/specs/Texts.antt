@@ -1,0 +1,69 @@
+-- The text of outcomes and refusals (this project's profile).
+use Rattle.std.specs.Prelude.{ℕ, Bool, true, false, List, ◌++◌, Option, Some, None, codes}
+use Rattle.std.specs.Fmt.{decimal}
+use Rattle.pfl_base.specs.declared.refusal.Refusal.{Refusal}
+use Rattle.pfl_base.specs.declared.state_name.StateName.{StateName}
+use Rattle.pfl_base.specs.Refusals.{refusal_number}
+use Rattle.pfl_base.specs.Texts.{name_text, refusal_text}
+use Rattle.pfl_wire.specs.Faults.{frame_fault, fault_number as frame_fault_number}
+use Rattle.pfl_node.specs.declared.fate.Reason.{Reason}
+use Rattle.pfl_node.specs.declared.fate.Reason.TheVariants.{Block, Max, Full, Key, Window}
+use Rattle.pfl_world.specs.Outcomes.{Outcome, Pass, Held, Dropped, Sent, Taken, Broken, Lost, CutTo, Clock, Purged, Released, Killed, Cleared, Boot, Queued, Asked, Served}
+use Rattle.pfl_timeline.specs.declared.refused.Refused.{Refused}
+use Rattle.pfl_timeline.specs.declared.refused.Refused.TheVariants as refused
+use Rattle.pfl_lines.specs.declared.fault.LineFault.{LineFault}
+use Rattle.pfl_lines.specs.declared.fault.LineFault.TheVariants.{Long, NotAscii, Unknown, Missing, Number, Extra, Packet}
+
+-- a value that may be none, which prints as a dash
+abbrev pub or_dash : {X : Type 0} → (X → List ℕ) → Option X → List ℕ
+or_dash text None = codes "-"
+or_dash text (Some x) = text x
+
+-- the line for a faulty line: the number and the word of its fault
+abbrev pub bad_text : LineFault → List ℕ
+bad_text Long = codes "bad 1 Long\n"
+bad_text NotAscii = codes "bad 2 NotAscii\n"
+bad_text Unknown = codes "bad 3 Unknown\n"
+bad_text Missing = codes "bad 4 Missing\n"
+bad_text Number = codes "bad 5 Number\n"
+bad_text Extra = codes "bad 6 Extra\n"
+bad_text (Packet why) = codes "bad 7 Packet\n"
+
+-- why a packet is dropped
+abbrev pub reason_text : Reason → List ℕ
+reason_text Block = codes "block"
+reason_text Max = codes "max"
+reason_text Full = codes "full"
+reason_text Key = codes "key"
+reason_text Window = codes "window"
+
+-- the words of an outcome
+abbrev pub outcome_text : Outcome → List ℕ
+outcome_text (Pass name) = codes "pass " ++ or_dash name_text name
+outcome_text (Held name) = codes "held " ++ name_text name
+outcome_text (Dropped reason) = codes "drop " ++ reason_text reason
+outcome_text (Sent ticket len) = codes "sent " ++ decimal ticket ++ codes " " ++ decimal len
+outcome_text (Taken n) = codes "taken " ++ decimal n
+outcome_text (Broken why) = codes "broken " ++ decimal (frame_fault_number (frame_fault why))
+outcome_text Lost = codes "lost"
+outcome_text (CutTo n) = codes "cut " ++ decimal n
+outcome_text (Clock ms) = codes "clock " ++ decimal ms
+outcome_text (Purged n) = codes "purged " ++ decimal n
+outcome_text (Released n) = codes "released " ++ decimal n
+outcome_text Killed = codes "killed"
+outcome_text (Cleared n) = codes "cleared " ++ decimal n
+outcome_text (Boot n) = codes "boot " ++ decimal n
+outcome_text (Queued n) = codes "queued " ++ decimal n
+outcome_text (Asked tries) = codes "asked " ++ decimal tries
+outcome_text Served = codes "served"
+
+-- the number and the word of a refused command, and for an event the refusal behind them
+abbrev pub refused_text : Refused → List ℕ
+refused_text refused.NoBranch = codes "1 NoBranch"
+refused_text refused.NameTaken = codes "2 NameTaken"
+refused_text refused.BadName = codes "3 BadName"
+refused_text refused.TooFarBack = codes "4 TooFarBack"
+refused_text refused.NothingForward = codes "5 NothingForward"
+refused_text refused.LastBranch = codes "6 LastBranch"
+refused_text refused.BranchesFull = codes "7 BranchesFull"
+refused_text (refused.Event r) = codes "8 Event " ++ decimal (refusal_number r) ++ codes " " ++ refusal_text r

@@ -1,0 +1,227 @@
+//! Setups of pairs.
+
+ghost use Rattle.std.specs.Prelude.{◌≡◌, ◌<◌, [], IfOk, IfErr, IfSome, OnOk, Ok, None, Some};
+ghost use Rattle.pfl_rules.specs.Rules.{rule_fault, rule_set};
+ghost use Rattle.pfl_script.specs.Readers.{room};
+ghost use Rattle.pfl_script.specs.Scans.{Gives};
+ghost use Rattle.pfl_script.specs.Setups.{default_limits, first_rule_fault, kept_words, nothing_set, with_limit, with_rule, Finishes, IsReadStop, IsRuleStop, IsSetupFault, IsTakeFault, ReadsSetup, Takes};
+
+use crate::fault::EngineFault;
+use crate::line::Line;
+use crate::line_reader::LineReader;
+use crate::setup_fault::SetupFault;
+use pfl_base::{Input, NodeId};
+use pfl_lines::{Limit, SetupLine};
+use pfl_node::Limits;
+use pfl_rules::{Rule, RuleFault, RuleSet};
+use std::alloc::{AllocError, Allocator};
+use std::marker::Model;
+
+/// What a pair is made from.
+#[derive(Drop)]
+pub struct Setup<A: Allocator> {
+    pub limits: Limits,
+    pub rules_a: RuleSet<A>,
+    pub rules_b: RuleSet<A>,
+}
+
+/// What lines have set.
+#[derive(Drop)]
+struct SetupDraft<A: Allocator> {
+    limits: Limits,
+    a: Vec<Rule, A>,
+    b: Vec<Rule, A>,
+}
+
+impl<A: Allocator> Model for SetupDraft<A> {
+    ghost use Rattle.pfl_script.specs.Setups.{Draft};
+
+    ghost Value = { Draft };
+
+    ghost view = { λ d. record { limits = d.limits; a = d.a.items; b = d.b.items } };
+}
+
+/// The limits where no line sets them.
+pub fn default_limits() -> Limits
+    ensures { result ≡ default_limits }
+{
+    Limits {
+        states: 64,
+        queue: 256,
+        frames: 64,
+        mtu: 1500,
+        held: 128,
+        defer: false,
+        defer_ms: 20,
+        maxupd: 128,
+        batch: 16,
+        bulk_ms: 10000,
+    }
+}
+
+/// The limits with this value of one.
+fn with_limit(limits: Limits, limit: Limit, n: u32) -> Limits
+    ensures { result ≡ with_limit limits limit n }
+{
+    match limit {
+        Limit::States => Limits {
+            states: n,
+            ..limits
+        },
+        Limit::Queue => Limits { queue: n, ..limits },
+        Limit::Frames => Limits {
+            frames: n,
+            ..limits
+        },
+        Limit::Mtu => Limits { mtu: n, ..limits },
+        Limit::Held => Limits { held: n, ..limits },
+        Limit::Defer => Limits {
+            defer: n != 0,
+            ..limits
+        },
+        Limit::DeferMs => Limits {
+            defer_ms: n,
+            ..limits
+        },
+        Limit::MaxUpdates => Limits {
+            maxupd: n,
+            ..limits
+        },
+        Limit::Batch => Limits { batch: n, ..limits },
+        Limit::BulkMs => Limits {
+            bulk_ms: n,
+            ..limits
+        },
+    }
+}
+
+impl<A: Allocator> SetupDraft<A> {
+    /// Nothing is set.
+    fn new(a: Vec<Rule, A>, b: Vec<Rule, A>) -> Self
+        requires a { a.items ≡ [] }
+        requires b { b.items ≡ [] }
+        ensures { result ≡ nothing_set }
+    {
+        SetupDraft {
+            limits: default_limits(),
+            a,
+            b,
+        }
+    }
+
+    /// Takes the next rule of a node.
+    fn push_rule(&mut self, node: NodeId, rule: Rule) -> Result<(), AllocError>
+        ensures { OnOk result (self.new ≡ with_rule self.old node rule) }
+    {
+        match node {
+            NodeId::A => self.a.push(rule)?,
+            NodeId::B => self.b.push(rule)?,
+        }
+        Ok(())
+    }
+
+    /// Takes a setup line, and says whether it is `open`.
+    fn take_setup(&mut self, setup: SetupLine) -> Result<bool, SetupFault>
+        ensures taken { IfOk result (λ opened. Takes opened (Some (Ok setup)) self.old self.new) }
+        ensures fault { IfErr result (λ e. e ≡ SetupFault.NoMemory) }
+    {
+        match setup {
+            SetupLine::Set { limit, n } => {
+                self.limits = with_limit(self.limits, limit, n);
+                Ok(false)
+            }
+            SetupLine::Rule { node, rule } => match self.push_rule(node, rule) {
+                Ok(()) => Ok(false),
+                Err(_) => Err(SetupFault::NoMemory),
+            },
+            SetupLine::Open => Ok(true),
+        }
+    }
+
+    /// Takes the line with the number, if it has a word and is no comment, and says whether it is `open`.
+    #[tactic(auto, unfolding(crate::specs::Setups::kept_words))]
+    fn take_line(&mut self, line: &Line, number: u64) -> Result<bool, SetupFault>
+        ensures taken { IfOk result (λ opened. Takes opened (kept_words line.now) self.old self.new) }
+        ensures fault { IfErr result (λ e. IsTakeFault e number (kept_words line.now)) }
+    {
+        if !line.has_word() {
+            return Ok(false);
+        }
+        match line.parse_setup() {
+            Ok(setup) => self.take_setup(setup),
+            Err(fault) => Err(SetupFault::Line(number, fault)),
+        }
+    }
+}
+
+/// The rule set of these rules, whose setup ends at the line with the number.
+fn rule_set_of<A: Allocator + Copy>(
+    alloc: A,
+    rules: Vec<Rule, A>,
+    number: u64,
+) -> Result<RuleSet<A>, SetupFault>
+    ensures faultless { IfOk result (λ _. rule_fault rules.items ≡ None) }
+    ensures set { IfOk result (λ set. set ≡ rule_set rules.items) }
+    ensures fault { IfErr result (λ e. IsRuleStop e number (rule_fault rules.items)) }
+{
+    match RuleSet::new(alloc, rules) {
+        Ok(set) => Ok(set),
+        Err(RuleFault::NoMemory) => Err(SetupFault::NoMemory),
+        Err(fault) => Err(SetupFault::Rule(number, fault)),
+    }
+}
+
+/// The setup of what was set up to the line with the number.
+fn finish<A: Allocator + Copy>(
+    alloc: A,
+    draft: SetupDraft<A>,
+    number: u64,
+) -> Result<Setup<A>, SetupFault>
+    ensures setup { IfOk result (λ s. Finishes draft s.limits s.rules_a s.rules_b) }
+    ensures fault { IfErr result (λ e. IsRuleStop e number (first_rule_fault draft)) }
+{
+    let SetupDraft { limits, a, b } = draft;
+    let rules_a = rule_set_of(alloc, a, number)?;
+    let rules_b = rule_set_of(alloc, b, number)?;
+    Ok(Setup {
+        limits,
+        rules_a,
+        rules_b,
+    })
+}
+
+/// The next line.
+fn next_of<R: Input>(reader: &mut LineReader<R>) -> Result<Option<Line>, SetupFault>
+    ensures line { IfOk result (λ o. Gives reader.old.left reader.new.left o) }
+    ensures room { IfOk result (λ o. IfSome o (λ _. room reader.new < room reader.old)) }
+    ensures stays { OnOk result (reader.new.failed ≡ reader.old.failed) }
+    ensures fault { IfErr result (λ e. IsReadStop e reader.new) }
+{
+    match reader.next_line() {
+        Ok(line) => Ok(line),
+        Err(EngineFault::Read) => Err(SetupFault::Read),
+        Err(EngineFault::TooManyTurns) => Err(SetupFault::TooManyTurns),
+        Err(EngineFault::Write | EngineFault::NoMemory) => unreachable!(),
+    }
+}
+
+/// Reads the lines of a setup up to `open`. Nothing that stands behind that line is taken.
+pub fn read_setup<A: Allocator + Copy, R: Input>(
+    alloc: A,
+    reader: &mut LineReader<R>,
+) -> Result<Setup<A>, SetupFault>
+    ensures setup { IfOk result (λ s. ReadsSetup reader.old.left reader.new.left s.limits s.rules_a s.rules_b) }
+    ensures fault { IfErr result (λ e. IsSetupFault e reader.old.left reader.new) }
+    ensures stays { OnOk result (reader.new.failed ≡ reader.old.failed) }
+{
+    reader.begin();
+    let mut draft = SetupDraft::new(Vec::new(alloc), Vec::new(alloc));
+    let mut number: u64 = 0;
+    while let Some(line) = next_of(reader)? {
+        number += 1;
+        if draft.take_line(&line, number)? {
+            return finish(alloc, draft, number);
+        }
+    }
+    Err(SetupFault::NoOpen(number))
+}

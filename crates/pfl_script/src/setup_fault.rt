@@ -1,0 +1,21 @@
+//! Why no setup was read.
+
+use pfl_lines::LineFault;
+use pfl_rules::RuleFault;
+
+/// Why no setup was read. Lines count from 1, those that are passed over too.
+#[derive(Clone, Copy, Debug, PartialEq, Eq)]
+pub enum SetupFault {
+    /// This line has a fault.
+    Line(u64, LineFault),
+    /// The rules have a fault that is not want of memory; the line is that of `open`.
+    Rule(u64, RuleFault),
+    /// The lines ended, after so many, before `open`.
+    NoOpen(u64),
+    /// The reader failed.
+    Read,
+    /// More calls of `read` were wanted than one setup may make.
+    TooManyTurns,
+    /// There was no memory for the rules.
+    NoMemory,
+}

@@ -1,0 +1,39 @@
+//! Rows of the table.
+
+ghost use Rattle.std.specs.Prelude.{◌≡◌};
+ghost use Rattle.pfl_base.specs.Names.{name_cmp, names_total, names_exact};
+
+use pfl_base::StateName;
+use pfl_edits::Keyed;
+use pfl_track::State;
+use std::cmp::Ordering;
+
+/// A state with the time at which it expires.
+#[derive(Clone, Copy, Debug, PartialEq, Eq)]
+pub struct Row {
+    /// The state.
+    pub state: State,
+    /// When it expires, in milliseconds.
+    pub expires: u64,
+}
+
+/// A row stands under its state's name.
+impl Keyed for Row {
+    type Key = StateName;
+
+    ghost key = { λ r. r.state.name };
+
+    ghost order = { name_cmp };
+
+    fn key(&self) -> StateName {
+        self.state.name()
+    }
+
+    fn compare(a: StateName, b: StateName) -> Ordering {
+        a.compare(b)
+    }
+
+    ghost total = { names_total };
+
+    ghost exact = { names_exact };
+}

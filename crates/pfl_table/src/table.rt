@@ -1,0 +1,269 @@
+//! The table of states.
+
+ghost use Rattle.std.specs.Prelude.{◌≡◌, ℕ, [], ◌∷◌, map, filter, nat_le, Some, None, IfOk, IfErr, IfSome, IfNone, IsSome, OnOk, OnErr, OnSome, MatchOption};
+ghost use Rattle.std.specs.Option.{option_copied};
+ghost use Rattle.std.specs.Ordering.{is_lt};
+ghost use Rattle.pfl_base.specs.Names.{name_cmp};
+ghost use Rattle.pfl_edits.specs.Maps as maps;
+ghost use Rattle.pfl_table.specs.Tables.{Table, IsTable, TableLeadsBack, states_of, by_wire, by_stack, found, count_of_rule, first_expiring, rows_after, put_fault, with_row, edit_of};
+
+use crate::edit::TableEdit;
+use crate::fault::PutFault;
+use crate::row::Row;
+use crate::scans::{count_of_rule, first_to_expire, row_of_stack, row_of_wire, state_of};
+use pfl_base::{Dir, Key, StateName};
+use pfl_edits::{NoMemory, Reversible, Rows};
+use pfl_track::State;
+use std::alloc::Allocator;
+use std::marker::Model;
+
+/// States by name, at most `limit` of them, and no two with one wire key or one stack key.
+/// Room for `limit` rows is made by `new` and `copy`.
+#[derive(Drop)]
+pub struct StateTable<A: Allocator> {
+    limit: usize,
+    rows: Rows<Row, A>,
+}
+
+impl<A: Allocator> Model for StateTable<A> {
+    ghost use Rattle.pfl_table.specs.Tables.{Table, coded_table};
+
+    ghost Value = { Table };
+
+    ghost coded = { coded_table };
+
+    ghost use Rattle.pfl_table.specs.Kept.{IsKept, table_of};
+
+    ghost view = { λ t. table_of t.limit t.rows.list };
+
+    ghost invariant = { λ t. IsKept t.limit t.rows };
+}
+
+impl<A: Allocator> StateTable<A> {
+    /// No states, and room for `limit` of them.
+    pub fn new(alloc: A, limit: usize) -> Result<Self, NoMemory>
+        ensures limit { IfOk result (λ t. t.limit ≡ limit) }
+        ensures empty { IfOk result (λ t. t.rows ≡ maps.empty) }
+    {
+        let rows = Rows::new(alloc, limit)?;
+        Ok(StateTable { limit, rows })
+    }
+
+    /// What is true of each table.
+    pub fn known(&self)
+        ensures table { IsTable self.now }
+    {
+        let _limit = &self.limit;
+    }
+
+    /// How many states there are.
+    pub fn len(&self) -> usize
+        ensures rows { result ≡ maps.len self.now.rows }
+        ensures states { result ≡ maps.len (states_of self.now) }
+    {
+        self.rows.len()
+    }
+
+    /// How many states there is room for.
+    pub fn limit(&self) -> usize
+        ensures limit { result ≡ self.now.limit }
+    {
+        self.limit
+    }
+
+    /// There is no room for another state.
+    pub fn is_full(&self) -> bool
+        ensures rows { result ≡ nat_le self.now.limit (maps.len self.now.rows) }
+        ensures states { result ≡ nat_le self.now.limit (maps.len (states_of self.now)) }
+    {
+        self.limit <= self.len()
+    }
+
+    /// The rows, in the order of the names.
+    pub fn as_slice(&self) -> &[Row]
+        ensures rows { result.now ≡ maps.values self.now.rows }
+        ensures states { map (λ r. r.state) result.now ≡ maps.values (states_of self.now) }
+        ensures names { map (λ r. r.state.name) result.now ≡ maps.keys (states_of self.now) }
+    {
+        self.rows.known();
+        self.rows.as_slice()
+    }
+
+    /// The row of the state with the name.
+    pub fn row(&self, name: StateName) -> Option<&Row>
+        ensures row { option_copied result ≡ maps.get self.now.rows name }
+    {
+        self.rows.get(name)
+    }
+
+    /// The state with the name.
+    pub fn by_name(&self, name: StateName) -> Option<&State>
+        ensures state { option_copied result ≡ maps.get (states_of self.now) name }
+    {
+        state_of(self.row(name))
+    }
+
+    /// The state with the wire key.
+    pub fn by_wire(&self, key: &Key) -> Option<&State>
+        ensures state { option_copied result ≡ by_wire (states_of self.now) key.now }
+    {
+        state_of(row_of_wire(self.as_slice(), key))
+    }
+
+    /// The state with the stack key.
+    pub fn by_stack(&self, key: &Key) -> Option<&State>
+        ensures state { option_copied result ≡ by_stack (states_of self.now) key.now }
+    {
+        state_of(row_of_stack(self.as_slice(), key))
+    }
+
+    /// The state of a packet with the key: of an inbound one by the wire key, of an outbound one by the stack key.
+    pub fn found(&self, key: &Key, direction: Dir) -> Option<&State>
+        ensures state { option_copied result ≡ found (states_of self.now) key.now direction }
+    {
+        match direction {
+            Dir::Inbound => self.by_wire(key),
+            Dir::Outbound => self.by_stack(key),
+        }
+    }
+
+    /// The rows whose names are above this one, in the order of the names.
+    pub fn after(&self, name: StateName) -> &[Row]
+        ensures rows { result.now ≡ rows_after self.now name }
+        ensures states { map (λ r. r.state) result.now ≡ filter (λ s. is_lt (name_cmp name s.name)) (maps.values (states_of self.now)) }
+    {
+        self.rows.known();
+        self.rows.after(name)
+    }
+
+    /// The row that expires first: the one of least expiry, and among those the one of least name.
+    pub fn first_expiring(&self) -> Option<&Row>
+        ensures row { option_copied result ≡ first_expiring self.now }
+    {
+        first_to_expire(self.as_slice())
+    }
+
+    /// How many states have the rule with this number.
+    pub fn count_of_rule(&self, rule: u16) -> usize
+        ensures count { result ≡ count_of_rule (states_of self.now) rule }
+    {
+        count_of_rule(self.as_slice(), rule)
+    }
+
+    /// Adds a state that expires at this time, if nothing keeps it from being added. It takes no memory.
+    pub fn put(&mut self, state: State, expires: u64) -> Result<TableEdit, PutFault>
+        ensures fault { IfErr result (λ f. put_fault self.old state ≡ Some f) }
+        ensures unchanged { OnErr result (self.new ≡ self.old) }
+        ensures no_fault { OnOk result (put_fault self.old state ≡ None) }
+        ensures put { OnOk result (self.new ≡ with_row self.old state.name (Some (record { state = state; expires = expires }))) }
+        ensures edit { IfOk result (λ e. e ≡ edit_of self.old state.name (Some (record { state = state; expires = expires }))) }
+        ensures leads_back { IfOk result (λ e. TableLeadsBack (e ∷ []) self.old self.new) }
+    {
+        self.known();
+        if let Some(fault) = self.put_fault(&state) {
+            return Err(fault);
+        }
+        let name = state.name();
+        Ok(self.set(name, &Some(Row { state, expires })))
+    }
+
+    /// Why the state may not be put, if there is a reason: the first one.
+    fn put_fault(&self, state: &State) -> Option<PutFault>
+        ensures { result ≡ put_fault self.now state.now }
+    {
+        if self.is_full() {
+            return Some(PutFault::Full);
+        }
+        if self.by_name(state.name()).is_some() {
+            return Some(PutFault::NameInUse);
+        }
+        if self.by_wire(&state.wire()).is_some() {
+            return Some(PutFault::WireInUse);
+        }
+        if self.by_stack(&state.stack()).is_some() {
+            return Some(PutFault::StackInUse);
+        }
+        None
+    }
+
+    /// Gives a state of the table, whose keys stay, other parts and another expiry. `None`: no state has its name. It takes
+    /// no memory.
+    pub fn change(&mut self, state: State, expires: u64) -> Option<TableEdit>
+        requires wire { IfSome (maps.get (states_of self.old) state.name) (λ s. s.wire ≡ state.wire) }
+        requires stack { IfSome (maps.get (states_of self.old) state.name) (λ s. s.stack ≡ state.stack) }
+        ensures absent { IfNone result (maps.get (states_of self.old) state.name ≡ None) }
+        ensures unchanged { IfNone result (self.new ≡ self.old) }
+        ensures known { OnSome result (IsSome (maps.get (states_of self.old) state.name)) }
+        ensures changed { OnSome result (self.new ≡ with_row self.old state.name (Some (record { state = state; expires = expires }))) }
+        ensures edit { IfSome result (λ e. e ≡ edit_of self.old state.name (Some (record { state = state; expires = expires }))) }
+        ensures leads_back { IfSome result (λ e. TableLeadsBack (e ∷ []) self.old self.new) }
+    {
+        self.known();
+        let name = state.name();
+        self.by_name(name)?;
+        Some(self.set(name, &Some(Row { state, expires })))
+    }
+
+    /// Takes the state with the name out. `None`: there is none. It takes no memory.
+    pub fn take(&mut self, name: StateName) -> Option<(State, TableEdit)>
+        ensures state { MatchOption result (maps.get (states_of self.old) name ≡ None) (λ r. maps.get (states_of self.old) name ≡ Some r.0) }
+        ensures unchanged { IfNone result (self.new ≡ self.old) }
+        ensures taken { OnSome result (self.new ≡ with_row self.old name None) }
+        ensures edit { IfSome result (λ r. r.1 ≡ edit_of self.old name None) }
+        ensures leads_back { IfSome result (λ r. TableLeadsBack (r.1 ∷ []) self.old self.new) }
+    {
+        self.known();
+        let state = *self.by_name(name)?;
+        Some((state, self.set(name, &None)))
+    }
+
+    /// Sets what stands under a name.
+    fn set(&mut self, name: StateName, at: &Option<Row>) -> TableEdit
+        requires { IsTable (with_row self.old name at.now) }
+        ensures set { self.new ≡ with_row self.old name at.now }
+        ensures edit { result ≡ edit_of self.old name at.now }
+        ensures leads_back { TableLeadsBack (result ∷ []) self.old self.new }
+    {
+        let before = self.rows.set(name, *at);
+        TableEdit {
+            name,
+            before,
+            after: *at,
+        }
+    }
+}
+
+impl<A: Allocator + Copy> StateTable<A> {
+    /// An equal table, with room of its own.
+    pub fn copy(&self) -> Result<Self, NoMemory>
+        ensures same { IfOk result (λ copied. copied ≡ self.now) }
+    {
+        let rows = self.rows.copy()?;
+        Ok(StateTable {
+            limit: self.limit,
+            rows,
+        })
+    }
+}
+
+impl<A: Allocator> Reversible for StateTable<A> {
+    ghost use Rattle.pfl_table.specs.Tables.{IsTable, Finds, FindsFormer, put_back, redone, table-both_ways};
+
+    type Edit = TableEdit;
+
+    ghost finds = { Finds };
+
+    ghost finds_former = { FindsFormer };
+
+    ghost put_back = { put_back };
+
+    ghost redone = { redone };
+
+    ghost allows = { IsTable };
+
+    fn undo(&mut self, edit: TableEdit) {
+        self.set(edit.name, &edit.before);
+    }
+
+    ghost both_ways = { table-both_ways };
+}

@@ -1,0 +1,24 @@
+//! Why commands are refused.
+
+use pfl_base::Refusal;
+
+/// Why a command is refused: the first that applies.
+#[derive(Clone, Copy, Debug, PartialEq, Eq)]
+pub enum Refused {
+    /// No branch has the name.
+    NoBranch,
+    /// A branch has the name already.
+    NameTaken,
+    /// The word is no name of a branch.
+    BadName,
+    /// There are not so many events before the cursor.
+    TooFarBack,
+    /// There are not so many events behind the cursor, or in the branch.
+    NothingForward,
+    /// It is the last branch.
+    LastBranch,
+    /// There are as many branches as may be.
+    BranchesFull,
+    /// The event is refused.
+    Event(Refusal),
+}

@@ -1,0 +1,66 @@
+//! How states begin.
+
+ghost use Rattle.std.specs.Prelude.{◌≡◌};
+ghost use Rattle.pfl_track.specs.Tracking as meant;
+
+use crate::key_pair::KeyPair;
+use crate::levels::{SINGLE, SYN_SENT, first_class};
+use crate::peer::{Peer, PeerFields};
+use crate::state::{State, StateFields};
+use crate::window::end_of;
+use pfl_base::{Dir, Millis, Packet, Proto, StateName};
+
+/// The state that a packet makes (pf(4)): it went this way, by the rule of this number; the peer is told of the state
+/// unless `no_sync`. The time is in milliseconds.
+pub fn start_state(
+    name: StateName,
+    keys: KeyPair,
+    direction: Dir,
+    packet: &Packet,
+    rule: Option<u16>,
+    no_sync: bool,
+    now: Millis,
+) -> State
+    ensures { result ≡ meant.start_state name keys.wire keys.stack direction packet.now rule no_sync now }
+{
+    keys.known();
+    let src = first_peer(packet);
+    let dst = Peer::silent();
+    src.known();
+    dst.known();
+    State::with(StateFields {
+        name,
+        wire: keys.wire(),
+        stack: keys.stack(),
+        direction,
+        src,
+        dst,
+        class: first_class(packet.proto()),
+        last: now,
+        rule,
+        no_sync,
+        ack_wanted: false,
+        updates: 0,
+        peer_change: None,
+    })
+}
+
+/// An end after its first packet.
+fn first_peer(packet: &Packet) -> Peer
+    ensures { result ≡ meant.first_peer packet.now }
+{
+    packet.known();
+    match packet.proto() {
+        Proto::Tcp => Peer::with(PeerFields {
+            level: SYN_SENT,
+            scale: packet.scale(),
+            window: packet.window().max(1),
+            lo: packet.seq(),
+            hi: end_of(packet).wrapping_add(1),
+        }),
+        Proto::Udp | Proto::Icmp | Proto::Other(_) => Peer::with(PeerFields {
+            level: SINGLE,
+            ..Peer::silent().fields()
+        }),
+    }
+}

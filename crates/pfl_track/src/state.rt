@@ -1,0 +1,273 @@
+//! States of flows.
+
+ghost use Rattle.std.specs.Prelude.{◌≡◌, Some, None, if◌then◌else◌};
+
+use crate::keys::are_keys;
+use crate::peer::Peer;
+use pfl_base::{Class, Dir, Key, Millis, StateName};
+use std::marker::Model;
+
+/// What a state is made from. Times are in milliseconds.
+#[derive(Clone, Copy, Debug, PartialEq, Eq)]
+pub struct StateFields {
+    /// The name that the node gave it that made it.
+    pub name: StateName,
+    /// The flow as it is on the wire.
+    pub wire: Key,
+    /// The flow before translation.
+    pub stack: Key,
+    /// Which way its first packet went.
+    pub direction: Dir,
+    /// The end that sent the first packet.
+    pub src: Peer,
+    /// The other end.
+    pub dst: Peer,
+    /// What its timeout goes by.
+    pub class: Class,
+    /// When it was last used.
+    pub last: Millis,
+    /// The number of the rule that made it, where this node has that rule.
+    pub rule: Option<u16>,
+    /// Whether the peer is never told of it.
+    pub no_sync: bool,
+    /// Whether a packet is held until the peer acknowledges it.
+    pub ack_wanted: bool,
+    /// How often a TCP state changed while it was queued, at most 255.
+    pub updates: u8,
+    /// When the peer last changed it.
+    pub peer_change: Option<Millis>,
+}
+
+/// A flow that is tracked: its keys are of one protocol, and all four of their ends of one family.
+#[derive(Clone, Copy, Debug, PartialEq, Eq)]
+pub struct State {
+    fields: StateFields,
+}
+
+impl Model for State {
+    ghost use Rattle.pfl_track.specs.declared.state.StateFields.{StateFields};
+
+    ghost Value = { StateFields };
+
+    ghost use Rattle.pfl_track.specs.States.{IsState};
+
+    ghost view = { λ s. s.fields };
+
+    ghost invariant = { λ s. IsState s.fields };
+
+    ghost inverse = { λ fields. record { fields = fields } };
+}
+
+impl State {
+    ghost use Rattle.std.specs.Prelude.{◌≤◌, ◌^◌};
+    ghost use Rattle.pfl_track.specs.Keys.{are_keys as may_be_keys};
+    ghost use Rattle.pfl_track.specs.States.{IsState};
+    ghost use Rattle.pfl_track.specs.Tracking.{expired as has_expired, expiry as time_of_expiry};
+
+    /// The state with these fields; none where its keys are of two protocols, or their ends not all of one family.
+    pub fn of(fields: StateFields) -> Option<State>
+        ensures { result ≡ (if may_be_keys fields.wire fields.stack then Some fields else None) }
+    {
+        fields.src.known();
+        fields.dst.known();
+        if are_keys(&fields.wire, &fields.stack) {
+            Some(State { fields })
+        } else {
+            None
+        }
+    }
+
+    /// The state with fields that are known to be one's.
+    pub(crate) fn with(fields: StateFields) -> State
+        requires { IsState fields }
+        ensures { result ≡ fields }
+    {
+        State { fields }
+    }
+
+    /// Tells a proof what each state keeps. It does nothing.
+    pub fn known(&self)
+        ensures { IsState self.now }
+    {
+        let _fields = &self.fields;
+    }
+
+    /// What the state was made from.
+    pub fn fields(&self) -> StateFields
+        ensures { result ≡ self.now }
+    {
+        let State { fields } = *self;
+        fields
+    }
+
+    /// The name that the node gave it that made it.
+    pub fn name(&self) -> StateName
+        ensures { result ≡ self.now.name }
+    {
+        self.fields.name
+    }
+
+    /// The flow as it is on the wire.
+    pub fn wire(&self) -> Key
+        ensures { result ≡ self.now.wire }
+    {
+        self.fields.wire
+    }
+
+    /// The flow before translation.
+    pub fn stack(&self) -> Key
+        ensures { result ≡ self.now.stack }
+    {
+        self.fields.stack
+    }
+
+    /// Which way its first packet went.
+    pub fn direction(&self) -> Dir
+        ensures { result ≡ self.now.direction }
+    {
+        self.fields.direction
+    }
+
+    /// The end that sent the first packet.
+    pub fn src(&self) -> Peer
+        ensures { result ≡ self.now.src }
+    {
+        self.fields.src
+    }
+
+    /// The other end.
+    pub fn dst(&self) -> Peer
+        ensures { result ≡ self.now.dst }
+    {
+        self.fields.dst
+    }
+
+    /// What its timeout goes by.
+    pub fn class(&self) -> Class
+        ensures { result ≡ self.now.class }
+    {
+        self.fields.class
+    }
+
+    /// When it was last used, in milliseconds.
+    pub fn last(&self) -> Millis
+        ensures { result ≡ self.now.last }
+    {
+        self.fields.last
+    }
+
+    /// The number of the rule that made it, where this node has that rule.
+    pub fn rule(&self) -> Option<u16>
+        ensures { result ≡ self.now.rule }
+    {
+        self.fields.rule
+    }
+
+    /// Whether the peer is never told of it.
+    pub fn no_sync(&self) -> bool
+        ensures { result ≡ self.now.no_sync }
+    {
+        self.fields.no_sync
+    }
+
+    /// Whether a packet is held until the peer acknowledges it.
+    pub fn ack_wanted(&self) -> bool
+        ensures { result ≡ self.now.ack_wanted }
+    {
+        self.fields.ack_wanted
+    }
+
+    /// How often a TCP state changed while it was queued, at most 255.
+    pub fn updates(&self) -> u8
+        ensures { result ≡ self.now.updates }
+    {
+        self.fields.updates
+    }
+
+    /// When the peer last changed it, in milliseconds.
+    pub fn peer_change(&self) -> Option<Millis>
+        ensures { result ≡ self.now.peer_change }
+    {
+        self.fields.peer_change
+    }
+
+    /// The state that waits for an acknowledgement, or not.
+    pub fn with_ack_wanted(&self, ack_wanted: bool) -> State
+        ensures { result ≡ record self.now { ack_wanted = ack_wanted } }
+    {
+        State {
+            fields: StateFields {
+                ack_wanted,
+                ..self.fields
+            },
+        }
+    }
+
+    /// The state that changed this often while it was queued.
+    pub fn with_updates(&self, updates: u8) -> State
+        ensures { result ≡ record self.now { updates = updates } }
+    {
+        State {
+            fields: StateFields {
+                updates,
+                ..self.fields
+            },
+        }
+    }
+
+    /// The state that the peer last changed at this time.
+    pub fn with_peer_change(&self, peer_change: Option<Millis>) -> State
+        ensures { result ≡ record self.now { peer_change = peer_change } }
+    {
+        State {
+            fields: StateFields {
+                peer_change,
+                ..self.fields
+            },
+        }
+    }
+
+    /// The state with these ends.
+    pub fn with_ends(&self, src: Peer, dst: Peer) -> State
+        ensures { result ≡ record self.now { src = src; dst = dst } }
+    {
+        src.known();
+        dst.known();
+        State {
+            fields: StateFields {
+                src,
+                dst,
+                ..self.fields
+            },
+        }
+    }
+
+    /// The state with this class, last used at this time.
+    pub fn refreshed(&self, class: Class, last: Millis) -> State
+        ensures { result ≡ record self.now { class = class; last = last } }
+    {
+        State {
+            fields: StateFields {
+                class,
+                last,
+                ..self.fields
+            },
+        }
+    }
+
+    /// When the state expires, in milliseconds, under a timeout in seconds (pf.conf(5)). A clock is far below 2^63.
+    pub fn expiry(&self, timeout: u32) -> Millis
+        requires { self.now.last ≤ 2 ^ 63 }
+        ensures { result ≡ time_of_expiry self.now timeout }
+    {
+        self.fields.last + u64::from(timeout) * 1000
+    }
+
+    /// Whether the state has expired at a time, under a timeout in seconds (pf.conf(5)).
+    pub fn expired(&self, timeout: u32, now: Millis) -> bool
+        ensures { result ≡ has_expired self.now timeout now }
+    {
+        let age = now.checked_sub(self.fields.last);
+        age.is_some_and(|age| age >= u64::from(timeout) * 1000)
+    }
+}

@@ -1,0 +1,120 @@
+//! How packets move states.
+
+ghost use Rattle.std.specs.Prelude.{◌≡◌, ◌≤◌};
+ghost use Rattle.pfl_base.specs.Packets.{is_request as asks};
+ghost use Rattle.pfl_track.specs.Tracking as meant;
+
+use crate::levels::{FIN_WAIT_2, answered, class_after, heard};
+use crate::peer::{Peer, PeerFields};
+use crate::state::State;
+use crate::tracked::Tracked;
+use crate::window::{begun, is_inside, receiver_after, sender_after};
+use pfl_base::{Dir, Millis, Packet, Proto, TcpFlags};
+
+/// What a packet of the state's flow does to the state, at a time in milliseconds (pf(4)).
+pub fn track(state: &State, packet: &Packet, dir: Dir, now: Millis) -> Tracked
+    ensures { result ≡ meant.tracked state.now packet.now dir now }
+{
+    match packet.proto() {
+        Proto::Tcp => track_tcp(state, packet, dir, now),
+        Proto::Udp | Proto::Icmp | Proto::Other(_) => Tracked::Moved(track_other(state, dir, now)),
+    }
+}
+
+fn track_tcp(state: &State, packet: &Packet, dir: Dir, now: Millis) -> Tracked
+    ensures { result ≡ meant.tracked_tcp state.now packet.now dir now }
+{
+    if is_request(packet) && is_closed(state) {
+        return Tracked::Reused;
+    }
+    let receiver = receiver(state, dir);
+    let sender = begun(&sender(state, dir), &receiver, packet);
+    if !is_inside(&sender, &receiver, packet) {
+        return Tracked::OutOfWindow;
+    }
+    let from = sender_after(&sender, packet);
+    let to = receiver_after(&sender, &receiver, packet);
+    Tracked::Moved(moved(state, dir, from, to, now))
+}
+
+fn track_other(state: &State, dir: Dir, now: Millis) -> State
+    ensures { result ≡ meant.tracked_other state.now dir now }
+{
+    let (from, to) = (sender(state, dir), receiver(state, dir));
+    moved(
+        state,
+        dir,
+        at_level(&from, heard(from.level())),
+        at_level(&to, answered(to.level())),
+        now,
+    )
+}
+
+/// Whether the packet asks for a new connection: SYN without ACK (RFC 9293, 3.5).
+fn is_request(packet: &Packet) -> bool
+    ensures { result ≡ asks packet.now }
+{
+    let flags = packet.flags();
+    flags.contains(TcpFlags::SYN) && !flags.contains(TcpFlags::ACK)
+}
+
+/// Whether both ends have closed.
+fn is_closed(state: &State) -> bool
+    ensures { result ≡ meant.is_closed state.now }
+{
+    state.src().level() >= FIN_WAIT_2 && state.dst().level() >= FIN_WAIT_2
+}
+
+/// Whether the packet comes from the end that sent the first one.
+fn from_src(state: &State, dir: Dir) -> bool
+    ensures { result ≡ meant.from_src state.now dir }
+{
+    state.direction() == dir
+}
+
+/// The end that sent the packet.
+fn sender(state: &State, dir: Dir) -> Peer
+    ensures { result ≡ meant.sender state.now dir }
+{
+    if from_src(state, dir) {
+        state.src()
+    } else {
+        state.dst()
+    }
+}
+
+/// The other end.
+fn receiver(state: &State, dir: Dir) -> Peer
+    ensures { result ≡ meant.receiver state.now dir }
+{
+    if from_src(state, dir) {
+        state.dst()
+    } else {
+        state.src()
+    }
+}
+
+/// The state with its ends after a packet, by who sent it.
+fn moved(state: &State, dir: Dir, from: Peer, to: Peer, now: Millis) -> State
+    ensures { result ≡ meant.moved state.now dir from to now }
+{
+    let (src, dst) = if from_src(state, dir) {
+        (from, to)
+    } else {
+        (to, from)
+    };
+    let class = class_after(state.wire().proto, src.level(), dst.level());
+    state.with_ends(src, dst).refreshed(class, now)
+}
+
+/// The end at another level.
+fn at_level(end: &Peer, level: u8) -> Peer
+    requires { level ≤ 10 }
+    ensures { result ≡ record end.now { level = level } }
+{
+    end.known();
+    Peer::with(PeerFields {
+        level,
+        ..end.fields()
+    })
+}

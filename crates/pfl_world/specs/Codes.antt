@@ -1,0 +1,10 @@
+-- A world as nested pairs, by which the logic tells two worlds apart. It says nothing of worlds.
+use Rattle.std.specs.Prelude.{ℕ, refl}
+use Rattle.std.specs.Coded.{Coded, code_by, coded×, coded_ℕ}
+use Rattle.pfl_node.specs.Nodes.{Node}
+use Rattle.pfl_node.specs.Codes.{coded_node}
+use Rattle.pfl_link.specs.Links.{Link, coded_link}
+use Rattle.pfl_world.specs.Worlds.{World}
+
+abbrev pub coded_world : Coded World
+coded_world = code_by (Node × (Node × (Link × ℕ))) (coded× coded_node (coded× coded_node (coded× coded_link coded_ℕ))) (λ w. (w.a, (w.b, (w.link, w.next_boot)))) (λ p. record { a = p.0; b = p.1.0; link = p.1.1.0; next_boot = p.1.1.1 }) (λ _. refl)

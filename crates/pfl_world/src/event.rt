@@ -1,0 +1,19 @@
+//! What happens to the pair.
+
+use pfl_base::{Dir, Millis, NodeId, Packet};
+
+/// What happens to the pair.
+#[derive(Clone, Copy, Debug, PartialEq, Eq)]
+pub enum Event {
+    /// A packet comes to a node, on its way in or out.
+    Packet {
+        node: NodeId,
+        dir: Dir,
+        packet: Packet,
+    },
+    /// A node's clock goes on.
+    Tick {
+        node: NodeId,
+        ms: Millis,
+    },
+}

@@ -1,0 +1,67 @@
+//! What a node changed, as a change of the pair.
+
+ghost use Rattle.std.specs.Prelude.{◌≡◌, ◌≤◌, ◌++◌, length, IfOk, IfErr, OnOk, OnErr};
+ghost use Rattle.pfl_edits.specs.Changes.{Fits, back};
+ghost use Rattle.pfl_node.specs.Edits as nodes;
+ghost use Rattle.pfl_node.specs.Nodes.{IsNode};
+ghost use Rattle.pfl_world.specs.WorldEdits.{of_node};
+ghost use Rattle.pfl_world.specs.Worlds.{node_at, with_node};
+
+use crate::edit::{WorldChange, WorldEdit};
+use crate::world::World;
+use pfl_base::{NodeId, Refusal};
+use pfl_edits::{Change, undo_all};
+use pfl_node::NodeEdit;
+use std::alloc::Allocator;
+
+/// Records the edits of a node as edits of the pair.
+fn record_all<A: Allocator>(node: NodeId, change: Change<NodeEdit, A>, edits: &mut WorldChange<A>)
+    requires room { length change.list ≤ edits.old.spare }
+    ensures list { edits.new.list ≡ edits.old.list ++ of_node node change.list }
+{
+    for edit in change.into_edits() {
+        edits.push(WorldEdit::OfNode(node, edit));
+    }
+}
+
+impl<A: Allocator> World<A> {
+    /// Takes back what a node changed.
+    fn undo_at(&mut self, node: NodeId, change: Change<NodeEdit, A>)
+        requires fits { Fits nodes.Finds IsNode nodes.put_back change.list (node_at self.old node) }
+        ensures undone { self.new ≡ with_node self.old node (back nodes.put_back change.list (node_at self.old node)) }
+    {
+        match node {
+            NodeId::A => {
+                undo_all(&mut self.a, change);
+                self.a.known();
+            }
+            NodeId::B => {
+                undo_all(&mut self.b, change);
+                self.b.known();
+            }
+        }
+    }
+}
+
+impl<A: Allocator + Copy> World<A> {
+    /// What a node changed, as a change of the pair. Where there is no memory for that, the node is as it was.
+    pub(crate) fn lift(
+        &mut self,
+        node: NodeId,
+        change: Change<NodeEdit, A>,
+    ) -> Result<WorldChange<A>, Refusal>
+        requires fits { Fits nodes.Finds IsNode nodes.put_back change.list (node_at self.old node) }
+        ensures refused { IfErr result (λ refusal. refusal ≡ Refusal.NoMemory) }
+        ensures edits { IfOk result (λ edits. edits.list ≡ of_node node change.list) }
+        ensures kept { OnOk result (self.new ≡ self.old) }
+        ensures undone { OnErr result (self.new ≡ with_node self.old node (back nodes.put_back change.list (node_at self.old node))) }
+    {
+        let mut edits = Change::new(self.alloc);
+        if edits.reserve(change.len()).is_err() {
+            self.undo_at(node, change);
+            return Err(Refusal::NoMemory);
+        }
+        record_all(node, change, &mut edits);
+        Ok(edits)
+    }
+}

@@ -1,0 +1,48 @@
+//! Undoing at the pair.
+
+ghost use Rattle.std.specs.Prelude.{◌≡◌};
+ghost use Rattle.pfl_edits.specs.Changes.{Fits, back};
+ghost use Rattle.pfl_world.specs.WorldEdits.{Finds, put_back};
+ghost use Rattle.pfl_world.specs.Worlds.{IsWorld};
+
+use crate::edit::{WorldChange, WorldEdit};
+use crate::world::World;
+use pfl_base::NodeId;
+use pfl_edits::{Reversible, undo_all};
+use std::alloc::Allocator;
+
+impl<A: Allocator> Reversible for World<A> {
+    ghost use Rattle.pfl_world.specs.Worlds.{IsWorld};
+    ghost use Rattle.pfl_world.specs.WorldEdits.{Finds, FindsFormer, put_back, redone, edit-both_ways};
+
+    type Edit = WorldEdit;
+
+    ghost finds = { Finds };
+
+    ghost finds_former = { FindsFormer };
+
+    ghost put_back = { put_back };
+
+    ghost redone = { redone };
+
+    ghost allows = { IsWorld };
+
+    fn undo(&mut self, edit: WorldEdit) {
+        match edit {
+            WorldEdit::OfNode(NodeId::A, edit) => self.a.undo(edit),
+            WorldEdit::OfNode(NodeId::B, edit) => self.b.undo(edit),
+        }
+    }
+
+    ghost both_ways = { edit-both_ways };
+}
+
+impl<A: Allocator> World<A> {
+    /// Takes what an event changed back, without memory.
+    pub fn revert(&mut self, change: WorldChange<A>)
+        requires fits { Fits Finds IsWorld put_back change.list self.old }
+        ensures reverted { self.new ≡ back put_back change.list self.old }
+    {
+        undo_all(self, change);
+    }
+}

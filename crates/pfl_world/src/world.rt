@@ -1,0 +1,126 @@
+//! The pair of nodes.
+
+ghost use Rattle.std.specs.Prelude.{◌≡◌, None, IfOk, IfErr, OnOk};
+ghost use Rattle.pfl_node.specs.Limits.{AreLimits};
+ghost use Rattle.pfl_world.specs.Worlds.{IsWorld, IsFault, new_world, node_at, world_fault};
+
+use crate::fault::{WorldFault, fault_of};
+use pfl_base::NodeId;
+use pfl_edits::NoMemory;
+use pfl_link::Link;
+use pfl_node::{Limits, Node};
+use pfl_rules::RuleSet;
+use std::alloc::Allocator;
+use std::marker::Model;
+
+/// The pair of nodes and the link between them. Both nodes and the link have the same limits, which never change.
+#[derive(Drop)]
+pub struct World<A: Allocator> {
+    pub(crate) alloc: A,
+    pub(crate) a: Node<A>,
+    pub(crate) b: Node<A>,
+    pub(crate) link: Link<A>,
+    pub(crate) next_boot: u32,
+}
+
+impl<A: Allocator> Model for World<A> {
+    ghost use Rattle.pfl_world.specs.Worlds.{World, IsWorld};
+    ghost use Rattle.pfl_world.specs.Codes.{coded_world};
+
+    ghost Value = { World };
+
+    ghost coded = { coded_world };
+
+    ghost view = { λ w. record { a = w.a; b = w.b; link = w.link; next_boot = w.next_boot } };
+
+    ghost invariant = { λ w. IsWorld (record { a = w.a; b = w.b; link = w.link; next_boot = w.next_boot }) };
+}
+
+impl<A: Allocator + Copy> World<A> {
+    /// The pair before any event, the nodes with a rule set each.
+    pub fn new(
+        alloc: A,
+        limits: Limits,
+        rules_a: RuleSet<A>,
+        rules_b: RuleSet<A>,
+    ) -> Result<Self, WorldFault>
+        ensures refused { IfErr result (IsFault (world_fault limits)) }
+        ensures not_refused { OnOk result (world_fault limits ≡ None) }
+        ensures new { IfOk result (λ w. w ≡ new_world limits rules_a rules_b) }
+    {
+        if let Some(fault) = fault_of(&limits) {
+            return Err(fault);
+        }
+        Ok(World::opening(alloc, limits, rules_a, rules_b)?)
+    }
+
+    /// The pair before any event, within these limits.
+    fn opening(
+        alloc: A,
+        limits: Limits,
+        rules_a: RuleSet<A>,
+        rules_b: RuleSet<A>,
+    ) -> Result<Self, NoMemory>
+        requires limits { AreLimits limits }
+        ensures new { IfOk result (λ w. w ≡ new_world limits rules_a rules_b) }
+    {
+        rules_a.known();
+        rules_b.known();
+        let a = Node::new(alloc, limits, rules_a, 1)?;
+        let b = Node::new(alloc, limits, rules_b, 2)?;
+        let link = Link::new(alloc, limits.frames as usize)?;
+        Ok(World {
+            alloc,
+            a,
+            b,
+            link,
+            next_boot: 3,
+        })
+    }
+
+    /// An equal world, with memory of its own.
+    pub fn copy(&self) -> Result<Self, NoMemory>
+        ensures same { IfOk result (λ copied. copied ≡ self.now) }
+    {
+        Ok(World {
+            alloc: self.alloc,
+            a: self.a.copy()?,
+            b: self.b.copy()?,
+            link: self.link.copy_all()?,
+            next_boot: self.next_boot,
+        })
+    }
+}
+
+impl<A: Allocator> World<A> {
+    /// Tells a proof what is true of each world. It does nothing.
+    pub fn known(&self)
+        ensures world { IsWorld self.now }
+    {
+        let _next_boot = &self.next_boot;
+    }
+
+    /// The node of the name.
+    pub fn node(&self, id: NodeId) -> &Node<A>
+        ensures node { result.now ≡ node_at self.now id }
+    {
+        match id {
+            NodeId::A => &self.a,
+            NodeId::B => &self.b,
+        }
+    }
+
+    /// The link between the nodes.
+    pub fn link(&self) -> &Link<A>
+        ensures link { result.now ≡ self.now.link }
+    {
+        &self.link
+    }
+
+    /// The number of the next boot.
+    pub fn next_boot(&self) -> u32
+        ensures boot { result ≡ self.now.next_boot }
+    {
+        self.next_boot
+    }
+}
