@@ -145,6 +145,7 @@ impl<A: Allocator> Deferrals<A> {
         requires later { IsUpTo self.old now }
         ensures deferrals { self.new ≡ hold self.old name packet now }
         ensures released { result.0 ≡ pushed_out self.old }
+        ensures edit { option_map held_by result.1.released ≡ pushed_out self.old }
         ensures leads_back { DefersBack (edits_of result.1) self.old self.new }
     {
         self.known();

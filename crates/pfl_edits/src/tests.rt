@@ -8,8 +8,9 @@ ghost use Rattle.pfl_edits.specs.Places.{value-both_ways};
 mod refusing;
 
 use super::*;
+use linked_list_allocator::LocalHeap;
 use refusing::Refusing;
-use std::alloc::Global;
+use std::alloc::Allocator;
 use std::cmp::Ordering;
 use std::test::*;
 
@@ -122,7 +123,7 @@ const TWO: Squared = Squared { root: 2, square: 4 };
 const THREE: Squared = Squared { root: 3, square: 9 };
 
 /// Sets what stands under a root, where not all room is taken.
-fn set(rows: &mut Rows<Squared, Global>, root: u64, at: Option<Squared>) -> Option<Squared>
+fn set<A: Allocator>(rows: &mut Rows<Squared, A>, root: u64, at: Option<Squared>) -> Option<Squared>
     requires keyed { IfSome at (λ s. s.root ≡ root) }
 {
     if rows.is_full() {
@@ -147,5 +148,16 @@ fn keeps_rows_in_order(rt: HostRuntime) -> Result<(), Fail> {
     assert_eq!(rt; (copied.len(), copied.is_full()), (3, false));
     assert_eq!(rt; copied.as_slice(), [ONE, TWO, THREE].as_slice());
     assert_eq!(rt; copied.after(1), [TWO, THREE].as_slice());
+    Ok(())
+}
+
+#[test]
+fn a_copy_without_memory_changes_nothing(rt: HostRuntime) -> Result<(), Fail> {
+    // Room for one list of four rows.
+    let heap = LocalHeap::new(rt.alloc(), 96)?;
+    let mut rows = Rows::new(&heap, 4)?;
+    set(&mut rows, 2, Some(TWO));
+    assert_eq!(rt; rows.copy().err(), Some(NoMemory));
+    assert_eq!(rt; rows.as_slice(), [TWO].as_slice());
     Ok(())
 }

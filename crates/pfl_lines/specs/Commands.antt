@@ -38,11 +38,18 @@ tick_at ws = do
   ms ← number_at 18446744073709551615 node.1
   Ok (event_draft.Whole (events.Tick node.0 ms.0), ms.1)
 
+-- NODE
+unfoldable pub purge_at : List (List ℕ) → Reading EventDraft
+purge_at ws = do
+  node ← node_at ws
+  Ok (event_draft.Whole (events.Purge node.0), node.1)
+
 -- what belongs to an event's word
 abbrev pub event_by : List ℕ → List (List ℕ) → Reading EventDraft
 event_by word ws =
     if bytes_eq word (codes "packet") then packet_at ws else
-    if bytes_eq word (codes "tick") then tick_at ws else Err faults.Unknown
+    if bytes_eq word (codes "tick") then tick_at ws else
+    if bytes_eq word (codes "purge") then purge_at ws else Err faults.Unknown
 
 -- an event's word and what belongs to it
 unfoldable pub event_at : List (List ℕ) → Reading EventDraft

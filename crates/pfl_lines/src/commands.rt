@@ -4,7 +4,7 @@ ghost use Rattle.std.specs.Prelude.{◌≡◌};
 ghost use Rattle.std.specs.List.{list_all};
 ghost use Rattle.pfl_lines.specs.Words.{words};
 ghost use Rattle.pfl_lines.specs.Readings.{Gives};
-ghost use Rattle.pfl_lines.specs.Commands.{packet_at, tick_at, event_by, event_at, step_at, back_at, show_at, command_by, command_at, finished, whole_event, whole_step, whole_command, command_of, is_text, checked, parsed};
+ghost use Rattle.pfl_lines.specs.Commands.{packet_at, tick_at, purge_at, event_by, event_at, step_at, back_at, show_at, command_by, command_at, finished, whole_event, whole_step, whole_command, command_of, is_text, checked, parsed};
 
 use crate::draft::{CommandDraft, EventDraft};
 use crate::fault::LineFault;
@@ -39,6 +39,15 @@ fn tick_at(line: &[u8]) -> Result<(EventDraft, &[u8]), LineFault>
     Ok((EventDraft::Whole(Event::Tick { node, ms }), rest))
 }
 
+/// `NODE`.
+#[tactic(auto, unfolding(crate::specs::Commands::purge_at))]
+fn purge_at(line: &[u8]) -> Result<(EventDraft, &[u8]), LineFault>
+    ensures { Gives (λ x. (x.0, words x.1.now)) result (purge_at (words line.now)) }
+{
+    let (node, rest) = node_at(line)?;
+    Ok((EventDraft::Whole(Event::Purge { node }), rest))
+}
+
 /// What belongs to an event's word.
 fn event_by<'a>(word: &[u8], line: &'a [u8]) -> Result<(EventDraft, &'a [u8]), LineFault>
     ensures { Gives (λ x. (x.0, words x.1.now)) result (event_by word.now (words line.now)) }
@@ -48,6 +57,9 @@ fn event_by<'a>(word: &[u8], line: &'a [u8]) -> Result<(EventDraft, &'a [u8]), L
     }
     if is_word(word, "tick") {
         return tick_at(line);
+    }
+    if is_word(word, "purge") {
+        return purge_at(line);
     }
     Err(LineFault::Unknown)
 }

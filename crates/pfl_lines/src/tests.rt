@@ -34,6 +34,11 @@ fn rule_of_a(line: &[u8]) -> Option<Rule> {
     }
 }
 
+/// The rule's own timeout of the class.
+fn seconds(rule: &Rule, class: Class) -> Option<u32> {
+    *rule.timeouts.get(usize::from(class.number()))?
+}
+
 #[test]
 fn first_faults(rt: HostRuntime) -> Result<(), Fail> {
     assert!(rt; is_bad(b"step main fly a", LineFault::Unknown));
@@ -46,6 +51,11 @@ fn first_faults(rt: HostRuntime) -> Result<(), Fail> {
     assert!(rt; is_bad(b"show main now", LineFault::Extra));
     assert!(rt; is_bad(b"show main\r", LineFault::NotAscii));
     assert!(rt; is_bad(b"show \x7f", LineFault::NotAscii));
+    Ok(())
+}
+
+#[test]
+fn faults_of_packets(rt: HostRuntime) -> Result<(), Fail> {
     assert!(rt;
         is_bad(
             b"step main packet b in tcp 10.0.0.1:1 192.0.2.9:80 A 1 2 3 4 3",
@@ -124,7 +134,7 @@ fn long_lines(rt: HostRuntime) -> Result<(), Fail> {
 }
 
 #[test]
-fn packets(rt: HostRuntime) -> Result<(), Fail> {
+fn packets_of_udp(rt: HostRuntime) -> Result<(), Fail> {
     let udp = PacketFields {
         seq: 0,
         ack: 0,
@@ -144,6 +154,11 @@ fn packets(rt: HostRuntime) -> Result<(), Fail> {
     };
     let line = b"  step\tmain packet a out udp 010.0.0.1:1000 192.0.2.9:53 0040 ";
     assert!(rt; steps(line, packet(NodeId::A, Dir::Outbound, udp)));
+    Ok(())
+}
+
+#[test]
+fn packets_of_tcp(rt: HostRuntime) -> Result<(), Fail> {
     let tcp = PacketFields {
         seq: 4294967295,
         ack: 7,
@@ -175,6 +190,14 @@ fn clocks(rt: HostRuntime) -> Result<(), Fail> {
     };
     assert!(rt; steps(b"step main tick b 18446744073709551615", Some(tick)));
     assert!(rt; is_bad(b"step main tick b 18446744073709551616", LineFault::Number));
+    Ok(())
+}
+
+#[test]
+fn purges(rt: HostRuntime) -> Result<(), Fail> {
+    let purge = Event::Purge { node: NodeId::A };
+    assert!(rt; steps(b"step main purge a", Some(purge)));
+    assert!(rt; is_bad(b"step main purge a 1", LineFault::Extra));
     Ok(())
 }
 
@@ -244,18 +267,9 @@ fn whole_rule(rt: HostRuntime) -> Result<(), Fail> {
             port: 4000
         })
     );
-    assert_eq!(rt;
-        rule.timeouts[usize::from(Class::TcpFirst.number())],
-        Some(0)
-    );
-    assert_eq!(rt;
-        rule.timeouts[usize::from(Class::TcpOpening.number())],
-        None
-    );
-    assert_eq!(rt;
-        rule.timeouts[usize::from(Class::OtherMultiple.number())],
-        Some(4294967295)
-    );
+    assert_eq!(rt; seconds(&rule, Class::TcpFirst), Some(0));
+    assert_eq!(rt; seconds(&rule, Class::TcpOpening), None);
+    assert_eq!(rt; seconds(&rule, Class::OtherMultiple), Some(4294967295));
     Ok(())
 }
 

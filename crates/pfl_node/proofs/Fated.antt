@@ -1,18 +1,16 @@
 -- What a packet does, by cases.
-use Rattle.std.specs.Prelude.{◌≡◌, ℕ, Bool, true, false, nat_le, List, [], ◌∷◌, length, IfSome, ◌<◌, slice_get, Option, Some, None, Result, zero, suc, if◌then◌else◌, refl}
-use Rattle.std.specs.Option.{option_map_or}
-use Rattle.std.proofs.Common.{cond, ◌∙◌, ap, sym, subst, arith}
+use Rattle.std.specs.Prelude.{◌≡◌, ℕ, Bool, true, false, nat_le, List, [], ◌∷◌, length, IfSome, ◌<◌, ◌≤◌, slice_get, Option, Some, None, Result, Ok, Err, zero, suc, if◌then◌else◌, refl}
+use Rattle.std.proofs.Common.{◌∙◌, ap, sym, subst, arith}
 use Rattle.pfl_base.specs.declared.direction.Dir.{Dir}
 use Rattle.pfl_base.specs.declared.packet.Packet.{Packet}
 use Rattle.pfl_base.specs.Keys.{key}
 use Rattle.pfl_base.specs.Packets.{IsPacket}
 use Rattle.pfl_edits.specs.Maps as maps
 use Rattle.pfl_rules.specs.declared.rule.Rule.{Rule}
-use Rattle.pfl_rules.specs.Rules.{verdict, rule_at}
 use Rattle.pfl_track.specs.declared.state.State.{State}
 use Rattle.pfl_track.specs.declared.tracked.Tracked.{Tracked}
 use Rattle.pfl_track.specs.declared.tracked.Tracked.TheVariants.{Moved}
-use Rattle.pfl_track.specs.Keys.{wire_key, AreKeys}
+use Rattle.pfl_track.specs.Keys.{AreKeys}
 use Rattle.pfl_track.specs.Tracking.{tracked, start_state}
 use Rattle.std.proofs.lemmas.Bool.Decides.{nat_tests}
 use Rattle.pfl_base.specs.declared.flow.Key.{Key}
@@ -22,27 +20,28 @@ use Rattle.pfl_track.proofs.Moving.{tracked-used}
 use Rattle.pfl_table.specs.Tables.{found, key_in_use}
 use Rattle.pfl_table.proofs.Apart.{found-stands}
 use Rattle.pfl_base.specs.declared.refusal.Refusal.{Refusal}
-use Rattle.pfl_edits.specs.Changes.{Edits}
+use Rattle.pfl_edits.specs.Changes.{Edits, Extends-from_empty}
 use Rattle.pfl_node.specs.declared.edit.NodeEdit.{NodeEdit}
 use Rattle.pfl_node.specs.declared.fate.Fate.{Fate}
 use Rattle.pfl_node.specs.Demands.{Does}
-use Rattle.pfl_node.specs.declared.fate.Reason.TheVariants as reason
+use Rattle.pfl_node.specs.Edits.{Finds, put_back, NodeExtends}
 use Rattle.pfl_node.specs.Kept.{MayReplace, MayStart}
-use Rattle.pfl_node.specs.Nodes.{Node, IsNode, IsGiven, IsPast}
-use Rattle.pfl_node.specs.Starting.{Handled, pass, drop, started, judged, by_rule, announced, with_new, new_state, is_at_max, next_name}
-use Rattle.pfl_node.specs.Packets.{handled, handled_by, followed, accepted, packet_points, before_rules, on_the_way}
+use Rattle.pfl_node.specs.Nodes.{Node, IsNode, IsGiven, IsPast, IsRefusal, points_refusal}
+use Rattle.pfl_node.specs.Starting.{Handled, judged, next_name}
+use Rattle.pfl_node.specs.Packets.{handled, handled_by, followed, packet_points, before_rules, on_the_way}
 
 -- ---- a packet of a state
 
-pub handled-found : (n : Node) (dir : Dir) (p : Packet) (s t : State) → found n.states (key p dir) dir ≡ Some s → tracked s p dir n.clock ≡ Moved t → handled n dir p ≡ accepted n t
+pub handled-some : (n : Node) (dir : Dir) (p : Packet) (s : State) → found n.states (key p dir) dir ≡ Some s → handled n dir p ≡ followed n dir p s (tracked s p dir n.clock)
 unfolding handled
-handled-found n dir p s t at moved = ap (handled_by n dir p) at ∙ ap (followed n dir p s) moved
+handled-some n dir p s at = ap (handled_by n dir p) at
 
-pub points-found : (n : Node) (dir : Dir) (p : Packet) (s t : State) → found n.states (key p dir) dir ≡ Some s → tracked s p dir n.clock ≡ Moved t → packet_points n dir p ≡ (accepted n t).node ∷ []
+pub points-some : (n : Node) (dir : Dir) (p : Packet) (s : State) → found n.states (key p dir) dir ≡ Some s
+    → packet_points n dir p ≡ (followed n dir p s (tracked s p dir n.clock)).node ∷ on_the_way n s (tracked s p dir n.clock)
 unfolding packet_points
-points-found n dir p s t at moved =
-    ap (λ (h : Handled). h.node ∷ before_rules n dir p (found n.states (key p dir) dir)) (handled-found n dir p s t at moved)
-    ∙ ap (λ (ns : List Node). (accepted n t).node ∷ ns) (ap (before_rules n dir p) at ∙ ap (on_the_way n s) moved)
+points-some n dir p s at =
+    ap (λ (h : Handled). h.node ∷ before_rules n dir p (found n.states (key p dir) dir)) (handled-some n dir p s at)
+    ∙ ap (λ (o : Option State). (followed n dir p s (tracked s p dir n.clock)).node ∷ before_rules n dir p o) at
 
 pub found-replaces : (n : Node) (dir : Dir) (p : Packet) (s t : State) → IsNode n → IsPacket p → found n.states (key p dir) dir ≡ Some s → tracked s p dir n.clock ≡ Moved t → MayReplace n t
 found-replaces n dir p s t is packet at moved =
@@ -54,6 +53,7 @@ found-replaces n dir p s t is packet at moved =
       stands = ap (λ (u : State). maps.get n.states u.name) used ∙ stands;
       wire = ap (λ (u : State). u.wire) used;
       stack = ap (λ (u : State). u.stack) used;
+      no_sync = ap (λ (u : State). u.no_sync) used;
       is = record {
         is = tracked-is s p dir n.clock t old.is packet moved;
         given = subst (IsGiven n) (sym (ap (λ (u : State). u.name) used)) old.given;
@@ -76,58 +76,37 @@ points-none n dir p at =
     ap (λ (h : Handled). h.node ∷ before_rules n dir p (found n.states (key p dir) dir)) (handled-none n dir p at)
     ∙ ap (λ (ns : List Node). (judged n dir p).node ∷ ns) (ap (before_rules n dir p) at)
 
-module _ (n : Node) (dir : Dir) (p : Packet) where
-  pub judged-block : (verdict n.rules.list p dir).pass ≡ false → judged n dir p ≡ drop n reason.Block
-  unfolding judged
-  judged-block e = ap (λ b. cond b (by_rule n dir p (verdict n.rules.list p dir).rule) (drop n reason.Block)) e
-
-  judged-pass : (verdict n.rules.list p dir).pass ≡ true → judged n dir p ≡ by_rule n dir p (verdict n.rules.list p dir).rule
-  unfolding judged
-  judged-pass e = ap (λ b. cond b (by_rule n dir p (verdict n.rules.list p dir).rule) (drop n reason.Block)) e
-
-  pub judged-none : (verdict n.rules.list p dir).pass ≡ true → (verdict n.rules.list p dir).rule ≡ None → judged n dir p ≡ pass n None
-  judged-none e f = judged-pass e ∙ ap (by_rule n dir p) f
-
-  pub judged-gone : (number : ℕ) → (verdict n.rules.list p dir).pass ≡ true → (verdict n.rules.list p dir).rule ≡ Some number → slice_get n.rules.list number ≡ None → judged n dir p ≡ pass n None
-  judged-gone number e f g = judged-pass e ∙ (ap (by_rule n dir p) f ∙ ap (λ (o : Option Rule). option_map_or (started n dir p number) o (pass n None)) g)
-
-  pub judged-rule : (number : ℕ) (r : Rule) → (verdict n.rules.list p dir).pass ≡ true → (verdict n.rules.list p dir).rule ≡ Some number → slice_get n.rules.list number ≡ Some r → judged n dir p ≡ started n dir p number r
-  judged-rule number r e f g = judged-pass e ∙ (ap (by_rule n dir p) f ∙ ap (λ (o : Option Rule). option_map_or (started n dir p number) o (pass n None)) g)
-
--- ---- a packet that a rule passes
-
-module _ (n : Node) (dir : Dir) (p : Packet) (number : ℕ) (r : Rule) where
-  new : Handled
-  new = announced (with_new n (new_state n dir p number r)) (new_state n dir p number r) dir p
-
-  tests : Bool → Bool → Bool → Handled
-  tests at_max full in_use = cond at_max (drop n reason.Max) (cond full (drop n reason.Full) (cond in_use (drop n reason.Key) new))
-
-  is_tests : started n dir p number r ≡ tests (is_at_max n number r) (nat_le n.limits.states (maps.len n.states)) (key_in_use n.states (wire_key (key p dir) r.nat) (key p dir))
-  unfolding started tests new
-  is_tests = refl
-
-  pub started-max : is_at_max n number r ≡ true → started n dir p number r ≡ drop n reason.Max
-  unfolding tests
-  started-max a = is_tests ∙ (λ i. tests (a i) (nat_le n.limits.states (maps.len n.states)) (key_in_use n.states (wire_key (key p dir) r.nat) (key p dir)))
-
-  pub started-full : is_at_max n number r ≡ false → nat_le n.limits.states (maps.len n.states) ≡ true → started n dir p number r ≡ drop n reason.Full
-  unfolding tests
-  started-full a b = is_tests ∙ (λ i. tests (a i) (b i) (key_in_use n.states (wire_key (key p dir) r.nat) (key p dir)))
-
-  pub started-key : is_at_max n number r ≡ false → nat_le n.limits.states (maps.len n.states) ≡ false → key_in_use n.states (wire_key (key p dir) r.nat) (key p dir) ≡ true → started n dir p number r ≡ drop n reason.Key
-  unfolding tests
-  started-key a b c = is_tests ∙ (λ i. tests (a i) (b i) (c i))
-
-  pub started-new : is_at_max n number r ≡ false → nat_le n.limits.states (maps.len n.states) ≡ false → key_in_use n.states (wire_key (key p dir) r.nat) (key p dir) ≡ false
-      → started n dir p number r ≡ announced (with_new n (new_state n dir p number r)) (new_state n dir p number r) dir p
-  unfolding tests new
-  started-new a b c = is_tests ∙ (λ i. tests (a i) (b i) (c i))
-
 -- ---- what was tried is what it comes to
+
+pub does-of : (old new : Node) (result : Result (Fate × Edits NodeEdit) Refusal) (h k : Handled) (ps qs : List Node) → k ≡ h → qs ≡ ps → Does old new result h ps → Does old new result k qs
+does-of old new result h k ps qs same points does =
+    subst (λ (x : Handled). Does old new result x qs) (sym same) (subst (λ (x : List Node). Does old new result h x) (sym points) does)
+
+-- of a packet that a state takes
+pub does-followed : (old new : Node) (result : Result (Fate × Edits NodeEdit) Refusal) (dir : Dir) (p : Packet) (s : State) (t u : Tracked) → u ≡ t
+    → Does old new result (followed old dir p s t) ((followed old dir p s t).node ∷ on_the_way old s t)
+    → Does old new result (followed old dir p s u) ((followed old dir p s u).node ∷ on_the_way old s u)
+does-followed old new result dir p s t u same does =
+    subst (λ (x : Tracked). Does old new result (followed old dir p s x) ((followed old dir p s x).node ∷ on_the_way old s x)) (sym same) does
 
 pub does-as : (old new : Node) (result : Result (Fate × Edits NodeEdit) Refusal) (h k : Handled) → k ≡ h → Does old new result h (h.node ∷ []) → Does old new result k (k.node ∷ [])
 does-as old new result h k same does = subst (λ (x : Handled). Does old new result x (x.node ∷ [])) (sym same) does
+
+-- what is refused changes nothing
+pub does-refuse : (n : Node) (r : Refusal) (h : Handled) (points : List Node) → IsRefusal (points_refusal points) r → Does n n (Err r) h points
+does-refuse n r h points is = record { refused = is; unchanged = refl; not_refused = tt; step = tt; leads_back = tt; weight = tt }
+
+-- what is not refused is done by a few edits
+pub does-done : (old new : Node) (fate : Fate) (x y : Edits NodeEdit) (h : Handled) (points : List Node) (most : ℕ)
+    → points_refusal points ≡ None → record { fate = fate; node = new } ≡ h → most ≤ 24 → x.list ≡ [] → NodeExtends most x y old new → Does old new (Ok (fate, y)) h points
+does-done old new fate x y h points most free step few none extends = record {
+  refused = tt;
+  unchanged = tt;
+  not_refused = free;
+  step = step;
+  leads_back = Extends-from_empty Finds IsNode put_back most x y old new none extends;
+  weight = let empty = ap length none in let long = extends.length in omega (arith, few, empty, long);
+}
 
 -- ---- a new state
 

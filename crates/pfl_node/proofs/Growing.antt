@@ -1,9 +1,7 @@
 -- What a packet asks of a node's numbers that a state takes, or that makes one.
 use Rattle.std.specs.Prelude.{◌≡◌, ℕ, ◌+◌, Bool, true, false, not, ◌&&◌, Option, Some, None, is_some, refl}
 use Rattle.std.specs.Option.{option_map}
-use Rattle.std.proofs.Common.{cond, ◌∙◌, ap, sym, subst, arith}
-use Rattle.pfl_base.specs.declared.direction.Dir.{Dir}
-use Rattle.pfl_base.specs.declared.packet.Packet.{Packet}
+use Rattle.std.proofs.Common.{cond, ◌∙◌, ap, arith}
 use Rattle.pfl_base.specs.declared.state_name.StateName.{StateName}
 use Rattle.pfl_base.specs.Names.{names_total}
 use Rattle.pfl_base.specs.Packets.{is_tcp}
@@ -14,13 +12,13 @@ use Rattle.pfl_queue.specs.declared.Kind.{Kind}
 use Rattle.pfl_queue.specs.declared.Kind.TheVariants.{Insert, UpdateShort}
 use Rattle.pfl_queue.specs.declared.Mark.{Mark}
 use Rattle.pfl_queue.specs.Queues.{Queue, kind_of, marked, pending}
-use Rattle.pfl_node.specs.Demands.{is_queued_anew, accept_demands, start_demands, started_by}
+use Rattle.pfl_node.specs.Demands.{one, is_queued_anew, accept_demands, start_demands, started_by}
 use Rattle.pfl_node.specs.Nodes.{Node}
 use Rattle.pfl_node.specs.declared.counters.Counters.{Counters}
-use Rattle.pfl_node.specs.Changes.{mark, changed, told, put_state, push_if, is_recent, is_untold, is_held, freed, count_freed, without_held}
-use Rattle.pfl_node.specs.Starting.{announced, with_new, is_deferred, pass, hold, with_room}
+use Rattle.pfl_node.specs.Changes.{mark, changed, is_untold, is_held, freed, count_freed, without_held}
+use Rattle.pfl_node.specs.Starting.{with_new, pass}
 use Rattle.pfl_node.specs.Packets.{accepted}
-use Rattle.pfl_node.proofs.Meeting.{one, Grows}
+use Rattle.pfl_node.proofs.Meeting.{Grows}
 use Rattle.pfl_node.proofs.Telling.{changed-counters}
 
 -- a name that is on no queue is one entry more
@@ -34,7 +32,7 @@ marked-pending q name kind =
 
 -- ---- one of two
 
-queue_if : (b : Bool) (x y : Node) → (cond b x y).queue ≡ cond b x.queue y.queue
+pub queue_if : (b : Bool) (x y : Node) → (cond b x y).queue ≡ cond b x.queue y.queue
 queue_if true x y = refl
 queue_if false x y = refl
 
@@ -119,9 +117,8 @@ accept-grows n t =
     }
 
 -- a packet that makes a state, and is not held
-pub start-grows : (n : Node) (s : State) (dir : Dir) (p : Packet) → is_deferred n dir ≡ false → kind_of n.queue s.name ≡ None → Grows n (announced (with_new n s) s dir p).node (start_demands s)
-start-grows n s dir p undeferred fresh =
-    subst (λ (b : Bool). Grows n (cond s.no_sync (pass (with_new n s) (Some s.name)) (cond b (hold (with_room (mark (with_new n s) s.name Insert)) s p) (pass (mark (with_new n s) s.name Insert) (Some s.name)))).node (start_demands s)) (sym undeferred) (by s.no_sync)
+pub start-grows : (n : Node) (s : State) → kind_of n.queue s.name ≡ None → Grows n (started_by n s).node (start_demands s)
+start-grows n s fresh = by s.no_sync
   where
     by : (b : Bool) → Grows n (cond b (pass (with_new n s) (Some s.name)) (pass (mark (with_new n s) s.name Insert) (Some s.name))).node (record { entry = not b; number = not b; id = true; passed = true; blocked = false; freed = false })
     by true = record { limit = refl; pending = omega arith; next_id = refl; next = omega arith; passed = refl; blocked = omega arith; freed = omega arith; lost = refl; bad = refl; stale = refl; broken = refl }
@@ -138,7 +135,3 @@ start-grows n s dir p undeferred fresh =
       stale = refl;
       broken = refl;
     }
-
--- a packet that is not held goes on
-pub announced-is : (n : Node) (s : State) (dir : Dir) (p : Packet) → is_deferred n dir ≡ false → announced (with_new n s) s dir p ≡ started_by n s
-announced-is n s dir p undeferred = ap (λ b. cond s.no_sync (pass (with_new n s) (Some s.name)) (cond b (hold (with_room (mark (with_new n s) s.name Insert)) s p) (pass (mark (with_new n s) s.name Insert) (Some s.name)))) undeferred

@@ -1,5 +1,5 @@
 -- The rule that decides matches, and what that makes of a packet.
-use Rattle.std.specs.Prelude.{◌≡◌, ◌<◌, ℕ, ◌+◌, zero, suc, Bool, true, false, not, ◌&&◌, ◌||◌, nat_le, List, [], ◌∷◌, filter, length, slice_get, Option, Some, None, refl}
+use Rattle.std.specs.Prelude.{◌≡◌, ℕ, ◌+◌, suc, Bool, true, false, not, ◌&&◌, ◌||◌, List, [], ◌∷◌, filter, slice_get, Option, Some, None, refl}
 use Rattle.std.specs.List.{AllByRecursion, enumerate_from}
 use Rattle.std.proofs.Common.{cond, ◌∙◌, ap, sym, subst, arith}
 use Rattle.pfl_base.specs.declared.addr.Addr.{Addr}
@@ -12,9 +12,8 @@ use Rattle.pfl_base.specs.Ends.{same_family}
 use Rattle.pfl_base.specs.Keys.{key}
 use Rattle.pfl_base.specs.Lists.{last_of, up_to_first}
 use Rattle.pfl_rules.specs.declared.rule.Rule.{Rule}
-use Rattle.pfl_rules.specs.declared.verdict.Verdict.{Verdict}
 use Rattle.pfl_rules.specs.Matching.{matches, is_pass, can_start, if_said}
-use Rattle.pfl_rules.specs.Rules.{verdict, verdict_by, deciding, looked_at, rule_at}
+use Rattle.pfl_rules.specs.Rules.{verdict, verdict_by, deciding, looked_at}
 use Rattle.pfl_track.specs.Keys.{fits_family}
 
 -- ---- the rule that decides

@@ -1,5 +1,6 @@
 pub mod Growing
 pub mod Fated
+pub mod Deferred
 pub mod Judging
 pub mod Keeping
 pub mod Keeps
@@ -10,3 +11,10 @@ pub mod OneState
 pub mod Telling
 pub mod Putting
 pub mod Recording
+pub mod Remaining
+pub mod Foretold
+pub mod Deletions
+pub mod Reuse
+pub mod Expired
+pub mod Tallying
+pub mod Purged

@@ -1,9 +1,10 @@
 -- What an event asks of a node's numbers decides whether it is refused.
-use Rattle.std.specs.Prelude.{◌≡◌, ◌≢◌, ◌≤◌, ◌<◌, ℕ, ◌+◌, ◌==◌, Bool, true, false, not, ◌&&◌, ◌||◌, nat_lt, nat_le, List, [], ◌∷◌, Option, Some, None, is_some, if◌then◌else◌, refl}
+use Rattle.std.specs.Prelude.{◌≡◌, ◌≤◌, ◌<◌, ℕ, ◌+◌, ◌==◌, Bool, true, false, not, ◌&&◌, ◌||◌, nat_lt, nat_le, [], ◌∷◌, Option, Some, None, is_some, if◌then◌else◌, refl}
 use Rattle.std.specs.Option.{option_map}
-use Rattle.std.proofs.Common.{cond, ◌∙◌, ap, sym, subst, arith}
+use Rattle.std.proofs.Common.{◌∙◌, ap, sym, subst, arith}
 use Rattle.std.proofs.lemmas.Bool.{le-ltb}
 use Rattle.std.proofs.lemmas.Bool.Decides.{nat_tests}
+use Rattle.pfl_base.specs.declared.state_name.StateName.{StateName}
 use Rattle.pfl_base.specs.declared.refusal.Refusal.{Refusal}
 use Rattle.pfl_base.specs.declared.refusal.Refusal.TheVariants.{QueueFull, CountFull, NoMemory}
 use Rattle.pfl_edits.specs.Maps as maps
@@ -11,14 +12,10 @@ use Rattle.pfl_track.specs.declared.state.State.{State}
 use Rattle.pfl_queue.specs.declared.Mark.{Mark}
 use Rattle.pfl_queue.specs.Queues.{pending, mark_fault}
 use Rattle.pfl_node.specs.declared.demands.Demands.{Demands}
-use Rattle.pfl_node.specs.Demands.{demand_refusal, runs_out, accept_demands, start_demands, is_queued_anew}
+use Rattle.pfl_node.specs.Demands.{one, demand_refusal, runs_out, accept_demands, start_demands, hold_demands, is_queued_anew}
 use Rattle.pfl_node.specs.Nodes.{Node, IsNode, greatest, is_overfull, is_overcounted, refused_by, points_refusal, IsRefusal}
 use Rattle.pfl_node.proofs.Recording.{no_fault, below}
 use Rattle.pfl_node.proofs.Keeps.{counted_all}
-
--- one, where it is asked for
-abbrev pub one : Bool → ℕ
-one b = cond b 1 0
 
 -- the numbers of m are those of n, with one more where it is asked for
 pub record Grows (n m : Node) (d : Demands) : Type 0 where
@@ -44,7 +41,7 @@ full_by true l p h = by (nat_lt l (p + 1)) (nat_le l p) refl refl
     by false true e f = absurd (grind (arith, nat_tests))
 full_by false l p h = le-ltb l (p + 0) (omega arith)
 
-counted_by : (b : Bool) (x : ℕ) → x ≤ greatest → nat_lt greatest (x + one b) ≡ runs_out b x
+pub counted_by : (b : Bool) (x : ℕ) → x ≤ greatest → nat_lt greatest (x + one b) ≡ runs_out b x
 counted_by true x h = by (nat_lt greatest (x + 1)) (x == greatest) refl refl
   where
     by : (u v : Bool) → nat_lt greatest (x + 1) ≡ u → (x == greatest) ≡ v → u ≡ v
@@ -162,3 +159,9 @@ pub start-free : (n : Node) (s : State) → Met n (start_demands s) → s.no_syn
 start-free n s m sync =
     no_fault (is_some (maps.get n.queue.marks s.name)) (nat_le n.queue.limit (pending n.queue)) (nat_le greatest n.queue.next)
     (λ none. m.entry (told s.no_sync sync)) (below greatest n.queue.next (m.number (told s.no_sync sync)))
+
+-- and so does one whose packet is held
+pub hold-free : (n : Node) (name : StateName) (pushes : Bool) → Met n (hold_demands pushes) → mark_fault n.queue name ≡ None
+hold-free n name pushes m =
+    no_fault (is_some (maps.get n.queue.marks name)) (nat_le n.queue.limit (pending n.queue)) (nat_le greatest n.queue.next)
+    (λ none. m.entry refl) (below greatest n.queue.next (m.number refl))

@@ -1,5 +1,5 @@
 -- A node that has seen nothing is a node.
-use Rattle.std.specs.Prelude.{◌≡◌, ◌≤◌, ℕ, ◌+◌, Bool, false, ◌||◌, nat_lt, Option, Some, None, refl}
+use Rattle.std.specs.Prelude.{◌≡◌, ◌≤◌, ℕ, ◌+◌, Bool, false, ◌||◌, nat_lt, Some, refl}
 use Rattle.std.specs.List.{IsDistinct}
 use Rattle.std.proofs.Common.{◌∙◌, ap, sym, subst, arith}
 use Rattle.std.proofs.lemmas.Bool.{le-ltb}
@@ -8,20 +8,19 @@ use Rattle.pfl_base.specs.declared.state_name.StateName.{StateName}
 use Rattle.pfl_edits.specs.Maps as maps
 use Rattle.pfl_edits.specs.Maps.{get-empty, len-empty}
 use Rattle.pfl_edits.specs.Rows.{some_is_none}
-use Rattle.pfl_rules.specs.Rules.{Rules, AreRules}
+use Rattle.pfl_rules.specs.Rules.{Rules}
 use Rattle.pfl_track.specs.declared.state.State.{State}
-use Rattle.pfl_table.specs.Tables.{Table, States, AreStates, states_of, states_of-empty}
+use Rattle.pfl_table.specs.Tables.{Table, AreStates, states_of-empty}
 use Rattle.pfl_queue.specs.declared.Mark.{Mark}
 use Rattle.pfl_queue.specs.Queues.{Queue, IsQueue, empty_queue}
 use Rattle.pfl_defer.specs.Deferring.{Deferrals, IsDeferrals, no_deferrals}
 use Rattle.pfl_bulk.specs.declared.BulkServer.TheVariants as server
 use Rattle.pfl_bulk.specs.declared.BulkClient.TheVariants as client
 use Rattle.pfl_node.specs.declared.limits.Limits.{Limits}
-use Rattle.pfl_node.specs.Limits.{AreLimits}
 use Rattle.pfl_node.specs.Laws.{NewNodesAreNodes}
 use Rattle.pfl_node.specs.declared.counters.Counters.{Counters}
 use Rattle.pfl_node.specs.Kept.{node_of}
-use Rattle.pfl_node.specs.Nodes.{Node, IsNode, new_node, no_counts, greatest, last_millisecond}
+use Rattle.pfl_node.specs.Nodes.{new_node, no_counts, greatest}
 
 -- an empty map has nothing at a name
 nothing : {X : Type 0} {A : Type 0} (n : StateName) (x : X) → maps.get (maps.empty {R = name_cmp}) n ≡ Some x → A

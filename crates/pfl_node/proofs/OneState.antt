@@ -1,5 +1,5 @@
 -- No record and no packet gives two states of a node one wire key or one stack key (pf(4)).
-use Rattle.std.specs.Prelude.{◌≡◌, ◌≢◌, ℕ, Bool, true, false, not, ◌&&◌, ◌||◌, ◌⊎◌, List, [], ◌∷◌, Option, Some, None, nat_le, refl}
+use Rattle.std.specs.Prelude.{◌≡◌, ℕ, Bool, true, false, not, ◌&&◌, ◌||◌, List, [], ◌∷◌, Option, Some, None, nat_le, refl}
 use Rattle.std.specs.List.{fold}
 use Rattle.std.specs.Option.{option_map_or}
 use Rattle.std.proofs.Common.{T, cond, ◌∙◌, ap, sym, subst, inl, inr}
@@ -19,27 +19,24 @@ use Rattle.pfl_track.specs.declared.tracked.Tracked.TheVariants.{Moved, OutOfWin
 use Rattle.pfl_track.specs.Tracking.{tracked}
 use Rattle.pfl_track.proofs.Names.{Stays, tracked-stays}
 use Rattle.pfl_table.specs.Tables.{AreStates, found, key_in_use}
-use Rattle.pfl_table.proofs.Apart.{OwnsKeys, OwnsKeys-unused, OwnsKeys-known, SameKeys, SameKeys-itself, AreStates-with, AreStates-without, found-stands}
+use Rattle.pfl_table.proofs.Apart.{OwnsKeys-unused, OwnsKeys-known, SameKeys, SameKeys-itself, AreStates-with, AreStates-without, found-stands}
 use Rattle.pfl_wire.specs.declared.message.BulkStatus.{BulkStatus}
 use Rattle.pfl_wire.specs.declared.message.StateRecord.{StateRecord}
-use Rattle.pfl_wire.specs.declared.message.UpdateRecord.{UpdateRecord}
 use Rattle.pfl_wire.specs.declared.message.Message.{Message}
 use Rattle.pfl_wire.specs.declared.message.Message.TheVariants as message
-use Rattle.pfl_queue.specs.declared.Kind.{Kind}
 use Rattle.pfl_queue.specs.declared.Kind.TheVariants.{Insert}
-use Rattle.pfl_queue.specs.Queues.{kind_of, is_requested}
+use Rattle.pfl_queue.specs.Queues.{kind_of}
 use Rattle.pfl_merge.specs.declared.received.Received.{Received}
 use Rattle.pfl_merge.specs.declared.merged.Merged.{Merged}
 use Rattle.pfl_merge.specs.Merging.{merged, stale_src, stale_dst}
 use Rattle.pfl_defer.specs.declared.Held.{Held}
 use Rattle.pfl_defer.specs.Deferring.{pushed_out}
-use Rattle.pfl_bulk.specs.Bulk.{no_name}
 use Rattle.pfl_node.specs.Nodes.{Node}
-use Rattle.pfl_node.specs.Changes.{put_state, without_state, mark, unmark, push_if, counted, is_untold, is_recent, is_insert, is_held, freed, lost, not_waiting, released, changed, deleted, deletion_told, forgotten, ask, tell_status, count_bad, count_stale, count_freed, count_lost, without_held}
+use Rattle.pfl_node.specs.Changes.{put_state, mark, is_untold, is_insert, is_held, freed, lost, not_waiting, released, changed, deleted, forgotten, count_stale, count_freed, count_lost, without_held}
 use Rattle.pfl_track.specs.Keys.{wire_key}
-use Rattle.pfl_node.specs.Starting.{Handled, pass, drop, started, judged, by_rule, announced, hold, with_room, with_new, new_state, is_at_max, is_deferred}
+use Rattle.pfl_node.specs.Starting.{Handled, started, judged, by_rule, announced, hold, with_room, with_new, new_state, is_at_max, is_deferred}
 use Rattle.pfl_node.specs.Packets.{handled, handled_by, followed, accepted}
-use Rattle.pfl_node.specs.Receiving.{taken, insert_taken, can_import, imported, merge_taken, merged_into, of_state, of_update, bulk_taken, answered, request_taken, ack_taken, delete_taken, is_known, is_not_given, is_delete, cleared_names, status_taken, is_partly_told}
+use Rattle.pfl_node.specs.Receiving.{taken, insert_taken, can_import, imported, merge_taken, merged_into, bulk_taken, answered, request_taken, ack_taken, is_known, cleared_names, status_taken}
 
 -- the states of the node are named and keyed rightly
 abbrev Apart : Node → Type 0

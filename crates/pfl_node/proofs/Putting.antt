@@ -1,5 +1,5 @@
 -- What a node keeps where a state is put, and where a name is marked.
-use Rattle.std.specs.Prelude.{◌≡◌, ◌≢◌, ◌≤◌, ◌<◌, ℕ, ◌+◌, Bool, true, false, not, ◌&&◌, nat_le, Option, Some, None, is_some, if◌then◌else◌, refl}
+use Rattle.std.specs.Prelude.{◌≡◌, ◌≢◌, ◌≤◌, ◌<◌, ℕ, ◌+◌, Bool, true, false, not, ◌&&◌, nat_le, Option, Some, None, is_some, IfSome, if◌then◌else◌, refl}
 use Rattle.std.specs.Option.{option_map}
 use Rattle.std.proofs.Common.{cond, ◌∙◌, ap, sym, subst, arith, inl, inr}
 use Rattle.std.proofs.lemmas.Bool.Decides.{nat_tests}
@@ -10,7 +10,7 @@ use Rattle.pfl_edits.specs.Maps.{len-insert}
 use Rattle.pfl_edits.specs.Places.{get-set_at_same, get-set_at_other, get-set_at_cases, key_cases}
 use Rattle.pfl_edits.specs.Rows.{some_is_none}
 use Rattle.pfl_track.specs.declared.state.State.{State}
-use Rattle.pfl_table.specs.Tables.{AreStates}
+use Rattle.pfl_table.specs.Tables.{States}
 use Rattle.pfl_table.proofs.Apart.{OwnsKeys, OwnsKeys-known, OwnsKeys-unused, AreStates-with}
 use Rattle.pfl_queue.specs.declared.Kind.{Kind}
 use Rattle.pfl_queue.specs.declared.Kind.TheVariants.{Delete}
@@ -24,11 +24,20 @@ use Rattle.pfl_node.specs.Changes.{put_state, mark}
 use Rattle.pfl_node.specs.Starting.{with_new}
 use Rattle.pfl_node.proofs.Keeps.{keeps_states, keeps_queue, keeps_next_id}
 
-inner : {X : Type 0} (x y : X) → Some x ≡ Some y → x ≡ y
+pub inner : {X : Type 0} (x y : X) → Some x ≡ Some y → x ≡ y
 inner x y e = cc
 
+-- what stands under a name, if anything, is told of
+abbrev pub IsTold : Option State → Type 0
+IsTold at = IfSome at (λ s. s.no_sync ≡ false)
+
+-- a mark of a name under which the same stands
+pub rightly-still : (n : Node) (m : States) (name : StateName) (k : Mark) → maps.get m name ≡ maps.get n.states name → MarksRightly n name k → MarksRightly (record n { states = m }) name k
+rightly-still n m name k still rightly =
+    ((λ gone. still ∙ rightly.0.0 gone, λ none. rightly.0.1 (sym still ∙ none)), subst IsTold (sym still) rightly.1)
+
 put-node : (n : Node) (s : State) → IsNode n → OwnsKeys n.states s → maps.len (maps.insert n.states s.name s) ≤ n.limits.states → IsNodeState n s
-    → ((k : Mark) → maps.get n.queue.marks s.name ≡ Some k → k.kind ≢ Delete) → IsNode (put_state n s)
+    → ((k : Mark) → maps.get n.queue.marks s.name ≡ Some k → (k.kind ≢ Delete) × (s.no_sync ≡ false)) → IsNode (put_state n s)
 put-node n s is owns few it kinds =
     let m = maps.insert n.states s.name s in
     keeps_states n m is (AreStates-with n.states s is.states owns) few
@@ -37,14 +46,11 @@ put-node n s is owns few it kinds =
       | inr other ↦ is.each name u other.1
     ])
     (λ name k at. elim (key_cases names_total names_exact name s.name) [
-      | inl same ↦ (
-        λ gone. absurd (kinds k (ap (maps.get n.queue.marks) (sym same) ∙ at) gone),
-        λ none. absurd (some_is_none s (sym (get-set_at_same names_total names_exact n.states s.name (Some s)) ∙ (ap (maps.get m) (sym same) ∙ none))),
-      )
-      | inr other ↦
-          let still = get-set_at_other names_total names_exact n.states s.name (Some s) name other in
-          let rightly = (is.marks name k at).1 in
-          (λ gone. still ∙ rightly.0 gone, λ none. rightly.1 (sym still ∙ none))
+      | inl same ↦
+          let stands = ap (maps.get m) same ∙ get-set_at_same names_total names_exact n.states s.name (Some s) in
+          let facts = kinds k (ap (maps.get n.queue.marks) (sym same) ∙ at) in
+          ((λ gone. absurd (facts.0 gone), λ none. absurd (some_is_none s (sym stands ∙ none))), subst IsTold (sym stands) facts.1)
+      | inr other ↦ rightly-still n m name k (get-set_at_other names_total names_exact n.states s.name (Some s) name other) (is.marks name k at).1
     ])
 
 -- in place of a state of its name and keys
@@ -55,20 +61,25 @@ replaced-node n s is may =
     let same = len-insert names_total n.states s.name s ∙ ap (λ (o : Option State). cond (is_some o) (maps.len n.states) (maps.len n.states + 1)) may.stands in
     put-node n s is (OwnsKeys-known n.states may.former s is.states stands (record { name = sym filed; wire = may.wire; stack = may.stack }))
     (let few = is.few in omega (arith, same, few)) may.is
-    (λ k at gone. some_is_none may.former (sym may.stands ∙ (is.marks s.name k at).1.0 gone))
+    (λ k at.
+    let rightly = (is.marks s.name k at).1 in
+    (λ gone. some_is_none may.former (sym may.stands ∙ rightly.0.0 gone), may.no_sync ∙ subst IsTold may.stands rightly.1))
 
 -- ---- a new state
 
 -- its name was on no queue
-pub fresh-name : (n : Node) (s : State) → IsNode n → MayStart n s → (k : Mark) → maps.get n.queue.marks s.name ≡ Some k → ⊥
-fresh-name n s is may k at = let below = (is.marks s.name k at).0 may.creator in let id = may.id in absurd (omega arith)
+pub fresh-name : (n : Node) (name : StateName) → IsNode n → name.creator ≡ n.creator → name.id ≡ n.next_id → (k : Mark) → maps.get n.queue.marks name ≡ Some k → ⊥
+fresh-name n name is creator id k at = let below = (is.marks name k at).0 creator in absurd (omega (arith, id, below))
 
 no_mark : (o : Option Mark) → ((k : Mark) → o ≡ Some k → ⊥) → option_map (λ (m : Mark). m.kind) o ≡ None
 no_mark None h = refl
 no_mark (Some k) h = absurd (h k refl)
 
+pub fresh-at : (n : Node) (name : StateName) → IsNode n → name.creator ≡ n.creator → name.id ≡ n.next_id → kind_of n.queue name ≡ None
+fresh-at n name is creator id = no_mark (maps.get n.queue.marks name) (fresh-name n name is creator id)
+
 pub fresh-kind : (n : Node) (s : State) → IsNode n → MayStart n s → kind_of n.queue s.name ≡ None
-fresh-kind n s is may = no_mark (maps.get n.queue.marks s.name) (fresh-name n s is may)
+fresh-kind n s is may = fresh-at n s.name is may.creator may.id
 
 within : (b : Bool) (len limit : ℕ) → len < limit → cond b len (len + 1) ≤ limit
 within true len limit h = omega arith
@@ -82,7 +93,7 @@ started-node n s is countable may =
     put-node (record n { next_id = n.next_id + 1 }) s next (OwnsKeys-unused n.states s may.unused)
     (subst (λ (k : ℕ). k ≤ n.limits.states) (sym (len-insert names_total n.states s.name s)) (within (maps.contains_key n.states s.name) (maps.len n.states) n.limits.states may.room))
     (record { is = may.is; given = λ own. omega arith; rule = may.rule; last = may.last; peer_change = may.peer_change; updates = may.updates })
-    (λ k at gone. fresh-name n s is may k at)
+    (λ k at. absurd (fresh-name n s.name is may.creator may.id k at))
 
 -- ---- marks
 
@@ -92,19 +103,20 @@ counted_by false true e = cc
 counted_by false false e = refl
 
 -- a name that can be marked leaves the next number countable
-number_left : (q : Queue) (name : StateName) → mark_fault q name ≡ None → q.next + 1 ≤ greatest
+pub number_left : (q : Queue) (name : StateName) → mark_fault q name ≡ None → q.next + 1 ≤ greatest
 number_left q name free =
     let left = counted_by (not (is_some (maps.get q.marks name)) && nat_le q.limit (pending q)) (nat_le 4294967295 q.next) free in
     grind (arith, nat_tests)
 
--- a name with a state is marked, as anything but deleted
-pub marked-node : (n : Node) (name : StateName) (kind : Kind) (s : State) → IsNode n → maps.get n.states name ≡ Some s → IsGiven n name → kind ≢ Delete → mark_fault n.queue name ≡ None
+-- a name with a state that is told of is marked, as anything but deleted
+pub marked-node : (n : Node) (name : StateName) (kind : Kind) (s : State) → IsNode n → maps.get n.states name ≡ Some s → s.no_sync ≡ false → IsGiven n name → kind ≢ Delete → mark_fault n.queue name ≡ None
     → IsNode (mark n name kind)
-marked-node n name kind s is there given other free =
+marked-node n name kind s is there told given other free =
     keeps_queue n _ is (marked_kept n.queue is.queue name kind (has_room n.queue name free) (has_number n.queue name free)) refl (number_left n.queue name free)
     (λ q k at. elim (get-set_at_cases names_total names_exact n.queue.marks name (Some (record { name = name; kind = kind; number = n.queue.next })) q k at) [
       | inl here ↦
           let kinds : kind ≡ k.kind = ap (λ (m : Mark). m.kind) (inner _ k here.1) in
-          (subst (IsGiven n) (sym here.0) given, (λ gone. absurd (other (kinds ∙ gone)), λ none. absurd (some_is_none s (sym there ∙ (ap (maps.get n.states) (sym here.0) ∙ none)))))
+          let stands = ap (maps.get n.states) here.0 ∙ there in
+          (subst (IsGiven n) (sym here.0) given, ((λ gone. absurd (other (kinds ∙ gone)), λ none. absurd (some_is_none s (sym stands ∙ none))), subst IsTold (sym stands) told))
       | inr old ↦ is.marks q k old.1
     ])

@@ -1,5 +1,5 @@
 -- An edit that is recorded leads back, and what is counted stays countable.
-use Rattle.std.specs.Prelude.{◌≡◌, ◌≤◌, ◌<◌, ℕ, ◌+◌, Bool, true, false, not, ◌&&◌, nat_le, List, [], ◌∷◌, ◌++◌, Option, Some, None, is_some, if◌then◌else◌, refl}
+use Rattle.std.specs.Prelude.{◌≡◌, ◌≤◌, ◌<◌, ℕ, ◌+◌, Bool, true, false, not, ◌&&◌, nat_le, [], ◌∷◌, ◌++◌, Some, None, is_some, if◌then◌else◌, refl}
 use Rattle.std.proofs.Common.{cond, ◌∙◌, ap, arith}
 use Rattle.std.proofs.lemmas.Bool.Decides.{nat_tests}
 use Rattle.pfl_base.specs.declared.state_name.StateName.{StateName}
@@ -8,9 +8,8 @@ use Rattle.pfl_edits.specs.Changes.{Edits, Extends-push, LeadsBack-one}
 use Rattle.pfl_edits.specs.Maps as maps
 use Rattle.pfl_edits.specs.Maps.{len-insert}
 use Rattle.pfl_queue.specs.declared.Kind.{Kind}
-use Rattle.pfl_queue.specs.declared.Mark.{Mark}
 use Rattle.pfl_queue.specs.declared.QueueFault.TheVariants.{QueueFull, CountFull}
-use Rattle.pfl_queue.specs.Queues.{Queue, IsQueue, pending, marked, mark_fault}
+use Rattle.pfl_queue.specs.Queues.{Queue, pending, marked, mark_fault}
 use Rattle.pfl_defer.specs.declared.edits.DeferEdit.{DeferEdit}
 use Rattle.pfl_defer.specs.Deferring.{Deferrals, let_go}
 use Rattle.pfl_defer.specs.Edits.{DefersBack}
@@ -72,16 +71,15 @@ pub below : (m n : ℕ) → n < m → nat_le m n ≡ false
 below m n h = grind (arith, nat_tests)
 
 -- a queue on which a name can be marked has no reason against it
-free_by : (q : Queue) (name : StateName) (kind : Kind) → IsQueue (marked q name kind) → q.next + 1 ≤ 4294967295 → mark_fault q name ≡ None
-free_by q name kind is counted =
+pub free_by : (q : Queue) (name : StateName) (kind : Kind) → pending (marked q name kind) ≤ q.limit → q.next + 1 ≤ 4294967295 → mark_fault q name ≡ None
+free_by q name kind few counted =
     no_fault (is_some (maps.get q.marks name)) (nat_le q.limit (pending q)) (nat_le 4294967295 q.next) (λ e. below q.limit (pending q) (room e)) (below 4294967295 q.next (omega arith))
   where
     room : is_some (maps.get q.marks name) ≡ false → pending q < q.limit
     room e =
-        let few : pending (marked q name kind) ≤ q.limit = is.few in
         let more = len-insert names_total q.marks name (record { name = name; kind = kind; number = q.next }) ∙ ap (λ b. cond b (maps.len q.marks) (maps.len q.marks + 1)) e in
         omega (arith, few, more)
 
 -- a node whose name can be marked has no reason against it
 pub mark-free : (n : Node) (name : StateName) (kind : Kind) → IsNode (mark n name kind) → mark_fault n.queue name ≡ None
-mark-free n name kind is = free_by n.queue name kind is.queue (counted_all (mark n name kind) is.counted).next
+mark-free n name kind is = free_by n.queue name kind is.queue.few (counted_all (mark n name kind) is.counted).next

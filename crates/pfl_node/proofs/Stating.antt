@@ -13,7 +13,7 @@ use Rattle.pfl_table.specs.declared.row.Row.{Row}
 use Rattle.pfl_table.specs.Tables.{Table, States, IsTable, AreStates, states_of, with_row, states_of-with_row, len-states_of}
 use Rattle.pfl_node.specs.declared.limits.Limits.{Limits}
 use Rattle.pfl_node.specs.Kept.{IsTimely, expires_by}
-use Rattle.pfl_node.specs.Nodes.{Node, IsNode, last_millisecond}
+use Rattle.pfl_node.specs.Nodes.{Node, IsNode}
 
 -- a state with the time at which it expires
 abbrev pub row_by : Rules → Option State → Option Row

@@ -1,6 +1,6 @@
 -- What a change of a state leaves alone.
 use Rattle.std.specs.Prelude.{◌≡◌, ◌≤◌, ℕ, Bool, true, false, refl}
-use Rattle.std.proofs.Common.{cond, ◌∙◌, ap}
+use Rattle.std.proofs.Common.{cond, ap}
 use Rattle.pfl_base.specs.declared.state_name.StateName.{StateName}
 use Rattle.pfl_base.specs.Packets.{is_tcp}
 use Rattle.pfl_queue.specs.Queues.{kind_of}
@@ -46,6 +46,7 @@ updates-may n s k few may = record {
   stands = may.stands;
   wire = may.wire;
   stack = may.stack;
+  no_sync = may.no_sync;
   is = record {
     is = let one = may.is.is in record { src = one.src; dst = one.dst; proto = one.proto; one_proto = one.one_proto; wire_family = one.wire_family; stack_family = one.stack_family; one_family = one.one_family };
     given = may.is.given;

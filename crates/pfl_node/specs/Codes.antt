@@ -1,7 +1,7 @@
 -- A node as nested pairs, by which the logic tells two nodes apart. It says nothing of nodes.
 use Rattle.std.specs.Prelude.{ℕ, Bool, List, refl}
 use Rattle.std.specs.Coded.{Coded, code_by, coded×, coded_ℕ, coded_list, coded_bool}
-use Rattle.pfl_base.specs.Names.{name_cmp, coded_state_name}
+use Rattle.pfl_base.specs.Names.{coded_state_name}
 use Rattle.pfl_edits.specs.Maps as maps
 use Rattle.pfl_rules.specs.Rules.{Rules}
 use Rattle.pfl_rules.specs.declared.rule.Rule.{Rule}

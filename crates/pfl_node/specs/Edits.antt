@@ -1,18 +1,12 @@
 -- The edits of a node: each names one place, its former value and its new one (this project's profile).
-use Rattle.std.specs.Prelude.{◌≡◌, ℕ, Bool, List, Option, refl}
-use Rattle.pfl_base.specs.declared.state_name.StateName.{StateName}
+use Rattle.std.specs.Prelude.{◌≡◌, ℕ, List, refl}
 use Rattle.pfl_base.specs.Names.{names_total, names_exact}
 use Rattle.pfl_edits.specs.Changes.{Edits, LeadsBack, Extends, LeadsBothWays}
 use Rattle.pfl_edits.specs.Maps as maps
 use Rattle.pfl_edits.specs.Maps.{set_at}
 use Rattle.pfl_edits.specs.Places.{value-both_ways, part-both_ways, key-both_ways}
-use Rattle.pfl_table.specs.Tables.{States}
-use Rattle.pfl_queue.specs.Queues.{Queue}
 use Rattle.pfl_queue.specs.Edits as queues
-use Rattle.pfl_defer.specs.Deferring.{Deferrals}
 use Rattle.pfl_defer.specs.Edits as deferrals
-use Rattle.pfl_bulk.specs.declared.BulkServer.{BulkServer}
-use Rattle.pfl_bulk.specs.declared.BulkClient.{BulkClient}
 use Rattle.pfl_node.specs.declared.counters.Counters.{Counters}
 use Rattle.pfl_node.specs.declared.edit.Counter.{Counter}
 use Rattle.pfl_node.specs.declared.edit.Counter.TheVariants.{Passed, Blocked, Freed, Lost, Bad, Stale, Broken}

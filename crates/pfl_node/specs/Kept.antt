@@ -14,7 +14,7 @@ use Rattle.pfl_bulk.specs.declared.BulkServer.{BulkServer}
 use Rattle.pfl_bulk.specs.declared.BulkClient.{BulkClient}
 use Rattle.pfl_node.specs.declared.limits.Limits.{Limits}
 use Rattle.pfl_node.specs.declared.counters.Counters.{Counters}
-use Rattle.pfl_node.specs.Nodes.{Node, IsNode, IsNodeState, IsPast}
+use Rattle.pfl_node.specs.Nodes.{Node, IsNodeState, IsPast}
 
 -- the table holds the states alone, as far as a node goes
 abbrev pub node_of : Limits → Rules → Table → Queue → Deferrals → BulkServer → BulkClient → ℕ → ℕ → ℕ → Bool → Counters → Node
@@ -42,12 +42,13 @@ pub record IsTimely (limits : Limits) (rules : Rules) (table : Table) : Type 0 w
   pub room : table.limit ≡ limits.states
   pub expires : (name : StateName) (row : Row) → maps.get table.rows name ≡ Some row → row.expires ≡ expires_by rules row.state
 
--- the state may take the place of one of the node, of its name and keys
+-- the state may take the place of one of the node, of its name and keys, and told of like it
 pub record MayReplace (n : Node) (s : State) : Type 0 where
   pub former : State
   pub stands : maps.get n.states s.name ≡ Some former
   pub wire : s.wire ≡ former.wire
   pub stack : s.stack ≡ former.stack
+  pub no_sync : s.no_sync ≡ former.no_sync
   pub is : IsNodeState n s
 
 -- the state may be a new one of the node, under its next name

@@ -1,5 +1,5 @@
 -- A node of the pair, and what is true of each (pf(4), pfsync(4); what limits an event is this project's profile).
-use Rattle.std.specs.Prelude.{◌≡◌, ◌≤◌, ◌<◌, ℕ, Bool, false, nat_lt, List, [], ◌∷◌, length, find, Option, Some, None, IfSome, ◌↔◌, if◌then◌else◌}
+use Rattle.std.specs.Prelude.{◌≡◌, ◌≤◌, ◌<◌, ℕ, Bool, false, nat_lt, List, [], ◌∷◌, length, find, Option, Some, None, IfSome, ◌↔◌}
 use Rattle.std.specs.List.{list_any, slice_get}
 use Rattle.std.specs.Option.{option_map}
 use Rattle.pfl_base.specs.declared.refusal.Refusal.{Refusal}
@@ -115,9 +115,9 @@ IsGiven n name = name.creator ≡ n.creator → name.id < n.next_id
 abbrev pub IsPast : Node → ℕ → Type 0
 IsPast n time = time ≤ n.clock
 
--- a mark of a deletion names no state, every other mark names one
+-- a mark of a deletion names no state, every other mark names one, and never one with `no-sync` (pf.conf(5))
 abbrev pub MarksRightly : Node → StateName → Mark → Type 0
-MarksRightly n name m = (m.kind ≡ kind.Delete) ↔ (maps.get n.states name ≡ None)
+MarksRightly n name m = ((m.kind ≡ kind.Delete) ↔ (maps.get n.states name ≡ None)) × IfSome (maps.get n.states name) (λ s. s.no_sync ≡ false)
 
 -- since when a server runs
 abbrev pub ServesSince : Node → BulkServer → Type 0

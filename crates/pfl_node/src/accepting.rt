@@ -1,54 +1,27 @@
 //! Packets that a state takes, and packets that make one.
 
-ghost use Rattle.std.specs.Prelude.{◌≡◌, ◌≤◌, ◌<◌, None, Some, [], ◌∷◌, IfOk, IfErr, OnOk, OnErr, length, false, true};
+ghost use Rattle.std.specs.Prelude.{◌≡◌, ◌≤◌, ◌<◌, None, [], ◌∷◌, IfOk, IfErr, OnOk, OnErr, length, false, true};
 ghost use Rattle.pfl_queue.specs.Queues.{mark_fault};
+ghost use Rattle.pfl_node.specs.Changes.{mark};
 ghost use Rattle.pfl_node.specs.Demands as demand;
 ghost use Rattle.pfl_node.specs.Edits.{NodeExtends, NodeLeadsBack};
 ghost use Rattle.pfl_node.specs.Kept.{MayReplace, MayStart};
 ghost use Rattle.pfl_node.specs.Nodes.{Node as Whole, IsRefusal, points_refusal, greatest};
 ghost use Rattle.pfl_node.specs.Packets.{accepted};
-ghost use Rattle.pfl_node.specs.Starting.{pass, announced, with_new, is_deferred};
+ghost use Rattle.pfl_node.specs.Starting.{with_new};
 
 use crate::demands::Demands;
 use crate::edit::NodeEdit;
 use crate::fate::Fate;
 use crate::node::Node;
 use crate::places::room;
-use pfl_base::{Dir, Packet, Refusal, StateName};
+use pfl_base::Refusal;
 use pfl_edits::Change;
 use pfl_queue::Kind;
 use pfl_track::State;
 use std::alloc::Allocator;
 
 impl<A: Allocator + Copy> Node<A> {
-    /// A packet goes on by no state.
-    pub(crate) fn try_pass(
-        &mut self,
-        name: Option<StateName>,
-    ) -> Result<(Fate, Change<NodeEdit, A>), Refusal>
-        ensures refused { IfErr result (IsRefusal (points_refusal ((pass self.old name).node ∷ []))) }
-        ensures unchanged { OnErr result (self.new ≡ self.old) }
-        ensures not_refused { OnOk result (points_refusal ((pass self.old name).node ∷ []) ≡ None) }
-        ensures step { IfOk result (λ r. record { fate = r.0; node = self.new } ≡ pass self.old name) }
-        ensures leads_back { IfOk result (λ r. NodeLeadsBack r.1.list self.old self.new) }
-        ensures weight { IfOk result (λ r. length r.1.list ≤ 24) }
-    {
-        let demands = Demands {
-            passed: true,
-            ..Demands::none()
-        };
-        if let Some(refusal) = self.demand_refusal(demands) {
-            return Err(refusal);
-        }
-        let mut change = match room(self.alloc, 1) {
-            Ok(change) => change,
-            Err(refusal) => return Err(refusal),
-        };
-        self.known();
-        let fate = self.pass(name, &mut change);
-        Ok((fate, change))
-    }
-
     /// A packet is accepted on a state, which then is this one.
     pub(crate) fn try_accept(
         &mut self,
@@ -74,35 +47,6 @@ impl<A: Allocator + Copy> Node<A> {
         let fate = self.accept(state, &mut change);
         Ok((fate, change))
     }
-
-    /// A packet makes this state, and goes on.
-    pub(crate) fn try_start(
-        &mut self,
-        state: State,
-        dir: Dir,
-        packet: &Packet,
-    ) -> Result<(Fate, Change<NodeEdit, A>), Refusal>
-        requires known { MayStart self.old state }
-        requires undeferred { is_deferred self.old dir ≡ false }
-        ensures refused { IfErr result (IsRefusal (points_refusal ((announced (with_new self.old state) state dir packet.now).node ∷ []))) }
-        ensures unchanged { OnErr result (self.new ≡ self.old) }
-        ensures not_refused { OnOk result (points_refusal ((announced (with_new self.old state) state dir packet.now).node ∷ []) ≡ None) }
-        ensures step { IfOk result (λ r. record { fate = r.0; node = self.new } ≡ announced (with_new self.old state) state dir packet.now) }
-        ensures leads_back { IfOk result (λ r. NodeLeadsBack r.1.list self.old self.new) }
-        ensures weight { IfOk result (λ r. length r.1.list ≤ 24) }
-    {
-        self.known();
-        let demands = start_demands(&state);
-        if let Some(refusal) = self.demand_refusal(demands) {
-            return Err(refusal);
-        }
-        let mut change = match room(self.alloc, 4) {
-            Ok(change) => change,
-            Err(refusal) => return Err(refusal),
-        };
-        let fate = self.start(state, &mut change);
-        Ok((fate, change))
-    }
 }
 
 impl<A: Allocator> Node<A> {
@@ -121,8 +65,8 @@ impl<A: Allocator> Node<A> {
         }
     }
 
-    /// Puts a new state under the next name, and has the peer told of it.
-    fn start(&mut self, state: State, change: &mut Change<NodeEdit, A>) -> Fate
+    /// Puts a new state under the next name, has the peer told of it, and lets its packet go on.
+    pub(crate) fn start(&mut self, state: State, change: &mut Change<NodeEdit, A>) -> Fate
         requires room { 4 ≤ change.old.spare }
         requires known { MayStart self.old state }
         requires countable { self.old.next_id < greatest }
@@ -131,21 +75,47 @@ impl<A: Allocator> Node<A> {
         ensures step { record { fate = result; node = self.new } ≡ demand.started_by self.old state }
         ensures extends { NodeExtends 4 change.old change.new self.old self.new }
     {
-        self.known();
         let name = state.name();
-        let no_sync = state.no_sync();
-        self.use_id(change);
-        self.put_state(state, change);
-        if no_sync {
+        if state.no_sync() {
+            self.put_new(state, change);
             return self.pass(Some(name), change);
         }
-        self.mark(name, Kind::Insert, change);
+        self.announce(state, change);
         self.pass(Some(name), change)
+    }
+
+    /// Puts a new state under the next name, and has the peer told of it.
+    pub(crate) fn announce(&mut self, state: State, change: &mut Change<NodeEdit, A>)
+        requires room { 3 ≤ change.old.spare }
+        requires known { MayStart self.old state }
+        requires told { state.no_sync ≡ false }
+        requires countable { self.old.next_id < greatest }
+        requires free { mark_fault self.old.queue state.name ≡ None }
+        ensures node { self.new ≡ mark (with_new self.old state) state.name Kind.Insert }
+        ensures extends { NodeExtends 3 change.old change.new self.old self.new }
+    {
+        self.known();
+        let name = state.name();
+        self.put_new(state, change);
+        self.mark(name, Kind::Insert, change);
+    }
+
+    /// Puts a new state under the next name.
+    fn put_new(&mut self, state: State, change: &mut Change<NodeEdit, A>)
+        requires room { 2 ≤ change.old.spare }
+        requires known { MayStart self.old state }
+        requires countable { self.old.next_id < greatest }
+        ensures node { self.new ≡ with_new self.old state }
+        ensures extends { NodeExtends 2 change.old change.new self.old self.new }
+    {
+        self.known();
+        self.use_id(change);
+        self.put_state(state, change);
     }
 }
 
 /// What a packet asks for that makes a state, and is not held.
-fn start_demands(state: &State) -> Demands
+pub(crate) fn start_demands(state: &State) -> Demands
     ensures demands { result ≡ demand.start_demands state.now }
 {
     let told = !state.no_sync();

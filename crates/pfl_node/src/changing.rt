@@ -80,6 +80,7 @@ impl<A: Allocator> Node<A> {
     fn tell(&mut self, state: State, change: &mut Change<NodeEdit, A>)
         requires room { 2 ≤ change.old.spare }
         requires known { MayReplace self.old state }
+        requires told { state.no_sync ≡ false }
         requires free { to.is_untold (kind_of self.old.queue state.name) ≡ true → mark_fault self.old.queue state.name ≡ None }
         ensures node { self.new ≡ to.told self.old state }
         ensures extends { NodeExtends 2 change.old change.new self.old self.new }

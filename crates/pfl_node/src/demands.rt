@@ -1,7 +1,7 @@
 //! What an event asks of a node's numbers.
 
 ghost use Rattle.std.specs.Prelude.{◌≡◌, false};
-ghost use Rattle.pfl_node.specs.Demands.{demand_refusal, runs_out as out};
+ghost use Rattle.pfl_node.specs.Demands.{demand_refusal, one as one_of, runs_out as out};
 
 use crate::node::Node;
 use pfl_base::Refusal;
@@ -61,8 +61,15 @@ impl<A: Allocator> Node<A> {
 }
 
 /// A number that is asked for has run out.
-fn runs_out(asked: bool, number: u32) -> bool
+pub(crate) fn runs_out(asked: bool, number: u32) -> bool
     ensures { result ≡ out asked number }
 {
     asked && number == u32::MAX
+}
+
+/// One, where it is asked for.
+pub(crate) fn one(asked: bool) -> usize
+    ensures { result ≡ one_of asked }
+{
+    if asked { 1 } else { 0 }
 }

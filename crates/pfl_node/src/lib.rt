@@ -2,20 +2,29 @@
 #![tactic(auto)]
 
 mod accepting;
+mod carrying;
 mod changing;
 mod counters;
+mod deleting;
 mod demands;
 mod dropping;
+mod due;
 mod edit;
 mod fate;
+mod foretelling;
 mod handling;
+mod holding;
+mod judged;
 mod laws;
 mod limits;
 mod node;
 mod places;
+mod purging;
 mod readers;
 mod retried;
+mod reusing;
 mod states;
+mod tally;
 mod ticking;
 mod undoing;
 

@@ -1,13 +1,14 @@
 //! The places of a node, each changed with its edit recorded.
 
-ghost use Rattle.std.specs.Prelude.{◌≡◌, ◌≤◌, ◌<◌, ◌+◌, ◌||◌, true, false, [], IfOk, IfErr};
+ghost use Rattle.std.specs.Prelude.{◌≡◌, ◌≤◌, ◌<◌, ◌+◌, ◌||◌, true, false, None, [], IfOk, IfErr, length};
+ghost use Rattle.pfl_defer.specs.Deferring.{held_of, with_held};
 ghost use Rattle.pfl_node.specs.Edits.{NodeExtends, count_of, with_count};
 ghost use Rattle.pfl_node.specs.Changes as to;
-ghost use Rattle.pfl_node.specs.Nodes.{Node as Whole, IsNode, greatest, last_millisecond};
+ghost use Rattle.pfl_node.specs.Nodes.{Node as Whole, IsGiven, IsNode, greatest, last_millisecond};
 
 use crate::edit::{Counter, NodeEdit, StateEdit};
 use crate::node::Node;
-use pfl_base::{Millis, Refusal, StateName};
+use pfl_base::{Millis, Packet, Refusal, StateName};
 use pfl_edits::Change;
 use pfl_queue::Kind;
 use pfl_track::State;
@@ -103,8 +104,27 @@ impl<A: Allocator> Node<A> {
         }
     }
 
+    /// Holds a packet of a name from now on, where there is room.
+    pub(crate) fn keep(
+        &mut self,
+        name: StateName,
+        packet: &Packet,
+        change: &mut Change<NodeEdit, A>,
+    )
+        requires room { 0 < change.old.spare }
+        requires given { IsGiven self.old name }
+        requires free { length self.old.held.list < self.old.held.limit }
+        requires fresh { held_of self.old.held name ≡ None }
+        ensures node { self.new ≡ record self.old { held = with_held self.old.held name packet.now self.old.clock } }
+        ensures extends { NodeExtends 1 change.old change.new self.old self.new }
+    {
+        let now = self.clock;
+        let (_, edits) = self.held.hold(name, *packet, now);
+        change.push(NodeEdit::OfHeld(edits.held));
+    }
+
     /// Lets the packet of a name go, if one is held, and says whether.
-    fn let_go(&mut self, name: StateName, change: &mut Change<NodeEdit, A>) -> bool
+    pub(crate) fn let_go(&mut self, name: StateName, change: &mut Change<NodeEdit, A>) -> bool
         requires room { 0 < change.old.spare }
         ensures held { result ≡ to.is_held self.old name }
         ensures unchanged { result ≡ false → self.new ≡ self.old }

@@ -1,19 +1,26 @@
 -- The longest prefix whose frame has at most mtu bytes is found by adding up.
-use Rattle.std.proofs.Common.{◌≡◌, ℕ, ◌+◌, ◌-◌, ◌<◌, ◌≤◌, zero, suc, Bool, true, false, cond, List, [], ◌∷◌, ◌++◌, map, take, drop, length, get_or, take-take, Option, Some, refl, sym, ◌∙◌, ap, subst, arith, nat_le, add-one}
+use Rattle.std.proofs.Common.{◌≡◌, ℕ, ◌+◌, ◌-◌, ◌*◌, ◌<◌, ◌≤◌, zero, suc, Bool, true, false, cond, List, [], ◌∷◌, ◌++◌, map, take, drop, length, get_or, take-take, Option, Some, refl, sym, ◌∙◌, ap, subst, arith, nat_le, add-one}
 use Rattle.std.specs.Prelude.{if◌then◌else◌, filter, unwrap_or}
 use Rattle.std.specs.List.{sum_by}
 use Rattle.std.proofs.Math.Seq.{take-suc}
 use Rattle.std.proofs.lemmas.Bool.Decides.{nat_tests}
-use Rattle.std.proofs.lemmas.List.{take-append-drop}
+use Rattle.std.proofs.lemmas.List.{take-append-drop, length-map, length-take-le}
 use Rattle.std.proofs.lemmas.List.Sums.{sum_by-cons}
 use Rattle.std.proofs.lemmas.List.{map-append}
 use Rattle.pfl_edits.specs.Rows.{some_is_none}
 use Rattle.pfl_base.specs.Lists.{last_of, prefixes, neighbours, joined}
 use Rattle.pfl_wire.specs.declared.action.Action.{Action}
+use Rattle.pfl_wire.specs.declared.action.Action.TheVariants as action
 use Rattle.pfl_wire.specs.Actions.{record_len}
 use Rattle.pfl_queue.specs.declared.Entry.{Entry}
-use Rattle.pfl_queue.specs.Taking.{entry_action, one_action, bytes_of}
+use Rattle.pfl_queue.specs.Queues.{Queue}
+use Rattle.pfl_queue.specs.Taking.{entry_action, one_action, bytes_of, in_turn, next_frame}
 use Rattle.pfl_queue.specs.Fitting.{entry_bytes, added, longest}
+
+-- the frame is the longest prefix of what is pending
+pub next_frame-longest : (q : Queue) (mtu : ℕ) → next_frame q mtu ≡ longest (in_turn q) mtu
+unfolding next_frame
+next_frame-longest q mtu = refl
 
 -- The bytes of the groups, record by record.
 
@@ -195,3 +202,37 @@ module _ (es : List Entry) (mtu : ℕ) where
     last_more =
         rw (add-one, take-suc es i d within)
         (ap Some is ∙ sym (ap last_of (map-append entry_action (take i es) (get_or es i d ∷ [])) ∙ last-pushed (map entry_action (take i es)) (entry_action (get_or es i d))))
+
+-- A frame has room for no more entries than it has bytes for the least of them.
+
+least_record : (a : Action) → 8 ≤ record_len a
+least_record action.Clear = omega arith
+least_record action.Insert = omega arith
+least_record action.InsertAck = omega arith
+least_record action.Update = omega arith
+least_record action.UpdateShort = omega arith
+least_record action.UpdateRequest = omega arith
+least_record action.Delete = omega arith
+least_record action.DeleteShort = omega arith
+least_record action.Bulk = omega arith
+
+many_bytes : (actions : List Action) → 8 * length actions ≤ weight actions
+many_bytes [] = omega arith
+many_bytes (x ∷ []) = omega (arith, least_record x)
+many_bytes (x ∷ y ∷ ys) = omega (arith, least_record x, many_bytes (y ∷ ys))
+
+bounded_fronts : {X : Type 0} (p : List X → Bool) (n : ℕ) (xs : List X) → ((j : ℕ) → n < j → j ≤ length xs → p (take j xs) ≡ false) → filter p (prefixes (take n xs)) ≡ filter p (prefixes xs)
+bounded_fronts p zero [] fail = refl
+bounded_fronts p (suc n) [] fail = refl
+bounded_fronts p zero (x ∷ xs) fail =
+    let none = none_pass (λ front. p (x ∷ front)) xs (λ j h. fail (suc j) (omega arith) (omega arith)) in
+    ap (λ fronts. cond (p []) ([] ∷ fronts) fronts) (sym (filter-map (λ front. x ∷ front) p (prefixes xs) ∙ ap (map (λ front. x ∷ front)) none))
+bounded_fronts p (suc n) (x ∷ xs) fail =
+    let same = bounded_fronts (λ front. p (x ∷ front)) n xs (λ j above h. fail (suc j) (omega arith) (omega arith)) in
+    ap (λ fronts. cond (p []) ([] ∷ fronts) fronts)
+    (filter-map (λ front. x ∷ front) p (prefixes (take n xs)) ∙ ap (map (λ front. x ∷ front)) same ∙ sym (filter-map (λ front. x ∷ front) p (prefixes xs)))
+
+pub longest_bounded : (n : ℕ) (es : List Entry) (mtu : ℕ) → mtu < 8 * n + 8 → longest (take n es) mtu ≡ longest es mtu
+longest_bounded n es mtu few =
+    ap (λ fronts. unwrap_or (last_of fronts) []) (bounded_fronts (λ front. nat_le (entry_bytes front) mtu) n es
+    (λ j above within. too_long es mtu j (omega (arith, few, above, bytes_weight (map entry_action (take j es)), many_bytes (map entry_action (take j es)), length-map (take j es) entry_action, length-take-le j es within))))

@@ -1,30 +1,32 @@
 -- A frame takes from the front of what is pending.
 use Rattle.std.proofs.Common.{◌≡◌, ℕ, Bool, true, false, cond, List, [], ◌∷◌, ◌++◌, map, drop, Some, refl, sym, ◌∙◌, ap, subst, arith}
-use Rattle.std.specs.Prelude.{filter, unwrap_or}
-use Rattle.std.specs.List.{AllByRecursion, sum_by}
+use Rattle.std.specs.Prelude.{filter, unwrap_or, slice_get}
+use Rattle.std.specs.List.{AllByRecursion, remove, sum_by}
 use Rattle.std.proofs.lemmas.List.Sums.{sum_by-cons}
 use Rattle.pfl_base.specs.declared.state_name.StateName.{StateName}
 use Rattle.pfl_base.specs.Lists.{last_of, prefixes, in_order}
+use Rattle.pfl_edits.specs.Changes.{LeadsBack-none, LeadsBack-append}
 use Rattle.pfl_edits.specs.Maps as maps
 use Rattle.pfl_wire.specs.declared.message.BulkStatus.{BulkStatus}
 use Rattle.pfl_queue.specs.declared.Cleared.{Cleared}
 use Rattle.pfl_queue.specs.declared.Entry.{Entry}
-use Rattle.pfl_queue.specs.declared.Entry.TheVariants.{Request, Status}
+use Rattle.pfl_queue.specs.declared.Entry.TheVariants.{Marked, Request, Status, Clear}
 use Rattle.pfl_queue.specs.declared.Mark.{Mark}
+use Rattle.pfl_queue.specs.Edits.{FindsFormer, Finds, redone, put_back, QueueLeadsBack, taking, redone-leads_back}
 use Rattle.pfl_queue.specs.Queues.{Queue, IsQueue, unmarked}
 use Rattle.pfl_queue.specs.Taking.{mark_before, entry_of, clear_of, in_turn, gone, left_by}
 use Rattle.pfl_queue.specs.Fitting.{longest}
 use Rattle.pfl_queue.specs.Laws.{FramesTakeFromTheFront}
+use Rattle.pfl_queue.proofs.Fitting.{next_frame-longest}
 use Rattle.pfl_queue.proofs.InTurn.{before_order, exact}
 use Rattle.pfl_queue.proofs.Keeping.{kept, gone_kept, unmarked_kept}
 use Rattle.pfl_queue.proofs.Sorting.{Rises, order-sum, order-all, order-rises, same_rising}
-use Rattle.pfl_queue.proofs.Taken.{next_frame-longest}
 use Rattle.pfl_queue.proofs.Values.{values_stand, sum_without}
 
 -- the list begins with these
-record BeginsWith {X : Type 0} (xs front : List X) : Type 0 where
-  rest : List X
-  is : front ++ rest ≡ xs
+pub record BeginsWith {X : Type 0} (xs front : List X) : Type 0 where
+  pub rest : List X
+  pub is : front ++ rest ≡ xs
 
 all_map : {X Y : Type 0} (P : Y → Type 0) (f : X → Y) (xs : List X) → AllByRecursion (λ x. P (f x)) xs → AllByRecursion P (map f xs)
 all_map P f [] all = tt
@@ -50,7 +52,7 @@ last_or P d [] h all = h
 last_or P d (x ∷ []) h all = all.0
 last_or P d (x ∷ y ∷ ys) h all = last_or P d (y ∷ ys) h all.1
 
-longest_begins : (es : List Entry) (mtu : ℕ) → BeginsWith es (longest es mtu)
+pub longest_begins : (es : List Entry) (mtu : ℕ) → BeginsWith es (longest es mtu)
 longest_begins es mtu = last_or (BeginsWith es) [] _ (record { rest = es; is = refl }) (all_filter (BeginsWith es) _ (prefixes es) (prefixes_begin es))
 
 stood : (q : Queue) (is : IsQueue q) (name : StateName) (ms : List Mark) → AllByRecursion (λ m. maps.get (maps.remove q.marks name) m.name ≡ Some m) ms → AllByRecursion (λ m. maps.get q.marks m.name ≡ Some m) ms
@@ -113,6 +115,60 @@ module _ (q : Queue) (is : IsQueue q) (e : Entry) (rest : List Entry) where
 
 front_gone : (q : Queue) → IsQueue q → (e : Entry) (rest : List Entry) → in_turn q ≡ e ∷ rest → in_turn (gone q e) ≡ rest
 front_gone q is e rest turn = of_marks q is e rest (in_order mark_before (maps.values q.marks)) refl turn
+
+-- An edit that takes the first entry finds it there.
+module _ (q : Queue) (is : IsQueue q) (e : Entry) (rest : List Entry) where
+  abbrev Found : Entry → Type 0
+  Found x = FindsFormer (taking q.next x) q
+
+  found_clear : (cs : List Cleared) → q.clears ≡ cs → map clear_of cs ≡ e ∷ rest → Found e
+  found_clear [] clears turn = absurd (cc)
+  found_clear (c ∷ cs) clears turn = let same : e ≡ clear_of c = cc in subst Found (sym same) (ap (λ (xs : List Cleared). slice_get xs 0) clears)
+
+  found_status : (ss : List BulkStatus) → q.statuses ≡ ss → map Status ss ++ map clear_of q.clears ≡ e ∷ rest → Found e
+  found_status [] statuses turn = found_clear q.clears refl turn
+  found_status (s ∷ ss) statuses turn = let same : e ≡ Status s = cc in subst Found (sym same) (ap (λ (xs : List BulkStatus). slice_get xs 0) statuses)
+
+  found_request : (rs : List StateName) → q.requests ≡ rs → map Request rs ++ map Status q.statuses ++ map clear_of q.clears ≡ e ∷ rest → Found e
+  found_request [] requests turn = found_status q.statuses refl turn
+  found_request (n ∷ rs) requests turn = let same : e ≡ Request n = cc in subst Found (sym same) (ap (λ (xs : List StateName). slice_get xs 0) requests)
+
+  found_mark : (ms : List Mark) → in_order mark_before (maps.values q.marks) ≡ ms → map entry_of ms ++ map Request q.requests ++ map Status q.statuses ++ map clear_of q.clears ≡ e ∷ rest → Found e
+  found_mark [] marks turn = found_request q.requests refl turn
+  found_mark (m ∷ ms) marks turn =
+      let same : e ≡ entry_of m = cc in
+      let stands = subst (AllByRecursion (λ m. maps.get q.marks m.name ≡ Some m)) marks (order-all mark_before (λ m. maps.get q.marks m.name ≡ Some m) (maps.values q.marks) (values_stand q is)) in
+      subst Found (sym same) (stands.0, refl)
+
+first_found : (q : Queue) → IsQueue q → (e : Entry) (rest : List Entry) → in_turn q ≡ e ∷ rest → FindsFormer (taking q.next e) q
+first_found q is e rest turn = found_mark q is e rest (in_order mark_before (maps.values q.marks)) refl turn
+
+without_first : {X : Type 0} (xs : List X) → remove xs 0 ≡ drop 1 xs
+without_first [] = refl
+without_first (x ∷ xs) = refl
+
+-- and takes it out
+redone_gone : (q : Queue) (e : Entry) → redone (taking q.next e) q ≡ gone q e
+redone_gone q (Marked kind number name) = refl
+redone_gone q (Request name) = ap (λ (xs : List StateName). record q { requests = xs }) (without_first q.requests)
+redone_gone q (Status status) = ap (λ (xs : List BulkStatus). record q { statuses = xs }) (without_first q.statuses)
+redone_gone q (Clear creator bound) = ap (λ (xs : List Cleared). record q { clears = xs }) (without_first q.clears)
+
+next_stays : (q : Queue) (e : Entry) → (gone q e).next ≡ q.next
+next_stays q (Marked kind number name) = refl
+next_stays q (Request name) = refl
+next_stays q (Status status) = refl
+next_stays q (Clear creator bound) = refl
+
+-- the edits of the first entries lead back from what they leave
+pub frame_leads_back : (es : List Entry) (q : Queue) → IsQueue q → (rest : List Entry) → es ++ rest ≡ in_turn q → QueueLeadsBack (map (taking q.next) es) q (left_by q es)
+frame_leads_back [] q is rest turn = LeadsBack-none Finds IsQueue put_back q
+frame_leads_back (e ∷ es) q is rest turn =
+    let found = first_found q is e (es ++ rest) (sym turn) in
+    let later = frame_leads_back es (gone q e) (gone_kept q is e) rest (sym (front_gone q is e (es ++ rest) (sym turn))) in
+    LeadsBack-append Finds IsQueue put_back (taking q.next e ∷ []) (map (taking q.next) es) q (gone q e) (left_by (gone q e) es)
+    (subst (QueueLeadsBack (taking q.next e ∷ []) q) (redone_gone q e) (redone-leads_back (taking q.next e) q is found))
+    (subst (λ n. QueueLeadsBack (map (taking n) es) (gone q e) (left_by (gone q e) es)) (next_stays q e) later)
 
 all_gone : (es : List Entry) (q : Queue) → IsQueue q → (rest : List Entry) → es ++ rest ≡ in_turn q → in_turn (left_by q es) ≡ rest
 all_gone [] q is rest turn = sym turn

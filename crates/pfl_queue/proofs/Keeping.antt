@@ -1,6 +1,6 @@
 -- What keeps the pending queues queues.
 use Rattle.std.proofs.Common.{◌≡◌, inl, inr, ℕ, ◌+◌, ◌-◌, ◌<◌, ◌≤◌, Bool, true, false, cond, not, ◌&&◌, ◌||◌, List, [], ◌∷◌, ◌++◌, length, drop, Option, Some, None, is_some, refl, sym, ◌∙◌, ap, subst, T, arith, nat_le}
-use Rattle.std.specs.Prelude.{if◌then◌else◌, slice_get}
+use Rattle.std.specs.Prelude.{if◌then◌else◌}
 use Rattle.std.specs.List.{IsDistinct, AllByRecursion, list_any, insert}
 use Rattle.std.proofs.lemmas.Bool.Decides.{nat_tests}
 use Rattle.std.proofs.lemmas.List.{length-append}
@@ -11,7 +11,7 @@ use Rattle.pfl_base.specs.declared.state_name.StateName.{StateName}
 use Rattle.pfl_base.specs.Names.{name_cmp, names_total, names_exact, is_name, is_name-itself, is_name-same}
 use Rattle.pfl_edits.specs.Maps as maps
 use Rattle.pfl_edits.specs.Maps.{get-empty, len-empty, len-insert, len-remove}
-use Rattle.pfl_edits.specs.Places.{with_position, get-set_at_cases, set_at-same}
+use Rattle.pfl_edits.specs.Places.{get-set_at_cases, set_at-same}
 use Rattle.pfl_edits.specs.Rows.{some_is_none}
 use Rattle.pfl_wire.specs.declared.message.BulkStatus.{BulkStatus}
 use Rattle.pfl_queue.specs.declared.Cleared.{Cleared}
@@ -21,7 +21,7 @@ use Rattle.pfl_queue.specs.declared.QueueFault.TheVariants.{QueueFull, CountFull
 use Rattle.pfl_queue.specs.Queues.{Queue, IsQueue, pending, empty_queue, mark_fault, list_fault, unmarked, is_requested, most_numbers, room_fault}
 use Rattle.pfl_queue.specs.declared.Entry.{Entry}
 use Rattle.pfl_queue.specs.declared.Entry.TheVariants.{Marked, Request, Status, Clear}
-use Rattle.pfl_queue.specs.Edits.{with_mark, redone, taking}
+use Rattle.pfl_queue.specs.Edits.{with_mark}
 use Rattle.pfl_queue.specs.Taking.{gone}
 
 -- an empty map has nothing at a name
@@ -68,15 +68,11 @@ asked_once_more names name new once =
     IsDistinct-IsPermutation is_name same_other_way (name ∷ names) (names ++ name ∷ []) (IsPermutation-sym _ _ (IsPermutation-to_front names name))
     (IsDistinct-cons is_name name names (none_passes (is_name name) names new) once)
 
--- a list without its first
-abbrev without_first : {X : Type 0} → List X → List X
-without_first xs = with_position xs 0 (slice_get xs 0) None
-
-no_longer : {X : Type 0} (xs : List X) → length (without_first xs) ≤ length xs
+no_longer : {X : Type 0} (xs : List X) → length (drop 1 xs) ≤ length xs
 no_longer [] = omega arith
 no_longer (x ∷ xs) = omega arith
 
-still_once : (names : List StateName) → IsDistinct is_name names → IsDistinct is_name (without_first names)
+still_once : (names : List StateName) → IsDistinct is_name names → IsDistinct is_name (drop 1 names)
 still_once [] once = once
 still_once (n ∷ names) once = IsDistinct-tail is_name n names once
 
@@ -203,9 +199,9 @@ module _ (q : Queue) (is : IsQueue q) where
       request_put n last = rw (last, insert_end q.requests name) request_kept
 
   -- what a frame takes
-  pub taking_kept : (e : Entry) → IsQueue (redone (taking q e) q)
-  taking_kept (Marked kind number name) = unmarked_kept name
-  taking_kept (Request name) = record {
+  pub gone_kept : (e : Entry) → IsQueue (gone q e)
+  gone_kept (Marked kind number name) = unmarked_kept name
+  gone_kept (Request name) = record {
     few = omega (arith, is.few, no_longer q.requests);
     filed = is.filed;
     below = is.below;
@@ -213,7 +209,7 @@ module _ (q : Queue) (is : IsQueue q) where
     asked_once = still_once q.requests is.asked_once;
     countable = is.countable;
   }
-  taking_kept (Status status) = record {
+  gone_kept (Status status) = record {
     few = omega (arith, is.few, no_longer q.statuses);
     filed = is.filed;
     below = is.below;
@@ -221,7 +217,7 @@ module _ (q : Queue) (is : IsQueue q) where
     asked_once = is.asked_once;
     countable = is.countable;
   }
-  taking_kept (Clear creator bound) = record {
+  gone_kept (Clear creator bound) = record {
     few = omega (arith, is.few, no_longer q.clears);
     filed = is.filed;
     below = is.below;
@@ -229,13 +225,3 @@ module _ (q : Queue) (is : IsQueue q) where
     asked_once = is.asked_once;
     countable = is.countable;
   }
-
-  first_gone : {X : Type 0} (xs : List X) → without_first xs ≡ drop 1 xs
-  first_gone [] = refl
-  first_gone (x ∷ xs) = refl
-
-  pub gone_kept : (e : Entry) → IsQueue (gone q e)
-  gone_kept (Marked kind number name) = unmarked_kept name
-  gone_kept (Request name) = subst (λ (xs : List StateName). IsQueue (record q { requests = xs })) (first_gone q.requests) (taking_kept (Request name))
-  gone_kept (Status status) = subst (λ (xs : List BulkStatus). IsQueue (record q { statuses = xs })) (first_gone q.statuses) (taking_kept (Status status))
-  gone_kept (Clear creator bound) = subst (λ (xs : List Cleared). IsQueue (record q { clears = xs })) (first_gone q.clears) (taking_kept (Clear creator bound))

@@ -1,5 +1,5 @@
 -- The edits of the pending queues, and what their operations record. This project's profile.
-use Rattle.std.specs.Prelude.{◌≡◌, ℕ, ◌+◌, List, [], ◌∷◌, length, Option, Some, None, slice_get, refl}
+use Rattle.std.specs.Prelude.{◌≡◌, ℕ, ◌+◌, List, [], ◌∷◌, length, Option, Some, None, refl}
 use Rattle.std.proofs.Common.{ap, sym, ◌∙◌}
 use Rattle.pfl_base.specs.declared.state_name.StateName.{StateName}
 use Rattle.pfl_base.specs.Names.{names_total, names_exact}
@@ -71,12 +71,12 @@ listing_status q status = OfStatus (length q.statuses) None (Some status)
 abbrev pub listing_clear : Queue → ℕ → ℕ → QueueEdit
 listing_clear q creator bound = OfClear (length q.clears) None (Some (record { creator = creator; bound = bound }))
 
--- and what a frame that takes the entry records
-abbrev pub taking : Queue → Entry → QueueEdit
-taking q (Marked kind number name) = unmarking q name
-taking q (Request name) = OfRequest 0 (slice_get q.requests 0) None
-taking q (Status status) = OfStatus 0 (slice_get q.statuses 0) None
-taking q (Clear creator bound) = OfClear 0 (slice_get q.clears 0) None
+-- and what a frame records that takes the entry, the first one pending, where this is the next number
+abbrev pub taking : ℕ → Entry → QueueEdit
+taking next (Marked kind number name) = OfMark name (Some (record { name = name; kind = kind; number = number })) None next next
+taking next (Request name) = OfRequest 0 (Some name) None
+taking next (Status status) = OfStatus 0 (Some status) None
+taking next (Clear creator bound) = OfClear 0 (Some (record { creator = creator; bound = bound })) None
 
 mark-back : (q : Queue) (name : StateName) (was at : Option Mark) (next former : ℕ) → maps.get q.marks name ≡ was → q.next ≡ former → with_mark (with_mark q name at next) name was former ≡ q
 mark-back q name was at next former is same =

@@ -1,10 +1,14 @@
 //! What a frame takes from the pending queues.
-ghost use Rattle.std.specs.Prelude.{◌≡◌, ◌≤◌, ◌+◌, List, [], ◌∷◌, take, length, IfOk, OnErr, OnOk};
+ghost use Rattle.std.specs.Prelude.{◌≡◌, ◌≤◌, ◌+◌, ◌++◌, map, take, length, IfOk, OnErr, OnOk};
 ghost use Rattle.pfl_wire.specs.Actions.{record_len};
-ghost use Rattle.pfl_queue.specs.Taking.{kind_action, entry_action, entry_of, clear_of, in_turn, gone, left_by, next_frame};
+ghost use Rattle.pfl_queue.specs.Taking.{mark_before, kind_action, entry_action, entry_of, clear_of, left_by, next_frame};
+ghost use Rattle.pfl_base.specs.Lists.{in_order};
+ghost use Rattle.pfl_edits.specs.Maps as maps;
+ghost use Rattle.pfl_queue.specs.Parts.{first_of_each};
 ghost use Rattle.pfl_queue.specs.Edits.{QueueLeadsBack, taking};
 ghost use Rattle.pfl_queue.specs.Fitting.{added, longest};
 
+use crate::lists::first;
 use crate::{Cleared, Entry, Kind, Mark, Pending, QueueEdit};
 use pfl_edits::{Change, NoMemory};
 use pfl_wire::Action;
@@ -15,6 +19,9 @@ const HEADER_LEN: usize = 20;
 
 /// The bytes that a group has before its records.
 const GROUP_LEN: usize = 4;
+
+/// The bytes of the shortest record.
+const LEAST_RECORD_LEN: usize = 8;
 
 impl Kind {
     /// The action that tells of the kind. A deletion is told shortly.
@@ -42,6 +49,47 @@ impl Entry {
             Entry::Status(_) => Action::Bulk,
             Entry::Clear { .. } => Action::Clear,
         }
+    }
+
+    /// The edit that takes the entry out, where it is the first one pending and `next` is the next number.
+    fn taking(&self, next: u64) -> QueueEdit
+        ensures edit { result ≡ taking next self.now }
+    {
+        match *self {
+            Entry::Marked { kind, number, name } => QueueEdit::OfMark {
+                name,
+                before: Some(Mark { name, kind, number }),
+                after: None,
+                next_before: next,
+                next_after: next,
+            },
+            Entry::Request(name) => QueueEdit::OfRequest {
+                position: 0,
+                before: Some(name),
+                after: None,
+            },
+            Entry::Status(status) => QueueEdit::OfStatus {
+                position: 0,
+                before: Some(status),
+                after: None,
+            },
+            Entry::Clear { creator, bound } => QueueEdit::OfClear {
+                position: 0,
+                before: Some(Cleared { creator, bound }),
+                after: None,
+            },
+        }
+    }
+}
+
+/// Records that the entries were taken out, one after another, in room that was made.
+fn record<A: Allocator>(entries: &[Entry], next: u64, change: &mut Change<QueueEdit, A>)
+    requires room { length entries.now ≤ change.old.spare }
+    ensures edits { change.new.list ≡ change.old.list ++ map (taking next) entries.now }
+{
+    for entry in entries {
+        let edit = entry.taking(next);
+        change.push(edit);
     }
 }
 
@@ -97,18 +145,32 @@ impl From<Cleared> for Entry {
 }
 
 impl<A: Allocator + Copy> Pending<A> {
-    /// All that is pending, in the order of frames.
-    fn in_turn(&self) -> Result<Vec<Entry, A>, NoMemory>
-        ensures turn { IfOk result (λ entries. entries.items ≡ in_turn self.now) }
+    /// The first marks, requests, statuses and clears, in this order, at most so many of each.
+    fn first_of_each(&self, marks: &[Mark], most: usize) -> Result<Vec<Entry, A>, NoMemory>
+        ensures first { IfOk result (λ entries. entries.items ≡ first_of_each most marks.now self.now) }
     {
-        let marks = self.marks_in_turn()?;
+        let marks = first(marks, most);
+        let requests = first(self.requests(), most);
+        let statuses = first(self.statuses(), most);
+        let clears = first(self.clears(), most);
         let entries = marks
             .iter()
             .map(|mark| Entry::from(*mark))
-            .chain(self.requests().iter().map(|name| Entry::Request(*name)))
-            .chain(self.statuses().iter().map(|status| Entry::Status(*status)))
-            .chain(self.clears().iter().map(|cleared| Entry::from(*cleared)))
+            .chain(requests.iter().map(|name| Entry::Request(*name)))
+            .chain(statuses.iter().map(|status| Entry::Status(*status)))
+            .chain(clears.iter().map(|cleared| Entry::from(*cleared)))
             .collect(self.allocator())?;
+        Ok(entries)
+    }
+
+    /// The entries of the frame of at most `mtu` bytes that is next, where the marks stand in the order of frames.
+    fn frame_of(&self, marks: &[Mark], mtu: u32) -> Result<Vec<Entry, A>, NoMemory>
+        requires turn { marks.now ≡ in_order mark_before (maps.values self.now.marks) }
+        ensures frame { IfOk result (λ entries. entries.items ≡ next_frame self.now mtu) }
+    {
+        let most = mtu as usize / LEAST_RECORD_LEN;
+        let mut entries = self.first_of_each(marks, most)?;
+        entries.truncate(fitting(&entries, mtu));
         Ok(entries)
     }
 
@@ -123,25 +185,13 @@ impl<A: Allocator + Copy> Pending<A> {
         ensures one_each { IfOk result (λ r. length r.1.list ≡ length (next_frame self.old mtu)) }
         ensures leads_back { IfOk result (λ r. QueueLeadsBack r.1.list self.old self.new) }
     {
-        let mut entries = self.in_turn()?;
-        entries.truncate(fitting(&entries, mtu));
+        let marks = self.marks_in_turn()?;
+        let entries = self.frame_of(&marks, mtu)?;
         let mut change = Change::new(self.allocator());
         change.reserve(entries.len())?;
-        self.take_all(&entries, &mut change);
+        record(&entries, self.next(), &mut change);
+        self.known();
+        self.take_out(&marks, entries.len());
         Ok((entries, change))
-    }
-
-    /// Takes the entries out one by one, in room that was made.
-    fn take_all(&mut self, entries: &[Entry], change: &mut Change<QueueEdit, A>)
-        requires none { change.old.list ≡ [] }
-        requires room { length entries.now ≤ change.old.spare }
-        ensures left { self.new ≡ left_by self.old entries.now }
-        ensures one_each { length change.new.list ≡ length entries.now }
-        ensures leads_back { QueueLeadsBack change.new.list self.old self.new }
-    {
-        for entry in entries {
-            let edit = self.take(*entry);
-            change.push(edit);
-        }
     }
 }

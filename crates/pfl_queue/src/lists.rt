@@ -1,5 +1,5 @@
-//! Positions of lists.
-ghost use Rattle.std.specs.Prelude.{◌≡◌, ◌≤◌, length, vec_capacity};
+//! Positions and fronts of lists.
+ghost use Rattle.std.specs.Prelude.{◌≡◌, ◌≤◌, ◌-◌, take, drop, length, vec_capacity};
 ghost use Rattle.pfl_edits.specs.Places.{StandsAt, with_position};
 
 use std::alloc::Allocator;
@@ -25,4 +25,22 @@ pub fn set_position<X: Copy, A: Allocator>(
         }
         (Some(_), Some(new)) => list[position] = new,
     }
+}
+
+/// The first entries, at most so many.
+pub fn first<X>(list: &[X], most: usize) -> &[X]
+    ensures first { result.now ≡ take most list.now }
+{
+    &list[..most.min(list.len())]
+}
+
+/// Takes out the first entries, at most `count` of them, and gives how many there were too few.
+pub fn take_first<X: Copy, A: Allocator>(list: &mut Vec<X, A>, count: usize) -> usize
+    ensures list { list.new.items ≡ drop count list.old.items }
+    ensures more { result ≡ count - length list.old.items }
+    ensures room { vec_capacity list.old ≤ vec_capacity list.new }
+{
+    let taken = count.min(list.len());
+    list.drain(..taken);
+    count - taken
 }

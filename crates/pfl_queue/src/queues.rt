@@ -1,15 +1,16 @@
 //! The pending queues of a node.
-ghost use Rattle.std.specs.Prelude.{◌≡◌, ◌==◌, ◌≤◌, ◌<◌, [], ◌∷◌, List, IfOk, IfSome, IfErr, OnErr, OnOk, OnSome, IfNone, Some, None, is_some, nat_le, if◌then◌else◌};
+ghost use Rattle.std.specs.Prelude.{◌≡◌, ◌==◌, ◌≤◌, ◌<◌, [], ◌∷◌, List, map, take, IfOk, IfSome, IfErr, OnErr, OnOk, OnSome, IfNone, Some, None, is_some, nat_le, if◌then◌else◌};
 ghost use Rattle.pfl_edits.specs.Maps as maps;
 ghost use Rattle.pfl_queue.specs.Queues.{Queue, IsQueue, empty_queue, pending, kind_of, marked, unmarked, is_requested, requested, with_status, with_clear, most_numbers, is_counted_out, room_fault, mark_fault, list_fault, request_fault};
 ghost use Rattle.pfl_queue.specs.Laws.{NothingTwice};
 ghost use Rattle.pfl_base.specs.Lists.{in_order};
-ghost use Rattle.pfl_queue.specs.Taking.{mark_before, gone};
-ghost use Rattle.pfl_queue.specs.Edits.{QueueLeadsBack, taking, FindsFormer, redone, marking, unmarking, requesting, listing_status, listing_clear};
+ghost use Rattle.pfl_queue.specs.Taking.{mark_before, entry_of, in_turn, left_by};
+ghost use Rattle.pfl_queue.specs.Parts.{lists_in_turn};
+ghost use Rattle.pfl_queue.specs.Edits.{QueueLeadsBack, FindsFormer, redone, marking, unmarking, requesting, listing_status, listing_clear};
 
 use crate::edits::QueueEdit;
-use crate::lists::set_position;
-use crate::{Cleared, Entry, Kind, Mark, QueueFault};
+use crate::lists::{set_position, take_first};
+use crate::{Cleared, Kind, Mark, QueueFault};
 use pfl_base::StateName;
 use pfl_edits::{NoMemory, Reversible, Rows};
 use pfl_wire::BulkStatus;
@@ -356,46 +357,32 @@ impl<A: Allocator> Pending<A> {
         Ok(edit)
     }
 
-    /// Takes an entry out, as a frame does.
-    pub(crate) fn take(&mut self, entry: Entry) -> QueueEdit
-        ensures gone { self.new ≡ gone self.old entry }
-        ensures edit { result ≡ taking self.old entry }
-        ensures leads_back { QueueLeadsBack (result ∷ []) self.old self.new }
+    /// Takes out the first `count` entries in the order of frames, where the marks stand in this order.
+    pub(crate) fn take_out(&mut self, marks: &[Mark], count: usize)
+        requires turn { marks.now ≡ in_order mark_before (maps.values self.old.marks) }
+        ensures left { self.new ≡ left_by self.old (take count (in_turn self.old)) }
     {
-        self.known();
-        let edit = self.taking(entry);
-        self.make(edit);
-        edit
+        let taken = count.min(marks.len());
+        self.take_marks(&marks[..taken]);
+        self.take_listed(count - taken);
     }
 
-    /// The edit that takes an entry out: what is first of its list.
-    fn taking(&self, entry: Entry) -> QueueEdit
-        ensures edit { result ≡ taking self.now entry }
+    /// Takes the marks out.
+    fn take_marks(&mut self, marks: &[Mark])
+        ensures left { self.new ≡ left_by self.old (map entry_of marks.now) }
     {
-        match entry {
-            Entry::Marked { name, .. } => QueueEdit::OfMark {
-                name,
-                before: self.mark_of(name),
-                after: None,
-                next_before: self.next,
-                next_after: self.next,
-            },
-            Entry::Request(_) => QueueEdit::OfRequest {
-                position: 0,
-                before: self.requests.first().copied(),
-                after: None,
-            },
-            Entry::Status(_) => QueueEdit::OfStatus {
-                position: 0,
-                before: self.statuses.first().copied(),
-                after: None,
-            },
-            Entry::Clear { .. } => QueueEdit::OfClear {
-                position: 0,
-                before: self.clears.first().copied(),
-                after: None,
-            },
+        for mark in marks {
+            self.unmark(mark.name);
         }
+    }
+
+    /// Takes out the first `count` requests, statuses and clears, in this order, each list at once.
+    fn take_listed(&mut self, count: usize)
+        ensures left { self.new ≡ left_by self.old (take count (lists_in_turn self.old)) }
+    {
+        let count = take_first(&mut self.requests, count);
+        let count = take_first(&mut self.statuses, count);
+        take_first(&mut self.clears, count);
     }
 
     /// Makes an edit that leads back.

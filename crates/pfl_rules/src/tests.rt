@@ -2,7 +2,9 @@
 mod refusing;
 
 use super::*;
+use linked_list_allocator::LocalHeap;
 use pfl_base::{Addr, Class, Dir, End, Packet, PacketFields, Proto, TcpFlags};
+use pfl_edits::NoMemory;
 use refusing::Refusing;
 use std::alloc::{AllocError, Global};
 use std::test::Fail;
@@ -244,6 +246,17 @@ fn memory(rt: HostRuntime) -> Result<(), Fail> {
         format!(in rt.alloc(); "{copied}")?,
     );
     assert_eq!(rt; text.as_str(), copied.as_str());
+    Ok(())
+}
+
+#[test]
+fn a_copy_without_memory_changes_nothing(rt: HostRuntime) -> Result<(), Fail> {
+    // Room for one list of one rule.
+    let heap = LocalHeap::new(rt.alloc(), 480)?;
+    let rules = Vec::from_slice(&heap, &[whole_rule()])?;
+    let set = RuleSet::new(rt.alloc(), rules)?;
+    assert_eq!(rt; set.copy().err(), Some(NoMemory));
+    assert_eq!(rt; set.rules().len(), 1);
     Ok(())
 }
 

@@ -1,12 +1,11 @@
 -- What is kept of a line stays right from byte to byte.
-use Rattle.std.proofs.Common.{◌≡◌, ℕ, ◌+◌, ◌<◌, ◌≤◌, Bool, true, false, List, [], ◌∷◌, ◌++◌, length, take, refl, sym, ◌∙◌, ap, arith, length-append, ◌⊎◌, inl, inr, cond}
+use Rattle.std.proofs.Common.{◌≡◌, ℕ, ◌<◌, ◌≤◌, Bool, true, false, List, [], ◌∷◌, ◌++◌, length, take, refl, sym, arith, length-append, inl, inr, cond}
 use Rattle.std.specs.Prelude.{nat_lt}
-use Rattle.std.proofs.lemmas.Grind.{common_steps}
 use Rattle.std.proofs.lemmas.Bool.{lt-ltb, le-ltb, cases_lt}
 use Rattle.std.proofs.lemmas.Bool.Decides.{nat_tests}
 use Rattle.std.proofs.lemmas.List.{take-append-le, take_all, length-take, append-nil}
 use Rattle.pfl_script.specs.declared.head.Head.{Head}
-use Rattle.pfl_script.specs.Scans.{Kept, Keeps, pushed, settled, counted, carriage_of, head_from, head_of, head_after}
+use Rattle.pfl_script.specs.Scans.{Kept, Keeps, pushed, settled, counted, carriage_of, head_from, head_after}
 
 -- the head of a line with one more byte
 head_from-push : (h : Head) (line : List ℕ) (b : ℕ) → head_from h (line ++ b ∷ []) ≡ head_after (head_from h line) b

@@ -1,5 +1,5 @@
 -- Texts of lists, element by element.
-use Rattle.std.proofs.Common.{◌≡◌, ℕ, ◌+◌, ◌<◌, List, [], ◌∷◌, ◌++◌, length, take, get_or, ap, sym, ◌∙◌}
+use Rattle.std.proofs.Common.{◌≡◌, ℕ, ◌+◌, ◌<◌, List, [], ◌∷◌, ◌++◌, length, take, get_or, ap, sym, ◌∙◌, append_assoc}
 use Rattle.std.specs.List.{flat_map}
 use Rattle.std.proofs.lemmas.List.{take_more, flat_map_more}
 
@@ -8,3 +8,21 @@ pub text_more : {X : Type 0} (text : X → List ℕ) (xs : List X) (i : ℕ) (x 
     flat_map text (take i xs) ++ text x ≡ flat_map text (take (i + 1) xs)
 text_more text xs i x d here within =
     flat_map_more text [] (take i xs) x ∙ ap (flat_map text) (ap (λ y. take i xs ++ y ∷ []) here ∙ sym (take_more xs i d within))
+
+-- the text of one element more is put behind a text
+pub pushed_more : {X : Type 0} (line : X → List ℕ) (xs : List X) (i : ℕ) (x d : X) (first so_far now : List ℕ) →
+    so_far ≡ first ++ flat_map line (take i xs) → now ≡ so_far ++ line x → x ≡ get_or xs i d → i < length xs →
+    now ≡ first ++ flat_map line (take (i + 1) xs)
+pushed_more line xs i x d first so_far now before pushed here within =
+    pushed ∙ (ap (λ text. text ++ line x) before ∙ (append_assoc first (flat_map line (take i xs)) (line x) ∙ ap (λ text. first ++ text) (text_more line xs i x d here within)))
+
+-- parts that are put behind a text, one after another
+pub pushed_two : (first a b one two : List ℕ) → one ≡ first ++ a → two ≡ one ++ b → two ≡ first ++ (a ++ b)
+pushed_two first a b one two e f = f ∙ (ap (λ text. text ++ b) e ∙ append_assoc first a b)
+
+-- five parts
+pub pushed_five : (first a b c d e one two three four five : List ℕ) →
+    one ≡ first ++ a → two ≡ one ++ b → three ≡ two ++ c → four ≡ three ++ d → five ≡ four ++ e → five ≡ first ++ ((((a ++ b) ++ c) ++ d) ++ e)
+pushed_five first a b c d e one two three four five h i j k l =
+    pushed_two first (((a ++ b) ++ c) ++ d) e four five
+    (pushed_two first ((a ++ b) ++ c) d three four (pushed_two first (a ++ b) c two three (pushed_two first a b one two h i) j) k) l

@@ -1,17 +1,13 @@
 -- A run of lines, line by line.
-use Rattle.std.proofs.Common.{◌≡◌, ◌≢◌, ℕ, ◌+◌, ◌<◌, ◌≤◌, Bool, true, false, List, [], ◌∷◌, ◌++◌, length, take, refl, sym, ◌∙◌, ap, subst, arith, length-append, append_assoc, ◌⊎◌, inl, inr, cond, Option, Some, None, Ok, Err}
-use Rattle.std.specs.Prelude.{Result, nat_lt, is_err, ◌&&◌, ⊤}
-use Rattle.std.specs.Io.KnownBytes.{Appends, Keeps as KeepsBytes, IsAtEnd}
+use Rattle.std.proofs.Common.{◌≡◌, ℕ, ◌+◌, ◌≤◌, Bool, true, false, List, [], ◌∷◌, ◌++◌, length, take, refl, sym, ◌∙◌, ap, subst, arith, length-append, append_assoc, inl, inr, Option, Some, None}
+use Rattle.std.specs.Io.KnownBytes.{Appends, Keeps as KeepsBytes}
 use Rattle.std.proofs.lemmas.Bool.{lt-ltb, le-ltb, cases_lt}
 use Rattle.std.proofs.lemmas.List.{append-nil, take_all}
-use Rattle.pfl_timeline.specs.declared.command.Command.{Command}
-use Rattle.pfl_lines.specs.declared.fault.LineFault.{LineFault}
-use Rattle.pfl_lines.specs.declared.fault.LineFault.TheVariants.{Long}
 use Rattle.pfl_lines.specs.Commands.{parsed}
 use Rattle.pfl_timeline.specs.Timelines.{Timeline}
 use Rattle.pfl_script.specs.Lines.{lines_of}
-use Rattle.pfl_script.specs.Scans.{Kept, Keeps, ReadsLine, TakesLine, TakesLines, IsOver, has_word, head_of}
-use Rattle.pfl_script.specs.Answers.{Answer, line_answer, is_bad, kept_answer, kept_bad, kept_said, answer_to, text, after, bad_lines, one_if, Breaks, AreLines, AreFirst, Drains, RunsWhole, RunsPart}
+use Rattle.pfl_script.specs.Scans.{Kept, Keeps, ReadsLine, TakesLine, TakesLines, IsOver}
+use Rattle.pfl_script.specs.Answers.{Answer, line_answer, is_bad, kept_answer, kept_bad, kept_said, text, after, bad_lines, one_if, Breaks, AreLines, AreFirst, Drains, RunsWhole, RunsPart}
 use Rattle.pfl_script.proofs.Pieces.{appends_none, appends_then}
 
 -- lines were executed so far

@@ -1,13 +1,11 @@
 -- A setup is read line by line.
-use Rattle.std.proofs.Common.{◌≡◌, ℕ, ◌+◌, Bool, true, false, List, [], ◌∷◌, ◌++◌, length, refl, sym, ◌∙◌, ap, subst, arith, length-append, inl, inr, Option, Some, None, Ok, Err}
-use Rattle.std.specs.Prelude.{◌&&◌, Result, nat_lt, IfOk, IfErr}
+use Rattle.std.proofs.Common.{◌≡◌, ℕ, ◌+◌, Bool, true, false, List, [], ◌∷◌, ◌++◌, length, refl, sym, ◌∙◌, ap, subst, arith, length-append, inl, inr, Option, Some, Ok, Err}
+use Rattle.std.specs.Prelude.{◌&&◌, Result, IfOk, IfErr}
 use Rattle.std.proofs.lemmas.Bool.{lt-ltb, le-ltb, cases_lt}
 use Rattle.std.proofs.lemmas.List.{take_all}
 use Rattle.std.proofs.lemmas.List.Folds.{list_all-append}
 use Rattle.std.proofs.lemmas.List.Sums.{fold-append}
 use Rattle.pfl_lines.specs.declared.fault.LineFault.{LineFault}
-use Rattle.pfl_lines.specs.declared.setup.SetupLine.{SetupLine}
-use Rattle.pfl_lines.specs.declared.setup.SetupLine.TheVariants as setup
 use Rattle.pfl_lines.specs.Setup.{parsed_setup}
 use Rattle.pfl_script.specs.Scans.{Kept, Keeps, ReadsLine, TakesLines, IsOver}
 use Rattle.pfl_script.specs.Answers.{kept_setup}

@@ -1,12 +1,12 @@
 -- Lines are taken from known bytes one byte after another.
-use Rattle.std.proofs.Common.{◌≡◌, ◌≢◌, ℕ, ◌+◌, ◌<◌, ◌≤◌, Bool, true, false, List, [], ◌∷◌, ◌++◌, length, take, refl, sym, ◌∙◌, ap, subst, arith, length-append, ◌⊎◌, inl, inr, cond, Option, Some, None, eqb}
+use Rattle.std.proofs.Common.{◌≡◌, ◌≢◌, ℕ, Bool, true, false, List, [], ◌∷◌, ◌++◌, take, refl, sym, ◌∙◌, ap, subst, inl, inr, cond, Option, Some, None, eqb}
 use Rattle.std.specs.Prelude.{◌&&◌, suc}
 use Rattle.pfl_script.specs.declared.head.Head.{Head}
 use Rattle.pfl_script.specs.declared.head.Head.TheVariants.{Blank}
 use Rattle.std.proofs.lemmas.Bool.{ne_eqb, and_parts}
 use Rattle.std.proofs.lemmas.Bool.Decides.{eqb_tells}
 use Rattle.std.proofs.lemmas.List.{append-nil}
-use Rattle.pfl_script.specs.Lines.{lines_of, with_first, begins_with_end}
+use Rattle.pfl_script.specs.Lines.{lines_of, with_first}
 use Rattle.pfl_script.specs.Scans.{Kept, Keeps, nothing, pushed, settled, counted, added, carriage_of, prepend, Begins, Reads, TakesLine, ReadsLine, IsOver, TakesByte}
 use Rattle.pfl_script.proofs.Keeping.{Keeps-pushed, Keeps-settled}
 

@@ -1,5 +1,5 @@
 -- A line while it is read: what is kept of it.
-use Rattle.std.specs.Prelude.{◌≡◌, ℕ, Bool, true, false, ◌&&◌, ◌||◌, ◌==◌, nat_lt, List, [], ◌∷◌, ◌++◌, length, take, if◌then◌else◌, Option, Some, None, ⊤}
+use Rattle.std.specs.Prelude.{◌≡◌, ℕ, Bool, true, false, ◌==◌, nat_lt, List, [], ◌∷◌, ◌++◌, length, take, if◌then◌else◌, Option, Some, None, ⊤}
 use Rattle.pfl_script.specs.Lines.{lines_of, with_first, is_blank}
 use Rattle.pfl_script.specs.declared.head.Head.{Head}
 use Rattle.pfl_script.specs.declared.head.Head.TheVariants.{Blank, Comment, Word}

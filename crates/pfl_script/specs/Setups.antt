@@ -135,6 +135,12 @@ pub record ReadsSetup (old new : Option (List ℕ)) (limits : Limits) (a b : Rul
   pub opens : Opens old new number draft
   pub finishes : Finishes draft limits a b
 
+-- a setup was read up to its line `open`, which is number n
+pub record ReadsSetupTo (old new : Option (List ℕ)) (n : ℕ) (limits : Limits) (a b : Rules) : Type 0 where
+  pub draft : Draft
+  pub opens : Opens old new n draft
+  pub finishes : Finishes draft limits a b
+
 -- rules were set that are no rule sets
 pub record HasRuleFault (old new : Option (List ℕ)) (n : ℕ) (why : RuleFault) : Type 0 where
   pub draft : Draft

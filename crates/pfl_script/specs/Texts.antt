@@ -1,8 +1,6 @@
 -- The text of outcomes and refusals (this project's profile).
-use Rattle.std.specs.Prelude.{ℕ, Bool, true, false, List, ◌++◌, Option, Some, None, codes}
+use Rattle.std.specs.Prelude.{ℕ, List, ◌++◌, Option, Some, None, codes}
 use Rattle.std.specs.Fmt.{decimal}
-use Rattle.pfl_base.specs.declared.refusal.Refusal.{Refusal}
-use Rattle.pfl_base.specs.declared.state_name.StateName.{StateName}
 use Rattle.pfl_base.specs.Refusals.{refusal_number}
 use Rattle.pfl_base.specs.Texts.{name_text, refusal_text}
 use Rattle.pfl_wire.specs.Faults.{frame_fault, fault_number as frame_fault_number}

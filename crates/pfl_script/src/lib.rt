@@ -1,18 +1,26 @@
-//! Lines that are read and written: setups, and the lines of a shown branch.
+//! Lines that are read and executed: setups, commands, and the text of their replies.
 #![tactic(auto)]
 
+mod answering;
+mod engine;
 mod fault;
 mod head;
 mod line;
 mod line_reader;
 mod link_lines;
+mod listed;
 mod node_lines;
 mod optional;
+mod outcomes;
+mod refusals;
+mod replies;
 mod setup;
 mod setup_fault;
+mod shown;
 mod state_lines;
 mod writing;
 
+pub use engine::{Ended, run_lines};
 pub use fault::EngineFault;
 pub use head::Head;
 pub use line::Line;
@@ -24,7 +32,7 @@ pub use node_lines::{
 pub use setup::{Setup, default_limits, read_setup};
 pub use setup_fault::SetupFault;
 pub use state_lines::StateLine;
-pub use writing::write_text;
+pub use writing::{write_reply, write_text};
 
 #[cfg(test)]
 mod tests;

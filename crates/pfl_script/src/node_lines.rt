@@ -59,7 +59,7 @@ pub struct NumbersWords {
     pub clock: Millis,
     pub boot: u32,
     pub next_id: u64,
-    pub next_number: u32,
+    pub next_number: u64,
 }
 
 impl fmt::Display for NumbersWords {

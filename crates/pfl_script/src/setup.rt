@@ -2,9 +2,9 @@
 
 ghost use Rattle.std.specs.Prelude.{◌≡◌, ◌<◌, [], IfOk, IfErr, IfSome, OnOk, Ok, None, Some};
 ghost use Rattle.pfl_rules.specs.Rules.{rule_fault, rule_set};
-ghost use Rattle.pfl_script.specs.Readers.{room};
+ghost use Rattle.pfl_script.specs.Readers.{lines_after, room};
 ghost use Rattle.pfl_script.specs.Scans.{Gives};
-ghost use Rattle.pfl_script.specs.Setups.{default_limits, first_rule_fault, kept_words, nothing_set, with_limit, with_rule, Finishes, IsReadStop, IsRuleStop, IsSetupFault, IsTakeFault, ReadsSetup, Takes};
+ghost use Rattle.pfl_script.specs.Setups.{default_limits, first_rule_fault, kept_words, nothing_set, with_limit, with_rule, Finishes, IsReadStop, IsRuleStop, IsSetupFault, IsTakeFault, ReadsSetup, ReadsSetupTo, Takes};
 
 use crate::fault::EngineFault;
 use crate::line::Line;
@@ -194,6 +194,7 @@ fn finish<A: Allocator + Copy>(
 fn next_of<R: Input>(reader: &mut LineReader<R>) -> Result<Option<Line>, SetupFault>
     ensures line { IfOk result (λ o. Gives reader.old.left reader.new.left o) }
     ensures room { IfOk result (λ o. IfSome o (λ _. room reader.new < room reader.old)) }
+    ensures lines { IfOk result (λ o. reader.new.lines ≡ lines_after o reader.old.lines) }
     ensures stays { OnOk result (reader.new.failed ≡ reader.old.failed) }
     ensures fault { IfErr result (λ e. IsReadStop e reader.new) }
 {
@@ -211,6 +212,7 @@ pub fn read_setup<A: Allocator + Copy, R: Input>(
     reader: &mut LineReader<R>,
 ) -> Result<Setup<A>, SetupFault>
     ensures setup { IfOk result (λ s. ReadsSetup reader.old.left reader.new.left s.limits s.rules_a s.rules_b) }
+    ensures counted { IfOk result (λ s. reader.old.lines ≡ 0 → ReadsSetupTo reader.old.left reader.new.left reader.new.lines s.limits s.rules_a s.rules_b) }
     ensures fault { IfErr result (λ e. IsSetupFault e reader.old.left reader.new) }
     ensures stays { OnOk result (reader.new.failed ≡ reader.old.failed) }
 {

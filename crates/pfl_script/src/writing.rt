@@ -2,9 +2,14 @@
 
 ghost use Rattle.std.specs.Prelude.{◌≡◌, ◌≤◌, ℕ, true, length, take, OnOk, OnErr, IfErr};
 ghost use Rattle.std.specs.Io.KnownBytes.{Appends};
+ghost use Rattle.pfl_script.specs.Readers.{IsWriteFault};
+ghost use Rattle.pfl_script.specs.Replies.{reply_text};
 
 use crate::fault::EngineFault;
+use crate::replies::reply_text;
 use pfl_base::Output;
+use pfl_timeline::Reply;
+use std::alloc::Allocator;
 
 /// Writes the whole text, or the first part of it.
 pub fn write_text<W: Output>(writer: &mut W, text: &[u8]) -> Result<(), EngineFault>
@@ -22,4 +27,21 @@ pub fn write_text<W: Output>(writer: &mut W, text: &[u8]) -> Result<(), EngineFa
         }
     }
     Ok(())
+}
+
+/// Writes the lines of a reply, or the first part of them. Without memory for them nothing is written.
+pub fn write_reply<A: Allocator, B: Allocator + Copy, W: Output>(
+    alloc: A,
+    reply: &Reply<B>,
+    writer: &mut W,
+) -> Result<(), EngineFault>
+    ensures whole { OnOk result (Appends (W.written writer.old) (W.written writer.new) (reply_text reply.now)) }
+    ensures stays { OnOk result (W.has_failed writer.new ≡ W.has_failed writer.old) }
+    ensures part { OnErr result ((n : ℕ) × Appends (W.written writer.old) (W.written writer.new) (take n (reply_text reply.now))) }
+    ensures fault { IfErr result (λ e. IsWriteFault e (W.has_failed writer.new)) }
+{
+    match reply_text(alloc, reply) {
+        Ok(text) => write_text(writer, text.as_slice()),
+        Err(_) => Err(EngineFault::NoMemory),
+    }
 }

@@ -4,8 +4,9 @@ ghost use Rattle.std.specs.Prelude.{◌≡◌, OnOk};
 mod refusing;
 
 use super::*;
+use linked_list_allocator::LocalHeap;
 use pfl_base::{Addr, Class, Dir, End, Key, Proto, StateName};
-use pfl_edits::Reversible;
+use pfl_edits::{NoMemory, Reversible};
 use pfl_track::{Peer, State, StateFields};
 use refusing::Refusing;
 use std::alloc::{Allocator, Global};
@@ -205,6 +206,17 @@ fn takes_edits_back(rt: HostRuntime) -> Result<(), Fail> {
 fn wants_memory(rt: HostRuntime) {
     assert!(rt; StateTable::new(Refusing, 1).is_err());
     assert!(rt; StateTable::new(rt.alloc(), usize::MAX).is_err());
+}
+
+#[test]
+fn a_copy_without_memory_changes_nothing(rt: HostRuntime) -> Result<(), Fail> {
+    // Room for one list of two rows.
+    let heap = LocalHeap::new(rt.alloc(), 1024)?;
+    let mut table = StateTable::new(&heap, 2)?;
+    add(&mut table, state(1, 1000, 1000, 0)?, 60)?;
+    assert_eq!(rt; table.copy().err(), Some(NoMemory));
+    assert_eq!(rt; (table.len(), table.limit()), (1, 2));
+    Ok(())
 }
 
 #[test]

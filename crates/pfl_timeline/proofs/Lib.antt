@@ -1,2 +1,6 @@
 mod Worked
 mod NewTimelines
+pub mod Runs
+pub mod Places
+pub mod Searched
+pub mod Asked

@@ -2,9 +2,7 @@
 use Rattle.std.specs.List.{IsDistinct}
 use Rattle.std.proofs.Common.{arith, refl}
 use Rattle.pfl_world.specs.Runs.{run}
-use Rattle.pfl_world.specs.Worlds.{World, IsWorld}
 use Rattle.pfl_timeline.specs.Laws.{NewTimelinesAreTimelines}
-use Rattle.pfl_timeline.specs.Timelines.{IsTimeline, new_timeline}
 
 pub new_timeline-is : NewTimelinesAreTimelines
 unfolding run IsDistinct

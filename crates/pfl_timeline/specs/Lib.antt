@@ -2,5 +2,9 @@ pub mod Words
 pub mod Timelines
 pub mod Replies
 pub mod Commands
+pub mod Answers
+pub mod Rooted
+pub mod Kept
+pub mod Codes
 pub mod Summaries
 pub mod Laws

@@ -1,12 +1,20 @@
 //! Branches of events.
 #![tactic(auto)]
 
+mod answer;
+mod branch;
 mod command;
 mod laws;
 mod refused;
+mod reply;
+mod timeline;
 mod word;
 
+pub use answer::Answer;
+pub use branch::Branch;
 pub use command::Command;
 pub use laws::new_timelines_are_timelines;
 pub use refused::Refused;
+pub use reply::Reply;
+pub use timeline::Timeline;
 pub use word::BranchWord;

@@ -1,10 +1,11 @@
 -- The steps in words of what a node answers.
-use Rattle.std.specs.Prelude.{◌≡◌, ◌+◌, ℕ, Bool, true, false, nat_lt, [], ◌∷◌, Option, Some, None, Result, Ok, Err, IfOk, IfErr, OnOk, refl, if◌then◌else◌}
-use Rattle.std.proofs.Common.{◌∙◌, ap, sym, subst}
+use Rattle.std.specs.Prelude.{◌≡◌, ◌≤◌, ◌+◌, ◌*◌, length, ℕ, Bool, true, false, nat_lt, [], ◌∷◌, Option, Some, None, Result, Ok, Err, IfOk, IfErr, OnOk, refl, if◌then◌else◌}
+use Rattle.std.proofs.Common.{◌∙◌, ap, sym, subst, arith}
 use Rattle.pfl_base.specs.declared.refusal.Refusal.{Refusal}
 use Rattle.pfl_base.specs.declared.refusal.Refusal.TheVariants.{ClockFull}
 use Rattle.pfl_base.specs.declared.node_id.NodeId.{NodeId}
-use Rattle.pfl_node.specs.Events.{tick_refusal, ticked}
+use Rattle.pfl_edits.specs.Changes.{Edits}
+use Rattle.pfl_node.specs.Events.{tick_refusal, ticked, expired_states, purged, purge_points}
 use Rattle.pfl_node.specs.Nodes.{IsRefusal, refused_by, points_refusal, last_millisecond}
 use Rattle.pfl_node.specs.Packets.{handled, packet_points}
 use Rattle.pfl_base.specs.declared.direction.Dir.{Dir}
@@ -16,7 +17,9 @@ use Rattle.pfl_world.specs.Outcomes as outcome
 use Rattle.pfl_world.specs.Outcomes.{Outcome, Stepped, told}
 use Rattle.pfl_world.specs.declared.outcome.Outcome.{Outcome as Answer}
 use Rattle.pfl_world.specs.declared.outcome.Outcome.TheVariants as answer
-use Rattle.pfl_world.specs.Steps.{answered, outcome_of, packet_step, tick_step}
+use Rattle.pfl_world.specs.declared.edit.WorldEdit.{WorldEdit}
+use Rattle.pfl_world.specs.Steps.{answered, outcome_of, packet_step, tick_step, purge_step}
+use Rattle.pfl_world.specs.Weights.{weight}
 use Rattle.pfl_world.specs.Worlds.{World, node_at, with_node}
 
 -- a refusal of the node is that of the step
@@ -83,3 +86,33 @@ packet_accepted old new e id dir p at (Ok r) none made is =
     ∙ ap (λ (o : Option Refusal). answered o (handed old id dir p)) none
     ∙ ap (λ (w : World). accepted w (outcome_of (handled (node_at old id) dir p).fate)) (sym made)
     ∙ ap (λ (o : Outcome). accepted new o) (sym is)
+
+abbrev purged_to : World → NodeId → Stepped
+purged_to w id = record { world = with_node w id (purged (node_at w id)); outcome = outcome.Purged (length (expired_states (node_at w id))) }
+
+step_purge : (w : World) (e : Event) (id : NodeId) → e ≡ event.Purge id → step w e ≡ answered (points_refusal (purge_points (node_at w id))) (purged_to w id)
+unfolding step purge_step
+step_purge w e id is = ap (step w) is
+
+pub purge_refused : {X : Type 0} (w : World) (e : Event) (id : NodeId) → e ≡ event.Purge id → (result : Result X Refusal) → IfErr result (IsRefusal (points_refusal (purge_points (node_at w id)))) → IfErr result (IsRefusalOf (step w e))
+purge_refused w e id is result r = refused_as (points_refusal (purge_points (node_at w id))) (purged_to w id) (step w e) (step_purge w e id is) result r
+
+pub purge_accepted : {C : Type 0} (old new : World) (e : Event) (id : NodeId) → e ≡ event.Purge id → (result : Result (Answer × C) Refusal)
+    → OnOk result (points_refusal (purge_points (node_at old id)) ≡ None)
+    → OnOk result (new ≡ with_node old id (purged (node_at old id)))
+    → IfOk result (λ r. r.0 ≡ answer.Purged (length (expired_states (node_at old id))))
+    → IfOk result (λ r. step old e ≡ Ok (record { world = new; outcome = told r.0 }))
+purge_accepted old new e id at (Err r) none made is = tt
+purge_accepted old new e id at (Ok r) none made is =
+    step_purge old e id at
+    ∙ ap (λ (o : Option Refusal). answered o (purged_to old id)) none
+    ∙ ap (λ (w : World). accepted w (outcome.Purged (length (expired_states (node_at old id))))) (sym made)
+    ∙ ap (λ (a : Answer). accepted new (told a)) (sym is)
+
+-- a deletion records at most five edits
+pub purge_weight : (w : World) (e : Event) (id : NodeId) → e ≡ event.Purge id → (result : Result (Answer × Edits WorldEdit) Refusal)
+    → IfOk result (λ r. length r.1.list ≤ 5 * length (expired_states (node_at w id))) → IfOk result (λ r. length r.1.list ≤ weight w e)
+purge_weight w e id is (Err r) few = tt
+purge_weight w e id is (Ok r) few =
+    let most : length r.1.list ≤ weight w (event.Purge id) = omega (arith, few) in
+    subst (λ (v : Event). length r.1.list ≤ weight w v) (sym is) most

@@ -1,4 +1,5 @@
 pub mod Worlds
+pub mod Faults
 pub mod Codes
 pub mod WorldEdits
 pub mod Outcomes

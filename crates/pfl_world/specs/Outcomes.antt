@@ -38,3 +38,4 @@ told (answer.Pass name) = Pass name
 told (answer.Held name) = Held name
 told (answer.Dropped why) = Dropped why
 told (answer.Clock time) = Clock time
+told (answer.Purged n) = Purged n

@@ -71,6 +71,7 @@ turn_work w node = length (turn_of (node_at w node))
 abbrev pub work : World → Event → ℕ
 work w (event.Packet node dir p) = packet_work
 work w (event.Tick node ms) = 0
+work w (event.Purge node) = purge_work w node
 
 -- an event takes at most so many edits
 abbrev pub weight : World → Event → ℕ

@@ -1,14 +1,12 @@
 //! Events at the pair.
 
-ghost use Rattle.std.specs.Prelude.{◌≡◌, ◌+◌, ◌≤◌, None, Ok, false, IfOk, IfErr, OnOk, OnErr, length};
-ghost use Rattle.pfl_base.specs.Packets.{is_tcp};
+ghost use Rattle.std.specs.Prelude.{◌≡◌, ◌+◌, ◌≤◌, None, Ok, IfOk, IfErr, OnOk, OnErr, length};
 ghost use Rattle.pfl_edits.specs.Changes.{Fits, back};
 ghost use Rattle.pfl_node.specs.Edits.{NodeLeadsBack};
 ghost use Rattle.pfl_node.specs.Events.{tick_refusal, ticked};
 ghost use Rattle.pfl_node.specs.Nodes.{IsRefusal, points_refusal};
 ghost use Rattle.pfl_node.specs.Packets.{handled, packet_points};
-ghost use Rattle.pfl_node.specs.Starting.{is_deferred};
-ghost use Rattle.pfl_world.specs.Events.{step, IsOther, IsUndeferred, IsRefusalOf};
+ghost use Rattle.pfl_world.specs.Events.{step, IsRefusalOf};
 ghost use Rattle.pfl_world.specs.Outcomes.{told};
 ghost use Rattle.pfl_world.specs.Steps.{outcome_of};
 ghost use Rattle.pfl_world.specs.Weights.{weight};
@@ -76,8 +74,6 @@ impl<A: Allocator + Copy> World<A> {
         dir: Dir,
         packet: &Packet,
     ) -> Result<(Fate, Change<NodeEdit, A>), Refusal>
-        requires other { is_tcp packet.now.proto ≡ false }
-        requires undeferred { is_deferred (node_at self.old node) dir ≡ false }
         ensures refused { IfErr result (IsRefusal (points_refusal (packet_points (node_at self.old node) dir packet.now))) }
         ensures unchanged { OnErr result (self.new ≡ self.old) }
         ensures not_refused { OnOk result (points_refusal (packet_points (node_at self.old node) dir packet.now) ≡ None) }
@@ -107,8 +103,6 @@ impl<A: Allocator + Copy> World<A> {
         dir: Dir,
         packet: &Packet,
     ) -> Result<(Outcome, WorldChange<A>), Refusal>
-        requires other { is_tcp packet.now.proto ≡ false }
-        requires undeferred { is_deferred (node_at self.old node) dir ≡ false }
         ensures refused { IfErr result (IsRefusal (points_refusal (packet_points (node_at self.old node) dir packet.now))) }
         ensures unchanged { OnErr result (self.new ≡ self.old) }
         ensures not_refused { OnOk result (points_refusal (packet_points (node_at self.old node) dir packet.now) ≡ None) }
@@ -123,11 +117,8 @@ impl<A: Allocator + Copy> World<A> {
         Ok((Outcome::from(fate), edits))
     }
 
-    /// Lets an event happen, and gives its outcome and what it changed. Of packets it takes those of other protocols
-    /// than TCP, at a node that does not defer them.
+    /// Lets an event happen, and gives its outcome and what it changed.
     pub fn apply(&mut self, event: &Event) -> Result<(Outcome, WorldChange<A>), Refusal>
-        requires other { IsOther event.now }
-        requires undeferred { IsUndeferred self.old event.now }
         ensures refused { IfErr result (IsRefusalOf (step self.old event.now)) }
         ensures unchanged { OnErr result (self.new ≡ self.old) }
         ensures step { IfOk result (λ r. step self.old event.now ≡ Ok (record { world = self.new; outcome = told r.0 })) }
@@ -138,6 +129,7 @@ impl<A: Allocator + Copy> World<A> {
         match event {
             Event::Packet { node, dir, packet } => self.packet(*node, *dir, packet),
             Event::Tick { node, ms } => self.tick(*node, *ms),
+            Event::Purge { node } => self.purge(*node),
         }
     }
 }

@@ -16,4 +16,8 @@ pub enum Event {
         node: NodeId,
         ms: Millis,
     },
+    /// A node deletes what has expired.
+    Purge {
+        node: NodeId,
+    },
 }

@@ -8,6 +8,7 @@ mod fault;
 mod laws;
 mod lifting;
 mod outcome;
+mod purging;
 mod undoing;
 mod world;
 
@@ -17,3 +18,6 @@ pub use fault::WorldFault;
 pub use laws::new_worlds_are_worlds;
 pub use outcome::Outcome;
 pub use world::World;
+
+#[cfg(test)]
+mod tests;

@@ -14,6 +14,8 @@ pub enum Outcome {
     Dropped(Reason),
     /// The node's clock shows this time.
     Clock(Millis),
+    /// So many states had expired, and were deleted.
+    Purged(usize),
 }
 
 impl From<Fate> for Outcome {

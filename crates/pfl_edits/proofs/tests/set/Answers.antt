@@ -6,4 +6,4 @@ use Rattle.pfl_edits.proofs.Setting.{room_for}
 use Rattle.pfl_edits.proofs.tests.set.Goals as goal
 
 pub set-requires-clause-room : goal.set-requires-clause-room
-set-requires-clause-room c = room_for nat_cmp_total exact_unsigned _ _ c.known.ensures.rows (grind (arith, nat_tests, c.known.ensures.rows.few)) _ _
+set-requires-clause-room g c = room_for nat_cmp_total exact_unsigned _ _ c.known.ensures.rows (grind (arith, nat_tests, c.known.ensures.rows.few)) _ _

@@ -1,7 +1,7 @@
-use Rattle.std.proofs.Common.{arith, ◌≡◌, ◌<◌, ◌+◌, ℕ, Bool, Option, Some, subst, sym, ◌∙◌, IfSome}
+use Rattle.std.proofs.Common.{arith, ◌≡◌, ◌<◌, ◌+◌, Bool, Option, subst, ◌∙◌, IfSome}
 use Rattle.std.proofs.lemmas.Result.{err_from_is_err_and}
 use Rattle.pfl_script.specs.Scans.{Kept, Gives}
-use Rattle.pfl_script.specs.Readers.{room}
+use Rattle.pfl_script.specs.Readers.{lines_after, room}
 use Rattle.pfl_script.specs.Setups.{Takes, kept_words}
 use Rattle.pfl_script.proofs.Setting.{Going-none, Going-more, Going-open, stops-taken, stops-finished, on-ok, on-err}
 use Rattle.pfl_script.proofs.setup.read_setup.Goals as goal
@@ -9,6 +9,7 @@ use Rattle.pfl_script.proofs.setup.read_setup.Goals as goal
 pub loop-draft-init : goal.loop-draft-init
 loop-draft-init g c = record {
   going = rw c.new-draft.ensures (Going-none _ _ c.begin.ensures.left);
+  counted = λ fresh. c.begin.ensures.lines ∙ fresh;
   few = omega (arith, c.begin.ensures.room);
   stays = c.begin.ensures.failed;
 }
@@ -28,6 +29,20 @@ returns-then-branch-clause-setup g c =
     let opens = Going-open _ _ _ _ _ _ c.in-Some.line c.loop-draft.invariant.going reads takes in
     on-ok c.finish.result (λ s finishes. record { draft = c.take_line.new.self; number = c.loop-draft.number + 1; opens = opens; finishes = finishes }) c.finish.ensures.setup
 
+-- it ends at the line that was read last
+pub returns-then-branch-clause-counted : goal.returns-then-branch-clause-counted
+returns-then-branch-clause-counted g c =
+    let reads = subst (Gives c.loop-draft.reader.left c.next_of.new.reader.left) c.in-Some.is c.in_ok-line.ensures.line in
+    let takes = subst (λ (b : Bool). Takes b (kept_words c.in-Some.line) c.loop-draft.draft c.take_line.new.self) c.if-branch.true c.in_ok-take_line.ensures.taken in
+    let opens = Going-open _ _ _ _ _ _ c.in-Some.line c.loop-draft.invariant.going reads takes in
+    let lines = subst (λ (o : Option Kept). c.next_of.new.reader.lines ≡ lines_after o c.loop-draft.reader.lines) c.in-Some.is c.in_ok-line.ensures.lines in
+    let less : room c.next_of.new.reader < room c.loop-draft.reader =
+    subst (λ (o : Option Kept). IfSome o (λ _. room c.next_of.new.reader < room c.loop-draft.reader)) c.in-Some.is c.in_ok-line.ensures.room in
+    on-ok c.finish.result (λ s finishes fresh.
+    let was = c.loop-draft.invariant.counted fresh in
+    let number : c.next_of.new.reader.lines ≡ c.loop-draft.number + 1 = omega (arith, lines, was, less, c.loop-draft.invariant.few) in
+    record { draft = c.take_line.new.self; opens = rw number opens; finishes = finishes }) c.finish.ensures.setup
+
 -- the rules have a fault
 pub returns-then-branch-clause-fault : goal.returns-then-branch-clause-fault
 returns-then-branch-clause-fault g c =
@@ -43,7 +58,9 @@ loop-draft-preserved g c =
     let takes = subst (λ (b : Bool). Takes b (kept_words c.in-Some.line) c.loop-draft.draft c.take_line.new.self) c.if-branch.false c.in_ok-take_line.ensures.taken in
     let less : room c.next_of.new.reader < room c.loop-draft.reader =
     subst (λ (o : Option Kept). IfSome o (λ _. room c.next_of.new.reader < room c.loop-draft.reader)) c.in-Some.is c.in_ok-line.ensures.room in
+    let lines = subst (λ (o : Option Kept). c.next_of.new.reader.lines ≡ lines_after o c.loop-draft.reader.lines) c.in-Some.is c.in_ok-line.ensures.lines in
     record {
+      counted = λ fresh. let was = c.loop-draft.invariant.counted fresh in omega (arith, lines, was, less, c.loop-draft.invariant.few);
       going = Going-more _ _ _ _ _ _ c.in-Some.line c.loop-draft.invariant.going reads takes;
       few = omega (arith, less, c.loop-draft.invariant.few);
       stays = c.in_ok-line.ensures.stays ∙ c.loop-draft.invariant.stays;

@@ -6,6 +6,7 @@ use Rattle.pfl_script.proofs.setup.read_setup.Given as goal
 abbrev pub invariant-loop-draft : goal.invariant-loop-draft
 invariant-loop-draft g l = record {
   going : Going l.fn.reader.left l.reader.left l.number l.draft;
+  counted : l.fn.reader.lines ≡ 0 → l.reader.lines ≡ l.number;
   few : l.number + room l.reader ≤ 2 ^ 40;
   stays : l.reader.failed ≡ l.fn.reader.failed;
 }

@@ -19,5 +19,5 @@ mark-requires-clause-node g c =
     let is = replaced-node c.args.self.now t c.known.ensures.node may in
     let stands = get-set_at_same names_total names_exact c.args.self.now.states t.name (Some t) in
     let untold : to.is_untold (kind_of c.args.self.now.queue c.args.state.name) ≡ true = ap (λ q. to.is_untold (kind_of c.args.self.now.queue q)) (sym c.name-name.ensures) ∙ (sym c.is_untold.ensures.untold ∙ c.if-is_untold.true) in
-    let marked = marked-node n t.name UpdateShort t is stands may.is.given (λ e. cc) (c.requires.free untold) in
+    let marked = marked-node n t.name UpdateShort t is stands c.requires.told may.is.given (λ e. cc) (c.requires.free untold) in
     rw c.name-name.ensures (rw c.put_state.ensures.node (rw c.with_updates.ensures marked))

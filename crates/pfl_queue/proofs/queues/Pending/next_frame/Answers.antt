@@ -1,17 +1,34 @@
-use Rattle.std.proofs.Common.{length, ◌∙◌, ap}
-use Rattle.pfl_queue.specs.Taking.{left_by}
-use Rattle.pfl_queue.proofs.Taken.{frame_taken}
+use Rattle.std.proofs.Common.{List, ◌++◌, map, take, length, sym, ◌∙◌, ap, subst}
+use Rattle.std.proofs.lemmas.List.{length-map}
+use Rattle.pfl_queue.specs.declared.edits.QueueEdit.{QueueEdit}
+use Rattle.pfl_queue.specs.Edits.{QueueLeadsBack, taking}
+use Rattle.pfl_queue.specs.Taking.{in_turn, left_by}
+use Rattle.pfl_queue.proofs.Taken.{first_taken, taken_leads_back}
 use Rattle.pfl_queue.proofs.queues.Pending.next_frame.Goals as goal
-
-pub returns-clause-frame : goal.returns-clause-frame
-returns-clause-frame g c = frame_taken c.args.self.now c.args.mtu _ c.in_ok-entries.ensures.turn _ c.deref.ensures.value _ c.fitting.ensures.longest _ c.truncate.ensures.items
 
 pub returns-clause-left : goal.returns-clause-left
 returns-clause-left g c =
-    let frame = frame_taken c.args.self.now c.args.mtu _ c.in_ok-entries.ensures.turn _ c.deref.ensures.value _ c.fitting.ensures.longest _ c.truncate.ensures.items in
-    c.take_all.ensures.left ∙ ap (left_by c.args.self.now) (c.deref-2.ensures.value ∙ frame)
+    let q = c.args.self.now in
+    let first = first_taken c.args.self.now c.args.mtu _ c.in_ok-entries.ensures.frame in
+    let count = c.len-2.ensures ∙ c.in_ok-entries.entries.ok.0 in
+    c.take_out.ensures.left ∙ ap (left_by q) (ap (λ n. take n (in_turn q)) count ∙ (sym first ∙ c.in_ok-entries.ensures.frame))
 
 pub returns-clause-one_each : goal.returns-clause-one_each
 returns-clause-one_each g c =
-    let frame = frame_taken c.args.self.now c.args.mtu _ c.in_ok-entries.ensures.turn _ c.deref.ensures.value _ c.fitting.ensures.longest _ c.truncate.ensures.items in
-    c.take_all.ensures.one_each ∙ ap length (c.deref-2.ensures.value ∙ frame)
+    let next = c.next.result in
+    let edits = c.record.ensures.edits ∙ (ap (λ (es : List QueueEdit). es ++ map (taking next) c.deref-2.result.now) (c.in_ok-reserve.ensures.list ∙ c.new-change.ensures.list) ∙ ap (map (taking next)) c.deref-2.ensures.value) in
+    ap length edits ∙ (length-map c.in_ok-entries.entries.items (taking next) ∙ ap length c.in_ok-entries.ensures.frame)
+
+pub returns-clause-leads_back : goal.returns-clause-leads_back
+returns-clause-leads_back g c =
+    let q = c.args.self.now in
+    let es = c.in_ok-entries.entries.items in
+    let first = first_taken c.args.self.now c.args.mtu _ c.in_ok-entries.ensures.frame in
+    let count = c.len-2.ensures ∙ c.in_ok-entries.entries.ok.0 in
+    let left = c.take_out.ensures.left ∙ ap (left_by q) (ap (λ n. take n (in_turn q)) count ∙ sym first) in
+    let none = c.in_ok-reserve.ensures.list ∙ c.new-change.ensures.list in
+    let edits =
+    c.record.ensures.edits ∙ (ap (λ (xs : List QueueEdit). xs ++ map (taking c.next.result) c.deref-2.result.now) none
+    ∙ (ap (λ n. map (taking n) c.deref-2.result.now) c.next.ensures.next ∙ ap (map (taking q.next)) c.deref-2.ensures.value)) in
+    subst (λ (xs : List QueueEdit). QueueLeadsBack xs q c.take_out.new.self) (sym edits)
+    (subst (QueueLeadsBack (map (taking q.next) es) q) (sym left) (taken_leads_back q c.known.ensures.queue es first))

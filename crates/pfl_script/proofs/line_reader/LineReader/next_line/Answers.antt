@@ -1,6 +1,5 @@
-use Rattle.std.proofs.Common.{rules, arith, ◌≡◌, ℕ, Some, None, List, Option, subst, sym, ap, ◌∙◌, inl, inr, IfSome, ◌<◌}
-use Rattle.std.proofs.lemmas.Grind.{common_steps}
-use Rattle.pfl_script.specs.Scans.{TakesByte, ReadsLine, IsOver, Kept, added, nothing}
+use Rattle.std.proofs.Common.{arith, ℕ, Some, Option, subst, ap, ◌∙◌, inl, inr, IfSome, ◌<◌}
+use Rattle.pfl_script.specs.Scans.{TakesByte}
 use Rattle.pfl_script.specs.Readers.{room}
 use Rattle.pfl_script.proofs.Taking.{Reads-added, Reads-end, Reads-last, Reads-none}
 use Rattle.pfl_script.proofs.line_reader.LineReader.next_line.Goals as goal

@@ -1,0 +1,317 @@
+-- What a node keeps where a packet is held, and where a full list lets its oldest go.
+use Rattle.std.specs.Prelude.{◌≡◌, ◌≤◌, ◌<◌, ℕ, ◌+◌, suc, Bool, true, false, not, ◌&&◌, ◌||◌, nat_le, List, [], ◌∷◌, ◌++◌, length, filter, find, slice_get, Option, Some, None, is_some, refl}
+use Rattle.std.specs.Option.{option_map, option_map_or, option_to_list}
+use Rattle.std.proofs.Common.{cond, ◌∙◌, ap, sym, subst, arith, inl, inr}
+use Rattle.std.proofs.lemmas.Bool.Decides.{nat_tests}
+use Rattle.pfl_base.specs.declared.direction.Dir.{Dir}
+use Rattle.pfl_base.specs.declared.packet.Packet.{Packet}
+use Rattle.pfl_base.specs.declared.state_name.StateName.{StateName}
+use Rattle.pfl_base.specs.Names.{names_total, names_exact, is_name, is_name-same}
+use Rattle.pfl_edits.specs.Maps as maps
+use Rattle.pfl_edits.specs.Places.{get-set_at_same, get-set_at_other, key_cases}
+use Rattle.pfl_track.specs.declared.state.State.{State}
+use Rattle.pfl_table.specs.Tables.{AreStates}
+use Rattle.pfl_queue.specs.declared.Kind.{Kind}
+use Rattle.pfl_queue.specs.declared.Kind.TheVariants.{Insert}
+use Rattle.pfl_queue.specs.Queues.{kind_of, pending}
+use Rattle.pfl_defer.specs.declared.Held.{Held}
+use Rattle.pfl_defer.specs.declared.edits.DeferEdit.{DeferEdit}
+use Rattle.pfl_defer.specs.Deferring as deferring
+use Rattle.pfl_defer.specs.Deferring.{Deferrals, IsDeferrals, held_of, let_go, pushed_out, with_held}
+use Rattle.pfl_defer.specs.Edits.{held_by}
+use Rattle.pfl_defer.specs.Kept.{with_room-has_room, with_held-keeps, found_place, last_cases, absent_stays}
+use Rattle.pfl_node.specs.Changes.{put_state, mark, is_held, freed, count_freed, without_held, not_waiting, released}
+use Rattle.pfl_node.specs.Demands.{one, hold_demands, pushes_out, held_back, started_by}
+use Rattle.pfl_node.specs.Kept.{MayReplace, MayStart}
+use Rattle.pfl_node.specs.Nodes.{Node, IsNode, IsGiven}
+use Rattle.pfl_node.specs.Starting.{announced, with_new, with_room, is_deferred, pass}
+use Rattle.pfl_node.proofs.Growing.{marked-pending}
+use Rattle.pfl_node.proofs.Keeps.{keeps_held, state_still}
+use Rattle.pfl_node.proofs.Meeting.{Grows}
+
+-- ---- a full list lets its oldest go
+
+-- the packet that is pushed out is held
+pub pushed-held : (d : Deferrals) (h : Held) → IsDeferrals d → pushed_out d ≡ Some h → held_of d h.name ≡ Some h
+pushed-held d h is out = found_place d.list 0 h is.once (by (nat_le d.limit (length d.list)) out)
+  where
+    by : (b : Bool) → cond b (slice_get d.list 0) None ≡ Some h → slice_get d.list 0 ≡ Some h
+    by true e = e
+    by false e = absurd (cc)
+
+-- a node without its states
+abbrev bare : Node → Node
+bare n = record n { states = maps.empty }
+
+bare-not_waiting : (n : Node) (name : StateName) → bare (not_waiting n name) ≡ bare n
+bare-not_waiting n name = by (maps.get n.states name)
+  where
+    by : (o : Option State) → bare (option_map_or (λ s. put_state n (record s { ack_wanted = false })) o n) ≡ bare n
+    by None = refl
+    by (Some s) = refl
+
+-- the node with the list that has room, but for its states
+abbrev roomy : Node → Option Held → Node
+roomy n o = record n { held = option_map_or (λ h. let_go n.held h.name) o n.held; counters = record n.counters { freed = n.counters.freed + one (is_some o) } }
+
+-- to make room changes held packets, states, and what is counted as freed
+pub room-rest : (n : Node) → IsDeferrals n.held → bare (with_room n) ≡ bare (roomy n (pushed_out n.held))
+room-rest n is = by (pushed_out n.held) refl
+  where
+    by : (o : Option Held) → pushed_out n.held ≡ o → bare (option_map_or (λ h. released n h.name) o n) ≡ bare (roomy n o)
+    by None e =
+        let none : n.counters.freed ≡ n.counters.freed + 0 = omega arith in
+        ap (λ (k : ℕ). bare (record n { counters = record n.counters { freed = k } })) none
+    by (Some h) e =
+        bare-not_waiting (freed n h.name) h.name
+        ∙ ap (λ b. bare (cond b (count_freed (without_held n h.name)) n)) (ap (λ (o : Option Held). is_some o) (pushed-held n.held h is e))
+
+-- a full list lets its oldest go, and any other stays as it is
+pub room-some : (n : Node) (h : Held) → pushed_out n.held ≡ Some h → with_room n ≡ released n h.name
+room-some n h e = ap (λ (o : Option Held). option_map_or (λ h. released n h.name) o n) e
+
+pub room-none : (n : Node) → pushed_out n.held ≡ None → with_room n ≡ n
+room-none n e = ap (λ (o : Option Held). option_map_or (λ h. released n h.name) o n) e
+
+-- the state of a name that has one waits no more, and else nothing changes
+pub not_waiting-some : (n : Node) (name : StateName) (s : State) → maps.get n.states name ≡ Some s → not_waiting n name ≡ put_state n (record s { ack_wanted = false })
+not_waiting-some n name s e = ap (λ (o : Option State). option_map_or (λ s. put_state n (record s { ack_wanted = false })) o n) e
+
+pub not_waiting-none : (n : Node) (name : StateName) → maps.get n.states name ≡ None → not_waiting n name ≡ n
+not_waiting-none n name e = ap (λ (o : Option State). option_map_or (λ s. put_state n (record s { ack_wanted = false })) o n) e
+
+-- a state that waits for the peer is itself as one that waits
+pub waits-is : (s : State) → s.ack_wanted ≡ true → record s { ack_wanted = true } ≡ s
+waits-is s e = ap (λ (b : Bool). record s { ack_wanted = b }) (sym e)
+
+-- the state with another wish for an acknowledgement may take its place as well
+pub wanted-may : (n : Node) (s : State) (wanted : Bool) → MayReplace n s → MayReplace n (record s { ack_wanted = wanted })
+wanted-may n s wanted may = record {
+  former = may.former;
+  stands = may.stands;
+  wire = may.wire;
+  stack = may.stack;
+  no_sync = may.no_sync;
+  is = record {
+    is = let one = may.is.is in record { src = one.src; dst = one.dst; proto = one.proto; one_proto = one.one_proto; wire_family = one.wire_family; stack_family = one.stack_family; one_family = one.one_family };
+    given = may.is.given;
+    rule = may.is.rule;
+    last = may.is.last;
+    peer_change = may.is.peer_change;
+    updates = may.is.updates;
+  };
+}
+
+-- a state of the node may take its own place
+pub stands-may : (n : Node) (name : StateName) (s : State) → IsNode n → maps.get n.states name ≡ Some s → MayReplace n s
+stands-may n name s is at = record {
+  former = s;
+  stands = ap (maps.get n.states) (is.states.filed name s at) ∙ at;
+  wire = refl;
+  stack = refl;
+  no_sync = refl;
+  is = is.each name s at;
+}
+
+-- a state that is like s, but for its wish for an acknowledgement, stands under its name
+record Like (n : Node) (s : State) : Type 0 where
+  state : State
+  at : maps.get n.states s.name ≡ Some state
+  wire : s.wire ≡ state.wire
+  stack : s.stack ≡ state.stack
+  no_sync : s.no_sync ≡ state.no_sync
+
+waiting-like : (n : Node) (name : StateName) (s : State) → AreStates n.states → maps.get n.states s.name ≡ Some s → Like (not_waiting n name) s
+waiting-like n name s are at = by (maps.get n.states name) refl
+  where
+    by : (o : Option State) → maps.get n.states name ≡ o → Like (option_map_or (λ u. put_state n (record u { ack_wanted = false })) o n) s
+    by None there = record { state = s; at = at; wire = refl; stack = refl; no_sync = refl }
+    by (Some u) there = elim (key_cases names_total names_exact s.name u.name) [
+      | inl same ↦
+          let one : Some s ≡ Some u = sym at ∙ (ap (maps.get n.states) (same ∙ are.filed name u there) ∙ there) in
+          let it : s ≡ u = cc in
+          record {
+            state = record u { ack_wanted = false };
+            at = ap (maps.get (maps.insert n.states u.name (record u { ack_wanted = false }))) same ∙ get-set_at_same names_total names_exact n.states u.name (Some (record u { ack_wanted = false }));
+            wire = ap (λ (t : State). t.wire) it;
+            stack = ap (λ (t : State). t.stack) it;
+            no_sync = ap (λ (t : State). t.no_sync) it;
+          }
+      | inr other ↦ record {
+        state = s;
+        at = get-set_at_other names_total names_exact n.states u.name (Some (record u { ack_wanted = false })) s.name other ∙ at;
+        wire = refl;
+        stack = refl;
+        no_sync = refl;
+      }
+    ]
+
+room-like : (n : Node) (s : State) → AreStates n.states → maps.get n.states s.name ≡ Some s → Like (with_room n) s
+room-like n s are at = by (pushed_out n.held)
+  where
+    went : (b : Bool) (h : Held) → Like (not_waiting (cond b (count_freed (without_held n h.name)) n) h.name) s
+    went true h = waiting-like (count_freed (without_held n h.name)) h.name s are at
+    went false h = waiting-like n h.name s are at
+
+    by : (o : Option Held) → Like (option_map_or (λ h. released n h.name) o n) s
+    by None = record { state = s; at = at; wire = refl; stack = refl; no_sync = refl }
+    by (Some h) = went (is_held n h.name) h
+
+-- and where room was made
+pub room-may : (n : Node) (s : State) → IsNode n → maps.get n.states s.name ≡ Some s → MayReplace (with_room n) s
+room-may n s is at =
+    let like = room-like n s is.states at in
+    let rest = room-rest n is.deferrals in
+    record {
+      former = like.state;
+      stands = like.at;
+      wire = like.wire;
+      stack = like.stack;
+      no_sync = like.no_sync;
+      is = state_still n (with_room n) s (ap (λ (m : Node). m.creator) rest) (ap (λ (m : Node). m.next_id) rest) (ap (λ (m : Node). m.rules) rest) (ap (λ (m : Node). m.clock) rest) (is.each s.name s at);
+    }
+
+-- what a packet finds for which room was made
+pub record IsRoomFor (n : Node) (name : StateName) : Type 0 where
+  pub free : length n.held.list < n.held.limit
+  pub fresh : held_of n.held name ≡ None
+
+pub room-made : (n : Node) (name : StateName) → IsNode n → held_of n.held name ≡ None → IsRoomFor (with_room n) name
+room-made n name is fresh =
+    let least : 1 ≤ n.limits.held = is.limits.1.1.1.1.0.0 in
+    let limit = is.held_limit in
+    let left = with_room-has_room n.held is.deferrals (omega arith) in
+    let held : deferring.with_room n.held ≡ (with_room n).held = sym (ap (λ (m : Node). m.held) (room-rest n is.deferrals)) in
+    record { free = subst (λ (d : Deferrals). length d.list < d.limit) held left.room; fresh = subst (λ (d : Deferrals). held_of d name ≡ None) held (left.fresh name fresh) }
+
+-- ---- a packet less
+
+fewer_held : (name : StateName) (hs : List Held) (h : Held) → find (λ k. is_name name k.name) hs ≡ Some h → length (filter (λ k. not (is_name name k.name)) hs) < length hs
+fewer_held name [] h e = absurd (cc)
+fewer_held name (k ∷ hs) h e =
+    elim (is_name name k.name) as (λ b. cond b (Some k) (find (λ k. is_name name k.name) hs) ≡ Some h → length (cond (not b) (k ∷ filter (λ k. not (is_name name k.name)) hs) (filter (λ k. not (is_name name k.name)) hs)) < length (k ∷ hs)) [
+      | true ↦ λ t. let few = no_more name hs in omega (arith, few)
+      | false ↦ λ t. let few = fewer_held name hs h t in omega (arith, few)
+    ] e
+  where
+    no_more : (name : StateName) (hs : List Held) → length (filter (λ k. not (is_name name k.name)) hs) ≤ length hs
+    no_more name [] = omega arith
+    no_more name (k ∷ hs) =
+        elim (is_name name k.name) as (λ b. length (cond (not b) (k ∷ filter (λ k. not (is_name name k.name)) hs) (filter (λ k. not (is_name name k.name)) hs)) ≤ length (k ∷ hs)) [
+          | true ↦ let few = no_more name hs in omega (arith, few)
+          | false ↦ let few = no_more name hs in omega (arith, few)
+        ]
+
+-- where the packet of a name was let go, there is room
+pub pushes-left : (d : Deferrals) (name : StateName) → IsDeferrals d → pushes_out (let_go d name) ≡ (pushes_out d && not (is_some (held_of d name)))
+pushes-left d name is = by (held_of d name) refl
+  where
+    and_true : (b : Bool) → b ≡ (b && true)
+    and_true true = refl
+    and_true false = refl
+
+    and_false : (b : Bool) → false ≡ (b && false)
+    and_false true = refl
+    and_false false = refl
+
+    by : (o : Option Held) → held_of d name ≡ o → pushes_out (let_go d name) ≡ (pushes_out d && not (is_some o))
+    by None e = ap (λ (hs : List Held). pushes_out (record d { list = hs })) (absent_stays name d.list e) ∙ and_true (pushes_out d)
+    by (Some h) e =
+        let few = fewer_held name d.list h e in
+        let most = is.few in
+        let room : nat_le d.limit (length (let_go d name).list) ≡ false = grind (arith, nat_tests) in
+        ap (λ b. is_some (cond b (slice_get (let_go d name).list 0) None)) room ∙ and_false (pushes_out d)
+
+-- ---- a packet is held
+
+-- no packet is held of a name that was not given
+pub fresh-held : (n : Node) (s : State) → IsNode n → MayStart n s → held_of n.held s.name ≡ None
+fresh-held n s is may = by n.held.list (λ i h at. (is.held i h at).0)
+  where
+    by : (hs : List Held) → ((i : ℕ) (h : Held) → slice_get hs i ≡ Some h → IsGiven n h.name) → find (λ h. is_name s.name h.name) hs ≡ None
+    by [] given = refl
+    by (h ∷ hs) given =
+        elim (is_name s.name h.name) as (λ b. is_name s.name h.name ≡ b → cond b (Some h) (find (λ h. is_name s.name h.name) hs) ≡ None) [
+          | true ↦ λ t.
+              let same = is_name-same s.name h.name t in
+              let below = given 0 h refl (ap (λ (q : StateName). q.creator) (sym same) ∙ may.creator) in
+              let ids = ap (λ (q : StateName). q.id) same in
+              let id = may.id in
+              absurd (omega arith)
+          | false ↦ λ t. by hs (λ i k at. given (suc i) k at)
+        ] refl
+
+-- a node with one packet more, which is held from now on
+pub held-node : (n : Node) (name : StateName) (p : Packet) → IsNode n → IsGiven n name → length n.held.list < n.held.limit → held_of n.held name ≡ None → IsNode (record n { held = with_held n.held name p n.clock })
+held-node n name p is given free fresh =
+    keeps_held n (with_held n.held name p n.clock) is (with_held-keeps n.held name p n.clock is.deferrals free fresh (λ i h at. (is.held i h at).1)) refl
+    (λ i h at. elim (last_cases n.held.list (record { name = name; packet = p; held_at = n.clock }) i h at) [
+      | inl stood ↦ is.held i h stood
+      | inr same ↦ (subst (λ (k : Held). IsGiven n k.name) same given, let now = ap (λ (k : Held). k.held_at) same in omega (arith, now))
+    ])
+
+-- and its state may take its own place in it
+pub held-may : (n : Node) (s : State) (d : Deferrals) → MayReplace n s → MayReplace (record n { held = d }) s
+held-may n s d may = record {
+  former = may.former;
+  stands = may.stands;
+  wire = may.wire;
+  stack = may.stack;
+  no_sync = may.no_sync;
+  is = state_still n (record n { held = d }) s refl refl refl refl may.is;
+}
+
+-- a list with room lets none go
+pub stays-roomy : (d : Deferrals) → length d.list < d.limit → (pushed_out d ≡ None) × (deferring.with_room d ≡ d)
+stays-roomy d free =
+    let test : nat_le d.limit (length d.list) ≡ false = grind (arith, nat_tests) in
+    let none : pushed_out d ≡ None = ap (λ b. cond b (slice_get d.list 0) None) test in
+    (none, ap (λ (o : Option Held). option_map_or (λ h. let_go d h.name) o d) none)
+
+-- and one edit holds the packet
+pub one_edit : (o : Option DeferEdit) (e : DeferEdit) → option_map held_by o ≡ None → option_to_list o ++ e ∷ [] ≡ e ∷ []
+one_edit None e none = refl
+one_edit (Some d) e none = absurd (cc)
+
+-- ---- a packet that makes a state
+
+one_of : {X : Type 0} (a b : Bool) (x y z : X) → (a || not b) ≡ true → cond a x (cond b y z) ≡ cond a x z
+one_of true b x y z e = refl
+one_of false true x y z e = absurd (cc)
+one_of false false x y z e = refl
+
+middle : {X : Type 0} (a b : Bool) (x y z : X) → (a || not b) ≡ false → cond a x (cond b y z) ≡ y
+middle true b x y z e = absurd (cc)
+middle false true x y z e = refl
+middle false false x y z e = absurd (cc)
+
+-- a packet that does not go on is of a state that is told of
+pub told_of : (a b : Bool) → (a || not b) ≡ false → a ≡ false
+told_of true b e = absurd (cc)
+told_of false b e = refl
+
+-- it goes on, where the peer is not told of the state or nothing is deferred
+pub announced-begun : (n : Node) (s : State) (dir : Dir) (p : Packet) → (s.no_sync || not (is_deferred n dir)) ≡ true → announced (with_new n s) s dir p ≡ started_by n s
+announced-begun n s dir p e = one_of s.no_sync (is_deferred n dir) (pass (with_new n s) (Some s.name)) (held_back n s p) (pass (mark (with_new n s) s.name Insert) (Some s.name)) e
+
+-- and else it is held
+pub announced-held : (n : Node) (s : State) (dir : Dir) (p : Packet) → (s.no_sync || not (is_deferred n dir)) ≡ false → announced (with_new n s) s dir p ≡ held_back n s p
+announced-held n s dir p e = middle s.no_sync (is_deferred n dir) (pass (with_new n s) (Some s.name)) (held_back n s p) (pass (mark (with_new n s) s.name Insert) (Some s.name)) e
+
+-- what a packet asks for that is held
+pub hold-grows : (n : Node) (s : State) (p : Packet) → IsDeferrals n.held → kind_of n.queue s.name ≡ None → Grows n (held_back n s p).node (hold_demands (pushes_out n.held))
+hold-grows n s p is fresh =
+    let rest = room-rest (mark (with_new n s) s.name Insert) is in
+    record {
+      limit = ap (λ (m : Node). m.queue.limit) rest;
+      pending = ap (λ (m : Node). pending m.queue) rest ∙ (marked-pending n.queue s.name Insert ∙ ap (λ (o : Option Kind). pending n.queue + one (not (is_some o))) fresh);
+      next_id = ap (λ (m : Node). m.next_id) rest;
+      next = ap (λ (m : Node). m.queue.next) rest;
+      passed = let e = ap (λ (m : Node). m.counters.passed) rest in omega (arith, e);
+      blocked = let e = ap (λ (m : Node). m.counters.blocked) rest in omega (arith, e);
+      freed = ap (λ (m : Node). m.counters.freed) rest;
+      lost = ap (λ (m : Node). m.counters.lost) rest;
+      bad = ap (λ (m : Node). m.counters.bad) rest;
+      stale = ap (λ (m : Node). m.counters.stale) rest;
+      broken = ap (λ (m : Node). m.counters.broken) rest;
+    }

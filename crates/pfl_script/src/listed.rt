@@ -1,0 +1,109 @@
+//! What stands in the lists of a node, as lines.
+
+ghost use Rattle.std.specs.Prelude.{◌≡◌, ◌++◌, ℕ, List, OnOk, IfSome};
+ghost use Rattle.std.specs.List.{flat_map};
+ghost use Rattle.pfl_base.specs.declared.node_id.NodeId.{NodeId};
+ghost use Rattle.pfl_script.specs.Shows.{state_line, queue_line, ask_line, bus_line, clear_line, held_line};
+
+use crate::node_lines::{AskLine, BusLine, ClearLine, HeldLine, QueueLine};
+use crate::state_lines::StateLine;
+use pfl_base::{NodeId, StateName};
+use pfl_defer::Held;
+use pfl_edits::NoMemory;
+use pfl_queue::{Cleared, Mark};
+use pfl_table::Row;
+use pfl_wire::BulkStatus;
+use std::alloc::Allocator;
+use std::fmt::Display;
+use std::io::Write;
+
+/// Puts what a value prints behind a text.
+pub fn push_shown<A: Allocator, D: Display + Drop>(
+    text: &mut Vec<u8, A>,
+    shown: D,
+) -> Result<(), NoMemory>
+    ensures { OnOk result (IfSome (D.output shown) (λ printed. text.new.items ≡ text.old.items ++ printed)) }
+{
+    match text.write_fmt(shown) {
+        Ok(()) => Ok(()),
+        Err(_) => Err(NoMemory),
+    }
+}
+
+/// What stands in a list of a node and is shown as a line.
+pub trait Listed {
+    /// Its line.
+    ghost line: { NodeId → Self → List ℕ };
+
+    /// Puts its line behind a text.
+    fn push_line<A: Allocator>(&self, node: NodeId, text: &mut Vec<u8, A>) -> Result<(), NoMemory>
+        ensures { OnOk result (text.new.items ≡ text.old.items ++ line node self.now) };
+}
+
+impl Listed for Row {
+    ghost line = { λ node row. state_line node row.state };
+
+    fn push_line<A: Allocator>(&self, node: NodeId, text: &mut Vec<u8, A>) -> Result<(), NoMemory> {
+        let state = self.state;
+        push_shown(text, StateLine { node, state })
+    }
+}
+
+impl Listed for Mark {
+    ghost line = { queue_line };
+
+    fn push_line<A: Allocator>(&self, node: NodeId, text: &mut Vec<u8, A>) -> Result<(), NoMemory> {
+        let mark = *self;
+        push_shown(text, QueueLine { node, mark })
+    }
+}
+
+impl Listed for StateName {
+    ghost line = { ask_line };
+
+    fn push_line<A: Allocator>(&self, node: NodeId, text: &mut Vec<u8, A>) -> Result<(), NoMemory> {
+        let name = *self;
+        push_shown(text, AskLine { node, name })
+    }
+}
+
+impl Listed for BulkStatus {
+    ghost line = { bus_line };
+
+    fn push_line<A: Allocator>(&self, node: NodeId, text: &mut Vec<u8, A>) -> Result<(), NoMemory> {
+        let status = *self;
+        push_shown(text, BusLine { node, status })
+    }
+}
+
+impl Listed for Cleared {
+    ghost line = { clear_line };
+
+    fn push_line<A: Allocator>(&self, node: NodeId, text: &mut Vec<u8, A>) -> Result<(), NoMemory> {
+        let cleared = *self;
+        push_shown(text, ClearLine { node, cleared })
+    }
+}
+
+impl Listed for Held {
+    ghost line = { held_line };
+
+    fn push_line<A: Allocator>(&self, node: NodeId, text: &mut Vec<u8, A>) -> Result<(), NoMemory> {
+        let held = *self;
+        push_shown(text, HeldLine { node, held })
+    }
+}
+
+/// Puts the lines of a list behind a text.
+pub fn push_list<A: Allocator, X: Listed>(
+    text: &mut Vec<u8, A>,
+    node: NodeId,
+    entries: &[X],
+) -> Result<(), NoMemory>
+    ensures { OnOk result (text.new.items ≡ text.old.items ++ flat_map (X.line node) entries.now) }
+{
+    for entry in entries {
+        entry.push_line(node, text)?;
+    }
+    Ok(())
+}

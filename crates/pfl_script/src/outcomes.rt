@@ -1,0 +1,60 @@
+//! The words of outcomes.
+
+ghost use Rattle.std.specs.Prelude.{◌≡◌, Some};
+ghost use Rattle.pfl_world.specs.Outcomes.{told};
+ghost use Rattle.pfl_script.specs.Texts.{reason_text, outcome_text};
+
+use crate::optional::OptionalName;
+use pfl_node::Reason;
+use pfl_world::Outcome;
+use std::fmt;
+
+/// Why a packet is dropped, as a word of a line.
+#[derive(Clone, Copy)]
+pub struct ReasonWord(pub Reason);
+
+impl ReasonWord {
+    fn word(self) -> &'static str
+        ensures { result.now ≡ reason_text self.0 }
+    {
+        match self.0 {
+            Reason::Block => "block",
+            Reason::Max => "max",
+            Reason::Full => "full",
+            Reason::Key => "key",
+            Reason::Window => "window",
+        }
+    }
+}
+
+impl fmt::Display for ReasonWord {
+    ghost output = { λ word. Some (reason_text word.0) };
+
+    fn fmt<W: fmt::Write>(&self, f: &mut fmt::Formatter<W>) -> fmt::Result {
+        f.write_str(self.word())
+    }
+}
+
+/// What came of an event.
+#[derive(Clone, Copy)]
+pub struct OutcomeWords(pub Outcome);
+
+impl fmt::Display for OutcomeWords {
+    ghost output = { λ words. Some (outcome_text (told words.0)) };
+
+    fn fmt<W: fmt::Write>(&self, f: &mut fmt::Formatter<W>) -> fmt::Result {
+        match self.0 {
+            Outcome::Pass(name) => {
+                let name = OptionalName(name);
+                write!(f, "pass {name}")
+            }
+            Outcome::Held(name) => write!(f, "held {name}"),
+            Outcome::Dropped(reason) => {
+                let reason = ReasonWord(reason);
+                write!(f, "drop {reason}")
+            }
+            Outcome::Clock(ms) => write!(f, "clock {ms}"),
+            Outcome::Purged(states) => write!(f, "purged {states}"),
+        }
+    }
+}

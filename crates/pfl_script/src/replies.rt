@@ -1,0 +1,79 @@
+//! The text of replies.
+
+ghost use Rattle.std.specs.Prelude.{◌≡◌, ◌++◌, codes, IfOk};
+ghost use Rattle.std.specs.Fmt.{decimal};
+ghost use Rattle.pfl_world.specs.Outcomes.{told};
+ghost use Rattle.pfl_timeline.specs.Replies.{Stepped, At, Refused as Refusing};
+ghost use Rattle.pfl_script.specs.Texts.{bad_text};
+ghost use Rattle.pfl_script.specs.Replies.{reply_text};
+
+use crate::outcomes::OutcomeWords;
+use crate::refusals::RefusedWords;
+use crate::shown::shown_text;
+use pfl_edits::NoMemory;
+use pfl_lines::LineFault;
+use pfl_timeline::{Answer, Refused, Reply};
+use pfl_world::Outcome;
+use std::alloc::Allocator;
+
+/// The line for a faulty line. It takes no memory.
+pub fn fault_line(fault: LineFault) -> &'static str
+    ensures { result.now ≡ bad_text fault }
+{
+    match fault {
+        LineFault::Long => "bad 1 Long\n",
+        LineFault::NotAscii => "bad 2 NotAscii\n",
+        LineFault::Unknown => "bad 3 Unknown\n",
+        LineFault::Missing => "bad 4 Missing\n",
+        LineFault::Number => "bad 5 Number\n",
+        LineFault::Extra => "bad 6 Extra\n",
+        LineFault::Packet(_) => "bad 7 Packet\n",
+    }
+}
+
+/// The line of an event that was accepted.
+fn stepped_line<A: Allocator>(
+    alloc: A,
+    outcome: Outcome,
+    dropped: usize,
+) -> Result<Vec<u8, A>, NoMemory>
+    ensures { IfOk result (λ text. text.items ≡ reply_text (Stepped (told outcome) dropped)) }
+{
+    let outcome = OutcomeWords(outcome);
+    Ok(format!(in alloc; "step {outcome} dropped {dropped}\n")?.into_bytes())
+}
+
+/// The line of a cursor that moved.
+fn cursor_line<A: Allocator>(alloc: A, cursor: usize) -> Result<Vec<u8, A>, NoMemory>
+    ensures { IfOk result (λ text. text.items ≡ reply_text (At cursor)) }
+{
+    Ok(format!(in alloc; "at {cursor}\n")?.into_bytes())
+}
+
+/// The line of a command that is refused.
+fn refused_line<A: Allocator>(alloc: A, why: Refused) -> Result<Vec<u8, A>, NoMemory>
+    ensures { IfOk result (λ text. text.items ≡ reply_text (Refusing why)) }
+{
+    let why = RefusedWords(why);
+    Ok(format!(in alloc; "refused {why}\n")?.into_bytes())
+}
+
+/// The text of a reply.
+pub fn reply_text<A: Allocator, B: Allocator + Copy>(
+    alloc: A,
+    reply: &Reply<B>,
+) -> Result<Vec<u8, A>, NoMemory>
+    ensures { IfOk result (λ text. text.items ≡ reply_text reply.now) }
+{
+    match reply.answer() {
+        Answer::Stepped { outcome, dropped } => stepped_line(alloc, *outcome, *dropped),
+        Answer::At(cursor) => cursor_line(alloc, *cursor),
+        Answer::Shown {
+            name,
+            events,
+            cursor,
+            world,
+        } => shown_text(alloc, name.bytes(), *events, *cursor, world),
+        Answer::Refused(why) => refused_line(alloc, *why),
+    }
+}

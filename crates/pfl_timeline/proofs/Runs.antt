@@ -1,0 +1,169 @@
+-- What one event more, or one less, does to a branch that is kept.
+use Rattle.std.specs.Prelude.{◌≡◌, ℕ, zero, suc, ◌+◌, ◌-◌, ◌≤◌, List, [], ◌∷◌, ◌++◌, length, take, drop, Option, Some, is_some, IsTrue, Ok, refl}
+use Rattle.std.specs.Option.{option_and_then}
+use Rattle.std.proofs.Common.{◌⊎◌, inl, inr, sym, ◌∙◌, ap, subst, le_refl, arith, length-append, append_assoc, append-nil, length-take-le, take_all, take-take, drop_of_length-le}
+use Rattle.std.proofs.lemmas.List.{take-append-le, drop-append-le}
+use Rattle.std.proofs.lemmas.List.Sums.{fold_push}
+use Rattle.std.proofs.lemmas.Bool.{cases_lt}
+use Rattle.pfl_edits.specs.Changes.{Edits, back, Fits, back-append, Fits-append, Fits-front, Fits-rest}
+use Rattle.pfl_world.specs.declared.edit.WorldEdit.{WorldEdit}
+use Rattle.pfl_world.specs.declared.event.Event.{Event}
+use Rattle.pfl_world.specs.Events.{step}
+use Rattle.pfl_world.specs.Outcomes.{Outcome}
+use Rattle.pfl_world.specs.Runs.{run, after}
+use Rattle.pfl_world.specs.WorldEdits.{Finds, put_back}
+use Rattle.pfl_world.specs.Worlds.{World, IsWorld}
+use Rattle.pfl_timeline.specs.Kept.{IsKept, edits_of, before, rooted}
+use Rattle.pfl_timeline.specs.Rooted.{shown}
+use Rattle.pfl_timeline.specs.Timelines.{is_branch_name}
+
+abbrev pub Change : Type 0
+Change = Edits WorldEdit
+
+abbrev no_events : List Event
+no_events = []
+
+take_none : (k : ℕ) → take k no_events ≡ no_events
+take_none zero = refl
+take_none (suc k) = refl
+
+abbrev no_changes : List Change
+no_changes = []
+
+drop_none : (k : ℕ) → drop k no_changes ≡ no_changes
+drop_none zero = refl
+drop_none (suc k) = refl
+
+edits_of-last : (cs : List Change) (c : Change) → edits_of (cs ++ c ∷ []) ≡ edits_of cs ++ c.list
+edits_of-last [] c = append-nil c.list
+edits_of-last (x ∷ cs) c = ap (λ (es : List WorldEdit). x.list ++ es) (edits_of-last cs c) ∙ sym (append_assoc x.list (edits_of cs) c.list)
+
+-- one event more
+run-last : (w : World) (es : List Event) (e : Event) → run w (es ++ e ∷ []) ≡ option_and_then (λ v. after (step v e)) (run w es)
+unfolding run
+run-last w es e = fold_push (λ at e. option_and_then (λ v. after (step v e)) at) (Some w) es e
+
+-- no event
+run-none : (w : World) → run w [] ≡ Some w
+unfolding run
+run-none w = refl
+
+-- the world before the changes, the newest of them taken back
+before-last : (cs : List Change) (c : Change) (w : World) → before (cs ++ c ∷ []) w ≡ before cs (back put_back c.list w)
+before-last cs c w = ap (λ (es : List WorldEdit). back put_back es w) (edits_of-last cs c) ∙ back-append Finds IsWorld put_back (edits_of cs) c.list w
+
+before-drop-last : (k : ℕ) (cs : List Change) (c : Change) (w : World) → k ≤ length cs → before (drop k (cs ++ c ∷ [])) w ≡ before (drop k cs) (back put_back c.list w)
+before-drop-last k cs c w h = ap (λ (ds : List Change). before ds w) (drop-append-le k cs (c ∷ []) h) ∙ before-last (drop k cs) c w
+
+-- the world that the branch shows is the one that is kept
+pub shown-kept : (name : List ℕ) (w : World) (events : List Event) (cs : List Change) → IsKept name w events cs → shown (rooted name w events cs) ≡ Some w
+shown-kept name w events cs k = k.each (length cs) (le_refl (length cs)) ∙ ap (λ (ds : List Change). Some (before ds w)) (drop_of_length-le cs (le_refl (length cs)))
+
+-- a branch without events
+pub kept-new : (name : List ℕ) (w : World) → IsTrue (is_branch_name name) → IsWorld w → IsKept name w [] []
+kept-new name w named is = record {
+  named = named;
+  opening = is;
+  within = omega arith;
+  fits = tt;
+  each = λ k h. ap (run w) (take_none k) ∙ run-none w ∙ ap (λ (ds : List Change). Some (before ds w)) (sym (drop_none k));
+  whole = subst (λ o. IsTrue (is_some o)) (sym (run-none w)) refl;
+}
+
+-- The newest change is taken back.
+module _ (name : List ℕ) (w : World) (events : List Event) (cs ds : List Change) (c : Change) (is : cs ≡ ds ++ c ∷ []) (k : IsKept name w events cs) where
+  fits_all : Fits Finds IsWorld put_back (edits_of ds ++ c.list) w
+  fits_all = subst (λ (es : List WorldEdit). Fits Finds IsWorld put_back es w) (ap edits_of is ∙ edits_of-last ds c) k.fits
+
+  pub fits_last : Fits Finds IsWorld put_back c.list w
+  fits_last = Fits-rest Finds IsWorld put_back (edits_of ds) c.list w fits_all
+
+  same_opening : before cs w ≡ before ds (back put_back c.list w)
+  same_opening = ap (λ (es : List Change). before es w) is ∙ before-last ds c w
+
+  one_less : length ds + 1 ≡ length cs
+  one_less = sym (length-append ds (c ∷ [])) ∙ ap length (sym is)
+
+  fewer : length ds ≡ length cs - 1
+  fewer = omega (arith, one_less)
+
+  pub kept-less : IsKept name (back put_back c.list w) events ds
+  kept-less = record {
+    named = k.named;
+    opening = subst IsWorld same_opening k.opening;
+    within = omega (arith, k.within, one_less);
+    fits = Fits-front Finds IsWorld put_back (edits_of ds) c.list w fits_all;
+    each = λ i h.
+        ap (λ (o : World). run o (take i events)) (sym same_opening)
+        ∙ k.each i (omega (arith, h, one_less))
+        ∙ ap (λ (es : List Change). Some (before (drop i es) w)) is
+        ∙ ap Some (before-drop-last i ds c w h);
+    whole = subst (λ (o : World). IsTrue (is_some (run o events))) same_opening k.whole;
+  }
+
+  -- the branch then
+  pub less : (new : World) → new ≡ back put_back c.list w → rooted name new events ds ≡ record { opening = before cs w; branch = record { name = name; events = events; cursor = length cs - 1 } }
+  less new back_is =
+      ap (λ (o : World). record { opening = o; branch = record { name = name; events = events; cursor = length ds } }) (ap (before ds) back_is ∙ sym same_opening)
+      ∙ ap (λ n. record { opening = before cs w; branch = record { name = name; events = events; cursor = n } }) fewer
+
+-- An event happened.
+module _ (name : List ℕ) (w new : World) (events : List Event) (cs : List Change) (c : Change) (e : Event) (out : Outcome)
+    (k : IsKept name w events cs) (stepped : step w e ≡ Ok (record { world = new; outcome = out }))
+    (fits : Fits Finds IsWorld put_back c.list new) (back_is : back put_back c.list new ≡ w) where
+  same : before (cs ++ c ∷ []) new ≡ before cs w
+  same = before-last cs c new ∙ ap (before cs) back_is
+
+  taken : length (take (length cs) events) ≡ length cs
+  taken = length-take-le (length cs) events k.within
+
+  here : run (before cs w) (take (length cs) events) ≡ Some w
+  here = shown-kept name w events cs k
+
+  at_end : run (before (cs ++ c ∷ []) new) (take (length cs) events ++ e ∷ []) ≡ Some new
+  at_end =
+      ap (λ (o : World). run o (take (length cs) events ++ e ∷ [])) same
+      ∙ run-last (before cs w) (take (length cs) events) e
+      ∙ ap (λ (o : Option World). option_and_then (λ v. after (step v e)) o) here
+      ∙ ap after stepped
+
+  cases_le : (i n : ℕ) → i ≤ n + 1 → (i ≤ n) ⊎ (i ≡ n + 1)
+  cases_le i n h = elim (cases_lt n i) [ inl a ↦ inr (omega (arith, a, h)) | inr b ↦ inl b ]
+
+  pub kept-more : IsKept name new (take (length cs) events ++ e ∷ []) (cs ++ c ∷ [])
+  kept-more = record {
+    named = k.named;
+    opening = subst IsWorld (sym same) k.opening;
+    within = omega (arith, taken, length-append (take (length cs) events) (e ∷ []), length-append cs (c ∷ []));
+    fits = subst (λ (es : List WorldEdit). Fits Finds IsWorld put_back es new) (sym (edits_of-last cs c))
+        (Fits-append Finds IsWorld put_back (edits_of cs) c.list new (subst (Fits Finds IsWorld put_back (edits_of cs)) (sym back_is) k.fits) fits);
+    each = λ i h. elim (cases_le i (length cs) (omega (arith, h, length-append cs (c ∷ [])))) [
+      | inl early ↦
+          ap (λ (o : World). run o (take i (take (length cs) events ++ e ∷ []))) same
+          ∙ ap (run (before cs w)) (take-append-le i (take (length cs) events) (e ∷ []) (omega (arith, early, taken)) ∙ take-take i (length cs) events early)
+          ∙ k.each i early
+          ∙ ap Some (sym (before-drop-last i cs c new early ∙ ap (before (drop i cs)) back_is))
+      | inr last ↦
+          ap (run (before (cs ++ c ∷ []) new)) (take_all i (take (length cs) events ++ e ∷ []) (omega (arith, taken, length-append (take (length cs) events) (e ∷ []), last)))
+          ∙ at_end
+          ∙ ap (λ (ds : List Change). Some (before ds new)) (sym (drop_of_length-le (cs ++ c ∷ []) (omega (arith, length-append cs (c ∷ []), last))))
+    ];
+    whole = subst (λ o. IsTrue (is_some o)) (sym at_end) refl;
+  }
+
+  -- the branch then
+  pub more : rooted name new (take (length cs) events ++ e ∷ []) (cs ++ c ∷ []) ≡ record { opening = before cs w; branch = record { name = name; events = take (length cs) events ++ e ∷ []; cursor = length cs + 1 } }
+  more =
+      ap (λ (o : World). record { opening = o; branch = record { name = name; events = take (length cs) events ++ e ∷ []; cursor = length (cs ++ c ∷ []) } }) same
+      ∙ ap (λ n. record { opening = before cs w; branch = record { name = name; events = take (length cs) events ++ e ∷ []; cursor = n } }) (length-append cs (c ∷ []))
+
+-- ---- of equal ones
+
+pub kept_as : (name : List ℕ) (w v : World) (es fs : List Event) (cs ds : List Change) → v ≡ w → fs ≡ es → ds ≡ cs → IsKept name w es cs → IsKept name v fs ds
+kept_as name w v es fs cs ds a b c k = rw (a, b, c) k
+
+pub rooted_as : (name : List ℕ) (w : World) (es fs : List Event) (cs ds : List Change) → fs ≡ es → ds ≡ cs → rooted name w fs ds ≡ rooted name w es cs
+rooted_as name w es fs cs ds a b = ap (λ (xs : List Event). rooted name w xs ds) a ∙ ap (λ (xs : List Change). rooted name w es xs) b
+
+pub put_as : (es fs : List Event) (cs ds : List Change) (e : Event) → fs ≡ es → ds ≡ cs → take (length ds) fs ++ e ∷ [] ≡ take (length cs) es ++ e ∷ []
+put_as es fs cs ds e a b = ap (λ (xs : List Event). take (length ds) xs ++ e ∷ []) a ∙ ap (λ (xs : List Change). take (length xs) es ++ e ∷ []) b

@@ -1,0 +1,27 @@
+//! What a timeline answers, to be looked at.
+
+use crate::refused::Refused;
+use crate::word::BranchWord;
+use pfl_world::{Outcome, World};
+use std::alloc::Allocator;
+
+/// What a timeline answers.
+#[derive(Drop)]
+pub enum Answer<A: Allocator> {
+    /// The event happened, and so many events that had been undone were cut.
+    Stepped {
+        outcome: Outcome,
+        dropped: usize,
+    },
+    /// So many events of the branch stand.
+    At(usize),
+    /// The branch: its name, how many events it has, how many of them stand, and the world that it shows.
+    Shown {
+        name: BranchWord,
+        events: usize,
+        cursor: usize,
+        world: World<A>,
+    },
+    /// The command is refused.
+    Refused(Refused),
+}

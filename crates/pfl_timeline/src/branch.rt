@@ -1,0 +1,235 @@
+//! Branches.
+
+ghost use Rattle.std.specs.Prelude.{◌≡◌, ◌≢◌, ◌-◌, ◌<◌, ◌≤◌, [], ◌∷◌, ◌++◌, length, take, Ok, Some, IfErr, IfOk, OnErr, OnOk, IsTrue, vec_len, vec_capacity};
+ghost use Rattle.pfl_world.specs.Events.{step, IsRefusalOf};
+ghost use Rattle.pfl_world.specs.Outcomes.{told};
+ghost use Rattle.pfl_world.specs.Worlds.{World as Pair};
+ghost use Rattle.pfl_timeline.specs.Commands.{step_reply, back_reply, show_reply, extended, undone};
+ghost use Rattle.pfl_timeline.specs.Replies.{Refused as Refusing};
+ghost use Rattle.pfl_timeline.specs.Rooted.{shown, IsReplyOf};
+ghost use Rattle.pfl_timeline.specs.Timelines.{IsBranch, is_branch_name, same_name};
+
+use crate::answer::Answer;
+use crate::refused::Refused;
+use crate::reply::Reply;
+use crate::word::BranchWord;
+use pfl_base::Refusal;
+use pfl_edits::NoMemory;
+use pfl_world::{Event, Outcome, World, WorldChange};
+use std::alloc::Allocator;
+use std::marker::Model;
+
+/// A branch of a timeline: its events, and the world that those before its cursor give.
+///
+/// The opening world is not kept: it is what taking all changes back would give.
+#[derive(Drop)]
+pub struct Branch<A: Allocator> {
+    name: BranchWord,
+    world: World<A>,
+    events: Vec<Event, A>,
+    /// What each event before the cursor changed.
+    changes: Vec<WorldChange<A>, A>,
+}
+
+impl<A: Allocator> Model for Branch<A> {
+    ghost use Rattle.pfl_timeline.specs.Rooted.{Rooted};
+    ghost use Rattle.pfl_timeline.specs.Codes.{coded_rooted};
+
+    ghost Value = { Rooted };
+
+    ghost coded = { coded_rooted };
+
+    ghost use Rattle.pfl_timeline.specs.Kept.{IsKept, rooted};
+
+    ghost view = { λ b. rooted b.name b.world b.events.items b.changes.items };
+
+    ghost invariant = { λ b. IsKept b.name b.world b.events.items b.changes.items };
+}
+
+/// Makes room for one event more, and for what it changes.
+fn make_room<A: Allocator>(
+    events: &mut Vec<Event, A>,
+    changes: &mut Vec<WorldChange<A>, A>,
+) -> Result<(), NoMemory>
+    ensures events { events.new.items ≡ events.old.items }
+    ensures changes { changes.new.items ≡ changes.old.items }
+    ensures event_room { OnOk result (vec_len events.new < vec_capacity events.new) }
+    ensures change_room { OnOk result (vec_len changes.new < vec_capacity changes.new) }
+{
+    events.reserve(1)?;
+    changes.reserve(1)?;
+    Ok(())
+}
+
+/// Puts an event behind those that stand, in room that was made. Gives how many events were cut.
+fn put<A: Allocator>(
+    events: &mut Vec<Event, A>,
+    changes: &mut Vec<WorldChange<A>, A>,
+    event: Event,
+    change: WorldChange<A>,
+) -> usize
+    requires within { length changes.old.items ≤ length events.old.items }
+    requires event_room { vec_len events.old < vec_capacity events.old }
+    requires change_room { vec_len changes.old < vec_capacity changes.old }
+    ensures events { events.new.items ≡ take (length changes.old.items) events.old.items ++ event ∷ [] }
+    ensures changes { changes.new.items ≡ changes.old.items ++ change ∷ [] }
+    ensures dropped { result ≡ length events.old.items - length changes.old.items }
+{
+    let cursor = changes.len();
+    let dropped = events.len() - cursor;
+    events.truncate(cursor);
+    events.push(event).unwrap();
+    changes.push(change).unwrap();
+    dropped
+}
+
+/// The reply to an event that did not happen, unless it wanted memory.
+fn refused<A: Allocator>(refusal: Refusal) -> Result<Reply<A>, NoMemory>
+    ensures { IfOk result (λ reply. (refusal ≢ Refusal.NoMemory) × (reply ≡ Refusing (Refused.Event refusal))) }
+{
+    match refusal {
+        Refusal::NoMemory => Err(NoMemory),
+        refusal => Ok(Reply::from(Answer::Refused(Refused::Event(refusal)))),
+    }
+}
+
+impl<A: Allocator> Branch<A> {
+    /// Its name.
+    pub fn name(&self) -> &BranchWord
+        ensures name { result.now ≡ self.now.branch.name }
+    {
+        &self.name
+    }
+
+    /// Whether this is its name.
+    pub(crate) fn is_named(&self, name: &BranchWord) -> bool
+        ensures named { result ≡ same_name self.now.branch.name name.now }
+    {
+        self.name.bytes() == name.bytes()
+    }
+
+    /// Its events, those behind the cursor too.
+    pub fn events(&self) -> &[Event]
+        ensures events { result.now ≡ self.now.branch.events }
+    {
+        self.events.as_slice()
+    }
+
+    /// How many of its events stand.
+    pub fn cursor(&self) -> usize
+        ensures cursor { result ≡ self.now.branch.cursor }
+    {
+        self.changes.len()
+    }
+
+    /// The world that it shows: what the events before the cursor give.
+    pub fn world(&self) -> &World<A>
+        ensures world { shown self.now ≡ Some result.now }
+    {
+        &self.world
+    }
+
+    /// Tells a proof what is true of each branch. It does nothing.
+    pub fn known(&self)
+        ensures branch { IsBranch self.now.opening self.now.branch }
+    {
+        let _name = &self.name;
+    }
+
+    /// Takes the newest of the events that stand back.
+    fn take_back_one(&mut self)
+        requires within { 0 < self.old.branch.cursor }
+        ensures branch { self.new ≡ record self.old { branch = record self.old.branch { cursor = self.old.branch.cursor - 1 } } }
+    {
+        if let Some(change) = self.changes.pop() {
+            self.world.revert(change);
+        }
+    }
+
+    /// Takes the newest `n` of the events that stand back.
+    fn take_back(&mut self, n: usize)
+        requires within { n ≤ self.old.branch.cursor }
+        ensures branch { self.new ≡ record self.old { branch = record self.old.branch { cursor = self.old.branch.cursor - n } } }
+    {
+        for _ in 0..n {
+            self.take_back_one();
+        }
+    }
+
+    /// Undoes the last `n` events before the cursor; they stay in the branch. It takes no memory.
+    pub(crate) fn back(&mut self, n: u32) -> Reply<A>
+        ensures reply { IsReplyOf (λ t b. back_reply t n b) self.old self.new result }
+    {
+        let n = n as usize;
+        let cursor = self.cursor();
+        if cursor < n {
+            return Reply::from(Answer::Refused(Refused::TooFarBack));
+        }
+        self.take_back(n);
+        Reply::from(Answer::At(cursor - n))
+    }
+}
+
+impl<A: Allocator + Copy> Branch<A> {
+    /// A branch without events. It takes no memory yet.
+    pub(crate) fn new(alloc: A, name: BranchWord, world: World<A>) -> Self
+        requires named { IsTrue (is_branch_name name) }
+        ensures branch { result ≡ record { opening = world; branch = record { name = name; events = []; cursor = 0 } } }
+    {
+        world.known();
+        Branch {
+            name,
+            world,
+            events: Vec::new(alloc),
+            changes: Vec::new(alloc),
+        }
+    }
+
+    /// Lets an event happen behind those that stand. Gives its outcome, and how many events that had been undone were cut.
+    fn extend(&mut self, event: &Event) -> Result<(Outcome, usize), Refusal>
+        ensures refused { IfErr result (λ why. (w : Pair) × (shown self.old ≡ Some w) × IsRefusalOf (step w event.now) why) }
+        ensures unchanged { OnErr result (self.new ≡ self.old) }
+        ensures stepped { IfOk result (λ r. (w new : Pair) × (shown self.old ≡ Some w) × (step w event.now ≡ Ok (record { world = new; outcome = told r.0 }))) }
+        ensures extended { OnOk result (self.new ≡ record self.old { branch = extended self.old.branch event.now }) }
+        ensures dropped { IfOk result (λ r. r.1 ≡ undone self.old.branch) }
+    {
+        match self.world.apply(event) {
+            Err(refusal) => Err(refusal),
+            Ok((outcome, change)) => {
+                if make_room(&mut self.events, &mut self.changes).is_err() {
+                    self.world.revert(change);
+                    return Err(Refusal::NoMemory);
+                }
+                let dropped = put(&mut self.events, &mut self.changes, *event, change);
+                Ok((outcome, dropped))
+            }
+        }
+    }
+
+    /// Puts an event behind those that stand, in place of those that had been undone. Where it is refused, or there is no
+    /// memory, nothing changes.
+    pub(crate) fn step(&mut self, event: &Event) -> Result<Reply<A>, NoMemory>
+        ensures reply { IfOk result (IsReplyOf (λ t b. step_reply t event.now b) self.old self.new) }
+        ensures unchanged { OnErr result (self.new ≡ self.old) }
+        ensures opening { self.new.opening ≡ self.old.opening }
+        ensures name { self.new.branch.name ≡ self.old.branch.name }
+    {
+        match self.extend(event) {
+            Ok((outcome, dropped)) => Ok(Reply::from(Answer::Stepped { outcome, dropped })),
+            Err(refusal) => refused(refusal),
+        }
+    }
+
+    /// The branch, with a copy of the world that it shows.
+    pub(crate) fn show(&self) -> Result<Reply<A>, NoMemory>
+        ensures reply { IfOk result (IsReplyOf show_reply self.now self.now) }
+    {
+        let world = self.world().copy()?;
+        Ok(Reply::from(Answer::Shown {
+            name: *self.name(),
+            events: self.events().len(),
+            cursor: self.cursor(),
+            world,
+        }))
+    }
+}

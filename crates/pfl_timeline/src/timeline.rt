@@ -1,0 +1,135 @@
+//! Timelines.
+
+ghost use Rattle.std.specs.Prelude.{◌≡◌, map, position, IfOk, OnErr};
+ghost use Rattle.std.specs.List.{AllByRecursion};
+ghost use Rattle.pfl_timeline.specs.Commands.{replied, step_command, back_command, show_command, command_step};
+ghost use Rattle.pfl_timeline.specs.Timelines.{IsTimeline, new_timeline, same_name};
+
+use crate::answer::Answer;
+use crate::branch::Branch;
+use crate::command::Command;
+use crate::refused::Refused;
+use crate::reply::Reply;
+use crate::word::BranchWord;
+use pfl_edits::NoMemory;
+use pfl_world::{Event, World};
+use std::alloc::Allocator;
+use std::marker::Model;
+
+/// Branches of events over one opening world.
+#[derive(Drop)]
+pub struct Timeline<A: Allocator> {
+    branches: Vec<Branch<A>, A>,
+}
+
+impl<A: Allocator> Model for Timeline<A> {
+    ghost use Rattle.pfl_timeline.specs.Timelines.{Timeline};
+    ghost use Rattle.pfl_timeline.specs.Codes.{coded_timeline};
+
+    ghost Value = { Timeline };
+
+    ghost coded = { coded_timeline };
+
+    ghost use Rattle.pfl_timeline.specs.Kept.{AreKept, timeline_of};
+
+    ghost view = { λ t. timeline_of t.branches.items };
+
+    ghost invariant = { λ t. AreKept t.branches.items };
+}
+
+/// Where the branch of the name stands.
+fn place_of<A: Allocator>(branches: &[Branch<A>], name: &BranchWord) -> Option<usize>
+    ensures place { result ≡ position (λ r. same_name r.branch.name name.now) branches.now }
+{
+    for place in 0..branches.len() {
+        if branches[place].is_named(name) {
+            return Some(place);
+        }
+    }
+    None
+}
+
+impl<A: Allocator> Timeline<A> {
+    /// The branches, in the order of their making. Each begins from the timeline's opening.
+    pub fn branches(&self) -> &[Branch<A>]
+        ensures branches { map (λ r. r.branch) result.now ≡ self.now.branches }
+        ensures openings { AllByRecursion (λ r. r.opening ≡ self.now.opening) result.now }
+    {
+        self.branches.as_slice()
+    }
+
+    /// Tells a proof what is true of each timeline. It does nothing.
+    pub fn known(&self)
+        ensures timeline { IsTimeline self.now }
+    {
+        let _branches = &self.branches;
+    }
+
+    /// Undoes the last `n` events before the branch's cursor; they stay in the branch. A refusal changes nothing, and it
+    /// takes no memory.
+    pub fn back(&mut self, name: BranchWord, n: u32) -> Reply<A>
+        ensures step { back_command self.old name n ≡ replied self.new result }
+    {
+        match place_of(&self.branches, &name) {
+            None => Reply::from(Answer::Refused(Refused::NoBranch)),
+            Some(place) => {
+                let branch = &mut self.branches[place];
+                let reply = branch.back(n);
+                branch.known();
+                reply
+            }
+        }
+    }
+}
+
+impl<A: Allocator + Copy> Timeline<A> {
+    /// The timeline that opens over a world: the one branch `main`, without events.
+    pub fn new(alloc: A, world: World<A>) -> Result<Self, NoMemory>
+        ensures new { IfOk result (λ t. t ≡ new_timeline world) }
+    {
+        world.known();
+        let mut branches = Vec::with_capacity(alloc, 1)?;
+        let main = Branch::new(alloc, BranchWord::main(), world);
+        branches.push(main).unwrap();
+        Ok(Timeline { branches })
+    }
+
+    /// Puts an event behind those before the branch's cursor.
+    fn step(&mut self, name: &BranchWord, event: &Event) -> Result<Reply<A>, NoMemory>
+        ensures step { IfOk result (λ reply. step_command self.old name.now event.now ≡ replied self.new reply) }
+        ensures unchanged { OnErr result (self.new ≡ self.old) }
+    {
+        match place_of(&self.branches, name) {
+            None => Ok(Reply::from(Answer::Refused(Refused::NoBranch))),
+            Some(place) => {
+                let branch = &mut self.branches[place];
+                let reply = branch.step(event);
+                branch.known();
+                reply
+            }
+        }
+    }
+
+    /// The branch, with a copy of its world.
+    fn show(&self, name: &BranchWord) -> Result<Reply<A>, NoMemory>
+        ensures step { IfOk result (λ reply. show_command self.now name.now ≡ replied self.now reply) }
+    {
+        match place_of(&self.branches, name) {
+            None => Ok(Reply::from(Answer::Refused(Refused::NoBranch))),
+            Some(place) => self.branches[place].show(),
+        }
+    }
+
+    /// Carries a command out: the reply and the timeline are those of its definition, so a refusal changes nothing. Where
+    /// there is no memory, nothing changes either.
+    pub fn command(&mut self, command: Command) -> Result<Reply<A>, NoMemory>
+        ensures step { IfOk result (λ reply. command_step self.old command ≡ replied self.new reply) }
+        ensures unchanged { OnErr result (self.new ≡ self.old) }
+    {
+        match command {
+            Command::Step { branch, event } => self.step(&branch, &event),
+            Command::Back { branch, n } => Ok(self.back(branch, n)),
+            Command::Show { branch } => self.show(&branch),
+        }
+    }
+}
