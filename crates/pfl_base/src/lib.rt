@@ -39,6 +39,3 @@ pub use std_device::{DeviceFault, Std};
 
 /// Milliseconds of a node's clock.
 pub type Millis = u64;
-
-#[cfg(test)]
-mod tests;

@@ -12,6 +12,3 @@ pub use keyed::Keyed;
 pub use no_memory::NoMemory;
 pub use reversible::{Reversible, undo_all};
 pub use rows::Rows;
-
-#[cfg(test)]
-mod tests;

@@ -4,6 +4,7 @@ use Rattle.std.specs.Fmt.{decimal}
 use Rattle.pfl_rules.specs.Faults.{fault_number as rule_number}
 use Rattle.pfl_world.specs.declared.fault.WorldFault.{WorldFault}
 use Rattle.pfl_world.specs.declared.fault.WorldFault.TheVariants as world
+use Rattle.pfl_world.specs.Faults.{fault_number as world_number}
 use Rattle.pfl_lines.specs.Faults.{fault_number as line_number}
 use Rattle.pfl_script.specs.declared.fault.EngineFault.{EngineFault}
 use Rattle.pfl_script.specs.declared.fault.EngineFault.TheVariants as engine
@@ -11,12 +12,6 @@ use Rattle.pfl_script.specs.declared.setup_fault.SetupFault.{SetupFault}
 use Rattle.pfl_script.specs.declared.setup_fault.SetupFault.TheVariants as setup
 use Rattle.pfl_lab.specs.declared.fault.LabFault.{LabFault}
 use Rattle.pfl_lab.specs.declared.fault.LabFault.TheVariants as lab
-
--- the numbers of faulty limits
-abbrev pub world_number : WorldFault → ℕ
-world_number world.TooSmall = 1
-world_number world.TooLarge = 2
-world_number world.NoMemory = 3
 
 -- a fault of the setup, at the line with the number
 abbrev pub at_line : ℕ → List ℕ → List ℕ

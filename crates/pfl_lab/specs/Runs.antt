@@ -55,10 +55,11 @@ pub record HasWorldFault (old : Option (List ℕ)) (n : ℕ) (why : WorldFault) 
 abbrev pub HasRuleFaultAt : Option (List ℕ) → ℕ → RuleFault → Type 0
 HasRuleFaultAt old n why = (mid : Option (List ℕ)) × HasRuleFault old mid n why
 
--- why limits of a setup whose line `open` has this number are none, where this is their first fault
+-- why no pair opens over limits of a setup whose line `open` has this number: their first fault; where they have none,
+-- want of memory
 abbrev pub IsOpeningStop : LabFault → ℕ → Option WorldFault → Type 0
 IsOpeningStop (fault.World m why) n first = (m ≡ n) × (first ≡ Some why)
-IsOpeningStop fault.NoMemory n first = Unit {0}
+IsOpeningStop fault.NoMemory n first = first ≡ None
 IsOpeningStop _ n first = ⊥
 
 -- why no pair was set up
@@ -100,16 +101,22 @@ pub record IsTold (text : List ℕ) (w v : Option (List ℕ)) (failed : Bool) : 
   pub part : (n : ℕ) × Appends w v (take n text)
 
 -- all lines were executed, and no fault is told
-pub record Ends (old w v f g : Option (List ℕ)) (status : ℕ) : Type 0 where
-  pub new : Option (List ℕ)
+pub record Ends (old new w v f g : Option (List ℕ)) (status : ℕ) : Type 0 where
   pub bad : ℕ
   pub runs : RunsToEnd old new w v bad
   pub quiet : Keeps f g
   pub exit : status ≡ ended_status bad
 
--- the run stopped, and its fault is told
-pub record Stops (old w v f g : Option (List ℕ)) (failed : Bool) (status : ℕ) : Type 0 where
+-- the run stopped, and its fault is told; `broken` says of the writer, and `failed` of what the fault is told to, that it
+-- has failed
+pub record Stops (old : Option (List ℕ)) (reader : Source) (w v : Option (List ℕ)) (broken : Bool)
+    (f g : Option (List ℕ)) (failed : Bool) (status : ℕ) : Type 0 where
   pub fault : LabFault
   pub stop : IsStop fault old w v
+  pub device : IsDeviceFault fault reader broken
   pub told : IsTold (fault_text fault) f g failed
   pub exit : status ≡ fault_status fault
+
+-- a run's exit status: that of its end after so many faulty lines, or that of the fault that stopped it
+abbrev pub IsRunStatus : ℕ → Type 0
+IsRunStatus status = ((bad : ℕ) × (status ≡ ended_status bad)) ⊎ ((why : LabFault) × (status ≡ fault_status why))

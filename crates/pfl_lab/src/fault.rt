@@ -1,15 +1,21 @@
 //! Why a run of the laboratory stopped.
 
-ghost use Rattle.std.specs.Prelude.{◌≡◌, Some};
-ghost use Rattle.pfl_lab.specs.Faults.{fault_text, fault_status, of_world, world_number};
+ghost use Rattle.std.specs.Prelude.{◌≡◌, ◌+◌, ◌≤◌, ◌++◌, length, codes};
+ghost use Rattle.std.specs.Fmt.{decimal};
+ghost use Rattle.arrayvec.specs.ArrayString.{array_string_len};
+ghost use Rattle.pfl_lab.specs.Faults.{at_line, fault_text, fault_status, of_world};
 
+use arrayvec::ArrayString;
+use itoa::Buffer;
 use pfl_lines::LineFault;
 use pfl_rules::RuleFault;
 use pfl_script::{EngineFault, SetupFault};
 use pfl_world::WorldFault;
-use std::fmt;
 
-/// Why a run of the laboratory stopped. Lines count from 1. It prints as the line that tells it.
+/// A line that tells a fault.
+pub type FaultLine = ArrayString<80>;
+
+/// Why a run of the laboratory stopped. Lines count from 1.
 #[derive(Clone, Copy, Debug, PartialEq, Eq)]
 pub enum LabFault {
     /// This line of the setup has a fault.
@@ -30,17 +36,6 @@ pub enum LabFault {
     NoMemory,
 }
 
-/// The number by which a line names the fault of limits.
-fn world_number(fault: WorldFault) -> u8
-    ensures { result ≡ world_number fault }
-{
-    match fault {
-        WorldFault::TooSmall => 1,
-        WorldFault::TooLarge => 2,
-        WorldFault::NoMemory => 3,
-    }
-}
-
 impl LabFault {
     /// A fault of limits, which the line `open` with this number ends.
     pub fn of_world(line: u64, fault: WorldFault) -> LabFault
@@ -49,6 +44,22 @@ impl LabFault {
         match fault {
             WorldFault::TooSmall | WorldFault::TooLarge => LabFault::World(line, fault),
             WorldFault::NoMemory => LabFault::NoMemory,
+        }
+    }
+
+    /// The line that tells the fault; it takes no memory.
+    pub fn line(self) -> FaultLine
+        ensures { result.bytes ≡ fault_text self }
+    {
+        match self {
+            LabFault::Line(line, fault) => numbered_line(line, "line ", fault.number()),
+            LabFault::Rule(line, fault) => numbered_line(line, "rule ", fault.number()),
+            LabFault::World(line, fault) => numbered_line(line, "world ", fault.number()),
+            LabFault::NoOpen(line) => unopened_line(line),
+            LabFault::Read => plain_line("pfl_lab: read\n"),
+            LabFault::Write => plain_line("pfl_lab: write\n"),
+            LabFault::TooManyTurns => plain_line("pfl_lab: too many turns\n"),
+            LabFault::NoMemory => plain_line("pfl_lab: no memory\n"),
         }
     }
 
@@ -63,30 +74,57 @@ impl LabFault {
     }
 }
 
-impl fmt::Display for LabFault {
-    ghost output = { λ fault. Some (fault_text fault) };
+/// Appends a number.
+fn push_number(line: &mut FaultLine, number: u64)
+    requires room { array_string_len line.old ≤ 60 }
+    ensures bytes { line.new.bytes ≡ line.old.bytes ++ decimal number }
+    ensures few { array_string_len line.new ≤ array_string_len line.old + 20 }
+{
+    let mut digits = Buffer::new();
+    line.push_str(digits.format(number));
+}
 
-    fn fmt<W: fmt::Write>(&self, f: &mut fmt::Formatter<W>) -> fmt::Result {
-        match *self {
-            LabFault::Line(line, fault) => {
-                let number = fault.number();
-                writeln!(f, "pfl_lab: setup line {line}: line {number}")
-            }
-            LabFault::Rule(line, fault) => {
-                let number = fault.number();
-                writeln!(f, "pfl_lab: setup line {line}: rule {number}")
-            }
-            LabFault::World(line, fault) => {
-                let number = world_number(fault);
-                writeln!(f, "pfl_lab: setup line {line}: world {number}")
-            }
-            LabFault::NoOpen(line) => writeln!(f, "pfl_lab: setup line {line}: no open"),
-            LabFault::Read => f.write_str("pfl_lab: read\n"),
-            LabFault::Write => f.write_str("pfl_lab: write\n"),
-            LabFault::TooManyTurns => f.write_str("pfl_lab: too many turns\n"),
-            LabFault::NoMemory => f.write_str("pfl_lab: no memory\n"),
-        }
-    }
+/// A line with this text.
+fn plain_line(text: &str) -> FaultLine
+    requires room { length text.now ≤ 80 }
+    ensures bytes { result.bytes ≡ text.now }
+    ensures len { array_string_len result ≡ length text.now }
+{
+    let mut line = ArrayString::new();
+    line.push_str(text);
+    line
+}
+
+/// The first words of the line for a fault of the setup, which is at the line with the number.
+fn setup_line(number: u64) -> FaultLine
+    ensures bytes { result.bytes ≡ codes "pfl_lab: setup line " ++ decimal number ++ codes ": " }
+    ensures few { array_string_len result ≤ 42 }
+{
+    let mut line = plain_line("pfl_lab: setup line ");
+    push_number(&mut line, number);
+    line.push_str(": ");
+    line
+}
+
+/// The line for a fault of the setup that has a number of its own, behind the word that says what it is of.
+fn numbered_line(number: u64, what: &str, fault: u8) -> FaultLine
+    requires short { length what.now ≤ 6 }
+    ensures { result.bytes ≡ at_line number (what.now ++ decimal fault ++ codes "\n") }
+{
+    let mut line = setup_line(number);
+    line.push_str(what);
+    push_number(&mut line, u64::from(fault));
+    line.push_str("\n");
+    line
+}
+
+/// The line for lines that end, after so many, before `open`.
+fn unopened_line(number: u64) -> FaultLine
+    ensures { result.bytes ≡ at_line number (codes "no open\n") }
+{
+    let mut line = setup_line(number);
+    line.push_str("no open\n");
+    line
 }
 
 impl From<SetupFault> for LabFault {

@@ -1,6 +1,9 @@
 //! The laboratory's program: it runs lines over a pair of pf(4) firewalls that share their states by pfsync(4).
 #![tactic(auto)]
 
+ghost use Rattle.std.specs.Prelude.{◌≡◌, map, string_bytes};
+ghost use Rattle.pfl_lab.specs.Modes.{words_status, IsExitStatus};
+
 mod fault;
 mod mode;
 mod run;
@@ -8,7 +11,8 @@ mod run;
 use fault::LabFault;
 use mode::{Mode, WordsFault, mode_of};
 use pfl_base::Std;
-use run::run_lab;
+use pfl_script::LineReader;
+use run::{run_lab, tell};
 use std::env;
 use std::io::{self, ErrorKind};
 use std::process::ExitCode;
@@ -22,29 +26,35 @@ fn words_of(rt: &HostRuntime) -> io::Result<Vec<String>> {
 }
 
 /// Tells want of memory, and answers the exit status.
-fn tell_no_memory(rt: &HostRuntime) -> u8 {
-    match eprint!(rt; "{}", LabFault::NoMemory) {
-        Ok(()) | Err(_) => LabFault::NoMemory.status(),
-    }
+fn tell_no_memory(rt: &HostRuntime) -> u8
+    ensures { result ≡ 3 }
+{
+    tell(LabFault::NoMemory, &mut Std::new(rt.stderr()))
 }
 
-/// Tells why the words ask for no mode, and answers the exit status. A call for help is no fault.
-fn tell_words(rt: &HostRuntime, fault: WordsFault) -> u8 {
-    match fault {
-        WordsFault::Words(error) => match error.print(rt) {
-            Ok(()) if !error.use_stderr() => 0,
-            Ok(()) | Err(_) => BAD_WORDS,
-        },
-        WordsFault::NoMemory => tell_no_memory(rt),
+/// Tells why the words ask for no mode, and answers the exit status.
+fn tell_words(rt: &HostRuntime, fault: WordsFault) -> u8
+    ensures { result ≡ words_status fault }
+{
+    match &fault {
+        WordsFault::Words(error) => {
+            let _ = error.print(rt);
+        }
+        WordsFault::NoMemory => {
+            tell_no_memory(rt);
+        }
     }
+    fault.status()
 }
 
 /// Does what the words ask for, and answers the exit status.
-fn obey(rt: &HostRuntime, words: &[String]) -> u8 {
+fn obey(rt: &HostRuntime, words: &[String]) -> u8
+    ensures { IsExitStatus (map string_bytes words.now) result }
+{
     match mode_of(rt.alloc(), words) {
         Ok(Mode::Run) => run_lab(
             rt.alloc(),
-            Std::new(rt.stdin()),
+            &mut LineReader::new(Std::new(rt.stdin())),
             &mut Std::new(rt.stdout()),
             &mut Std::new(rt.stderr()),
         ),

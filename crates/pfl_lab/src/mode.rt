@@ -4,7 +4,7 @@ ghost use Rattle.std.specs.Prelude.{◌≡◌, [], Some, map, IfOk, IfErr};
 ghost use Rattle.clap.specs.Faults.{fault_of};
 ghost use Rattle.clap.specs.Kinds.{HasKind, Kinds};
 ghost use Rattle.clap.specs.Words.{app_of};
-ghost use Rattle.pfl_lab.specs.Modes.{lab_app, mode_word, subcommand_name, IsWordsFault};
+ghost use Rattle.pfl_lab.specs.Modes.{kind_status, lab_app, mode_word, subcommand_name, words_status, IsWordsFault};
 
 use clap::error::ErrorKind;
 use clap::{Command, Error};
@@ -25,6 +25,28 @@ pub enum WordsFault {
     Words(Error),
     /// There was no memory.
     NoMemory,
+}
+
+/// The exit status for an error of this kind: a call for help or for the version is no fault.
+fn kind_status(kind: ErrorKind) -> u8
+    ensures { result ≡ kind_status kind }
+{
+    match kind {
+        ErrorKind::DisplayHelp | ErrorKind::DisplayVersion => 0,
+        _ => 2,
+    }
+}
+
+impl WordsFault {
+    /// The program's exit status: 0 after a call for help, 3 for want of memory, else 2.
+    pub fn status(&self) -> u8
+        ensures { result ≡ words_status self.now }
+    {
+        match self {
+            WordsFault::Words(error) => kind_status(error.kind()),
+            WordsFault::NoMemory => 3,
+        }
+    }
 }
 
 /// The program's command line.

@@ -3,7 +3,7 @@
 ghost use Rattle.std.specs.Prelude.{◌≡◌, ◌⊎◌, None, false, IfOk, IfErr, OnOk};
 ghost use Rattle.pfl_world.specs.Worlds.{new_world, world_fault};
 ghost use Rattle.pfl_timeline.specs.Timelines.{new_timeline};
-ghost use Rattle.pfl_lab.specs.Faults.{fault_text};
+ghost use Rattle.pfl_lab.specs.Faults.{fault_status, fault_text};
 ghost use Rattle.pfl_lab.specs.Runs.{Ends, IsDeviceFault, IsOpeningStop, IsSetupStop, IsStop, IsTold, RunsToEnd, SetsUp, Stops, ended_status};
 
 use crate::fault::LabFault;
@@ -74,13 +74,6 @@ pub fn run_whole<A: Allocator + Copy, R: Input, W: Output>(
     }
 }
 
-/// The line that tells a fault.
-fn fault_line<A: Allocator>(alloc: A, fault: LabFault) -> Result<Vec<u8, A>, NoMemory>
-    ensures { IfOk result (λ line. line.items ≡ fault_text fault) }
-{
-    Ok(format!(in alloc; "{fault}")?.into_bytes())
-}
-
 /// Writes a text as far as the writer takes it.
 fn tell_text<F: Output>(faults: &mut F, text: &[u8])
     ensures { IsTold text.now (F.written faults.old) (F.written faults.new) (F.has_failed faults.new) }
@@ -88,21 +81,14 @@ fn tell_text<F: Output>(faults: &mut F, text: &[u8])
     let _ = write_text(faults, text);
 }
 
-/// Tells a fault by its line, and answers what was told: where there is no memory for that line, want of memory.
-fn tell<A: Allocator, F: Output>(alloc: A, fault: LabFault, faults: &mut F) -> LabFault
-    ensures which { (result ≡ fault) ⊎ (result ≡ LabFault.NoMemory) }
-    ensures told { IsTold (fault_text result) (F.written faults.old) (F.written faults.new) (F.has_failed faults.new) }
+/// Tells a fault by its line, and answers the program's exit status.
+pub fn tell<F: Output>(fault: LabFault, faults: &mut F) -> u8
+    ensures told { IsTold (fault_text fault) (F.written faults.old) (F.written faults.new) (F.has_failed faults.new) }
+    ensures status { result ≡ fault_status fault }
 {
-    match fault_line(alloc, fault) {
-        Ok(line) => {
-            tell_text(faults, line.as_slice());
-            fault
-        }
-        Err(NoMemory) => {
-            tell_text(faults, b"pfl_lab: no memory\n");
-            LabFault::NoMemory
-        }
-    }
+    let line = fault.line();
+    tell_text(faults, line.as_str().as_bytes());
+    fault.status()
 }
 
 /// The exit status after so many faulty lines.
@@ -115,18 +101,20 @@ fn ended_status(bad: u64) -> u8
 /// Runs the lines of a reader: the first set a pair up, and the others are executed; their replies go to the writer. Why
 /// a run stops is told in one line to `faults`. The answer is the program's exit status: 0, or 1 after a fault or a faulty
 /// line, or 3 for want of memory.
-pub fn run_lab<A: Allocator + Copy, R: Input + Drop, W: Output, F: Output>(
+pub fn run_lab<A: Allocator + Copy, R: Input, W: Output, F: Output>(
     alloc: A,
-    reader: R,
+    reader: &mut LineReader<R>,
     writer: &mut W,
     faults: &mut F,
 ) -> u8
-    ensures { Ends (R.left reader) (W.written writer.old) (W.written writer.new) (F.written faults.old) (F.written faults.new) result
-        ⊎ Stops (R.left reader) (W.written writer.old) (W.written writer.new) (F.written faults.old) (F.written faults.new) (F.has_failed faults.new) result }
+    requires fresh { reader.old.lines ≡ 0 }
+    ensures { Ends reader.old.left reader.new.left (W.written writer.old) (W.written writer.new)
+        (F.written faults.old) (F.written faults.new) result
+        ⊎ Stops reader.old.left reader.new (W.written writer.old) (W.written writer.new) (W.has_failed writer.new)
+        (F.written faults.old) (F.written faults.new) (F.has_failed faults.new) result }
 {
-    let mut reader = LineReader::new(reader);
-    match run_whole(alloc, &mut reader, writer) {
+    match run_whole(alloc, reader, writer) {
         Ok(ended) => ended_status(ended.bad),
-        Err(fault) => tell(alloc, fault, faults).status(),
+        Err(fault) => tell(fault, faults),
     }
 }

@@ -1,59 +1,55 @@
 //! Runs over memory, over devices that fail, and without memory.
 
-mod devices;
-mod refusing;
+mod holding;
+mod matching;
+mod protocols;
+mod purging;
+mod rules;
+mod tcp;
+mod texts;
+mod translation;
+mod windows;
 
 use super::*;
-use devices::{Bytewise, Narrow};
-use refusing::Refusing;
-use std::alloc::Global;
+use pfl_refusing::{Bytewise, Narrow, Refusing};
+use std::alloc::{AllocError, Global};
+
+/// Both nodes pass what goes out.
+const PAIR: &[u8] = b"rule a pass out\nrule b pass out\nopen\n";
+
+const SHOW: &[u8] = b"show main\n";
+
+const BACK: &[u8] = b"back main 1\n";
+
+/// What a packet of the first state of node a is answered.
+const PASSED: &[u8] = b"step pass 1.1 dropped 0\n";
 
 /// The run writes this text, tells this fault, and ends with this status.
 fn runs(alloc: Global, lines: &[u8], text: &[u8], told: &[u8], status: u8) -> bool {
     let mut writer = Std::new(Vec::new(alloc));
     let mut faults = Std::new(Vec::new(alloc));
-    let ended = run_lab(alloc, Std::new(lines), &mut writer, &mut faults);
+    let mut reader = LineReader::new(Std::new(lines));
+    let ended = run_lab(alloc, &mut reader, &mut writer, &mut faults);
     ended == status
         && writer.into_inner().as_slice() == text
         && faults.into_inner().as_slice() == told
 }
 
-#[test]
-fn udp_levels_rise_both_ways(rt: HostRuntime) {
-    assert!(rt;
-        runs(
-            rt.alloc(),
-            b"rule a pass out\nrule b pass out\nopen\n\
-          step main packet a out udp 10.0.0.1:1000 192.0.2.9:53 40\n\
-          step main packet a in udp 192.0.2.9:53 10.0.0.1:1000 80\n\
-          show main\n\
-          step main packet a out udp 10.0.0.1:1000 192.0.2.9:53 40\n\
-          show main\n",
-            b"step pass 1.1 dropped 0\n\
-          step pass 1.1 dropped 0\n\
-          branch main events 2 cursor 2\n\
-          node a clock 0 boot 1 id 2 seq 2 push 0 serve - sync -\n\
-          count a 2 0 0 0 0 0 0\n\
-          state a 1.1 udp out 192.0.2.9:53 10.0.0.1:1000 192.0.2.9:53 10.0.0.1:1000 2 - 0 0 0 1 - 0 0 0 udp.single 0 0 - 0 -\n\
-          queue a ins 1 1.1\n\
-          node b clock 0 boot 2 id 1 seq 1 push 0 serve - sync -\n\
-          count b 0 0 0 0 0 0 0\n\
-          link next 1 boot 3\n\
-          end\n\
-          step pass 1.1 dropped 0\n\
-          branch main events 3 cursor 3\n\
-          node a clock 0 boot 1 id 2 seq 2 push 0 serve - sync -\n\
-          count a 3 0 0 0 0 0 0\n\
-          state a 1.1 udp out 192.0.2.9:53 10.0.0.1:1000 192.0.2.9:53 10.0.0.1:1000 2 - 0 0 0 2 - 0 0 0 udp.multiple 0 0 - 0 -\n\
-          queue a ins 1 1.1\n\
-          node b clock 0 boot 2 id 1 seq 1 push 0 serve - sync -\n\
-          count b 0 0 0 0 0 0 0\n\
-          link next 1 boot 3\n\
-          end\n",
-            b"",
-            0,
-        )
-    );
+/// The parts, one behind another.
+fn joined(alloc: Global, parts: &[&[u8]]) -> Result<Vec<u8>, AllocError> {
+    let mut text = Vec::new(alloc);
+    for part in parts {
+        text.extend_from_slice(part)?;
+    }
+    Ok(text)
+}
+
+/// The lines are good, and are answered by this text.
+fn answers(alloc: Global, lines: &[&[u8]], text: &[&[u8]]) -> bool {
+    match (joined(alloc, lines), joined(alloc, text)) {
+        (Ok(lines), Ok(text)) => runs(alloc, lines.as_slice(), text.as_slice(), b"", 0),
+        _ => false,
+    }
 }
 
 #[test]
@@ -94,26 +90,6 @@ fn refused_events(rt: HostRuntime) {
             b"refused 8 Event 6 ClockFull\n\
           step pass 1.1 dropped 0\n\
           refused 8 Event 5 QueueFull\n",
-            b"",
-            0,
-        )
-    );
-}
-
-#[test]
-fn a_full_table_drops(rt: HostRuntime) {
-    assert!(rt;
-        runs(
-            rt.alloc(),
-            b"set states 1\nrule a pass out\nrule b block any\nopen\n\
-          step main packet a out udp 10.0.0.1:1000 192.0.2.9:53 40\n\
-          step main packet a out udp 10.0.0.1:1001 192.0.2.9:53 40\n\
-          step main packet b out udp 10.0.0.1:1000 192.0.2.9:53 40\n\
-          step main packet b in udp 192.0.2.9:53 10.0.0.1:1000 40\n",
-            b"step pass 1.1 dropped 0\n\
-          step drop full dropped 0\n\
-          step drop block dropped 0\n\
-          step drop block dropped 0\n",
             b"",
             0,
         )
@@ -224,11 +200,11 @@ fn devices_fail(rt: HostRuntime) {
     let alloc = rt.alloc();
     let mut writer = Std::new(Vec::new(alloc));
     let mut faults = Std::new(Vec::new(alloc));
-    let reader = reader_that_fails(b"open\nback main 0\n", 16);
-    let read = run_lab(alloc, reader, &mut writer, &mut faults);
+    let mut failing = LineReader::new(reader_that_fails(b"open\nback main 0\n", 16));
+    let read = run_lab(alloc, &mut failing, &mut writer, &mut faults);
     let mut narrow = Std::new(Narrow::new(3));
-    let lines = b"open\nback main 0\nback main 0\n".as_slice();
-    let written = run_lab(alloc, Std::new(lines), &mut narrow, &mut faults);
+    let mut reader = LineReader::new(Std::new(b"open\nback main 0\nback main 0\n".as_slice()));
+    let written = run_lab(alloc, &mut reader, &mut narrow, &mut faults);
     assert_eq!(rt; (read, written), (1, 1));
     assert!(rt; writer.into_inner().is_empty());
     assert_eq!(rt; narrow.into_inner().len, 3);
@@ -239,18 +215,27 @@ fn devices_fail(rt: HostRuntime) {
 fn without_memory(rt: HostRuntime) {
     let mut writer = Std::new(Vec::new(rt.alloc()));
     let mut faults = Std::new(Vec::new(rt.alloc()));
-    let lines = b"rule a pass out\nopen\n".as_slice();
-    let status = run_lab(Refusing, Std::new(lines), &mut writer, &mut faults);
+    let mut reader = LineReader::new(Std::new(b"rule a pass out\nopen\n".as_slice()));
+    let status = run_lab(Refusing, &mut reader, &mut writer, &mut faults);
     assert_eq!(rt; status, 3);
     assert!(rt; faults.into_inner().as_slice() == b"pfl_lab: no memory\n".as_slice());
 }
 
+#[test]
+fn a_fault_is_told_without_memory(rt: HostRuntime) {
+    let mut writer = Std::new(Vec::new(rt.alloc()));
+    let mut faults = Std::new(Vec::new(rt.alloc()));
+    let mut reader = LineReader::new(Std::new(b"set states x\n".as_slice()));
+    let status = run_lab(Refusing, &mut reader, &mut writer, &mut faults);
+    assert_eq!(rt; status, 1);
+    assert!(rt; faults.into_inner().as_slice() == b"pfl_lab: setup line 1: line 5\n".as_slice());
+}
+
 /// Why the words ask for no mode: the exit status, if they do not.
-fn words_status(alloc: Global, words: &[&str]) -> Option<i32> {
+fn words_status(alloc: Global, words: &[&str]) -> Option<u8> {
     match mode_of(alloc, words) {
         Ok(Mode::Run) => None,
-        Err(WordsFault::Words(error)) => Some(error.exit_code()),
-        Err(WordsFault::NoMemory) => Some(3),
+        Err(fault) => Some(fault.status()),
     }
 }
 

@@ -17,6 +17,3 @@ pub use commands::{LONGEST, parse_line};
 pub use fault::LineFault;
 pub use limit::Limit;
 pub use setup::{SetupLine, parse_setup};
-
-#[cfg(test)]
-mod tests;

@@ -392,11 +392,14 @@ length-values (e ∷ es) = ap (λ (n : ℕ). suc n) (length-values es)
 pub expired-apart : (n : Node) → IsNode n → AreApart (expired_states n)
 expired-apart n is = apart-in_order (expires_before n) _ (apart-filter _ (maps.values n.states) (values-apart n.states is.states))
 
--- the first that has expired stands under its name
+-- each state that has expired stands under its name
+pub expired-stand : (n : Node) → IsNode n → AllByRecursion (λ s. maps.get n.states s.name ≡ Some s) (expired_states n)
+expired-stand n is =
+    all-in_order (λ (s : State). maps.get n.states s.name ≡ Some s) (expires_before n) _ (all-filter (λ (s : State). maps.get n.states s.name ≡ Some s) _ (maps.values n.states) (values-stand n.states is.states))
+
+-- so does the first
 pub first-stands : (n : Node) (s : State) → IsNode n → slice_get (expired_states n) 0 ≡ Some s → maps.get n.states s.name ≡ Some s
-first-stands n s is e =
-    first-all (λ (t : State). maps.get n.states t.name ≡ Some t) (expired_states n) s
-    (all-in_order (λ (t : State). maps.get n.states t.name ≡ Some t) (expires_before n) _ (all-filter (λ (t : State). maps.get n.states t.name ≡ Some t) _ (maps.values n.states) (values-stand n.states is.states))) e
+first-stands n s is e = first-all (λ (t : State). maps.get n.states t.name ≡ Some t) (expired_states n) s (expired-stand n is) e
 
 -- no more have expired than there are
 pub expired-few : (n : Node) → length (expired_states n) ≤ maps.len n.states
@@ -445,7 +448,3 @@ pub row-behind : (n : Node) (at : Option (ℕ × StateName)) (r : Row) → IsNod
 row-behind n at r is e =
     let row = row_is n (slice_get (expired_behind n at) 0) r e in
     next-behind n at r.state is row.0 ∙ ap (λ k. r.state ∷ expired_behind n (Some (k, r.state.name))) (sym row.1)
-
--- the state of the first row has expired first
-pub row-first : (n : Node) (r : Row) → Some r ≡ next_behind n None → slice_get (expired_states n) 0 ≡ Some r.state
-row-first n r e = (row_is n (slice_get (expired_states n) 0) r e).0

@@ -18,3 +18,4 @@ pub mod Reuse
 pub mod Expired
 pub mod Tallying
 pub mod Purged
+pub mod InTurn

@@ -1,5 +1,5 @@
 -- A purge deletes the first state that has expired, and then purges.
-use Rattle.std.specs.Prelude.{◌≡◌, ◌≤◌, ◌<◌, ℕ, ◌+◌, ◌*◌, length, Bool, true, false, ◌||◌, List, [], ◌∷◌, Some, None, refl}
+use Rattle.std.specs.Prelude.{◌≡◌, ◌≤◌, ℕ, ◌+◌, ◌*◌, length, Bool, true, false, ◌||◌, List, [], ◌∷◌, Some, None, refl}
 use Rattle.std.specs.List.{fold, slice_get, list_any}
 use Rattle.std.proofs.Common.{◌∙◌, ap, sym, subst, arith}
 use Rattle.pfl_base.specs.Lists.{folds}
@@ -7,15 +7,13 @@ use Rattle.pfl_base.specs.declared.refusal.Refusal.TheVariants.{QueueFull, Count
 use Rattle.pfl_edits.specs.Changes.{Edits, Extends-none, Extends-then, Extends-more}
 use Rattle.pfl_edits.specs.Maps as maps
 use Rattle.pfl_track.specs.declared.state.State.{State}
-use Rattle.pfl_table.specs.declared.row.Row.{Row}
 use Rattle.pfl_node.specs.declared.edit.NodeEdit.{NodeEdit}
 use Rattle.pfl_node.specs.Edits.{Finds, put_back, NodeExtends}
 use Rattle.pfl_node.specs.Nodes.{Node, IsNode, is_overfull, is_overcounted, refused_by, points_refusal}
 use Rattle.pfl_node.specs.Changes.{deleted}
 use Rattle.pfl_node.specs.Events.{purged, purge_points, expired_states}
-use Rattle.pfl_node.specs.Tallies.{next_behind}
 use Rattle.pfl_node.proofs.Deletions.{Rest, deleted-rest}
-use Rattle.pfl_node.proofs.Expired.{expired-without, first-stands, row-first, none-behind}
+use Rattle.pfl_node.proofs.Expired.{expired-without, first-stands}
 
 -- ---- one deletion after another
 
@@ -85,16 +83,15 @@ pub record IsNext (m : Node) (s : State) : Type 0 where
   pub later : points_refusal (purge_points (deleted m s)) ≡ None
   pub rest : purged m ≡ purged (deleted m s)
 
-pub next-is : (m : Node) (r : Row) → IsNode m → points_refusal (purge_points m) ≡ None → Some r ≡ next_behind m None → IsNext m r.state
-next-is m r is allowed next =
-    let first = row-first m r next in
-    let points = first-allowed (deleted m r.state) (purge_points (deleted m r.state)) (ap points_refusal (sym (points-next m r.state is first)) ∙ allowed) in
+pub next-is : (m : Node) (s : State) → IsNode m → points_refusal (purge_points m) ≡ None → slice_get (expired_states m) 0 ≡ Some s → IsNext m s
+next-is m s is allowed first =
+    let points = first-allowed (deleted m s) (purge_points (deleted m s)) (ap points_refusal (sym (points-next m s is first)) ∙ allowed) in
     record {
-      expired = expired-next m r.state is first;
-      stands = first-stands m r.state is first;
+      expired = expired-next m s is first;
+      stands = first-stands m s is first;
       allowed = points.0;
       later = points.1;
-      rest = purged-next m r.state is first;
+      rest = purged-next m s is first;
     }
 
 pub has-room : (n m : Node) (s : State) (x y : Edits NodeEdit) → IsPurged n m x y → IsNext m s → 5 ≤ y.spare
@@ -119,19 +116,13 @@ purged-more n m k s x y z so next same more =
     } in
     subst (λ (v : Node). IsPurged n v x z) (sym same) all
 
-pub fewer-expired : (m k : Node) (s : State) → IsNext m s → k ≡ deleted m s → length (expired_states k) < length (expired_states m)
-fewer-expired m k s next same =
-    let long = ap (λ (ss : List State). length ss) next.expired in
-    subst (λ (v : Node). length (expired_states v) < length (expired_states m)) (sym same) (omega (arith, long))
-
--- where none is next, the purge is done
+-- where none is left, the purge is done
 pub record IsDone (n m : Node) (x y : Edits NodeEdit) : Type 0 where
   pub node : m ≡ purged n
   pub extends : NodeExtends (5 * length (expired_states n)) x y n m
 
-pub purged-done : (n m : Node) (x y : Edits NodeEdit) → IsPurged n m x y → None ≡ next_behind m None → IsDone n m x y
-purged-done n m x y so none =
-    let empty = none-behind m None none in
+pub purged-done : (n m : Node) (x y : Edits NodeEdit) → IsPurged n m x y → expired_states m ≡ [] → IsDone n m x y
+purged-done n m x y so empty =
     let long = ap (λ (ss : List State). length ss) empty in
     let count = so.count in
     record {

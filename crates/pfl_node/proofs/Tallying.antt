@@ -25,7 +25,7 @@ use Rattle.pfl_table.specs.declared.row.Row.{Row}
 use Rattle.pfl_node.specs.Tallies.{expired_behind, next_behind, no_deletions, with_deletion, purge_tally, tally_refusal}
 use Rattle.pfl_node.proofs.Keeps.{AreCounted, counted_all}
 use Rattle.pfl_node.proofs.Deletions.{deleted-goes, deleted-queue, after}
-use Rattle.pfl_node.proofs.Expired.{AreApart, expired-apart, expired-few, row-behind, none-behind}
+use Rattle.pfl_node.proofs.Expired.{AreApart, expired-apart, expired-few, row-behind}
 
 -- ---- what a deletion does not touch
 
@@ -228,26 +228,31 @@ small-first n is =
       lost = omega (arith, c.lost);
     }
 
--- the tally of the states up to this place
-pub record IsTallied (n : Node) (t : Tally) (at : Option (ℕ × StateName)) : Type 0 where
-  pub rest : fold (with_deletion n) t (expired_behind n at) ≡ purge_tally n
-  pub states : t.states + length (expired_behind n at) ≡ length (expired_states n)
-  pub small : IsSmall t (length (expired_behind n at))
+-- the tally of some states, where these are left
+pub record IsTallied (n : Node) (t : Tally) (left : List State) : Type 0 where
+  pub rest : fold (with_deletion n) t left ≡ purge_tally n
+  pub states : t.states + length left ≡ length (expired_states n)
+  pub small : IsSmall t (length left)
 
-pub tallied-first : (n : Node) (t : Tally) → IsNode n → t ≡ no_deletions n → IsTallied n t None
-tallied-first n t is same = subst (λ (u : Tally). IsTallied n u None) (sym same) (record { rest = refl; states = let same : length (expired_behind n None) ≡ length (expired_states n) = refl in omega (arith, same); small = small-first n is })
+pub tallied-first : (n : Node) (t : Tally) → IsNode n → t ≡ no_deletions n → IsTallied n t (expired_states n)
+tallied-first n t is same = subst (λ (u : Tally). IsTallied n u (expired_states n)) (sym same) (record { rest = refl; states = omega arith; small = small-first n is })
 
-pub tallied-next : (n : Node) (t u : Tally) (at : Option (ℕ × StateName)) (r : Row) (name : StateName) → IsNode n → IsTallied n t at → Some r ≡ next_behind n at → u ≡ with_deletion n t r.state → name ≡ r.state.name → IsTallied n u (Some (r.expires, name))
-tallied-next n t u at r name is so next more named =
-    let behind = row-behind n at r is next in
-    let long = ap (λ (ss : List State). length ss) behind in
-    let small : IsSmall t (suc (length (expired_behind n (Some (r.expires, r.state.name))))) = subst (IsSmall t) long so.small in
-    let one : IsTallied n (with_deletion n t r.state) (Some (r.expires, r.state.name)) = record {
-      rest = ap (fold (with_deletion n) t) (sym behind) ∙ so.rest;
+-- one state more
+pub tallied-next : (n : Node) (t u : Tally) (s : State) (left rest : List State) → IsTallied n t left → left ≡ s ∷ rest → u ≡ with_deletion n t s → IsTallied n u rest
+tallied-next n t u s left rest so next more =
+    let long = ap (λ (ss : List State). length ss) next in
+    let small : IsSmall t (suc (length rest)) = subst (IsSmall t) long so.small in
+    let one : IsTallied n (with_deletion n t s) rest = record {
+      rest = ap (fold (with_deletion n) t) (sym next) ∙ so.rest;
       states = omega (arith, so.states, long);
-      small = small-next n t r.state (length (expired_behind n (Some (r.expires, r.state.name)))) small;
+      small = small-next n t s (length rest) small;
     } in
-    subst (λ (v : Tally). IsTallied n v (Some (r.expires, name))) (sym more) (subst (λ (q : StateName). IsTallied n (with_deletion n t r.state) (Some (r.expires, q))) (sym named) one)
+    subst (λ (v : Tally). IsTallied n v rest) (sym more) one
+
+-- the next one is found behind a place
+pub tallied-behind : (n : Node) (t u : Tally) (at : Option (ℕ × StateName)) (r : Row) (name : StateName) → IsNode n → IsTallied n t (expired_behind n at) → Some r ≡ next_behind n at → u ≡ with_deletion n t r.state → name ≡ r.state.name → IsTallied n u (expired_behind n (Some (r.expires, name)))
+tallied-behind n t u at r name is so next more named =
+    subst (λ (q : StateName). IsTallied n u (expired_behind n (Some (r.expires, q)))) (sym named) (tallied-next n t u r.state (expired_behind n at) (expired_behind n (Some (r.expires, r.state.name))) so (row-behind n at r is next) more)
 
 pub fewer-behind : (n : Node) (at : Option (ℕ × StateName)) (r : Row) (name : StateName) → IsNode n → Some r ≡ next_behind n at → name ≡ r.state.name → length (expired_behind n (Some (r.expires, name))) < length (expired_behind n at)
 fewer-behind n at r name is next named =
@@ -261,8 +266,8 @@ pub record IsLow (t : Tally) : Type 0 where
   pub next : t.next < 2 ^ 40
   pub lost : t.lost < 2 ^ 40
 
-pub tallied-low : (n : Node) (t : Tally) (at : Option (ℕ × StateName)) → IsTallied n t at → IsLow t
-tallied-low n t at so =
+pub tallied-low : (n : Node) (t : Tally) (left : List State) → IsTallied n t left → IsLow t
+tallied-low n t left so =
     let s = so.small in
     record {
       states = omega (arith, s.states);
@@ -271,15 +276,14 @@ tallied-low n t at so =
       lost = omega (arith, s.states, s.lost);
     }
 
--- where none is next, all are tallied
+-- where none is left, all are tallied
 pub record IsWhole (n : Node) (t : Tally) : Type 0 where
   pub tally : t ≡ purge_tally n
   pub states : t.states ≡ length (expired_states n)
   pub few : t.states ≤ 65536
 
-pub tallied-whole : (n : Node) (t : Tally) (at : Option (ℕ × StateName)) → IsTallied n t at → None ≡ next_behind n at → IsWhole n t
-tallied-whole n t at so none =
-    let empty = none-behind n at none in
+pub tallied-whole : (n : Node) (t : Tally) (left : List State) → IsTallied n t left → left ≡ [] → IsWhole n t
+tallied-whole n t left so empty =
     let long = ap (λ (ss : List State). length ss) empty in
     let small = so.small.states in
     record {

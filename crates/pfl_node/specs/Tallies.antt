@@ -1,6 +1,6 @@
 -- What a purge comes to, told before it is done: the states that have expired, one behind another, and a node's numbers after
 -- each deletion. No contract of a public call cites this.
-use Rattle.std.specs.Prelude.{ℕ, ◌+◌, ◌-◌, Bool, true, false, ◌&&◌, ◌||◌, ◌==◌, nat_lt, nat_le, List, filter, Option, Some, None, if◌then◌else◌}
+use Rattle.std.specs.Prelude.{ℕ, ◌+◌, ◌-◌, Bool, true, false, ◌&&◌, ◌||◌, ◌==◌, nat_lt, nat_le, List, map, filter, Option, Some, None, if◌then◌else◌}
 use Rattle.std.specs.List.{fold, slice_get}
 use Rattle.std.specs.Option.{option_map}
 use Rattle.std.specs.Ordering.{is_lt}
@@ -19,6 +19,18 @@ use Rattle.pfl_node.specs.Demands.{one, deletion}
 use Rattle.pfl_node.specs.Events.{expires_before, expired_states}
 
 -- ---- the states that have expired
+
+-- when a state expires, and its name
+abbrev pub place_of : Node → State → ℕ × StateName
+place_of n s = (expiry_at n s, s.name)
+
+-- the same of its row
+abbrev pub place_of_row : Row → ℕ × StateName
+place_of_row r = (r.expires, r.state.name)
+
+-- those of the states that have expired, the first to expire first
+abbrev pub places_due : Node → List (ℕ × StateName)
+places_due n = map (place_of n) (expired_states n)
 
 -- the row stands behind this expiry and name, by expiry, then by name; behind none stands each
 abbrev pub is_behind : Option (ℕ × StateName) → Row → Bool

@@ -1,6 +1,6 @@
-//! The states that have expired, one behind another.
+//! The states that have expired: all of them in turn, and one behind another.
 
-ghost use Rattle.std.specs.Prelude.{◌≡◌, ◌==◌, filter, Some, if◌then◌else◌};
+ghost use Rattle.std.specs.Prelude.{◌≡◌, ◌==◌, filter, map, nat_le, IfOk, Some, if◌then◌else◌};
 ghost use Rattle.std.specs.List.{slice_get};
 ghost use Rattle.std.specs.Option.{option_copied, option_map_or};
 ghost use Rattle.pfl_base.specs.Lists.{in_order};
@@ -9,8 +9,36 @@ ghost use Rattle.pfl_node.specs.Tallies as tallies;
 
 use crate::node::Node;
 use pfl_base::{Millis, StateName};
+use pfl_edits::NoMemory;
 use pfl_table::Row;
 use std::alloc::Allocator;
+
+impl<A: Allocator + Copy> Node<A> {
+    /// When each state that has expired did so, and its name: by expiry, and then by name.
+    pub(crate) fn due_in_turn(&self) -> Result<Vec<(Millis, StateName), A>, NoMemory>
+        ensures turn { IfOk result (λ due. due.items ≡ tallies.places_due self.now) }
+    {
+        let mut due = places_due(self.alloc, self.table.as_slice(), self.clock)?;
+        due.sort_unstable();
+        Ok(due)
+    }
+}
+
+/// When each of the rows that have expired did so, and its name.
+fn places_due<A: Allocator>(
+    alloc: A,
+    rows: &[Row],
+    clock: Millis,
+) -> Result<Vec<(Millis, StateName), A>, NoMemory>
+    ensures places { IfOk result (λ due. due.items ≡ map tallies.place_of_row (filter (λ r. nat_le r.expires clock) rows.now)) }
+{
+    let due = rows
+        .iter()
+        .filter(|row| row.expires <= clock)
+        .map(|row| (row.expires, row.state.name()))
+        .collect(alloc)?;
+    Ok(due)
+}
 
 impl<A: Allocator> Node<A> {
     /// Of the states that have expired and stand behind this expiry and name, the first to expire.

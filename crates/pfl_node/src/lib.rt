@@ -35,6 +35,3 @@ pub use laws::{new_nodes_are_nodes, one_state_per_key, records_leave_the_rest};
 pub use limits::Limits;
 pub use node::Node;
 pub use retried::Retried;
-
-#[cfg(test)]
-mod tests;

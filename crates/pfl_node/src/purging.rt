@@ -1,6 +1,7 @@
 //! What has expired is deleted (pf.conf(5), `interval`).
 
-ghost use Rattle.std.specs.Prelude.{◌≡◌, ◌≤◌, ◌*◌, None, IfOk, IfErr, OnOk, OnErr, length};
+ghost use Rattle.std.specs.Prelude.{◌≡◌, ◌≤◌, ◌*◌, Some, None, IsSome, IfOk, IfErr, OnOk, OnErr, length};
+ghost use Rattle.pfl_edits.specs.Maps as maps;
 ghost use Rattle.pfl_node.specs.Edits.{NodeExtends, NodeLeadsBack};
 ghost use Rattle.pfl_node.specs.Events as event;
 ghost use Rattle.pfl_node.specs.Nodes.{IsRefusal, points_refusal};
@@ -10,8 +11,9 @@ use crate::edit::NodeEdit;
 use crate::node::Node;
 use crate::places::room;
 use crate::tally::Tally;
-use pfl_base::Refusal;
+use pfl_base::{Millis, Refusal, StateName};
 use pfl_edits::Change;
+use pfl_track::State;
 use std::alloc::Allocator;
 
 /// How many edits a deletion records at most.
@@ -30,7 +32,11 @@ impl<A: Allocator + Copy> Node<A> {
         ensures weight { IfOk result (λ r. length r.1.list ≤ 5 * length (event.expired_states self.old)) }
     {
         self.known();
-        let tally = self.purge_tally();
+        let due = match self.due_in_turn() {
+            Ok(due) => due,
+            Err(_) => return Err(self.refusal_without_memory()),
+        };
+        let tally = self.tally_in_turn(&due);
         if let Some(refusal) = tally.refusal() {
             return Err(refusal);
         }
@@ -38,18 +44,27 @@ impl<A: Allocator + Copy> Node<A> {
             Ok(change) => change,
             Err(refusal) => return Err(refusal),
         };
-        self.delete_expired(&mut change);
+        self.delete_expired(&due, &mut change);
         Ok((tally.states, change))
     }
 }
 
 impl<A: Allocator> Node<A> {
-    /// What a purge comes to. It takes no memory, so that want of it does not hide another refusal: the next state is found by a
-    /// scan for the first that stands behind the last.
-    fn purge_tally(&self) -> Tally
+    /// Why a purge is refused where there is no memory for a list of what has expired: the want of it does not hide another
+    /// refusal, which is found without memory.
+    fn refusal_without_memory(&self) -> Refusal
+        ensures refusal { IsRefusal (points_refusal (event.purge_points self.now)) result }
+    {
+        self.known();
+        match self.tally_by_scans().refusal() {
+            Some(refusal) => refusal,
+            None => Refusal::NoMemory,
+        }
+    }
+
+    /// What a purge comes to. It takes no memory: the next state is found by a scan for the first that stands behind the last.
+    fn tally_by_scans(&self) -> Tally
         ensures tally { result ≡ tallies.purge_tally self.now }
-        ensures states { result.states ≡ length (event.expired_states self.now) }
-        ensures few { result.states ≤ 65536 }
     {
         self.known();
         let mut tally = self.no_deletions();
@@ -61,16 +76,44 @@ impl<A: Allocator> Node<A> {
         tally
     }
 
-    /// Deletes all states that have expired, in room that was made.
-    fn delete_expired(&mut self, change: &mut Change<NodeEdit, A>)
+    /// What a purge comes to, where what has expired stands in turn.
+    fn tally_in_turn(&self, due: &[(Millis, StateName)]) -> Tally
+        requires turn { due.now ≡ tallies.places_due self.now }
+        ensures tally { result ≡ tallies.purge_tally self.now }
+        ensures states { result.states ≡ length (event.expired_states self.now) }
+        ensures few { result.states ≤ 65536 }
+    {
+        self.known();
+        let mut tally = self.no_deletions();
+        for (_, name) in due {
+            tally = self.with_deletion(tally, self.standing(*name));
+        }
+        tally
+    }
+
+    /// Deletes all states that have expired, which stand in turn, in room that was made.
+    fn delete_expired(&mut self, due: &[(Millis, StateName)], change: &mut Change<NodeEdit, A>)
+        requires turn { due.now ≡ tallies.places_due self.old }
         requires room { 5 * length (event.expired_states self.old) ≤ change.old.spare }
         requires allowed { points_refusal (event.purge_points self.old) ≡ None }
         ensures node { self.new ≡ event.purged self.old }
         ensures extends { NodeExtends (5 * length (event.expired_states self.old)) change.old change.new self.old self.new }
     {
-        while let Some(row) = self.next_behind(None).copied() {
+        for (_, name) in due {
             self.known();
-            self.delete(&row.state, change);
+            let state = *self.standing(*name);
+            self.delete(&state, change);
+        }
+    }
+
+    /// The state with the name, which there is.
+    fn standing(&self, name: StateName) -> &State
+        requires stands { IsSome (maps.get self.now.states name) }
+        ensures state { maps.get self.now.states name ≡ Some result.now }
+    {
+        match self.table.by_name(name) {
+            Some(state) => state,
+            None => unreachable!(),
         }
     }
 }

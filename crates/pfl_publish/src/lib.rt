@@ -24,6 +24,3 @@ pub use publisher::Publisher;
 pub use seats::{Overtaken, Revision, Told, ViewerSeat, WriterSeat};
 pub use view::Published;
 pub use words::REVISION_WORDS;
-
-#[cfg(test)]
-mod tests;

@@ -7,7 +7,10 @@ use Rattle.pfl_lines.specs.Commands.{parsed}
 use Rattle.pfl_timeline.specs.Timelines.{Timeline}
 use Rattle.pfl_script.specs.Lines.{lines_of}
 use Rattle.pfl_script.specs.Scans.{Kept, Keeps, ReadsLine, TakesLine, TakesLines, IsOver}
-use Rattle.pfl_script.specs.Answers.{Answer, line_answer, is_bad, kept_answer, kept_bad, kept_said, text, after, bad_lines, one_if, Breaks, AreLines, AreFirst, Drains, RunsWhole, RunsPart}
+use Rattle.pfl_script.specs.Answers.{Answer, line_answer, is_bad, is_command, kept_answer, kept_bad, kept_command, kept_said, text, after, bad_lines, one_if, Breaks, IsAfter, AreLines, AreFirst, Drains, RunsWhole, RunsPart, RunsLines, RunsUnanswered, RunsUntil}
+use Rattle.pfl_script.specs.declared.fault.EngineFault.{EngineFault}
+use Rattle.pfl_script.specs.declared.fault.EngineFault.TheVariants as engine
+use Rattle.pfl_script.specs.Readers.{Source, IsReadFault, IsWriteFault}
 use Rattle.pfl_script.proofs.Pieces.{appends_none, appends_then}
 
 -- lines were executed so far
@@ -36,6 +39,11 @@ answer-kept k body t h = rw (h.head, said-kept k body h) refl
 bad-kept : (k : Kept) (body : List ℕ) → Keeps k body → kept_bad k ≡ is_bad body
 unfolding kept_bad is_bad
 bad-kept k body h = rw (h.head, said-kept k body h) refl
+
+-- what is kept of a line is a command where the line is
+command-kept : (k : Kept) (body : List ℕ) → Keeps k body → kept_command k ≡ is_command body
+unfolding kept_command is_command
+command-kept k body h = rw (h.head, said-kept k body h) refl
 
 -- one line more
 after-push : (lines : List (List ℕ)) (line : List ℕ) (t : Timeline) → after (lines ++ line ∷ []) t ≡ (line_answer line (after lines t)).timeline
@@ -186,6 +194,55 @@ Ran-broken old mid new t u s w v x n bad k ran reads (inr h) =
       counted = ran.counted;
       faulty = ran.faulty;
     })
+
+-- what was written for the lines is whole
+pub Ran-lines : (old mid : Option (List ℕ)) (t u : Timeline) (w v : Option (List ℕ)) (n bad : ℕ) →
+    Ran old mid t u w v n bad → RunsLines old t u w v
+Ran-lines old mid t u w v n bad ran = record {
+  lines = ran.lines;
+  first = taken-first old mid ran.lines ran.left;
+  timeline = ran.timeline;
+  written = ran.written;
+}
+
+-- the timeline after a command without an answer
+after-kept : (k : Kept) (line : List ℕ) (t u s : Timeline) → Keeps k line → u ≡ t → IsAfter (kept_answer k u) u s → IsAfter (line_answer line t) t s
+after-kept k line t u s keeps e (inl h) =
+    inl (h ∙ ap (λ (a : Answer). a.timeline) (answer-kept k line u keeps ∙ ap (line_answer line) e))
+after-kept k line t u s keeps e (inr h) = inr (h ∙ e)
+
+-- the last line, a command, has no answer
+pub Ran-unanswered : (old mid new : Option (List ℕ)) (t u s : Timeline) (w v x : Option (List ℕ)) (n bad : ℕ) (k : Kept) →
+    Ran old mid t u w v n bad → ReadsLine k mid new → kept_command k ≡ true → x ≡ v → IsAfter (kept_answer k u) u s →
+    RunsUnanswered old new t s w x
+Ran-unanswered old mid new t u s w v x n bad k ran reads command same moved = record {
+  lines = ran.lines;
+  last = reads.body;
+  taken = taken-line old mid new ran.lines reads.body ran.left reads.takes;
+  command = sym (command-kept k reads.body reads.keeps) ∙ command;
+  timeline = after-kept k reads.body (after ran.lines t) u s reads.keeps ran.timeline moved;
+  written = rw same ran.written;
+}
+
+-- no further line came, for this reason
+pub until-read : (e : EngineFault) (r : Source) (old mid new : Option (List ℕ)) (t u : Timeline) (w v : Option (List ℕ)) (n bad : ℕ) →
+    Ran old mid t u w v n bad → IsReadFault e r → RunsUntil e old new t u w v
+until-read engine.Read r old mid new t u w v n bad ran why = Ran-lines old mid t u w v n bad ran
+until-read engine.TooManyTurns r old mid new t u w v n bad ran why = Ran-lines old mid t u w v n bad ran
+until-read engine.Write r old mid new t u w v n bad ran why = absurd why
+until-read engine.NoMemory r old mid new t u w v n bad ran why = absurd why
+
+-- the last line's answer failed, for this reason
+pub until-answer : (e : EngineFault) (failed : Bool) (old mid new : Option (List ℕ)) (t u s : Timeline) (w v x : Option (List ℕ)) (n bad : ℕ) (k : Kept) →
+    Ran old mid t u w v n bad → ReadsLine k mid new → IsWriteFault e failed → Breaks (kept_answer k u) u s v x →
+    (e ≡ engine.NoMemory → kept_command k ≡ true) → (e ≡ engine.NoMemory → x ≡ v) → IsAfter (kept_answer k u) u s →
+    RunsUntil e old new t s w x
+until-answer engine.Write failed old mid new t u s w v x n bad k ran reads why breaks command same moved =
+    Ran-broken old mid new t u s w v x n bad k ran reads breaks
+until-answer engine.NoMemory failed old mid new t u s w v x n bad k ran reads why breaks command same moved =
+    Ran-unanswered old mid new t u s w v x n bad k ran reads (command refl) (same refl) moved
+until-answer engine.Read failed old mid new t u s w v x n bad k ran reads why breaks command same moved = absurd why
+until-answer engine.TooManyTurns failed old mid new t u s w v x n bad k ran reads why breaks command same moved = absurd why
 
 -- one line is at most one faulty line
 pub one_if-le : (b : Bool) → one_if b ≤ 1

@@ -1,18 +1,24 @@
 -- A setup is read line by line.
-use Rattle.std.proofs.Common.{◌≡◌, ℕ, ◌+◌, Bool, true, false, List, [], ◌∷◌, ◌++◌, length, refl, sym, ◌∙◌, ap, subst, arith, length-append, inl, inr, Option, Some, Ok, Err}
-use Rattle.std.specs.Prelude.{◌&&◌, Result, IfOk, IfErr}
+use Rattle.std.proofs.Common.{◌≡◌, ℕ, ◌+◌, Bool, true, false, List, [], ◌∷◌, ◌++◌, length, refl, sym, ◌∙◌, ap, subst, arith, length-append, inl, inr, cond, Option, Some, None, Ok, Err}
+use Rattle.std.specs.Prelude.{◌&&◌, Result, IfOk, IfErr, OnErr, unwrap_or}
+use Rattle.pfl_rules.specs.declared.fault.RuleFault.{RuleFault}
+use Rattle.pfl_rules.specs.declared.fault.RuleFault.TheVariants as rule
+use Rattle.pfl_rules.specs.declared.rule.Rule.{Rule}
+use Rattle.pfl_rules.specs.Rules.{rule_fault}
+use Rattle.std.specs.Option.{option_or}
 use Rattle.std.proofs.lemmas.Bool.{lt-ltb, le-ltb, cases_lt}
 use Rattle.std.proofs.lemmas.List.{take_all}
 use Rattle.std.proofs.lemmas.List.Folds.{list_all-append}
 use Rattle.std.proofs.lemmas.List.Sums.{fold-append}
 use Rattle.pfl_lines.specs.declared.fault.LineFault.{LineFault}
 use Rattle.pfl_lines.specs.Setup.{parsed_setup}
-use Rattle.pfl_script.specs.Scans.{Kept, Keeps, ReadsLine, TakesLines, IsOver}
+use Rattle.pfl_lines.specs.declared.setup.SetupLine.{SetupLine}
+use Rattle.pfl_script.specs.Scans.{Kept, Keeps, ReadsLine, TakesLines, IsOver, has_word}
 use Rattle.pfl_script.specs.Answers.{kept_setup}
 use Rattle.pfl_script.specs.declared.setup_fault.SetupFault.{SetupFault}
 use Rattle.pfl_script.specs.declared.setup_fault.SetupFault.TheVariants as fault
 use Rattle.pfl_script.specs.Readers.{Source}
-use Rattle.pfl_script.specs.Setups.{first_rule_fault, IsSetupFault, IsTakeFault, IsRuleStop, Draft, nothing_set, said, kept_words, set_by_said, goes_on, drafted, all_go_on, Opens, IsFaultyAt, IsUnopened, Takes}
+use Rattle.pfl_script.specs.Setups.{is_rule, says_rule, IsSetupFault, IsTakeFault, IsRuleStop, IsFinishStop, IsReadStop, Draft, nothing_set, said, kept_words, set_by_said, goes_on, drafted, all_go_on, Opens, IsFaultyAt, IsUnopened, Takes, WantsRule, GoOn, StopsAt}
 use Rattle.pfl_script.proofs.Running.{taken-none, taken-line, taken-first, taken-all}
 
 -- lines were taken so far that set this
@@ -104,6 +110,27 @@ Going-end old mid new n d h over = record {
   number = h.number;
 }
 
+-- there is no memory for a rule
+Going-short : (old mid new : Option (List ℕ)) (n : ℕ) (d : Draft) (k : Kept) →
+    Going old mid n d → ReadsLine k mid new → says_rule (kept_words k) ≡ true → WantsRule old new (n + 1)
+Going-short old mid new n d k h reads wants = record {
+  before = h.lines;
+  last = reads.body;
+  taken = taken-line old mid new h.lines reads.body h.taken reads.takes;
+  going = h.going;
+  rule = sym (ap says_rule (words-kept k reads.body reads.keeps)) ∙ wants;
+  number = omega (arith, h.number);
+}
+
+-- the lines so far go on with the setup
+Going-first : (old mid : Option (List ℕ)) (n : ℕ) (d : Draft) → Going old mid n d → GoOn old n
+Going-first old mid n d h = record {
+  lines = h.lines;
+  first = taken-first old mid h.lines h.taken;
+  going = h.going;
+  number = h.number;
+}
+
 -- a line that was not taken ends the setup
 pub stops-taken : (old mid : Option (List ℕ)) (new : Source) (n : ℕ) (d : Draft) (k : Kept) (e : SetupFault) →
     Going old mid n d → ReadsLine k mid new.left → IsTakeFault e (n + 1) (kept_words k) → IsSetupFault e old new
@@ -113,17 +140,89 @@ stops-taken old mid new n d k (fault.Rule m why) h reads stop = absurd stop
 stops-taken old mid new n d k (fault.NoOpen m) h reads stop = absurd stop
 stops-taken old mid new n d k fault.Read h reads stop = absurd stop
 stops-taken old mid new n d k fault.TooManyTurns h reads stop = absurd stop
-stops-taken old mid new n d k fault.NoMemory h reads stop = tt
+stops-taken old mid new n d k fault.NoMemory h reads stop = (n + 1, inl (Going-short old mid new.left n d k h reads stop))
 
 -- rules that are no rule sets end the setup
 pub stops-finished : (old : Option (List ℕ)) (new : Source) (n : ℕ) (d : Draft) (e : SetupFault) →
-    Opens old new.left n d → IsRuleStop e n (first_rule_fault d) → IsSetupFault e old new
+    Opens old new.left n d → IsFinishStop e n d → IsSetupFault e old new
 stops-finished old new n d (fault.Line m why) h stop = absurd stop
 stops-finished old new n d (fault.Rule m why) h stop = record { draft = d; opens = subst (λ (i : ℕ). Opens old new.left i d) (sym stop.0) h; first = stop.1 }
 stops-finished old new n d (fault.NoOpen m) h stop = absurd stop
 stops-finished old new n d fault.Read h stop = absurd stop
 stops-finished old new n d fault.TooManyTurns h stop = absurd stop
-stops-finished old new n d fault.NoMemory h stop = tt
+stops-finished old new n d fault.NoMemory h stop = (n, inr (record { draft = d; opens = h; faultless = stop }))
+
+-- so many lines were read where no line came
+pub counts-read : (e : SetupFault) (s : Source) (old mid new : Option (List ℕ)) (n : ℕ) (d : Draft) → Going old mid n d → IsReadStop e s → StopsAt e old new n
+counts-read fault.Read s old mid new n d h stop = Going-first old mid n d h
+counts-read fault.TooManyTurns s old mid new n d h stop = Going-first old mid n d h
+counts-read (fault.Line m why) s old mid new n d h stop = absurd stop
+counts-read (fault.Rule m why) s old mid new n d h stop = absurd stop
+counts-read (fault.NoOpen m) s old mid new n d h stop = absurd stop
+counts-read fault.NoMemory s old mid new n d h stop = absurd stop
+
+-- so many lines were read where a line was not taken
+pub counts-taken : (e : SetupFault) (old mid new : Option (List ℕ)) (n : ℕ) (d : Draft) (k : Kept) →
+    Going old mid n d → ReadsLine k mid new → IsTakeFault e (n + 1) (kept_words k) → StopsAt e old new (n + 1)
+counts-taken (fault.Line m why) old mid new n d k h reads stop = sym stop.0
+counts-taken fault.NoMemory old mid new n d k h reads stop = inl (Going-short old mid new n d k h reads stop)
+counts-taken (fault.Rule m why) old mid new n d k h reads stop = absurd stop
+counts-taken (fault.NoOpen m) old mid new n d k h reads stop = absurd stop
+counts-taken fault.Read old mid new n d k h reads stop = absurd stop
+counts-taken fault.TooManyTurns old mid new n d k h reads stop = absurd stop
+
+-- so many lines were read where rules are no rule sets
+pub counts-finished : (e : SetupFault) (old new : Option (List ℕ)) (n : ℕ) (d : Draft) → Opens old new n d → IsFinishStop e n d → StopsAt e old new n
+counts-finished (fault.Rule m why) old new n d h stop = sym stop.0
+counts-finished fault.NoMemory old new n d h stop = inr (record { draft = d; opens = h; faultless = stop })
+counts-finished (fault.Line m why) old new n d h stop = absurd stop
+counts-finished (fault.NoOpen m) old new n d h stop = absurd stop
+counts-finished fault.Read old new n d h stop = absurd stop
+counts-finished fault.TooManyTurns old new n d h stop = absurd stop
+
+-- the first of three faults is none where memory is wanting in its place
+three_faults : (a b c : Bool) →
+    rule.NoMemory ≡ unwrap_or (cond a (Some rule.TooMany) (cond b (Some rule.NatNotOut) (cond c (Some rule.ZeroMax) None))) rule.NoMemory →
+    cond a (Some rule.TooMany) (cond b (Some rule.NatNotOut) (cond c (Some rule.ZeroMax) None)) ≡ None
+three_faults true b c h = cc
+three_faults false true c h = cc
+three_faults false false true h = cc
+three_faults false false false h = refl
+
+-- rules have no fault where memory is wanting for their set
+pub faultless-rules : (rules : List Rule) → rule.NoMemory ≡ unwrap_or (rule_fault rules) rule.NoMemory → rule_fault rules ≡ None
+faultless-rules rules h = three_faults _ _ _ h
+
+-- node a's rules are no rule set
+pub finish-a : (e : SetupFault) (n : ℕ) (d : Draft) → IsRuleStop e n (rule_fault d.a) → IsFinishStop e n d
+finish-a (fault.Rule m why) n d stop = (stop.0, ap (λ (o : Option RuleFault). option_or o (rule_fault d.b)) stop.1)
+finish-a fault.NoMemory n d stop = stop
+finish-a (fault.Line m why) n d stop = absurd stop
+finish-a (fault.NoOpen m) n d stop = absurd stop
+finish-a fault.Read n d stop = absurd stop
+finish-a fault.TooManyTurns n d stop = absurd stop
+
+-- node b's rules are no rule set
+pub finish-b : (e : SetupFault) (n : ℕ) (d : Draft) → rule_fault d.a ≡ None → IsRuleStop e n (rule_fault d.b) → IsFinishStop e n d
+finish-b (fault.Rule m why) n d none stop = (stop.0, ap (λ (o : Option RuleFault). option_or o (rule_fault d.b)) none ∙ stop.1)
+finish-b fault.NoMemory n d none stop = none
+finish-b (fault.Line m why) n d none stop = absurd stop
+finish-b (fault.NoOpen m) n d none stop = absurd stop
+finish-b fault.Read n d none stop = absurd stop
+finish-b fault.TooManyTurns n d none stop = absurd stop
+
+-- what a line says that has a word
+words-said : (k : Kept) (r : Result SetupLine LineFault) → has_word k.head ≡ true → kept_setup k ≡ r → kept_words k ≡ Some r
+unfolding kept_words
+words-said k r h e = rw (h, e) refl
+
+-- there is no memory for what the line says
+pub take-short : (r : Result Bool SetupFault) (n : ℕ) (k : Kept) (s : SetupLine) → has_word k.head ≡ true → kept_setup k ≡ Ok s →
+    IfErr r (λ e. e ≡ fault.NoMemory) → OnErr r (is_rule s ≡ true) → IfErr r (λ e. IsTakeFault e n (kept_words k))
+take-short (Ok b) n k s h e none rule = tt
+take-short (Err f) n k s h e none rule =
+    let said : says_rule (kept_words k) ≡ true = ap says_rule (words-said k (Ok s) h e) ∙ rule in
+    rw none said
 
 -- what is true of each good value
 pub on-ok : {X E : Type 0} {P Q : X → Type 0} (r : Result X E) → ((x : X) → P x → Q x) → IfOk r P → IfOk r Q

@@ -136,6 +136,15 @@ settled-carriage : (k : Kept) (c : Bool) → k.carriage ≡ c → (cond c (count
 settled-carriage k true e = refl
 settled-carriage k false e = e
 
+-- of nothing nothing was taken
+Begins-start : (old : Option (List ℕ)) → Begins old old [] false
+Begins-start None = tt
+Begins-start (Some xs) = refl
+
+-- no byte was taken yet
+pub Reads-start : (old : Option (List ℕ)) → Reads nothing old old
+Reads-start old = record { body = []; keeps = record { bytes = refl; long = refl; head = refl }; begins = Begins-start old }
+
 -- a CR was taken
 Reads-carriage : (k : Kept) (old mid new : Option (List ℕ)) (body : List ℕ) → Keeps k body → Begins old mid body false →
     TakesByte mid new (Some 13) → Reads (record { bytes = k.bytes; long = k.long; head = k.head; carriage = true }) old new

@@ -1,5 +1,5 @@
 -- What lines do to a timeline, and the text of their replies.
-use Rattle.std.specs.Prelude.{◌≡◌, ◌≤◌, ℕ, ◌+◌, Bool, true, false, ◌&&◌, is_err, List, [], ◌∷◌, ◌++◌, length, take, if◌then◌else◌, Option, Some, None, ⊤, ◌⊎◌, Result, Ok, Err}
+use Rattle.std.specs.Prelude.{◌≡◌, ◌≤◌, ℕ, ◌+◌, Bool, true, false, not, ◌&&◌, is_err, List, [], ◌∷◌, ◌++◌, length, take, if◌then◌else◌, Option, Some, None, ⊤, ◌⊎◌, Result, Ok, Err}
 use Rattle.std.specs.Io.KnownBytes.{Appends, Keeps as KeepsBytes}
 use Rattle.pfl_timeline.specs.declared.command.Command.{Command}
 use Rattle.pfl_lines.specs.declared.fault.LineFault.{LineFault}
@@ -9,7 +9,9 @@ use Rattle.pfl_lines.specs.declared.setup.SetupLine.{SetupLine}
 use Rattle.pfl_lines.specs.Setup.{parsed_setup}
 use Rattle.pfl_timeline.specs.Timelines.{Timeline}
 use Rattle.pfl_script.specs.Lines.{lines_of}
-use Rattle.pfl_script.specs.Scans.{Kept, head_of, has_word}
+use Rattle.pfl_script.specs.Scans.{Kept, head_of, has_word, TakesLines}
+use Rattle.pfl_script.specs.declared.fault.EngineFault.{EngineFault}
+use Rattle.pfl_script.specs.declared.fault.EngineFault.TheVariants as engine
 use Rattle.pfl_timeline.specs.Commands.{command_step}
 use Rattle.pfl_script.specs.Texts.{bad_text}
 use Rattle.pfl_script.specs.Replies.{reply_text}
@@ -31,6 +33,10 @@ line_answer line t = if has_word (head_of line) then answer_to (parsed line) t e
 -- the line is faulty
 unfoldable pub is_bad : List ℕ → Bool
 is_bad line = has_word (head_of line) && is_err (parsed line)
+
+-- the line is a command
+unfoldable pub is_command : List ℕ → Bool
+is_command line = has_word (head_of line) && not (is_err (parsed line))
 
 -- what is written for lines
 abbrev pub text : List (List ℕ) → Timeline → List ℕ
@@ -67,6 +73,14 @@ kept_answer k t = if has_word k.head then answer_to (kept_said k) t else record 
 -- the line of which this is kept is faulty
 unfoldable pub kept_bad : Kept → Bool
 kept_bad k = has_word k.head && is_err (kept_said k)
+
+-- the line of which this is kept is a command
+unfoldable pub kept_command : Kept → Bool
+kept_command k = has_word k.head && not (is_err (kept_said k))
+
+-- the timeline is that of the answer, or as it was
+abbrev pub IsAfter : Answer → Timeline → Timeline → Type 0
+IsAfter answer t u = (u ≡ answer.timeline) ⊎ (u ≡ t)
 
 -- the answer stands and its text was written in part, or nothing was done
 abbrev pub Breaks : Answer → Timeline → Timeline → Option (List ℕ) → Option (List ℕ) → Type 0
@@ -107,3 +121,26 @@ pub record RunsPart (old : Option (List ℕ)) (t u : Timeline) (w v : Option (Li
   pub timeline : u ≡ after (lines ++ last) t
   pub part : ℕ
   pub written : Appends w v (text lines t ++ take part (text last (after lines t)))
+
+-- First lines were read: the timeline is the one that they give, and their whole text was written.
+pub record RunsLines (old : Option (List ℕ)) (t u : Timeline) (w v : Option (List ℕ)) : Type 0 where
+  pub lines : List (List ℕ)
+  pub first : AreFirst old lines
+  pub timeline : u ≡ after lines t
+  pub written : Appends w v (text lines t)
+
+-- First lines were read, the last of them a command: it was executed or not, and the whole text of those before it was written.
+pub record RunsUnanswered (old new : Option (List ℕ)) (t u : Timeline) (w v : Option (List ℕ)) : Type 0 where
+  pub lines : List (List ℕ)
+  pub last : List ℕ
+  pub taken : TakesLines old new (lines ++ last ∷ [])
+  pub command : is_command last ≡ true
+  pub timeline : IsAfter (line_answer last (after lines t)) (after lines t) u
+  pub written : Appends w v (text lines t)
+
+-- what a run did before this fault
+abbrev pub RunsUntil : EngineFault → Option (List ℕ) → Option (List ℕ) → Timeline → Timeline → Option (List ℕ) → Option (List ℕ) → Type 0
+RunsUntil engine.Read old new t u w v = RunsLines old t u w v
+RunsUntil engine.TooManyTurns old new t u w v = RunsLines old t u w v
+RunsUntil engine.Write old new t u w v = RunsPart old t u w v
+RunsUntil engine.NoMemory old new t u w v = RunsUnanswered old new t u w v

@@ -28,6 +28,10 @@ IsReadFault NoMemory s = ⊥
 abbrev pub one_more : ℕ → ℕ
 one_more n = min (n + 1) (2 ^ 64 - 1)
 
+-- such a count after so many more
+abbrev pub counted_on : ℕ → ℕ → ℕ
+counted_on n more = min (n + more) (2 ^ 64 - 1)
+
 -- the count after a line, or none
 abbrev pub lines_after : Option Kept → ℕ → ℕ
 lines_after None n = n

@@ -1,5 +1,5 @@
 -- How lines set up a pair (this project's profile).
-use Rattle.std.specs.Prelude.{◌≡◌, ℕ, ◌+◌, Bool, true, false, not, ◌==◌, List, [], ◌∷◌, ◌++◌, length, if◌then◌else◌, Option, Some, None, Result, Ok, Err}
+use Rattle.std.specs.Prelude.{◌≡◌, ℕ, ◌+◌, Bool, true, false, not, ◌==◌, List, [], ◌∷◌, ◌++◌, length, if◌then◌else◌, Option, Some, None, ◌⊎◌, Result, Ok, Err}
 use Rattle.std.specs.List.{fold, list_all}
 use Rattle.std.specs.Option.{option_or}
 use Rattle.pfl_base.specs.declared.node_id.NodeId.{NodeId}
@@ -17,7 +17,7 @@ use Rattle.pfl_lines.specs.Setup.{parsed_setup}
 use Rattle.pfl_script.specs.declared.setup_fault.SetupFault.{SetupFault}
 use Rattle.pfl_script.specs.declared.setup_fault.SetupFault.TheVariants as fault
 use Rattle.pfl_script.specs.Scans.{Kept, head_of, has_word, TakesLines}
-use Rattle.pfl_script.specs.Readers.{Source}
+use Rattle.pfl_script.specs.Readers.{Source, counted_on}
 use Rattle.pfl_script.specs.Answers.{AreLines, AreFirst, kept_setup}
 
 -- what lines have set: limits, and the rules of either node
@@ -63,6 +63,11 @@ abbrev pub is_open : SetupLine → Bool
 is_open setup.Open = true
 is_open _ = false
 
+-- the setup line gives a node one rule more
+abbrev pub is_rule : SetupLine → Bool
+is_rule (setup.Rule node rule) = true
+is_rule _ = false
+
 -- what a line says, if it has a word and is no comment
 unfoldable pub said : List ℕ → Option (Result SetupLine LineFault)
 said line = if has_word (head_of line) then Some (parsed_setup line) else None
@@ -82,6 +87,11 @@ abbrev pub goes_on : Option (Result SetupLine LineFault) → Bool
 goes_on None = true
 goes_on (Some (Err fault)) = false
 goes_on (Some (Ok line)) = not (is_open line)
+
+-- a rule is said
+abbrev pub says_rule : Option (Result SetupLine LineFault) → Bool
+says_rule (Some (Ok line)) = is_rule line
+says_rule _ = false
 
 -- what lines set, one after another: of each limit the last value, and each node's rules in their order
 unfoldable pub drafted : List (List ℕ) → Draft
@@ -147,6 +157,25 @@ pub record HasRuleFault (old new : Option (List ℕ)) (n : ℕ) (why : RuleFault
   pub opens : Opens old new n draft
   pub first : first_rule_fault draft ≡ Some why
 
+-- there was no memory for the rule of line n, and no line before it ends the setup
+pub record WantsRule (old new : Option (List ℕ)) (n : ℕ) : Type 0 where
+  pub before : List (List ℕ)
+  pub last : List ℕ
+  pub taken : TakesLines old new (before ++ last ∷ [])
+  pub going : all_go_on before ≡ true
+  pub rule : says_rule (said last) ≡ true
+  pub number : n ≡ length before + 1
+
+-- there was no memory for the rule sets of a setup whose line `open` is number n; node a's rules have no fault
+pub record WantsRuleSets (old new : Option (List ℕ)) (n : ℕ) : Type 0 where
+  pub draft : Draft
+  pub opens : Opens old new n draft
+  pub faultless : rule_fault draft.a ≡ None
+
+-- there was no memory at line n
+abbrev pub WantsMemory : Option (List ℕ) → Option (List ℕ) → ℕ → Type 0
+WantsMemory old new n = WantsRule old new n ⊎ WantsRuleSets old new n
+
 -- why no setup was read
 abbrev pub IsSetupFault : SetupFault → Option (List ℕ) → Source → Type 0
 IsSetupFault (fault.Line n why) old new = IsFaultyAt old n why
@@ -154,7 +183,27 @@ IsSetupFault (fault.Rule n why) old new = HasRuleFault old new.left n why
 IsSetupFault (fault.NoOpen n) old new = IsUnopened old n
 IsSetupFault fault.Read old new = new.failed ≡ true
 IsSetupFault fault.TooManyTurns old new = new.turns ≡ 16777216
-IsSetupFault fault.NoMemory old new = Unit {0}
+IsSetupFault fault.NoMemory old new = (n : ℕ) × WantsMemory old new.left n
+
+-- none of first lines, which are n, ends the setup
+pub record GoOn (old : Option (List ℕ)) (n : ℕ) : Type 0 where
+  pub lines : List (List ℕ)
+  pub first : AreFirst old lines
+  pub going : all_go_on lines ≡ true
+  pub number : n ≡ length lines
+
+-- so many lines were read before this fault, that of the fault among them
+abbrev pub StopsAt : SetupFault → Option (List ℕ) → Option (List ℕ) → ℕ → Type 0
+StopsAt (fault.Line m why) old new n = n ≡ m
+StopsAt (fault.Rule m why) old new n = n ≡ m
+StopsAt (fault.NoOpen m) old new n = n ≡ m
+StopsAt fault.Read old new n = GoOn old n
+StopsAt fault.TooManyTurns old new n = GoOn old n
+StopsAt fault.NoMemory old new n = WantsMemory old new n
+
+-- the lines that were read before this fault were counted
+abbrev pub CountsLines : SetupFault → Source → Source → Type 0
+CountsLines e old new = (n : ℕ) × StopsAt e old.left new.left n × (new.lines ≡ counted_on old.lines n)
 
 -- what a line was taken for: `opened` says that it is `open`
 abbrev pub Takes : Bool → Option (Result SetupLine LineFault) → Draft → Draft → Type 0
@@ -164,14 +213,20 @@ Takes false s d e = (goes_on s ≡ true) × (e ≡ set_by_said d s)
 -- why line n was not taken
 abbrev pub IsTakeFault : SetupFault → ℕ → Option (Result SetupLine LineFault) → Type 0
 IsTakeFault (fault.Line m why) n s = (m ≡ n) × (s ≡ Some (Err why))
-IsTakeFault fault.NoMemory n s = Unit {0}
+IsTakeFault fault.NoMemory n s = says_rule s ≡ true
 IsTakeFault _ n s = ⊥
 
--- why the rules of line n's setup are no rule sets, where this is their first fault
+-- why one node's rules of line n's setup are no rule set, where this is their first fault
 abbrev pub IsRuleStop : SetupFault → ℕ → Option RuleFault → Type 0
 IsRuleStop (fault.Rule m why) n first = (m ≡ n) × (first ≡ Some why)
-IsRuleStop fault.NoMemory n first = Unit {0}
+IsRuleStop fault.NoMemory n first = first ≡ None
 IsRuleStop _ n first = ⊥
+
+-- why line n's setup is none: the first fault of its rules, or no memory where node a's have none
+abbrev pub IsFinishStop : SetupFault → ℕ → Draft → Type 0
+IsFinishStop (fault.Rule m why) n d = (m ≡ n) × (first_rule_fault d ≡ Some why)
+IsFinishStop fault.NoMemory n d = rule_fault d.a ≡ None
+IsFinishStop _ n d = ⊥
 
 -- why no line came
 abbrev pub IsReadStop : SetupFault → Source → Type 0

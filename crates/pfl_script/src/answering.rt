@@ -1,8 +1,8 @@
 //! The answer to one line.
 
-ghost use Rattle.std.specs.Prelude.{◌≡◌, IfOk, OnOk, OnErr, IfErr};
+ghost use Rattle.std.specs.Prelude.{◌≡◌, true, IfOk, OnOk, OnErr, IfErr};
 ghost use Rattle.std.specs.Io.KnownBytes.{Appends};
-ghost use Rattle.pfl_script.specs.Answers.{answer_to, kept_answer, kept_bad, Breaks};
+ghost use Rattle.pfl_script.specs.Answers.{answer_to, kept_answer, kept_bad, kept_command, Breaks, IsAfter};
 ghost use Rattle.pfl_script.specs.Readers.{IsWriteFault};
 
 use crate::fault::EngineFault;
@@ -24,6 +24,8 @@ fn answer_command<A: Allocator, B: Allocator + Copy, W: Output>(
     ensures text { OnOk result (Appends (W.written writer.old) (W.written writer.new) (answer_to (Ok command) timeline.old).text) }
     ensures stays { OnOk result (W.has_failed writer.new ≡ W.has_failed writer.old) }
     ensures breaks { OnErr result (Breaks (answer_to (Ok command) timeline.old) timeline.old timeline.new (W.written writer.old) (W.written writer.new)) }
+    ensures untouched { IfErr result (λ e. e ≡ EngineFault.NoMemory → writer.new ≡ writer.old) }
+    ensures after { OnErr result (IsAfter (answer_to (Ok command) timeline.old) timeline.old timeline.new) }
     ensures fault { IfErr result (λ e. IsWriteFault e (W.has_failed writer.new)) }
 {
     let Ok(reply) = timeline.command(command) else {
@@ -33,7 +35,7 @@ fn answer_command<A: Allocator, B: Allocator + Copy, W: Output>(
 }
 
 /// Executes a line, if it has a word and is no comment, writes its reply, and says whether it is faulty.
-#[tactic(auto, unfolding(crate::specs::Answers::kept_answer, crate::specs::Answers::kept_bad))]
+#[tactic(auto, unfolding(crate::specs::Answers::kept_answer, crate::specs::Answers::kept_bad, crate::specs::Answers::kept_command))]
 pub fn answer_line<A: Allocator, B: Allocator + Copy, W: Output>(
     alloc: A,
     line: &Line,
@@ -45,6 +47,9 @@ pub fn answer_line<A: Allocator, B: Allocator + Copy, W: Output>(
     ensures text { OnOk result (Appends (W.written writer.old) (W.written writer.new) (kept_answer line.now timeline.old).text) }
     ensures stays { OnOk result (W.has_failed writer.new ≡ W.has_failed writer.old) }
     ensures breaks { OnErr result (Breaks (kept_answer line.now timeline.old) timeline.old timeline.new (W.written writer.old) (W.written writer.new)) }
+    ensures command { IfErr result (λ e. e ≡ EngineFault.NoMemory → kept_command line.now ≡ true) }
+    ensures untouched { IfErr result (λ e. e ≡ EngineFault.NoMemory → writer.new ≡ writer.old) }
+    ensures after { OnErr result (IsAfter (kept_answer line.now timeline.old) timeline.old timeline.new) }
     ensures fault { IfErr result (λ e. IsWriteFault e (W.has_failed writer.new)) }
 {
     if !line.has_word() {

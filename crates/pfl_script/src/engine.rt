@@ -1,8 +1,8 @@
 //! Runs of lines.
 
-ghost use Rattle.std.specs.Prelude.{◌≡◌, ◌+◌, ◌<◌, ◌^◌, IfOk, OnErr, IfErr};
-ghost use Rattle.pfl_script.specs.Answers.{RunsWhole, RunsPart, one_if};
-ghost use Rattle.pfl_script.specs.Readers.{IsRunFault};
+ghost use Rattle.std.specs.Prelude.{◌≡◌, ◌+◌, ◌<◌, ◌≤◌, ◌^◌, IfOk, OnOk, OnErr, IfErr};
+ghost use Rattle.pfl_script.specs.Answers.{RunsWhole, RunsPart, RunsUntil, one_if};
+ghost use Rattle.pfl_script.specs.Readers.{IsRunFault, counted_on};
 
 use crate::answering::answer_line;
 use crate::fault::EngineFault;
@@ -42,7 +42,12 @@ pub fn run_lines<A: Allocator + Copy, B: Allocator + Copy, R: Input, W: Output>(
 ) -> Result<Ended, EngineFault>
     ensures whole { IfOk result (λ e. RunsWhole reader.old.left reader.new.left timeline.old timeline.new
         (W.written writer.old) (W.written writer.new) e.lines e.bad) }
+    ensures lines { IfOk result (λ e. reader.new.lines ≡ counted_on reader.old.lines e.lines) }
     ensures part { OnErr result (RunsPart reader.old.left timeline.old timeline.new (W.written writer.old) (W.written writer.new)) }
+    ensures until { IfErr result (λ e. RunsUntil e reader.old.left reader.new.left timeline.old timeline.new (W.written writer.old) (W.written writer.new)) }
+    ensures few { reader.new.turns ≤ 16777216 }
+    ensures stays { OnOk result (reader.new.failed ≡ reader.old.failed) }
+    ensures writer_stays { OnOk result (W.has_failed writer.new ≡ W.has_failed writer.old) }
     ensures fault { IfErr result (λ e. IsRunFault e reader.new (W.has_failed writer.new)) }
 {
     reader.begin();

@@ -33,6 +33,3 @@ pub use setup::{Setup, default_limits, read_setup};
 pub use setup_fault::SetupFault;
 pub use state_lines::StateLine;
 pub use writing::{write_reply, write_text};
-
-#[cfg(test)]
-mod tests;

@@ -49,6 +49,7 @@ impl<R: Input> LineReader<R> {
     pub fn new(device: R) -> Self
         ensures left { result.left ≡ R.left device }
         ensures lines { result.lines ≡ 0 }
+        ensures turns { result.turns ≡ 0 }
         ensures failed { result.failed ≡ R.has_failed device }
     {
         LineReader {
@@ -80,6 +81,8 @@ impl<R: Input> LineReader<R> {
     pub fn begin(&mut self)
         ensures left { self.new.left ≡ self.old.left }
         ensures lines { self.new.lines ≡ self.old.lines }
+        ensures counted { self.new.lines < 2 ^ 64 }
+        ensures turns { self.new.turns ≡ 0 }
         ensures failed { self.new.failed ≡ self.old.failed }
         ensures room { room self.new ≤ 2 ^ 40 }
     {
@@ -93,6 +96,7 @@ impl<R: Input> LineReader<R> {
         ensures end { IfOk result (λ _. self.new.waiting ≡ 0 → IsAtEnd self.new.left) }
         ensures room { OnOk result (room self.new ≤ room self.old) }
         ensures lines { self.new.lines ≡ self.old.lines }
+        ensures few { self.old.turns ≤ 16777216 → self.new.turns ≤ 16777216 }
         ensures stays { OnOk result (self.new.failed ≡ self.old.failed) }
         ensures fault { IfErr result (λ e. IsReadFault e self.new) }
     {
@@ -123,6 +127,7 @@ impl<R: Input> LineReader<R> {
         ensures taken { TakesByte self.old.left self.new.left (Some result) }
         ensures room { room self.new < room self.old }
         ensures lines { self.new.lines ≡ self.old.lines }
+        ensures turns { self.new.turns ≡ self.old.turns }
         ensures stays { self.new.failed ≡ self.old.failed }
     {
         let byte = self.buffer[self.start];
@@ -136,6 +141,7 @@ impl<R: Input> LineReader<R> {
         ensures spent { OnOk result (room self.new ≤ room self.old) }
         ensures room { IfOk result (λ o. IfSome o (λ _. room self.new < room self.old)) }
         ensures lines { self.new.lines ≡ self.old.lines }
+        ensures few { self.old.turns ≤ 16777216 → self.new.turns ≤ 16777216 }
         ensures stays { OnOk result (self.new.failed ≡ self.old.failed) }
         ensures fault { IfErr result (λ e. IsReadFault e self.new) }
     {
@@ -154,6 +160,7 @@ impl<R: Input> LineReader<R> {
         ensures left { self.new.left ≡ self.old.left }
         ensures room { room self.new ≡ room self.old }
         ensures lines { self.new.lines ≡ one_more self.old.lines }
+        ensures turns { self.new.turns ≡ self.old.turns }
         ensures stays { self.new.failed ≡ self.old.failed }
     {
         self.lines = self.lines.saturating_add(1);
@@ -164,6 +171,8 @@ impl<R: Input> LineReader<R> {
         ensures line { IfOk result (λ o. Gives self.old.left self.new.left o) }
         ensures room { IfOk result (λ o. IfSome o (λ _. room self.new < room self.old)) }
         ensures lines { IfOk result (λ o. self.new.lines ≡ lines_after o self.old.lines) }
+        ensures uncounted { OnErr result (self.new.lines ≡ self.old.lines) }
+        ensures few { self.old.turns ≤ 16777216 → self.new.turns ≤ 16777216 }
         ensures stays { OnOk result (self.new.failed ≡ self.old.failed) }
         ensures fault { IfErr result (λ e. IsReadFault e self.new) }
     {

@@ -1,10 +1,10 @@
 //! Setups of pairs.
 
-ghost use Rattle.std.specs.Prelude.{◌≡◌, ◌<◌, [], IfOk, IfErr, IfSome, OnOk, Ok, None, Some};
+ghost use Rattle.std.specs.Prelude.{◌≡◌, ◌<◌, ◌≤◌, [], true, IfOk, IfErr, IfSome, OnOk, OnErr, Ok, None, Some};
 ghost use Rattle.pfl_rules.specs.Rules.{rule_fault, rule_set};
 ghost use Rattle.pfl_script.specs.Readers.{lines_after, room};
 ghost use Rattle.pfl_script.specs.Scans.{Gives};
-ghost use Rattle.pfl_script.specs.Setups.{default_limits, first_rule_fault, kept_words, nothing_set, with_limit, with_rule, Finishes, IsReadStop, IsRuleStop, IsSetupFault, IsTakeFault, ReadsSetup, ReadsSetupTo, Takes};
+ghost use Rattle.pfl_script.specs.Setups.{default_limits, kept_words, nothing_set, with_limit, with_rule, is_rule, CountsLines, Finishes, IsFinishStop, IsReadStop, IsRuleStop, IsSetupFault, IsTakeFault, ReadsSetup, ReadsSetupTo, Takes};
 
 use crate::fault::EngineFault;
 use crate::line::Line;
@@ -124,6 +124,7 @@ impl<A: Allocator> SetupDraft<A> {
     fn take_setup(&mut self, setup: SetupLine) -> Result<bool, SetupFault>
         ensures taken { IfOk result (λ opened. Takes opened (Some (Ok setup)) self.old self.new) }
         ensures fault { IfErr result (λ e. e ≡ SetupFault.NoMemory) }
+        ensures rule { OnErr result (is_rule setup ≡ true) }
     {
         match setup {
             SetupLine::Set { limit, n } => {
@@ -178,7 +179,7 @@ fn finish<A: Allocator + Copy>(
     number: u64,
 ) -> Result<Setup<A>, SetupFault>
     ensures setup { IfOk result (λ s. Finishes draft s.limits s.rules_a s.rules_b) }
-    ensures fault { IfErr result (λ e. IsRuleStop e number (first_rule_fault draft)) }
+    ensures fault { IfErr result (λ e. IsFinishStop e number draft) }
 {
     let SetupDraft { limits, a, b } = draft;
     let rules_a = rule_set_of(alloc, a, number)?;
@@ -195,6 +196,8 @@ fn next_of<R: Input>(reader: &mut LineReader<R>) -> Result<Option<Line>, SetupFa
     ensures line { IfOk result (λ o. Gives reader.old.left reader.new.left o) }
     ensures room { IfOk result (λ o. IfSome o (λ _. room reader.new < room reader.old)) }
     ensures lines { IfOk result (λ o. reader.new.lines ≡ lines_after o reader.old.lines) }
+    ensures uncounted { OnErr result (reader.new.lines ≡ reader.old.lines) }
+    ensures few { reader.old.turns ≤ 16777216 → reader.new.turns ≤ 16777216 }
     ensures stays { OnOk result (reader.new.failed ≡ reader.old.failed) }
     ensures fault { IfErr result (λ e. IsReadStop e reader.new) }
 {
@@ -214,6 +217,8 @@ pub fn read_setup<A: Allocator + Copy, R: Input>(
     ensures setup { IfOk result (λ s. ReadsSetup reader.old.left reader.new.left s.limits s.rules_a s.rules_b) }
     ensures counted { IfOk result (λ s. reader.old.lines ≡ 0 → ReadsSetupTo reader.old.left reader.new.left reader.new.lines s.limits s.rules_a s.rules_b) }
     ensures fault { IfErr result (λ e. IsSetupFault e reader.old.left reader.new) }
+    ensures lines { IfErr result (λ e. CountsLines e reader.old reader.new) }
+    ensures few { reader.new.turns ≤ 16777216 }
     ensures stays { OnOk result (reader.new.failed ≡ reader.old.failed) }
 {
     reader.begin();

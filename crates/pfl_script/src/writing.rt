@@ -37,6 +37,7 @@ pub fn write_reply<A: Allocator, B: Allocator + Copy, W: Output>(
 ) -> Result<(), EngineFault>
     ensures whole { OnOk result (Appends (W.written writer.old) (W.written writer.new) (reply_text reply.now)) }
     ensures stays { OnOk result (W.has_failed writer.new ≡ W.has_failed writer.old) }
+    ensures untouched { IfErr result (λ e. e ≡ EngineFault.NoMemory → writer.new ≡ writer.old) }
     ensures part { OnErr result ((n : ℕ) × Appends (W.written writer.old) (W.written writer.new) (take n (reply_text reply.now))) }
     ensures fault { IfErr result (λ e. IsWriteFault e (W.has_failed writer.new)) }
 {

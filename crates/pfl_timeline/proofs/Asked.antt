@@ -31,7 +31,7 @@ unfolding world_of
 shown_there r w t here stands = ap (λ (o : World). run o (standing r.branch)) stands.opening ∙ here
 
 -- what is asked of its world
-asked_of : (done : World → Replied) (r : Rooted) (w : World) (t : Timeline) → shown r ≡ Some w → StandsIn t r
+pub asked_of : (done : World → Replied) (r : Rooted) (w : World) (t : Timeline) → shown r ≡ Some w → StandsIn t r
     → option_map_or done (world_of t r.branch) (replied t (Refusing refused.NoBranch)) ≡ done w
 asked_of done r w t here stands = ap (λ (o : Option World). option_map_or done o (replied t (Refusing refused.NoBranch))) (shown_there r w t here stands)
 

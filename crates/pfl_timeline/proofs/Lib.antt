@@ -4,3 +4,7 @@ pub mod Runs
 pub mod Places
 pub mod Searched
 pub mod Asked
+pub mod Wants
+pub mod Prefixes
+pub mod Keeping
+pub mod Stepped

@@ -11,9 +11,10 @@ use Rattle.pfl_edits.specs.Rows.{some_is_none}
 use Rattle.pfl_world.specs.Worlds.{World, IsWorld}
 use Rattle.pfl_timeline.specs.Commands.{replied, with_branch, with_changed}
 use Rattle.pfl_timeline.specs.Kept.{opening_of, timeline_of, AreKept}
+use Rattle.pfl_timeline.specs.Memory.{is_refusal, IsAccepted}
 use Rattle.pfl_timeline.specs.declared.refused.Refused.TheVariants as refused
 use Rattle.pfl_timeline.specs.Replies.{Reply, Replied, Refused as Refusing}
-use Rattle.pfl_timeline.specs.Rooted.{Rooted, StandsIn, IsReplyOf}
+use Rattle.pfl_timeline.specs.Rooted.{Rooted, StandsIn, Accepts, IsReplyOf}
 use Rattle.pfl_timeline.specs.Timelines.{Branch, Timeline, IsBranch, branch_of, main_name, same_name}
 use Rattle.pfl_timeline.proofs.NewTimelines.{new_timeline-is}
 
@@ -213,6 +214,14 @@ module _ (name : List ℕ) (rs : List Rooted) (i : ℕ) (old new : Rooted) (plac
       ∙ ap (λ (u : Timeline). replied u reply) (with_new spot.front spot.here new spot.rest h.opening h.name kept_spot)
       ∙ ap (λ (xs : List Rooted). replied (timeline_of xs) reply) is_new
 
+  pub accepted-here : (asked : Timeline → Branch → Replied) → Accepts asked old → IsAccepted (with_branch (timeline_of rs) name (asked (timeline_of rs)))
+  accepted-here asked accepts =
+      let t = timeline_of rs in
+      let same = ap timeline_of spot.whole in
+      let h : Accepts asked spot.here = subst (λ (r : Rooted). Accepts asked r) (sym is_old) accepts in
+      ap (λ (b : Option Branch). is_refusal (option_map_or (asked t) b (replied t (Refusing refused.NoBranch))).reply) spot.found
+      ∙ h t (subst (λ (u : Timeline). StandsIn u spot.here) (sym same) (stands spot.front spot.here spot.rest kept_spot))
+
   pub kept-here : new.opening ≡ old.opening → new.branch.name ≡ old.branch.name → IsBranch new.opening new.branch → AreKept (set rs i new)
   kept-here opening called is =
       subst AreKept is_new (still_kept spot.front spot.here new spot.rest (opening ∙ ap (λ (r : Rooted). r.opening) (sym is_old)) (called ∙ ap (λ (r : Rooted). r.branch.name) (sym is_old)) kept_spot is)
@@ -247,6 +256,12 @@ pub told-still : (asked : Timeline → Branch → Replied) (name : List ℕ) (rs
     → position (has_name name) rs ≡ Some i → old ≡ get_or rs i old → AreKept rs → IsReplyOf asked old old reply → with_branch t name (asked t) ≡ replied t reply
 told-still asked name rs i old t reply view place here kept answered =
     told-at asked name rs i old old t reply view place here kept answered ∙ ap (λ (u : Timeline). replied u reply) (same_there rs i old old here refl ∙ view)
+
+-- what the branch of the name accepts is accepted
+pub accepted-at : (asked : Timeline → Branch → Replied) (name : List ℕ) (rs : List Rooted) (i : ℕ) (old : Rooted) (t : Timeline) → timeline_of rs ≡ t
+    → position (has_name name) rs ≡ Some i → old ≡ get_or rs i old → AreKept rs → Accepts asked old → IsAccepted (with_branch t name (asked t))
+accepted-at asked name rs i old t view place here kept accepts =
+    subst (λ (u : Timeline). IsAccepted (with_branch u name (asked u))) view (accepted-here name rs i old old place here kept asked accepts)
 
 -- ---- the first timeline
 

@@ -39,7 +39,7 @@ edits_of-last [] c = append-nil c.list
 edits_of-last (x ∷ cs) c = ap (λ (es : List WorldEdit). x.list ++ es) (edits_of-last cs c) ∙ sym (append_assoc x.list (edits_of cs) c.list)
 
 -- one event more
-run-last : (w : World) (es : List Event) (e : Event) → run w (es ++ e ∷ []) ≡ option_and_then (λ v. after (step v e)) (run w es)
+pub run-last : (w : World) (es : List Event) (e : Event) → run w (es ++ e ∷ []) ≡ option_and_then (λ v. after (step v e)) (run w es)
 unfolding run
 run-last w es e = fold_push (λ at e. option_and_then (λ v. after (step v e)) at) (Some w) es e
 

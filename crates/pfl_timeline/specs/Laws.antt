@@ -1,7 +1,46 @@
 -- Laws of timelines, in their own words (this project's profile).
+use Rattle.std.specs.Prelude.{◌≡◌, ◌≢◌, List, [], ◌∷◌, length, map, Some, is_some, IsTrue}
+use Rattle.std.specs.List.{AllByRecursion}
+use Rattle.pfl_base.specs.declared.refusal.Refusal.TheVariants.{NoMemory}
+use Rattle.pfl_world.specs.declared.event.Event.{Event}
+use Rattle.pfl_world.specs.Runs.{run}
 use Rattle.pfl_world.specs.Worlds.{World, IsWorld}
-use Rattle.pfl_timeline.specs.Timelines.{IsTimeline, new_timeline}
+use Rattle.pfl_timeline.specs.declared.command.Command.{Command}
+use Rattle.pfl_timeline.specs.declared.command.Command.TheVariants as command
+use Rattle.pfl_timeline.specs.declared.refused.Refused.TheVariants as refused
+use Rattle.pfl_timeline.specs.Commands.{show_command, command_step, replayed}
+use Rattle.pfl_timeline.specs.Replies as reply
+use Rattle.pfl_timeline.specs.Timelines.{Timeline, IsTimeline, new_timeline, main_name, world_of}
 
 -- the one branch `main` over a world is a timeline
 abbrev pub NewTimelinesAreTimelines : Type 0
 NewTimelinesAreTimelines = (w : World) → IsWorld w → IsTimeline (new_timeline w)
+
+-- whatever commands come, refused ones too, they leave a timeline
+abbrev pub CommandsKeepTimelines : Type 0
+CommandsKeepTimelines = (t : Timeline) (cs : List Command) → IsTimeline t → IsTimeline (replayed t cs)
+
+-- each branch of a timeline shows a world
+abbrev pub BranchesShowWorlds : Type 0
+BranchesShowWorlds = (t : Timeline) → IsTimeline t → AllByRecursion (λ b. IsTrue (is_some (world_of t b))) t.branches
+
+-- no reply tells want of memory, which is answered in place of a reply
+abbrev pub NoReplyTellsWantOfMemory : Type 0
+NoReplyTellsWantOfMemory = (t : Timeline) (c : Command) → (command_step t c).reply ≢ reply.Refused (refused.Event NoMemory)
+
+-- a step of each event on `main`
+abbrev pub steps : List Event → List Command
+steps es = map (command.Step main_name) es
+
+-- the one branch `main` with these events, which all stand
+abbrev pub all_stand : World → List Event → Timeline
+all_stand opening es = record { opening = opening; branches = record { name = main_name; events = es; cursor = length es } ∷ [] }
+
+-- the events, stepped one after another on the opening, all stand, and `main` shows the world
+pub record StepsShow (opening : World) (es : List Event) (w : World) : Type 0 where
+  pub timeline : replayed (new_timeline opening) (steps es) ≡ all_stand opening es
+  pub shown : (show_command (replayed (new_timeline opening) (steps es)) main_name).reply ≡ reply.Shown main_name (length es) (length es) w
+
+-- events that have a run, stepped one after another, show the world of their run
+abbrev pub StepsAreRuns : Type 0
+StepsAreRuns = (opening : World) (es : List Event) (w : World) → run opening es ≡ Some w → StepsShow opening es w

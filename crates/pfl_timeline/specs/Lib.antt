@@ -2,6 +2,7 @@ pub mod Words
 pub mod Timelines
 pub mod Replies
 pub mod Commands
+pub mod Memory
 pub mod Answers
 pub mod Rooted
 pub mod Kept

@@ -3,6 +3,7 @@ use Rattle.std.specs.Prelude.{◌≡◌, Option}
 use Rattle.pfl_world.specs.Worlds.{World}
 use Rattle.pfl_world.specs.Runs.{run}
 use Rattle.pfl_timeline.specs.Commands.{replied, with_changed}
+use Rattle.pfl_timeline.specs.Memory.{IsAccepted}
 use Rattle.pfl_timeline.specs.Replies.{Reply, Replied}
 use Rattle.pfl_timeline.specs.Timelines.{Branch, Timeline, standing}
 
@@ -25,3 +26,7 @@ pub record IsReplyOf (asked : Timeline → Branch → Replied) (old new : Rooted
   pub opening : new.opening ≡ old.opening
   pub name : new.branch.name ≡ old.branch.name
   pub told : (t : Timeline) → StandsIn t old → asked t old.branch ≡ replied (with_changed t new.branch) reply
+
+-- what is asked of a branch is refused in none of its timelines
+abbrev pub Accepts : (asked : Timeline → Branch → Replied) (r : Rooted) → Type 0
+Accepts asked r = (t : Timeline) → StandsIn t r → IsAccepted (asked t r.branch)

@@ -6,7 +6,7 @@ ghost use Rattle.pfl_world.specs.Outcomes.{told};
 ghost use Rattle.pfl_world.specs.Worlds.{World as Pair};
 ghost use Rattle.pfl_timeline.specs.Commands.{step_reply, back_reply, show_reply, extended, undone};
 ghost use Rattle.pfl_timeline.specs.Replies.{Refused as Refusing};
-ghost use Rattle.pfl_timeline.specs.Rooted.{shown, IsReplyOf};
+ghost use Rattle.pfl_timeline.specs.Rooted.{shown, Accepts, IsReplyOf};
 ghost use Rattle.pfl_timeline.specs.Timelines.{IsBranch, is_branch_name, same_name};
 
 use crate::answer::Answer;
@@ -85,7 +85,8 @@ fn put<A: Allocator>(
 
 /// The reply to an event that did not happen, unless it wanted memory.
 fn refused<A: Allocator>(refusal: Refusal) -> Result<Reply<A>, NoMemory>
-    ensures { IfOk result (λ reply. (refusal ≢ Refusal.NoMemory) × (reply ≡ Refusing (Refused.Event refusal))) }
+    ensures reply { IfOk result (λ reply. (refusal ≢ Refusal.NoMemory) × (reply ≡ Refusing (Refused.Event refusal))) }
+    ensures memory { OnErr result (refusal ≡ Refusal.NoMemory) }
 {
     match refusal {
         Refusal::NoMemory => Err(NoMemory),
@@ -210,6 +211,7 @@ impl<A: Allocator + Copy> Branch<A> {
     /// memory, nothing changes.
     pub(crate) fn step(&mut self, event: &Event) -> Result<Reply<A>, NoMemory>
         ensures reply { IfOk result (IsReplyOf (λ t b. step_reply t event.now b) self.old self.new) }
+        ensures memory { OnErr result (Accepts (λ t b. step_reply t event.now b) self.old) }
         ensures unchanged { OnErr result (self.new ≡ self.old) }
         ensures opening { self.new.opening ≡ self.old.opening }
         ensures name { self.new.branch.name ≡ self.old.branch.name }
@@ -223,6 +225,7 @@ impl<A: Allocator + Copy> Branch<A> {
     /// The branch, with a copy of the world that it shows.
     pub(crate) fn show(&self) -> Result<Reply<A>, NoMemory>
         ensures reply { IfOk result (IsReplyOf show_reply self.now self.now) }
+        ensures memory { OnErr result (Accepts show_reply self.now) }
     {
         let world = self.world().copy()?;
         Ok(Reply::from(Answer::Shown {

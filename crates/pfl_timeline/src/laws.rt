@@ -1,8 +1,24 @@
 //! Laws of timelines. They have no code: each is a theorem over the definitions, which a function's contract names.
 
-ghost use Rattle.pfl_timeline.specs.Laws.{NewTimelinesAreTimelines};
+ghost use Rattle.pfl_timeline.specs.Laws.{NewTimelinesAreTimelines, CommandsKeepTimelines, BranchesShowWorlds, NoReplyTellsWantOfMemory, StepsAreRuns};
 
 /// The timeline that opens over a world keeps all that is true of each timeline.
 pub fn new_timelines_are_timelines()
     ensures { NewTimelinesAreTimelines }
+{}
+
+/// Commands leave all that is true of each timeline, and so each of its branches shows a world.
+pub fn commands_keep_timelines()
+    ensures kept { CommandsKeepTimelines }
+    ensures shown { BranchesShowWorlds }
+{}
+
+/// No reply tells want of memory, which is answered in place of a reply.
+pub fn no_reply_tells_want_of_memory()
+    ensures { NoReplyTellsWantOfMemory }
+{}
+
+/// Events that are stepped one after another show the world of their run.
+pub fn steps_are_runs()
+    ensures { StepsAreRuns }
 {}

@@ -13,7 +13,10 @@ mod word;
 pub use answer::Answer;
 pub use branch::Branch;
 pub use command::Command;
-pub use laws::new_timelines_are_timelines;
+pub use laws::{
+    commands_keep_timelines, new_timelines_are_timelines, no_reply_tells_want_of_memory,
+    steps_are_runs,
+};
 pub use refused::Refused;
 pub use reply::Reply;
 pub use timeline::Timeline;

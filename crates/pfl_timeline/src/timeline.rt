@@ -3,6 +3,7 @@
 ghost use Rattle.std.specs.Prelude.{◌≡◌, map, position, IfOk, OnErr};
 ghost use Rattle.std.specs.List.{AllByRecursion};
 ghost use Rattle.pfl_timeline.specs.Commands.{replied, step_command, back_command, show_command, command_step};
+ghost use Rattle.pfl_timeline.specs.Memory.{IsAccepted, MayWantMemory};
 ghost use Rattle.pfl_timeline.specs.Timelines.{IsTimeline, new_timeline, same_name};
 
 use crate::answer::Answer;
@@ -97,6 +98,7 @@ impl<A: Allocator + Copy> Timeline<A> {
     /// Puts an event behind those before the branch's cursor.
     fn step(&mut self, name: &BranchWord, event: &Event) -> Result<Reply<A>, NoMemory>
         ensures step { IfOk result (λ reply. step_command self.old name.now event.now ≡ replied self.new reply) }
+        ensures memory { OnErr result (IsAccepted (step_command self.old name.now event.now)) }
         ensures unchanged { OnErr result (self.new ≡ self.old) }
     {
         match place_of(&self.branches, name) {
@@ -113,17 +115,19 @@ impl<A: Allocator + Copy> Timeline<A> {
     /// The branch, with a copy of its world.
     fn show(&self, name: &BranchWord) -> Result<Reply<A>, NoMemory>
         ensures step { IfOk result (λ reply. show_command self.now name.now ≡ replied self.now reply) }
+        ensures memory { OnErr result (IsAccepted (show_command self.now name.now)) }
     {
-        match place_of(&self.branches, name) {
-            None => Ok(Reply::from(Answer::Refused(Refused::NoBranch))),
-            Some(place) => self.branches[place].show(),
-        }
+        let Some(place) = place_of(&self.branches, name) else {
+            return Ok(Reply::from(Answer::Refused(Refused::NoBranch)));
+        };
+        self.branches[place].show()
     }
 
     /// Carries a command out: the reply and the timeline are those of its definition, so a refusal changes nothing. Where
-    /// there is no memory, nothing changes either.
+    /// there is no memory, nothing changes either. Memory is wanted last: by no way back, and by no command that is refused.
     pub fn command(&mut self, command: Command) -> Result<Reply<A>, NoMemory>
         ensures step { IfOk result (λ reply. command_step self.old command ≡ replied self.new reply) }
+        ensures memory { OnErr result (MayWantMemory self.old command) }
         ensures unchanged { OnErr result (self.new ≡ self.old) }
     {
         match command {

@@ -70,6 +70,3 @@ pub use frame::Frame;
 pub use message::{BulkStatus, Message, StateRecord, UpdateRecord};
 pub use read_frame::decode;
 pub use write_frame::encode;
-
-#[cfg(test)]
-mod tests;

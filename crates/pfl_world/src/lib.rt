@@ -18,6 +18,3 @@ pub use fault::WorldFault;
 pub use laws::new_worlds_are_worlds;
 pub use outcome::Outcome;
 pub use world::World;
-
-#[cfg(test)]
-mod tests;

@@ -1,18 +1,29 @@
-use Rattle.std.proofs.Common.{arith, ◌≡◌, ◌<◌, ◌+◌, Bool, Option, subst, ◌∙◌, IfSome}
+use Rattle.std.proofs.Common.{arith, refl, ◌≡◌, ◌<◌, ◌+◌, Bool, Option, subst, ◌∙◌, IfSome}
 use Rattle.std.proofs.lemmas.Result.{err_from_is_err_and}
 use Rattle.pfl_script.specs.Scans.{Kept, Gives}
 use Rattle.pfl_script.specs.Readers.{lines_after, room}
 use Rattle.pfl_script.specs.Setups.{Takes, kept_words}
-use Rattle.pfl_script.proofs.Setting.{Going-none, Going-more, Going-open, stops-taken, stops-finished, on-ok, on-err}
+use Rattle.pfl_script.proofs.Setting.{Going-none, Going-more, Going-open, stops-taken, stops-finished, counts-read, counts-taken, counts-finished, on-ok, on-err}
 use Rattle.pfl_script.proofs.setup.read_setup.Goals as goal
 
 pub loop-draft-init : goal.loop-draft-init
 loop-draft-init g c = record {
   going = rw c.new-draft.ensures (Going-none _ _ c.begin.ensures.left);
   counted = λ fresh. c.begin.ensures.lines ∙ fresh;
+  lines = omega (arith, c.begin.ensures.lines, c.begin.ensures.counted);
   few = omega (arith, c.begin.ensures.room);
+  most = omega (arith, c.begin.ensures.turns);
   stays = c.begin.ensures.failed;
 }
+
+-- no line came
+pub returns-in_err-line-clause-lines : goal.returns-in_err-line-clause-lines
+returns-in_err-line-clause-lines g c =
+    let p = err_from_is_err_and c.from_residual.result c.from_residual.ensures.1 in
+    rw (p.1, p.2) (c.loop-draft.number, counts-read _ c.next_of.new.reader _ _ _ _ _ c.loop-draft.invariant.going c.in_err-line.ensures.fault, c.in_err-line.ensures.uncounted ∙ c.loop-draft.invariant.lines)
+
+pub returns-in_err-line-clause-few : goal.returns-in_err-line-clause-few
+returns-in_err-line-clause-few g c = c.next_of.ensures.few c.loop-draft.invariant.most
 
 -- a line was not taken
 pub returns-in_err-take_line-clause-fault : goal.returns-in_err-take_line-clause-fault
@@ -20,6 +31,16 @@ returns-in_err-take_line-clause-fault g c =
     let reads = subst (Gives c.loop-draft.reader.left c.next_of.new.reader.left) c.in-Some.is c.in_ok-line.ensures.line in
     let p = err_from_is_err_and c.from_residual-in_err-take_line.result c.from_residual-in_err-take_line.ensures.1 in
     rw (p.1, p.2) (stops-taken _ _ c.next_of.new.reader c.loop-draft.number c.loop-draft.draft c.in-Some.line _ c.loop-draft.invariant.going reads c.in_err-take_line.ensures.fault)
+
+pub returns-in_err-take_line-clause-lines : goal.returns-in_err-take_line-clause-lines
+returns-in_err-take_line-clause-lines g c =
+    let reads = subst (Gives c.loop-draft.reader.left c.next_of.new.reader.left) c.in-Some.is c.in_ok-line.ensures.line in
+    let lines = subst (λ (o : Option Kept). c.next_of.new.reader.lines ≡ lines_after o c.loop-draft.reader.lines) c.in-Some.is c.in_ok-line.ensures.lines in
+    let p = err_from_is_err_and c.from_residual-in_err-take_line.result c.from_residual-in_err-take_line.ensures.1 in
+    rw (p.1, p.2) (c.loop-draft.number + 1, counts-taken _ _ _ _ c.loop-draft.number c.loop-draft.draft c.in-Some.line c.loop-draft.invariant.going reads c.in_err-take_line.ensures.fault, omega (arith, lines, c.loop-draft.invariant.lines))
+
+pub returns-in_err-take_line-clause-few : goal.returns-in_err-take_line-clause-few
+returns-in_err-take_line-clause-few g c = c.next_of.ensures.few c.loop-draft.invariant.most
 
 -- the setup ends
 pub returns-then-branch-clause-setup : goal.returns-then-branch-clause-setup
@@ -51,6 +72,26 @@ returns-then-branch-clause-fault g c =
     let opens = Going-open _ _ _ _ _ _ c.in-Some.line c.loop-draft.invariant.going reads takes in
     on-err c.finish.result (λ e stop. stops-finished _ c.next_of.new.reader (c.loop-draft.number + 1) c.take_line.new.self e opens stop) c.finish.ensures.fault
 
+pub returns-then-branch-clause-lines : goal.returns-then-branch-clause-lines
+returns-then-branch-clause-lines g c =
+    let reads = subst (Gives c.loop-draft.reader.left c.next_of.new.reader.left) c.in-Some.is c.in_ok-line.ensures.line in
+    let takes = subst (λ (b : Bool). Takes b (kept_words c.in-Some.line) c.loop-draft.draft c.take_line.new.self) c.if-branch.true c.in_ok-take_line.ensures.taken in
+    let opens = Going-open _ _ _ _ _ _ c.in-Some.line c.loop-draft.invariant.going reads takes in
+    let lines = subst (λ (o : Option Kept). c.next_of.new.reader.lines ≡ lines_after o c.loop-draft.reader.lines) c.in-Some.is c.in_ok-line.ensures.lines in
+    on-err c.finish.result (λ e stop. (c.loop-draft.number + 1, counts-finished e _ _ (c.loop-draft.number + 1) c.take_line.new.self opens stop, omega (arith, lines, c.loop-draft.invariant.lines))) c.finish.ensures.fault
+
+pub returns-then-branch-clause-few : goal.returns-then-branch-clause-few
+returns-then-branch-clause-few g c = c.next_of.ensures.few c.loop-draft.invariant.most
+
+-- no line is left
+pub returns-clause-lines : goal.returns-clause-lines
+returns-clause-lines g c =
+    let lines = subst (λ (o : Option Kept). c.next_of.new.reader.lines ≡ lines_after o c.loop-draft.reader.lines) c.in_default.is c.in_ok-line.ensures.lines in
+    (c.loop-draft.number, refl, lines ∙ c.loop-draft.invariant.lines)
+
+pub returns-clause-few : goal.returns-clause-few
+returns-clause-few g c = c.next_of.ensures.few c.loop-draft.invariant.most
+
 -- one line more
 pub loop-draft-preserved : goal.loop-draft-preserved
 loop-draft-preserved g c =
@@ -62,6 +103,8 @@ loop-draft-preserved g c =
     record {
       counted = λ fresh. let was = c.loop-draft.invariant.counted fresh in omega (arith, lines, was, less, c.loop-draft.invariant.few);
       going = Going-more _ _ _ _ _ _ c.in-Some.line c.loop-draft.invariant.going reads takes;
+      lines = omega (arith, lines, c.loop-draft.invariant.lines);
       few = omega (arith, less, c.loop-draft.invariant.few);
+      most = c.next_of.ensures.few c.loop-draft.invariant.most;
       stays = c.in_ok-line.ensures.stays ∙ c.loop-draft.invariant.stays;
     }

@@ -1,5 +1,5 @@
 use Rattle.std.proofs.Common.{◌≡◌, ◌+◌, ◌≤◌, ◌^◌}
-use Rattle.pfl_script.specs.Readers.{room}
+use Rattle.pfl_script.specs.Readers.{room, counted_on}
 use Rattle.pfl_script.proofs.Setting.{Going}
 use Rattle.pfl_script.proofs.setup.read_setup.Given as goal
 
@@ -7,7 +7,9 @@ abbrev pub invariant-loop-draft : goal.invariant-loop-draft
 invariant-loop-draft g l = record {
   going : Going l.fn.reader.left l.reader.left l.number l.draft;
   counted : l.fn.reader.lines ≡ 0 → l.reader.lines ≡ l.number;
+  lines : l.reader.lines ≡ counted_on l.fn.reader.lines l.number;
   few : l.number + room l.reader ≤ 2 ^ 40;
+  most : l.reader.turns ≤ 16777216;
   stays : l.reader.failed ≡ l.fn.reader.failed;
 }
 

@@ -1,8 +1,19 @@
-use Rattle.std.proofs.Common.{arith, ℕ, Some, Option, subst, ap, ◌∙◌, inl, inr, IfSome, ◌<◌}
+use Rattle.std.proofs.Common.{arith, refl, ℕ, Some, Option, subst, ap, ◌∙◌, inl, inr, IfSome, ◌<◌}
 use Rattle.pfl_script.specs.Scans.{TakesByte}
 use Rattle.pfl_script.specs.Readers.{room}
-use Rattle.pfl_script.proofs.Taking.{Reads-added, Reads-end, Reads-last, Reads-none}
+use Rattle.pfl_script.proofs.Taking.{Reads-added, Reads-end, Reads-last, Reads-none, Reads-start}
 use Rattle.pfl_script.proofs.line_reader.LineReader.next_line.Goals as goal
+
+-- no byte yet
+pub loop-byte-init : goal.loop-byte-init
+loop-byte-init g c = record {
+  reads = rw c.new-line.ensures (Reads-start _);
+  within = omega arith;
+  less = inl c.new-line.ensures;
+  lines = refl;
+  few = λ few. few;
+  stays = refl;
+}
 
 -- a line with its end
 pub returns-then-byte-eq-LINE_FEED-clause-line : goal.returns-then-byte-eq-LINE_FEED-clause-line
@@ -21,6 +32,7 @@ loop-byte-preserved g c =
       within = omega (arith, less);
       less = inr (omega (arith, less));
       lines = c.take_byte.ensures.lines ∙ c.loop-byte.invariant.lines;
+      few = λ few. c.take_byte.ensures.few (c.loop-byte.invariant.few few);
       stays = c.in_ok-byte.ensures.stays ∙ c.loop-byte.invariant.stays;
     }
 

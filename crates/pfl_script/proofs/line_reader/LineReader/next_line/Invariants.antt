@@ -9,6 +9,7 @@ invariant-loop-byte g l = record {
   within : room l.self ≤ room l.fn.self;
   less : (l.line ≡ nothing) ⊎ (room l.self < room l.fn.self);
   lines : l.self.lines ≡ l.fn.self.lines;
+  few : l.fn.self.turns ≤ 16777216 → l.self.turns ≤ 16777216;
   stays : l.self.failed ≡ l.fn.self.failed;
 }
 

@@ -1,9 +1,10 @@
 use Rattle.std.specs.Prelude.{length}
-use Rattle.std.proofs.Common.{◌∙◌, ap, arith}
+use Rattle.std.proofs.Common.{◌∙◌, ap, arith, subst, sym}
 use Rattle.std.proofs.lemmas.Result.{IfOk-weaker, on_err_weaker}
 use Rattle.pfl_timeline.specs.Commands.{step_reply}
+use Rattle.pfl_timeline.specs.Memory.{IsAccepted}
 use Rattle.pfl_timeline.proofs.Asked.{step-asks}
-use Rattle.pfl_timeline.proofs.Places.{placed, below, kept-here, told-none, told-at, same_there}
+use Rattle.pfl_timeline.proofs.Places.{placed, below, kept-here, told-none, told-at, same_there, accepted-at}
 use Rattle.pfl_timeline.proofs.timeline.Timeline.step.Goals as goal
 
 pub index_mut-branch-requires : goal.index_mut-branch-requires
@@ -28,6 +29,14 @@ returns-in-Some-clause-step g c =
     (λ reply h. step-asks _ _ _
     ∙ told-at (λ t b. step_reply t c.args.event.now b) c.args.name.now _ _ _ _ _ reply c.self.view_is place c.index_mut-branch.ensures.value c.self.invariant h)
     c.step-reply.ensures.reply
+
+pub returns-in-Some-clause-memory : goal.returns-in-Some-clause-memory
+returns-in-Some-clause-memory g c =
+    let place = placed c.args.name.now _ _ _ c.in-Some.ensures.place c.deref.ensures.value in
+    on_err_weaker c.step-reply.result
+    (λ accepts. subst IsAccepted (sym (step-asks _ _ _))
+    (accepted-at (λ t b. step_reply t c.args.event.now b) c.args.name.now _ _ _ _ c.self.view_is place c.index_mut-branch.ensures.value c.self.invariant accepts))
+    c.step-reply.ensures.memory
 
 pub returns-in-Some-clause-unchanged : goal.returns-in-Some-clause-unchanged
 returns-in-Some-clause-unchanged g c =

@@ -1,0 +1,131 @@
+-- What a packet keeps under one name that a node may not give any more: a new state has another name, a reused connection
+-- is deleted, and what stays is followed by what tracking made of it.
+use Rattle.std.specs.Prelude.{◌≡◌, ◌≢◌, ◌<◌, ℕ, Bool, true, false, nat_le, Option, Some, None, refl}
+use Rattle.std.specs.Option.{option_map_or}
+use Rattle.std.proofs.Common.{◌∙◌, ap, cond, sym, arith}
+use Rattle.pfl_base.specs.declared.direction.Dir.{Dir}
+use Rattle.pfl_base.specs.declared.packet.Packet.{Packet}
+use Rattle.pfl_base.specs.declared.state_name.StateName.{StateName}
+use Rattle.pfl_base.specs.Keys.{key}
+use Rattle.pfl_base.specs.Packets.{IsPacket}
+use Rattle.pfl_edits.specs.Maps as maps
+use Rattle.pfl_rules.specs.declared.rule.Rule.{Rule}
+use Rattle.pfl_rules.specs.Rules.{verdict, rule_at}
+use Rattle.pfl_track.specs.declared.state.State.{State}
+use Rattle.pfl_track.specs.declared.tracked.Tracked.{Tracked}
+use Rattle.pfl_track.specs.declared.tracked.Tracked.TheVariants.{Moved, OutOfWindow, Reused}
+use Rattle.pfl_track.specs.Keys.{wire_key}
+use Rattle.pfl_track.specs.Tracking.{tracked}
+use Rattle.pfl_track.proofs.Names.{Stays, tracked-stays}
+use Rattle.pfl_table.specs.Tables.{States, AreStates, found, key_in_use}
+use Rattle.pfl_table.proofs.Apart.{found-stands}
+use Rattle.pfl_queue.specs.declared.Kind.TheVariants.{Insert}
+use Rattle.pfl_defer.specs.Deferring.{pushed_out}
+use Rattle.pfl_node.specs.Nodes.{Node, IsGiven}
+use Rattle.pfl_node.specs.Changes.{mark, freed, changed, deleted}
+use Rattle.pfl_node.specs.Starting.{Handled, started, judged, by_rule, announced, hold, with_room, with_new, new_state, next_name, is_at_max, is_deferred}
+use Rattle.pfl_node.specs.Packets.{handled, handled_by, followed, accepted}
+use Rattle.pfl_laws.proofs.Following.{Alike, Alike-itself, Follows, alike-follows, alike-follows-then, moved-follows, comes-removed, Filed, filed-put}
+use Rattle.pfl_laws.proofs.Keeping.{Keeps, keeps-then, alike-then, keeps-as, keeps-itself, keeps-given, on_some, put_other-keeps, freed-states, freed-keeps, released-keeps, changed-keeps, deleted-states, deleted-keeps}
+
+-- ---- choices
+
+one_of : (R : State → State → Type 0) (q : StateName) (n : Node) (b : Bool) (x y : Handled) → Keeps R q n x.node → Keeps R q n y.node → Keeps R q n (cond b x y).node
+one_of R q n true x y k l = k
+one_of R q n false x y k l = l
+
+of_some : {X : Type 0} (R : State → State → Type 0) (q : StateName) (n : Node) (o : Option X) (f : X → Handled) (d : Handled) → ((x : X) → Keeps R q n (f x).node) → Keeps R q n d.node → Keeps R q n (option_map_or f o d).node
+of_some R q n None f d k l = l
+of_some R q n (Some x) f d k l = k x
+
+-- ---- a packet that no state takes
+
+-- the next name is not given yet
+not_next : (n : Node) (q : StateName) → IsGiven n q → q ≢ next_name n
+not_next n q given same =
+    let low : q.id < n.next_id = given (ap (λ (m : StateName). m.creator) same) in
+    let here : q.id ≡ n.next_id = ap (λ (m : StateName). m.id) same in
+    omega arith
+
+new-keeps : (q : StateName) (n : Node) (s : State) → q ≢ s.name → Keeps Alike q n (with_new n s)
+new-keeps q n s other = record { creator = refl; next = omega arith; comes = (put_other-keeps q n s other).comes }
+
+room-keeps : (q : StateName) (n : Node) → Filed n.states → Keeps Alike q n (with_room n)
+room-keeps q n filed = on_some Alike q n (pushed_out n.held) _ n (λ h at. released-keeps q n h.name filed) (keeps-itself Alike q n Alike-itself)
+
+hold-keeps : (q : StateName) (n : Node) (s : State) (p : Packet) → q ≢ s.name → Keeps Alike q n (hold n s p).node
+hold-keeps q n s p other =
+    let put = put_other-keeps q n (record s { ack_wanted = true }) other in
+    record { creator = refl; next = omega arith; comes = put.comes }
+
+-- the state is not that of the name
+announced-keeps : (q : StateName) (n : Node) (s : State) (dir : Dir) (p : Packet) → Filed n.states → q ≢ s.name → Keeps Alike q n (announced n s dir p).node
+announced-keeps q n s dir p filed other =
+    let still : Keeps Alike q n n = keeps-itself Alike q n Alike-itself in
+    let room : Keeps Alike q n (with_room (mark n s.name Insert)) = room-keeps q (mark n s.name Insert) filed in
+    one_of Alike q n s.no_sync _ _ still
+    (one_of Alike q n (is_deferred n dir) _ _
+    (alike-then q n (with_room (mark n s.name Insert)) (hold (with_room (mark n s.name Insert)) s p).node room (hold-keeps q (with_room (mark n s.name Insert)) s p other))
+    still)
+
+started-keeps : (q : StateName) (n : Node) (dir : Dir) (p : Packet) (number : ℕ) (r : Rule) → Filed n.states → IsGiven n q → Keeps Alike q n (started n dir p number r).node
+unfolding started
+started-keeps q n dir p number r filed given =
+    let still : Keeps Alike q n n = keeps-itself Alike q n Alike-itself in
+    let new = new_state n dir p number r in
+    let other : q ≢ new.name = not_next n q given in
+    one_of Alike q n (is_at_max n number r) _ _ still
+    (one_of Alike q n (nat_le n.limits.states (maps.len n.states)) _ _ still
+    (one_of Alike q n (key_in_use n.states (wire_key (key p dir) r.nat) (key p dir)) _ _ still
+    (alike-then q n (with_new n new) (announced (with_new n new) new dir p).node
+    (new-keeps q n new other) (announced-keeps q (with_new n new) new dir p (filed-put n.states new filed) other))))
+
+judged-keeps : (q : StateName) (n : Node) (dir : Dir) (p : Packet) → Filed n.states → IsGiven n q → Keeps Alike q n (judged n dir p).node
+unfolding judged
+judged-keeps q n dir p filed given = one_of Alike q n (verdict n.rules.list p dir).pass _ _ (by_number (verdict n.rules.list p dir).rule) still
+  where
+    still : Keeps Alike q n n
+    still = keeps-itself Alike q n Alike-itself
+
+    by_number : (rule : Option ℕ) → Keeps Alike q n (by_rule n dir p rule).node
+    by_number None = still
+    by_number (Some number) = of_some Alike q n (rule_at n.rules.list (Some number)) (started n dir p number) _ (λ r. started-keeps q n dir p number r filed given) still
+
+-- ---- a packet of a state
+
+filed-without : (n : Node) (s : State) → Filed n.states → Filed (deleted n s).states
+filed-without n s filed a u at =
+    let from = comes-removed n.states s.name a u (ap (λ (m : States). maps.get m a) (sym (deleted-states n s)) ∙ at) in
+    ap (λ (v : State). v.name) from.so ∙ filed a from.state from.at
+
+follows-itself : (C : Type 0) (s : State) → Follows C s s
+follows-itself C s = alike-follows C s s refl
+
+-- the state s moved to t
+accepted-keeps : (q : StateName) (n : Node) (dir : Dir) (p : Packet) (s t : State) → maps.get n.states s.name ≡ Some s → t.name ≡ s.name → tracked s p dir n.clock ≡ Moved t → Keeps (Follows (IsPacket p)) q n (accepted n t).node
+accepted-keeps q n dir p s t at named e =
+    keeps-then Alike (Follows (IsPacket p)) (Follows (IsPacket p)) q n (freed n t.name) (changed (freed n t.name) (record t { ack_wanted = false })) (alike-follows-then (IsPacket p))
+    (freed-keeps q n t.name)
+    (changed-keeps (Follows (IsPacket p)) q (freed n t.name) (record t { ack_wanted = false }) (follows-itself (IsPacket p)) (λ same updates. record {
+      state = s;
+      at = ap (maps.get (freed n t.name).states) (same ∙ named) ∙ (ap (λ (m : States). maps.get m s.name) (freed-states n t.name) ∙ at);
+      so = moved-follows s p dir n.clock t false updates e;
+    }))
+
+followed-keeps : (q : StateName) (n : Node) (dir : Dir) (p : Packet) (s : State) (x : Tracked) → Filed n.states → IsGiven n q → maps.get n.states s.name ≡ Some s → Stays s x → tracked s p dir n.clock ≡ x → Keeps (Follows (IsPacket p)) q n (followed n dir p s x).node
+followed-keeps q n dir p s (Moved t) filed given at stays e = accepted-keeps q n dir p s t at stays.name e
+followed-keeps q n dir p s OutOfWindow filed given at stays e = keeps-itself (Follows (IsPacket p)) q n (follows-itself (IsPacket p))
+followed-keeps q n dir p s Reused filed given at stays e =
+    let gone = deleted-keeps q n s in
+    keeps-as Alike (Follows (IsPacket p)) q n (judged (deleted n s) dir p).node (alike-follows (IsPacket p))
+    (alike-then q n (deleted n s) (judged (deleted n s) dir p).node gone
+    (judged-keeps q (deleted n s) dir p (filed-without n s filed) (keeps-given Alike q n (deleted n s) gone given)))
+
+-- whatever packet comes
+pub handled-keeps : (q : StateName) (n : Node) (dir : Dir) (p : Packet) → AreStates n.states → IsGiven n q → Keeps (Follows (IsPacket p)) q n (handled n dir p).node
+unfolding handled
+handled-keeps q n dir p are given = by (found n.states (key p dir) dir) refl
+  where
+    by : (o : Option State) → found n.states (key p dir) dir ≡ o → Keeps (Follows (IsPacket p)) q n (handled_by n dir p o).node
+    by None e = keeps-as Alike (Follows (IsPacket p)) q n (judged n dir p).node (alike-follows (IsPacket p)) (judged-keeps q n dir p are.filed given)
+    by (Some s) e = followed-keeps q n dir p s (tracked s p dir n.clock) are.filed given (found-stands n.states (key p dir) dir s are e) (tracked-stays s p dir n.clock) refl

@@ -1,0 +1,27 @@
+-- Where a command may want memory: want of memory comes last, and only where something has to be made (this project's profile).
+use Rattle.std.specs.Prelude.{Bool, true, false, IsTrue, IsFalse}
+use Rattle.pfl_timeline.specs.declared.command.Command.{Command}
+use Rattle.pfl_timeline.specs.declared.command.Command.TheVariants as command
+use Rattle.pfl_timeline.specs.Commands.{command_step}
+use Rattle.pfl_timeline.specs.Replies.{Reply, Replied, Refused as Refusing}
+use Rattle.pfl_timeline.specs.Timelines.{Timeline}
+
+-- the reply tells why the command is refused
+abbrev pub is_refusal : Reply → Bool
+is_refusal (Refusing why) = true
+is_refusal _ = false
+
+-- the command is not refused
+abbrev pub IsAccepted : Replied → Type 0
+IsAccepted done = IsFalse (is_refusal done.reply)
+
+-- a step makes an event more, and a show a copy of a world; a way back makes nothing
+abbrev pub makes_something : Command → Bool
+makes_something (command.Step name e) = true
+makes_something (command.Back name n) = false
+makes_something (command.Show name) = true
+
+-- the command makes something, and nothing refuses it
+pub record MayWantMemory (t : Timeline) (c : Command) : Type 0 where
+  pub makes : IsTrue (makes_something c)
+  pub accepted : IsAccepted (command_step t c)
