@@ -11,3 +11,4 @@ pub mod Nodes
 pub mod Refusals
 pub mod Texts
 pub mod Devices
+pub mod Counts

@@ -3,6 +3,7 @@
 ghost use Rattle.std.specs.Prelude.{◌≡◌, ℕ, List, Bool, true, Option, None, OnOk, OnErr};
 ghost use Rattle.std.specs.Io.{ReadsAtMost};
 ghost use Rattle.std.specs.Io.KnownBytes.{ReadConsumes};
+ghost use Rattle.pfl_base.specs.Counts.{Counts};
 
 use crate::std_device::DeviceFault;
 
@@ -11,6 +12,9 @@ pub trait Input {
     /// What is left to read, of a device that tells its bytes.
     ghost left: { Self → Option (List ℕ) } = { λ _. None };
 
+    /// How many calls of `read` there were, of a device that tells it.
+    ghost reads: { Self → Option ℕ } = { λ _. None };
+
     /// A call has failed.
     ghost has_failed: { Self → Bool };
 
@@ -18,6 +22,7 @@ pub trait Input {
     fn read(&mut self, buf: &mut [u8]) -> Result<usize, DeviceFault>
         ensures bound { ReadsAtMost result buf.new }
         ensures bytes { ReadConsumes (left self.old) (left self.new) result buf.new }
+        ensures counted { Counts (reads self.old) (reads self.new) 1 }
         ensures stays { OnOk result (has_failed self.new ≡ has_failed self.old) }
         ensures fails { OnErr result (has_failed self.new ≡ true) };
 

@@ -1,7 +1,8 @@
-//! A reader and a writer that go byte by byte, and fail.
+//! A reader and a writer that go byte by byte, and fail, and a reader without end.
 
-ghost use Rattle.std.specs.Prelude.{◌≡◌};
+ghost use Rattle.std.specs.Prelude.{◌≡◌, Some, false};
 
+use pfl_base::{DeviceFault, Input};
 use std::io::{self, ErrorKind};
 
 /// Gives one byte a call, so many times, and then fails.
@@ -26,6 +27,31 @@ impl io::Read for Bytewise {
         buf[0] = *first;
         self.bytes = rest;
         Ok(1)
+    }
+}
+
+/// Gives one `#` a call, without end, and counts the calls.
+#[derive(Drop)]
+pub struct Endless {
+    pub calls: u64,
+}
+
+impl Input for Endless {
+    ghost reads = { λ d. Some d.calls };
+
+    ghost has_failed = { λ d. false };
+
+    fn read(&mut self, buf: &mut [u8]) -> Result<usize, DeviceFault> {
+        self.calls = self.calls.saturating_add(1);
+        if buf.is_empty() {
+            return Ok(0);
+        }
+        buf[0] = b'#';
+        Ok(1)
+    }
+
+    fn failed(&self) -> bool {
+        false
     }
 }
 

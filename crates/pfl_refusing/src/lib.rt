@@ -1,11 +1,12 @@
-//! What fails, for tests of what is answered then: an allocator without memory, a reader and a writer.
+//! What fails, for tests of what is answered then: an allocator without memory, a reader and a writer; and a reader
+//! without end.
 #![tactic(auto)]
 
 ghost use Rattle.std.specs.Borrow.{ffalse};
 
 mod devices;
 
-pub use devices::{Bytewise, Narrow};
+pub use devices::{Bytewise, Endless, Narrow};
 use std::alloc::{AllocError, Allocator};
 
 /// Refuses each request.

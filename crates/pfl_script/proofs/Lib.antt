@@ -4,3 +4,4 @@ pub mod Pieces
 pub mod Running
 pub mod Lists
 pub mod Setting
+pub mod Turns

@@ -1,21 +1,28 @@
 -- A reader of lines.
-use Rattle.std.specs.Prelude.{◌≡◌, ◌+◌, ◌-◌, ◌*◌, ℕ, ◌^◌, min, Bool, true, List, Option, Some, None}
+use Rattle.std.specs.Prelude.{◌≡◌, ◌≤◌, ◌+◌, ◌-◌, ◌*◌, ℕ, ◌^◌, min, Bool, true, List, Option, Some, None}
+use Rattle.pfl_base.specs.Counts.{Counts}
 use Rattle.pfl_script.specs.Scans.{Kept}
 use Rattle.pfl_script.specs.declared.fault.EngineFault.{EngineFault}
 use Rattle.pfl_script.specs.declared.fault.EngineFault.TheVariants.{Read, Write, TooManyTurns, NoMemory}
 
--- what is left to read, where that is known; the lines read; the calls of read in this run; the bytes
--- that were read and not yet taken; whether a call has failed
+-- what is left to read, where that is known; the lines read; the calls of read in this run, and the device's own
+-- count of them, where it tells that; the bytes that were read and not yet taken; whether a call has failed
 pub record Source : Type 0 where
   pub left : Option (List ℕ)
   pub lines : ℕ
   pub turns : ℕ
+  pub reads : Option ℕ
   pub waiting : ℕ
   pub failed : Bool
 
 -- how many bytes can be taken at most in this run
 abbrev pub room : Source → ℕ
 room s = (16777216 - s.turns) * 4096 + s.waiting
+
+-- in a run the turns grew as the device's own count of its calls did
+pub record CountsTurns (old new : Source) : Type 0 where
+  pub more : old.turns ≤ new.turns
+  pub reads : Counts old.reads new.reads (new.turns - old.turns)
 
 -- why no byte came
 abbrev pub IsReadFault : EngineFault → Source → Type 0

@@ -1,6 +1,7 @@
 //! Runs of lines.
 
 ghost use Rattle.std.specs.Prelude.{◌≡◌, ◌+◌, ◌<◌, ◌≤◌, ◌^◌, IfOk, OnOk, OnErr, IfErr};
+ghost use Rattle.pfl_base.specs.Counts.{Counts};
 ghost use Rattle.pfl_script.specs.Answers.{RunsWhole, RunsPart, RunsUntil, one_if};
 ghost use Rattle.pfl_script.specs.Readers.{IsRunFault, counted_on};
 
@@ -45,6 +46,7 @@ pub fn run_lines<A: Allocator + Copy, B: Allocator + Copy, R: Input, W: Output>(
     ensures lines { IfOk result (λ e. reader.new.lines ≡ counted_on reader.old.lines e.lines) }
     ensures part { OnErr result (RunsPart reader.old.left timeline.old timeline.new (W.written writer.old) (W.written writer.new)) }
     ensures until { IfErr result (λ e. RunsUntil e reader.old.left reader.new.left timeline.old timeline.new (W.written writer.old) (W.written writer.new)) }
+    ensures reads { Counts reader.old.reads reader.new.reads reader.new.turns }
     ensures few { reader.new.turns ≤ 16777216 }
     ensures stays { OnOk result (reader.new.failed ≡ reader.old.failed) }
     ensures writer_stays { OnOk result (W.has_failed writer.new ≡ W.has_failed writer.old) }

@@ -3,7 +3,7 @@
 ghost use Rattle.std.specs.Prelude.{◌≡◌, ◌+◌, ◌<◌, ◌≤◌, ◌-◌, ◌^◌, min, false, Some, None, IfOk, IfErr, OnOk, OnErr, IfSome, ◌↔◌, IsTrue};
 ghost use Rattle.std.specs.Io.KnownBytes.{Keeps, IsAtEnd};
 ghost use Rattle.pfl_script.specs.Scans.{TakesByte, Gives};
-ghost use Rattle.pfl_script.specs.Readers.{room, IsReadFault, one_more, lines_after};
+ghost use Rattle.pfl_script.specs.Readers.{room, CountsTurns, IsReadFault, one_more, lines_after};
 
 use crate::fault::EngineFault;
 use crate::line::Line;
@@ -37,6 +37,7 @@ impl<R: Input> Model for LineReader<R> {
       left = prepend_known (slice_range r.buffer r.start r.end) (R.left r.device);
       lines = r.lines;
       turns = r.turns;
+      reads = R.reads r.device;
       waiting = r.end - r.start;
       failed = R.has_failed r.device;
     } };
@@ -50,6 +51,7 @@ impl<R: Input> LineReader<R> {
         ensures left { result.left ≡ R.left device }
         ensures lines { result.lines ≡ 0 }
         ensures turns { result.turns ≡ 0 }
+        ensures reads { result.reads ≡ R.reads device }
         ensures failed { result.failed ≡ R.has_failed device }
     {
         LineReader {
@@ -60,6 +62,15 @@ impl<R: Input> LineReader<R> {
             turns: 0,
             lines: 0,
         }
+    }
+
+    /// The device itself. Bytes that it gave and that no line took are lost.
+    pub fn into_inner(self) -> R
+        ensures reads { R.reads result ≡ self.reads }
+        ensures failed { R.has_failed result ≡ self.failed }
+    {
+        let LineReader { device, .. } = self;
+        device
     }
 
     /// The lines read so far.
@@ -83,6 +94,7 @@ impl<R: Input> LineReader<R> {
         ensures lines { self.new.lines ≡ self.old.lines }
         ensures counted { self.new.lines < 2 ^ 64 }
         ensures turns { self.new.turns ≡ 0 }
+        ensures reads { self.new.reads ≡ self.old.reads }
         ensures failed { self.new.failed ≡ self.old.failed }
         ensures room { room self.new ≤ 2 ^ 40 }
     {
@@ -96,6 +108,7 @@ impl<R: Input> LineReader<R> {
         ensures end { IfOk result (λ _. self.new.waiting ≡ 0 → IsAtEnd self.new.left) }
         ensures room { OnOk result (room self.new ≤ room self.old) }
         ensures lines { self.new.lines ≡ self.old.lines }
+        ensures turns { CountsTurns self.old self.new }
         ensures few { self.old.turns ≤ 16777216 → self.new.turns ≤ 16777216 }
         ensures stays { OnOk result (self.new.failed ≡ self.old.failed) }
         ensures fault { IfErr result (λ e. IsReadFault e self.new) }
@@ -128,6 +141,7 @@ impl<R: Input> LineReader<R> {
         ensures room { room self.new < room self.old }
         ensures lines { self.new.lines ≡ self.old.lines }
         ensures turns { self.new.turns ≡ self.old.turns }
+        ensures reads { self.new.reads ≡ self.old.reads }
         ensures stays { self.new.failed ≡ self.old.failed }
     {
         let byte = self.buffer[self.start];
@@ -141,6 +155,7 @@ impl<R: Input> LineReader<R> {
         ensures spent { OnOk result (room self.new ≤ room self.old) }
         ensures room { IfOk result (λ o. IfSome o (λ _. room self.new < room self.old)) }
         ensures lines { self.new.lines ≡ self.old.lines }
+        ensures turns { CountsTurns self.old self.new }
         ensures few { self.old.turns ≤ 16777216 → self.new.turns ≤ 16777216 }
         ensures stays { OnOk result (self.new.failed ≡ self.old.failed) }
         ensures fault { IfErr result (λ e. IsReadFault e self.new) }
@@ -161,6 +176,7 @@ impl<R: Input> LineReader<R> {
         ensures room { room self.new ≡ room self.old }
         ensures lines { self.new.lines ≡ one_more self.old.lines }
         ensures turns { self.new.turns ≡ self.old.turns }
+        ensures reads { self.new.reads ≡ self.old.reads }
         ensures stays { self.new.failed ≡ self.old.failed }
     {
         self.lines = self.lines.saturating_add(1);
@@ -172,6 +188,7 @@ impl<R: Input> LineReader<R> {
         ensures room { IfOk result (λ o. IfSome o (λ _. room self.new < room self.old)) }
         ensures lines { IfOk result (λ o. self.new.lines ≡ lines_after o self.old.lines) }
         ensures uncounted { OnErr result (self.new.lines ≡ self.old.lines) }
+        ensures turns { CountsTurns self.old self.new }
         ensures few { self.old.turns ≤ 16777216 → self.new.turns ≤ 16777216 }
         ensures stays { OnOk result (self.new.failed ≡ self.old.failed) }
         ensures fault { IfErr result (λ e. IsReadFault e self.new) }

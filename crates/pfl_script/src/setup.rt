@@ -1,8 +1,9 @@
 //! Setups of pairs.
 
 ghost use Rattle.std.specs.Prelude.{◌≡◌, ◌<◌, ◌≤◌, [], true, IfOk, IfErr, IfSome, OnOk, OnErr, Ok, None, Some};
+ghost use Rattle.pfl_base.specs.Counts.{Counts};
 ghost use Rattle.pfl_rules.specs.Rules.{rule_fault, rule_set};
-ghost use Rattle.pfl_script.specs.Readers.{lines_after, room};
+ghost use Rattle.pfl_script.specs.Readers.{lines_after, room, CountsTurns};
 ghost use Rattle.pfl_script.specs.Scans.{Gives};
 ghost use Rattle.pfl_script.specs.Setups.{default_limits, kept_words, nothing_set, with_limit, with_rule, is_rule, CountsLines, Finishes, IsFinishStop, IsReadStop, IsRuleStop, IsSetupFault, IsTakeFault, ReadsSetup, ReadsSetupTo, Takes};
 
@@ -197,6 +198,7 @@ fn next_of<R: Input>(reader: &mut LineReader<R>) -> Result<Option<Line>, SetupFa
     ensures room { IfOk result (λ o. IfSome o (λ _. room reader.new < room reader.old)) }
     ensures lines { IfOk result (λ o. reader.new.lines ≡ lines_after o reader.old.lines) }
     ensures uncounted { OnErr result (reader.new.lines ≡ reader.old.lines) }
+    ensures turns { CountsTurns reader.old reader.new }
     ensures few { reader.old.turns ≤ 16777216 → reader.new.turns ≤ 16777216 }
     ensures stays { OnOk result (reader.new.failed ≡ reader.old.failed) }
     ensures fault { IfErr result (λ e. IsReadStop e reader.new) }
@@ -218,6 +220,7 @@ pub fn read_setup<A: Allocator + Copy, R: Input>(
     ensures counted { IfOk result (λ s. reader.old.lines ≡ 0 → ReadsSetupTo reader.old.left reader.new.left reader.new.lines s.limits s.rules_a s.rules_b) }
     ensures fault { IfErr result (λ e. IsSetupFault e reader.old.left reader.new) }
     ensures lines { IfErr result (λ e. CountsLines e reader.old reader.new) }
+    ensures reads { Counts reader.old.reads reader.new.reads reader.new.turns }
     ensures few { reader.new.turns ≤ 16777216 }
     ensures stays { OnOk result (reader.new.failed ≡ reader.old.failed) }
 {

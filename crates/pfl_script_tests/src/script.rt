@@ -3,7 +3,7 @@
 use pfl_base::{Output, Std};
 use pfl_lines::LineFault;
 use pfl_node::Limits;
-use pfl_refusing::{Bytewise, Narrow, Refusing};
+use pfl_refusing::{Bytewise, Endless, Narrow, Refusing};
 use pfl_rules::{Action, RuleFault, RuleSet};
 use pfl_script::{
     EngineFault, LineReader, Setup, SetupFault, default_limits, read_setup, write_text,
@@ -125,4 +125,14 @@ fn faulty_setups(rt: HostRuntime) -> Result<(), Fail> {
     assert!(rt; matches!(read_setup(rt.alloc(), &mut reader), Err(SetupFault::Read)));
     assert!(rt; reader.turns() == 5);
     Ok(())
+}
+
+#[test]
+fn a_line_without_end(rt: HostRuntime) {
+    let mut reader = LineReader::new(Endless { calls: 0 });
+    let setup = read_setup(rt.alloc(), &mut reader);
+    assert!(rt; matches!(setup, Err(SetupFault::TooManyTurns)));
+    assert_eq!(rt; reader.turns(), 16777216);
+    assert_eq!(rt; reader.lines(), 0);
+    assert_eq!(rt; reader.into_inner().calls, 16777216);
 }

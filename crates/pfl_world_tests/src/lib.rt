@@ -1,11 +1,8 @@
-//! Worked events of the pair, worked commands and worked lines, through the public calls of pfl_world, pfl_laws, pfl_timeline and
-//! pfl_lines.
+//! Worked events of the pair and worked commands, through the public calls of pfl_world, pfl_laws and pfl_timeline.
 #![tactic(auto)]
 
 #[cfg(test)]
 mod laws;
-#[cfg(test)]
-mod lines;
 #[cfg(test)]
 mod timeline;
 #[cfg(test)]

@@ -3,6 +3,7 @@ use Rattle.std.proofs.lemmas.Result.{err_from_is_err_and}
 use Rattle.pfl_script.specs.Scans.{Kept, Gives}
 use Rattle.pfl_script.specs.Readers.{room, lines_after}
 use Rattle.pfl_script.proofs.Running.{Ran-none, Ran-more, Ran-whole, Ran-part, Ran-broken, until-read, until-answer, one_if-le}
+use Rattle.pfl_script.proofs.Turns.{Counts-begun, Counts-more}
 use Rattle.pfl_script.proofs.engine.run_lines.Goals as goal
 
 -- no line yet
@@ -12,6 +13,7 @@ loop-line-init g c = record {
   few = omega (arith, c.begin.ensures.room);
   fewer = omega arith;
   lines = omega (arith, c.begin.ensures.lines, c.begin.ensures.counted);
+  reads = Counts-begun c.args.reader.now c.begin.new.self c.begin.ensures.turns c.begin.ensures.reads;
   most = omega (arith, c.begin.ensures.turns);
   stays = c.begin.ensures.failed;
   writer_stays = refl;
@@ -27,6 +29,9 @@ pub returns-in_err-line-clause-until : goal.returns-in_err-line-clause-until
 returns-in_err-line-clause-until g c =
     let p = err_from_is_err_and c.from_residual.result c.from_residual.ensures.1 in
     rw (p.1, p.2) (until-read _ c.next_line.new.self _ _ _ _ _ _ _ _ _ c.loop-line.invariant.ran c.in_err-line.ensures.fault)
+
+pub returns-in_err-line-clause-reads : goal.returns-in_err-line-clause-reads
+returns-in_err-line-clause-reads g c = Counts-more c.args.reader.now c.loop-line.reader c.next_line.new.self c.loop-line.invariant.reads c.next_line.ensures.turns
 
 pub returns-in_err-line-clause-few : goal.returns-in_err-line-clause-few
 returns-in_err-line-clause-few g c = c.next_line.ensures.few c.loop-line.invariant.most
@@ -45,6 +50,9 @@ returns-in_err-bad-clause-until g c =
     rw (p.1, p.2) (until-answer _ _ _ _ _ _ _ _ _ _ _ _ _ _ c.loop-line.invariant.ran reads c.in_err-bad.ensures.fault c.in_err-bad.ensures.breaks
     c.in_err-bad.ensures.command (λ none. ap g.W.Output.written (c.in_err-bad.ensures.untouched none)) c.in_err-bad.ensures.after)
 
+pub returns-in_err-bad-clause-reads : goal.returns-in_err-bad-clause-reads
+returns-in_err-bad-clause-reads g c = Counts-more c.args.reader.now c.loop-line.reader c.next_line.new.self c.loop-line.invariant.reads c.next_line.ensures.turns
+
 pub returns-in_err-bad-clause-few : goal.returns-in_err-bad-clause-few
 returns-in_err-bad-clause-few g c = c.next_line.ensures.few c.loop-line.invariant.most
 
@@ -61,6 +69,7 @@ loop-line-preserved g c =
       few = omega (arith, less);
       fewer = omega (arith, one_if-le c.in_ok-bad.bad);
       lines = rw c.more-ended.ensures.lines (omega (arith, lines, c.loop-line.invariant.lines));
+      reads = Counts-more c.args.reader.now c.loop-line.reader c.next_line.new.self c.loop-line.invariant.reads c.next_line.ensures.turns;
       most = c.next_line.ensures.few c.loop-line.invariant.most;
       stays = c.in_ok-line.ensures.stays ∙ c.loop-line.invariant.stays;
       writer_stays = c.in_ok-bad.ensures.stays ∙ c.loop-line.invariant.writer_stays;
@@ -76,6 +85,9 @@ pub returns-clause-lines : goal.returns-clause-lines
 returns-clause-lines g c =
     let lines = subst (λ (o : Option Kept). c.next_line.new.self.lines ≡ lines_after o c.loop-line.reader.lines) c.in_default.is c.in_ok-line.ensures.lines in
     lines ∙ c.loop-line.invariant.lines
+
+pub returns-clause-reads : goal.returns-clause-reads
+returns-clause-reads g c = Counts-more c.args.reader.now c.loop-line.reader c.next_line.new.self c.loop-line.invariant.reads c.next_line.ensures.turns
 
 pub returns-clause-few : goal.returns-clause-few
 returns-clause-few g c = c.next_line.ensures.few c.loop-line.invariant.most

@@ -4,6 +4,7 @@ use Rattle.pfl_script.specs.Scans.{Kept, Gives}
 use Rattle.pfl_script.specs.Readers.{lines_after, room}
 use Rattle.pfl_script.specs.Setups.{Takes, kept_words}
 use Rattle.pfl_script.proofs.Setting.{Going-none, Going-more, Going-open, stops-taken, stops-finished, counts-read, counts-taken, counts-finished, on-ok, on-err}
+use Rattle.pfl_script.proofs.Turns.{Counts-begun, Counts-more}
 use Rattle.pfl_script.proofs.setup.read_setup.Goals as goal
 
 pub loop-draft-init : goal.loop-draft-init
@@ -12,6 +13,7 @@ loop-draft-init g c = record {
   counted = λ fresh. c.begin.ensures.lines ∙ fresh;
   lines = omega (arith, c.begin.ensures.lines, c.begin.ensures.counted);
   few = omega (arith, c.begin.ensures.room);
+  reads = Counts-begun c.args.reader.now c.begin.new.self c.begin.ensures.turns c.begin.ensures.reads;
   most = omega (arith, c.begin.ensures.turns);
   stays = c.begin.ensures.failed;
 }
@@ -21,6 +23,9 @@ pub returns-in_err-line-clause-lines : goal.returns-in_err-line-clause-lines
 returns-in_err-line-clause-lines g c =
     let p = err_from_is_err_and c.from_residual.result c.from_residual.ensures.1 in
     rw (p.1, p.2) (c.loop-draft.number, counts-read _ c.next_of.new.reader _ _ _ _ _ c.loop-draft.invariant.going c.in_err-line.ensures.fault, c.in_err-line.ensures.uncounted ∙ c.loop-draft.invariant.lines)
+
+pub returns-in_err-line-clause-reads : goal.returns-in_err-line-clause-reads
+returns-in_err-line-clause-reads g c = Counts-more c.args.reader.now c.loop-draft.reader c.next_of.new.reader c.loop-draft.invariant.reads c.next_of.ensures.turns
 
 pub returns-in_err-line-clause-few : goal.returns-in_err-line-clause-few
 returns-in_err-line-clause-few g c = c.next_of.ensures.few c.loop-draft.invariant.most
@@ -38,6 +43,9 @@ returns-in_err-take_line-clause-lines g c =
     let lines = subst (λ (o : Option Kept). c.next_of.new.reader.lines ≡ lines_after o c.loop-draft.reader.lines) c.in-Some.is c.in_ok-line.ensures.lines in
     let p = err_from_is_err_and c.from_residual-in_err-take_line.result c.from_residual-in_err-take_line.ensures.1 in
     rw (p.1, p.2) (c.loop-draft.number + 1, counts-taken _ _ _ _ c.loop-draft.number c.loop-draft.draft c.in-Some.line c.loop-draft.invariant.going reads c.in_err-take_line.ensures.fault, omega (arith, lines, c.loop-draft.invariant.lines))
+
+pub returns-in_err-take_line-clause-reads : goal.returns-in_err-take_line-clause-reads
+returns-in_err-take_line-clause-reads g c = Counts-more c.args.reader.now c.loop-draft.reader c.next_of.new.reader c.loop-draft.invariant.reads c.next_of.ensures.turns
 
 pub returns-in_err-take_line-clause-few : goal.returns-in_err-take_line-clause-few
 returns-in_err-take_line-clause-few g c = c.next_of.ensures.few c.loop-draft.invariant.most
@@ -80,6 +88,9 @@ returns-then-branch-clause-lines g c =
     let lines = subst (λ (o : Option Kept). c.next_of.new.reader.lines ≡ lines_after o c.loop-draft.reader.lines) c.in-Some.is c.in_ok-line.ensures.lines in
     on-err c.finish.result (λ e stop. (c.loop-draft.number + 1, counts-finished e _ _ (c.loop-draft.number + 1) c.take_line.new.self opens stop, omega (arith, lines, c.loop-draft.invariant.lines))) c.finish.ensures.fault
 
+pub returns-then-branch-clause-reads : goal.returns-then-branch-clause-reads
+returns-then-branch-clause-reads g c = Counts-more c.args.reader.now c.loop-draft.reader c.next_of.new.reader c.loop-draft.invariant.reads c.next_of.ensures.turns
+
 pub returns-then-branch-clause-few : goal.returns-then-branch-clause-few
 returns-then-branch-clause-few g c = c.next_of.ensures.few c.loop-draft.invariant.most
 
@@ -88,6 +99,9 @@ pub returns-clause-lines : goal.returns-clause-lines
 returns-clause-lines g c =
     let lines = subst (λ (o : Option Kept). c.next_of.new.reader.lines ≡ lines_after o c.loop-draft.reader.lines) c.in_default.is c.in_ok-line.ensures.lines in
     (c.loop-draft.number, refl, lines ∙ c.loop-draft.invariant.lines)
+
+pub returns-clause-reads : goal.returns-clause-reads
+returns-clause-reads g c = Counts-more c.args.reader.now c.loop-draft.reader c.next_of.new.reader c.loop-draft.invariant.reads c.next_of.ensures.turns
 
 pub returns-clause-few : goal.returns-clause-few
 returns-clause-few g c = c.next_of.ensures.few c.loop-draft.invariant.most
@@ -105,6 +119,7 @@ loop-draft-preserved g c =
       going = Going-more _ _ _ _ _ _ c.in-Some.line c.loop-draft.invariant.going reads takes;
       lines = omega (arith, lines, c.loop-draft.invariant.lines);
       few = omega (arith, less, c.loop-draft.invariant.few);
+      reads = Counts-more c.args.reader.now c.loop-draft.reader c.next_of.new.reader c.loop-draft.invariant.reads c.next_of.ensures.turns;
       most = c.next_of.ensures.few c.loop-draft.invariant.most;
       stays = c.in_ok-line.ensures.stays ∙ c.loop-draft.invariant.stays;
     }

@@ -2,6 +2,7 @@ use Rattle.std.proofs.Common.{arith, refl, ℕ, Some, Option, subst, ap, ◌∙�
 use Rattle.pfl_script.specs.Scans.{TakesByte}
 use Rattle.pfl_script.specs.Readers.{room}
 use Rattle.pfl_script.proofs.Taking.{Reads-added, Reads-end, Reads-last, Reads-none, Reads-start}
+use Rattle.pfl_script.proofs.Turns.{CountsTurns-none, CountsTurns-then, CountsTurns-kept}
 use Rattle.pfl_script.proofs.line_reader.LineReader.next_line.Goals as goal
 
 -- no byte yet
@@ -11,6 +12,7 @@ loop-byte-init g c = record {
   within = omega arith;
   less = inl c.new-line.ensures;
   lines = refl;
+  turns = CountsTurns-none _ _ refl refl;
   few = λ few. few;
   stays = refl;
 }
@@ -22,6 +24,10 @@ returns-then-byte-eq-LINE_FEED-clause-line g c =
     let taken = subst (TakesByte c.loop-byte.self.left c.take_byte.new.self.left) is c.in_ok-byte.ensures.byte in
     rw c.count_line.ensures.left (Reads-end _ _ _ _ c.loop-byte.invariant.reads taken)
 
+pub returns-then-byte-eq-LINE_FEED-clause-turns : goal.returns-then-byte-eq-LINE_FEED-clause-turns
+returns-then-byte-eq-LINE_FEED-clause-turns g c =
+    CountsTurns-kept _ _ _ (CountsTurns-then _ _ _ c.loop-byte.invariant.turns c.take_byte.ensures.turns) c.count_line.ensures.turns c.count_line.ensures.reads
+
 -- one more byte of the line
 pub loop-byte-preserved : goal.loop-byte-preserved
 loop-byte-preserved g c =
@@ -32,6 +38,7 @@ loop-byte-preserved g c =
       within = omega (arith, less);
       less = inr (omega (arith, less));
       lines = c.take_byte.ensures.lines ∙ c.loop-byte.invariant.lines;
+      turns = CountsTurns-then _ _ _ c.loop-byte.invariant.turns c.take_byte.ensures.turns;
       few = λ few. c.take_byte.ensures.few (c.loop-byte.invariant.few few);
       stays = c.in_ok-byte.ensures.stays ∙ c.loop-byte.invariant.stays;
     }
@@ -42,11 +49,22 @@ returns-then-is_empty-clause-line g c =
     let over = subst (TakesByte c.loop-byte.self.left c.take_byte.new.self.left) c.in_default.is c.in_ok-byte.ensures.byte in
     Reads-none _ _ _ _ c.loop-byte.invariant.reads over (c.is_empty.ensures.empty c.if-is_empty.true)
 
+pub returns-then-is_empty-clause-turns : goal.returns-then-is_empty-clause-turns
+returns-then-is_empty-clause-turns g c = CountsTurns-then _ _ _ c.loop-byte.invariant.turns c.take_byte.ensures.turns
+
 -- the last line, which has no end
 pub returns-clause-line : goal.returns-clause-line
 returns-clause-line g c =
     let over = subst (TakesByte c.loop-byte.self.left c.take_byte.new.self.left) c.in_default.is c.in_ok-byte.ensures.byte in
     rw (c.settle.ensures, c.count_line-2.ensures.left) (Reads-last _ _ _ _ c.loop-byte.invariant.reads over (c.is_empty.ensures.some c.if-is_empty.false))
+
+pub returns-clause-turns : goal.returns-clause-turns
+returns-clause-turns g c =
+    CountsTurns-kept _ _ _ (CountsTurns-then _ _ _ c.loop-byte.invariant.turns c.take_byte.ensures.turns) c.count_line-2.ensures.turns c.count_line-2.ensures.reads
+
+-- the device failed
+pub returns-in_err-byte-clause-turns : goal.returns-in_err-byte-clause-turns
+returns-in_err-byte-clause-turns g c = CountsTurns-then _ _ _ c.loop-byte.invariant.turns c.take_byte.ensures.turns
 
 -- a line has a byte
 pub returns-clause-room : goal.returns-clause-room

@@ -1,6 +1,6 @@
 use Rattle.std.proofs.Common.{◌≡◌, ◌<◌, ◌≤◌, ◌⊎◌}
 use Rattle.pfl_script.specs.Scans.{Reads, nothing}
-use Rattle.pfl_script.specs.Readers.{room}
+use Rattle.pfl_script.specs.Readers.{room, CountsTurns}
 use Rattle.pfl_script.proofs.line_reader.LineReader.next_line.Given as goal
 
 abbrev pub invariant-loop-byte : goal.invariant-loop-byte
@@ -9,6 +9,7 @@ invariant-loop-byte g l = record {
   within : room l.self ≤ room l.fn.self;
   less : (l.line ≡ nothing) ⊎ (room l.self < room l.fn.self);
   lines : l.self.lines ≡ l.fn.self.lines;
+  turns : CountsTurns l.fn.self l.self;
   few : l.fn.self.turns ≤ 16777216 → l.self.turns ≤ 16777216;
   stays : l.self.failed ≡ l.fn.self.failed;
 }

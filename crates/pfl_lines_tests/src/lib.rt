@@ -1,0 +1,5 @@
+//! Worked lines, through the public calls of pfl_lines.
+#![tactic(auto)]
+
+#[cfg(test)]
+mod lines;
