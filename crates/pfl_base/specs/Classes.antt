@@ -1,8 +1,7 @@
 -- The classes of states, with their numbers and default timeouts (pf.conf(5); the numbers and seconds are this project's profile).
-use Rattle.std.specs.Prelude.{ℕ, Option, List, [], ◌∷◌, slice_get, find, bytes_eq}
+use Rattle.std.specs.Prelude.{ℕ, Option, List, [], ◌∷◌, slice_get}
 use Rattle.pfl_base.specs.declared.class.Class.{Class}
 use Rattle.pfl_base.specs.declared.class.Class.TheVariants.{TcpFirst, TcpOpening, TcpEstablished, TcpClosing, TcpFinWait, TcpClosed, UdpFirst, UdpSingle, UdpMultiple, IcmpFirst, IcmpError, OtherFirst, OtherSingle, OtherMultiple}
-use Rattle.pfl_base.specs.Texts.{class_text}
 
 -- the classes in the order of their numbers
 abbrev pub classes : List Class
@@ -28,10 +27,6 @@ class_number OtherMultiple = 13
 -- the class with the number, if there is one
 abbrev pub class_of : ℕ → Option Class
 class_of n = slice_get classes n
-
--- the class with the word, if there is one
-abbrev pub class_at_word : List ℕ → Option Class
-class_at_word word = find (λ class. bytes_eq (class_text class) word) classes
 
 -- seconds after which a state expires, where no rule says otherwise (this project's profile)
 abbrev pub default_timeout : Class → ℕ

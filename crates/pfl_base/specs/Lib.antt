@@ -10,5 +10,6 @@ pub mod Lists
 pub mod Nodes
 pub mod Refusals
 pub mod Texts
+pub mod Words
 pub mod Devices
 pub mod Counts

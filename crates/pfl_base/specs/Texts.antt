@@ -1,9 +1,10 @@
 -- The texts of addresses, names and words (this project's profile).
-use Rattle.std.specs.Prelude.{ℕ, ◌+◌, ◌/◌, ◌%◌, ◌^◌, nat_lt, List, [], ◌∷◌, ◌++◌, if◌then◌else◌, codes}
+use Rattle.std.specs.Prelude.{ℕ, ◌+◌, ◌/◌, ◌%◌, ◌^◌, nat_lt, List, [], ◌∷◌, ◌++◌, if◌then◌else◌, codes, Option, Some, None, unwrap_or}
 use Rattle.std.specs.Fmt.{decimal}
 use Rattle.pfl_base.specs.declared.addr.Addr.{Addr}
 use Rattle.pfl_base.specs.declared.addr.Addr.TheVariants.{V4, V6}
 use Rattle.pfl_base.specs.declared.addr.End.{End}
+use Rattle.pfl_base.specs.Ends.{proto_number}
 use Rattle.pfl_base.specs.declared.class.Class.{Class}
 use Rattle.pfl_base.specs.declared.class.Class.TheVariants.{TcpFirst, TcpOpening, TcpEstablished, TcpClosing, TcpFinWait, TcpClosed, UdpFirst, UdpSingle, UdpMultiple, IcmpFirst, IcmpError, OtherFirst, OtherSingle, OtherMultiple}
 use Rattle.pfl_base.specs.declared.direction.Dir.{Dir}
@@ -46,12 +47,16 @@ host_text (V6 a) = codes "[" ++ address_text (V6 a) ++ codes "]"
 abbrev pub end_text : End → List ℕ
 end_text e = host_text e.addr ++ codes ":" ++ decimal e.port
 
+-- the word of a protocol that has one
+abbrev pub proto_word : Proto → Option (List ℕ)
+proto_word Tcp = Some (codes "tcp")
+proto_word Udp = Some (codes "udp")
+proto_word Icmp = Some (codes "icmp")
+proto_word (Other n) = None
+
 -- a protocol, by word or number
 abbrev pub proto_text : Proto → List ℕ
-proto_text Tcp = codes "tcp"
-proto_text Udp = codes "udp"
-proto_text Icmp = codes "icmp"
-proto_text (Other n) = decimal n
+proto_text p = unwrap_or (proto_word p) (decimal (proto_number p))
 
 -- the word of a direction
 abbrev pub dir_text : Dir → List ℕ

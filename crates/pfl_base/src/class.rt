@@ -24,8 +24,10 @@ pub enum Class {
 }
 
 impl Class {
-    ghost use Rattle.pfl_base.specs.Classes.{class_at_word, class_number, class_of, default_timeout};
+    ghost use Rattle.std.specs.Prelude.{IfSome};
+    ghost use Rattle.pfl_base.specs.Classes.{class_number, class_of, default_timeout};
     ghost use Rattle.pfl_base.specs.Texts.{class_text};
+    ghost use Rattle.pfl_base.specs.Words.{class_at_word};
 
     /// The classes in the order of their numbers.
     pub const ALL: [Class; 14] = [
@@ -59,9 +61,10 @@ impl Class {
         Class::ALL.get(usize::from(number)).copied()
     }
 
-    /// The class's word in lines.
+    /// The class's word in lines, which no other class has.
     pub fn word(self) -> &'static str
-        ensures { result.now ≡ class_text self }
+        ensures word { result.now ≡ class_text self }
+        ensures read_again { class_at_word result.now ≡ Some self }
     {
         match self {
             Class::TcpFirst => "tcp.first",
@@ -83,7 +86,8 @@ impl Class {
 
     /// The class with the word, if there is one.
     pub fn of_word(word: &[u8]) -> Option<Class>
-        ensures { result ≡ class_at_word word.now }
+        ensures found { result ≡ class_at_word word.now }
+        ensures word { IfSome result (λ class. class_text class ≡ word.now) }
     {
         Class::ALL
             .iter()

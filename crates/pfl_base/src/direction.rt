@@ -12,8 +12,13 @@ pub enum Dir {
 }
 
 impl Dir {
+    ghost use Rattle.std.specs.Prelude.{IfSome};
     ghost use Rattle.pfl_base.specs.Keys.{other_dir};
     ghost use Rattle.pfl_base.specs.Texts.{dir_text};
+    ghost use Rattle.pfl_base.specs.Words.{dir_at_word};
+
+    /// Both directions.
+    pub const ALL: [Dir; 2] = [Dir::Inbound, Dir::Outbound];
 
     /// The other direction.
     pub fn other(self) -> Dir
@@ -25,14 +30,26 @@ impl Dir {
         }
     }
 
-    /// The direction's word in lines.
+    /// The direction's word in lines, which no other direction has.
     pub fn word(self) -> &'static str
-        ensures { result.now ≡ dir_text self }
+        ensures word { result.now ≡ dir_text self }
+        ensures read_again { dir_at_word result.now ≡ Some self }
     {
         match self {
             Dir::Inbound => "in",
             Dir::Outbound => "out",
         }
+    }
+
+    /// The direction with the word, if there is one.
+    pub fn of_word(word: &[u8]) -> Option<Dir>
+        ensures found { result ≡ dir_at_word word.now }
+        ensures word { IfSome result (λ dir. dir_text dir ≡ word.now) }
+    {
+        Dir::ALL
+            .iter()
+            .copied()
+            .find(|dir| dir.word().as_bytes() == word)
     }
 }
 

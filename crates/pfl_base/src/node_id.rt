@@ -12,8 +12,13 @@ pub enum NodeId {
 }
 
 impl NodeId {
+    ghost use Rattle.std.specs.Prelude.{IfSome};
     ghost use Rattle.pfl_base.specs.Nodes.{other_node};
     ghost use Rattle.pfl_base.specs.Texts.{node_text};
+    ghost use Rattle.pfl_base.specs.Words.{node_at_word};
+
+    /// Both nodes.
+    pub const ALL: [NodeId; 2] = [NodeId::A, NodeId::B];
 
     /// The other node of the pair.
     pub fn other(self) -> NodeId
@@ -25,14 +30,26 @@ impl NodeId {
         }
     }
 
-    /// The node's word in lines.
+    /// The node's word in lines, which the other node does not have.
     pub fn word(self) -> &'static str
-        ensures { result.now ≡ node_text self }
+        ensures word { result.now ≡ node_text self }
+        ensures read_again { node_at_word result.now ≡ Some self }
     {
         match self {
             NodeId::A => "a",
             NodeId::B => "b",
         }
+    }
+
+    /// The node with the word, if there is one.
+    pub fn of_word(word: &[u8]) -> Option<NodeId>
+        ensures found { result ≡ node_at_word word.now }
+        ensures word { IfSome result (λ node. node_text node ≡ word.now) }
+    {
+        NodeId::ALL
+            .iter()
+            .copied()
+            .find(|node| node.word().as_bytes() == word)
     }
 }
 

@@ -33,7 +33,7 @@ impl Packet {
     ghost use Rattle.pfl_base.specs.declared.direction.Dir.{Dir};
     ghost use Rattle.pfl_base.specs.declared.fields.PacketFields.{PacketFields};
     ghost use Rattle.pfl_base.specs.Keys.{key as key_of, other_dir};
-    ghost use Rattle.pfl_base.specs.Packets.{bad_packet, exchanged, IsPacket};
+    ghost use Rattle.pfl_base.specs.Packets.{bad_packet, exchanged, is_request, IsPacket};
 
     /// The packet with these fields, or the first reason why they are none.
     #[allow(clippy::too_many_arguments)]
@@ -96,6 +96,14 @@ impl Packet {
                 ..self.fields
             },
         }
+    }
+
+    /// Whether the packet asks for a new connection: SYN without ACK (RFC 9293, 3.5).
+    pub fn is_request(&self) -> bool
+        ensures { result ≡ is_request self.now }
+    {
+        let flags = self.flags();
+        flags.contains(TcpFlags::SYN) && !flags.contains(TcpFlags::ACK)
     }
 
     /// What the packet was made from.

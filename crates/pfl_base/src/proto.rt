@@ -47,7 +47,14 @@ pub enum Proto {
 }
 
 impl Proto {
+    ghost use Rattle.std.specs.Prelude.{IfSome, bytes_eq, false};
+    ghost use Rattle.std.specs.Option.{option_map, option_map_or};
     ghost use Rattle.pfl_base.specs.Ends.{proto_number, proto_of, IsProto};
+    ghost use Rattle.pfl_base.specs.Texts.{proto_word};
+    ghost use Rattle.pfl_base.specs.Words.{proto_at_word};
+
+    /// The protocols that have words.
+    pub const NAMED: [Proto; 3] = [Proto::Tcp, Proto::Udp, Proto::Icmp];
 
     /// The protocol of a number.
     pub fn of(number: u8) -> Proto
@@ -73,6 +80,40 @@ impl Proto {
             Proto::Other(other) => other.number(),
         }
     }
+
+    /// The protocol's word in lines, if it has one, which no other protocol has.
+    pub fn word(self) -> Option<&'static str>
+        ensures word { option_map (λ word. word.now) result ≡ proto_word self }
+        ensures read_again { IfSome result (λ word. proto_at_word word.now ≡ Some self) }
+    {
+        match self {
+            Proto::Tcp => Some("tcp"),
+            Proto::Udp => Some("udp"),
+            Proto::Icmp => Some("icmp"),
+            Proto::Other(_) => None,
+        }
+    }
+
+    /// The protocol with the word, if there is one.
+    #[tactic(auto, using(crate::proofs::Words::found_word))]
+    pub fn of_word(word: &[u8]) -> Option<Proto>
+        ensures found { result ≡ proto_at_word word.now }
+        ensures word { IfSome result (λ proto. proto_word proto ≡ Some word.now) }
+    {
+        Proto::NAMED
+            .iter()
+            .copied()
+            .find(|proto| proto.has_word(word))
+    }
+
+    fn has_word(self, word: &[u8]) -> bool
+        ensures { result ≡ option_map_or (λ own. bytes_eq own word.now) (proto_word self) false }
+    {
+        match self.word() {
+            Some(own) => own.as_bytes() == word,
+            None => false,
+        }
+    }
 }
 
 impl fmt::Display for Proto {
@@ -81,12 +122,10 @@ impl fmt::Display for Proto {
     ghost output = { λ proto. Some (proto_text proto) };
 
     fn fmt<W: fmt::Write>(&self, f: &mut fmt::Formatter<W>) -> fmt::Result {
-        match self {
-            Proto::Tcp => f.write_str("tcp"),
-            Proto::Udp => f.write_str("udp"),
-            Proto::Icmp => f.write_str("icmp"),
-            Proto::Other(other) => {
-                let number = other.number();
+        match self.word() {
+            Some(word) => f.write_str(word),
+            None => {
+                let number = self.number();
                 write!(f, "{number}")
             }
         }

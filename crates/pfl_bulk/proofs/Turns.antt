@@ -1,5 +1,5 @@
 -- Names in rising order: those after a cursor are what a search by halves leaves.
-use Rattle.std.proofs.Common.{◌≡◌, ◌-◌, ◌≤◌, ◌<◌, ℕ, zero, suc, Bool, true, false, cond, not, List, [], ◌∷◌, length, take, drop, get_or, filter, unwrap_or, refl, sym, ◌∙◌, ap, arith}
+use Rattle.std.proofs.Common.{◌≡◌, ◌+◌, ◌-◌, ◌≤◌, ◌<◌, ℕ, zero, suc, Bool, true, false, cond, not, List, [], ◌∷◌, length, take, drop, get_or, filter, unwrap_or, refl, sym, ◌∙◌, ap, arith}
 use Rattle.std.proofs.lemmas.List.{take_rest}
 use Rattle.std.specs.List.{AllWithin}
 use Rattle.std.specs.List.Sorted.{IsPartitionedBy, IsPartitionPoint}
@@ -10,7 +10,7 @@ use Rattle.pfl_base.specs.declared.state_name.StateName.{StateName}
 use Rattle.pfl_base.specs.Lists.{last_of}
 use Rattle.pfl_base.specs.Names.{name_cmp, names_total}
 use Rattle.pfl_edits.specs.Ordered.{IsBelow, IsRising}
-use Rattle.pfl_bulk.specs.Bulk.{after}
+use Rattle.pfl_bulk.specs.Bulk.{after, TurnsNeedFewNames, turn_names-first, after_turn-first, is_last_turn-first}
 
 -- the last element is that at the last place
 pub last_is : {X : Type 0} (xs : List X) (d e : X) → 0 < length xs → get_or xs (length xs - 1) d ≡ unwrap_or (last_of xs) e
@@ -59,3 +59,10 @@ module _ (cursor : StateName) where
       → take (length xs - n) (drop n xs) ≡ after cursor xs
   after_point xs n h point =
       take_rest xs n ∙ sym (filter_from (λ y. is_lt (name_cmp cursor y)) xs n (λ k d a b. not-true _ (point.0 k d a b)) (λ k d a b. not-false _ (point.1 k d a b)) h)
+
+pub turns_need_few_names : TurnsNeedFewNames
+turns_need_few_names s all batch = record {
+  names = turn_names-first s all (batch + 1) batch (omega arith);
+  server_after = after_turn-first s all (batch + 1) batch (omega arith);
+  last = is_last_turn-first s all (batch + 1) batch (omega arith);
+}

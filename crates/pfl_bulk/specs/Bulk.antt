@@ -50,6 +50,15 @@ abbrev pub first_names : BulkServer → List StateName → ℕ → List StateNam
 first_names server.Idle names n = []
 first_names (server.Serving cursor since) names n = take n (after cursor names)
 
+-- a turn over the first names after the cursor, one more than it sends, is one over all
+pub record IsSameTurn (s : BulkServer) (few all : List StateName) (batch : ℕ) : Type 0 where
+  pub names : turn_names s few batch ≡ turn_names s all batch
+  pub server_after : after_turn s few batch ≡ after_turn s all batch
+  pub last : is_last_turn s few batch ≡ is_last_turn s all batch
+
+abbrev pub TurnsNeedFewNames : Type 0
+TurnsNeedFewNames = (s : BulkServer) (all : List StateName) (batch : ℕ) → IsSameTurn s (first_names s all (batch + 1)) all batch
+
 -- the client that asked for the first time
 abbrev pub first_asked : ℕ → BulkClient
 first_asked now = client.Waiting 1 now

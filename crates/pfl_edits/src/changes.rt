@@ -1,5 +1,5 @@
 //! Lists of edits whose room is made beforehand.
-ghost use Rattle.std.specs.Prelude.{◌≡◌, ℕ, ◌+◌, ◌<◌, ◌≤◌, List, [], ◌∷◌, ◌++◌, length, OnOk, OnErr, IsOk, IsTrue, ◌↔◌, MatchOption};
+ghost use Rattle.std.specs.Prelude.{◌≡◌, ℕ, ◌+◌, ◌<◌, ◌≤◌, List, [], ◌∷◌, ◌++◌, length, OnOk, OnErr, IfOk, IsOk, IsTrue, ◌↔◌, MatchOption};
 ghost use Rattle.pfl_edits.specs.Changes.{Edits};
 
 use crate::no_memory::NoMemory;
@@ -36,6 +36,17 @@ impl<E, A: Allocator> Change<E, A> {
             edits: Vec::new(alloc),
             spare: 0,
         }
+    }
+
+    /// A change without edits, with room for `n`.
+    pub fn with_room(alloc: A, n: usize) -> Result<Self, NoMemory>
+        ensures list { IfOk result (λ c. c.list ≡ []) }
+        ensures spare { IfOk result (λ c. c.spare ≡ n) }
+    {
+        Ok(Change {
+            edits: Vec::with_capacity(alloc, n)?,
+            spare: n,
+        })
     }
 
     /// Makes room for `n` more edits.
@@ -77,12 +88,28 @@ impl<E, A: Allocator> Change<E, A> {
         self.edits.is_empty()
     }
 
-    /// Takes the newest edit out, if there is one. The room that it had is not given back.
+    /// Takes the newest edit out, if there is one. The room that it had is given back.
     pub fn pop(&mut self) -> Option<E>
         ensures edit { MatchOption result ((self.old.list ≡ []) × (self.new ≡ self.old)) (λ edit. self.old.list ≡ self.new.list ++ edit ∷ []) }
-        ensures spare { self.new.spare ≡ self.old.spare }
+        ensures room { self.new.spare + length self.new.list ≡ self.old.spare + length self.old.list }
     {
-        self.edits.pop()
+        let edit = self.edits.pop()?;
+        self.spare += 1;
+        Some(edit)
+    }
+
+    /// Hands the edits out as a change of their own, if there is memory for that. The room that they had is given back.
+    pub fn hand_out(&mut self, alloc: A) -> Result<Self, NoMemory>
+        ensures edits { IfOk result (λ c. c.list ≡ self.old.list) }
+        ensures none_left { OnOk result (self.new.list ≡ []) }
+        ensures room { OnOk result (self.new.spare ≡ self.old.spare + length self.old.list) }
+        ensures unchanged { OnErr result (self.new ≡ self.old) }
+    {
+        let count = self.len();
+        let mut edits = Vec::with_capacity(alloc, count)?;
+        edits.append(&mut self.edits).unwrap();
+        self.spare += count;
+        Ok(Change { edits, spare: 0 })
     }
 
     /// The edits, the oldest first.

@@ -2,13 +2,15 @@
 #![tactic(auto)]
 
 mod changes;
+mod in_order;
 mod keyed;
 mod no_memory;
 mod reversible;
 mod rows;
 
 pub use changes::Change;
+pub use in_order::InOrder;
 pub use keyed::Keyed;
 pub use no_memory::NoMemory;
-pub use reversible::{Reversible, undo_all};
+pub use reversible::{Reversible, take_back, undo_all};
 pub use rows::Rows;

@@ -1,5 +1,5 @@
 //! Values whose edits can be taken back.
-ghost use Rattle.std.specs.Prelude.{◌≡◌};
+ghost use Rattle.std.specs.Prelude.{◌≡◌, ◌+◌, [], length};
 ghost use Rattle.pfl_edits.specs.Changes.{back, Fits, LeadsBothWays};
 
 use crate::changes::Change;
@@ -38,13 +38,23 @@ pub trait Reversible {
     ghost both_ways: { (e : Self.Edit) → LeadsBothWays (finds_former e) (finds e) (put_back e) (redone e) };
 }
 
-/// Takes the edits of a change back, the newest first, without memory.
+/// Takes the edits of a change back, the newest first, without memory, and gives the change up.
 pub fn undo_all<T: Reversible, A: Allocator>(value: &mut T, mut change: Change<T::Edit, A>)
     requires fits { Fits T.finds T.allows T.put_back change.list value.old }
     ensures value { value.new ≡ back T.put_back change.list value.old }
 {
+    take_back(value, &mut change);
+    change.destroy_empty();
+}
+
+/// Takes the edits of a change back, the newest first, without memory. The room that they had is given back.
+pub fn take_back<T: Reversible, A: Allocator>(value: &mut T, change: &mut Change<T::Edit, A>)
+    requires fits { Fits T.finds T.allows T.put_back change.old.list value.old }
+    ensures value { value.new ≡ back T.put_back change.old.list value.old }
+    ensures none_left { change.new.list ≡ [] }
+    ensures room { change.new.spare ≡ change.old.spare + length change.old.list }
+{
     while let Some(edit) = change.pop() {
         value.undo(edit);
     }
-    change.destroy_empty();
 }

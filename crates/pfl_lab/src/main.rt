@@ -2,17 +2,11 @@
 #![tactic(auto)]
 
 ghost use Rattle.std.specs.Prelude.{◌≡◌, map, string_bytes};
-ghost use Rattle.pfl_lab.specs.Modes.{words_status, IsExitStatus};
+ghost use Rattle.pfl_run.specs.Modes.{words_status, IsExitStatus};
 
-mod fault;
-mod mode;
-mod run;
-
-use fault::LabFault;
-use mode::{Mode, WordsFault, mode_of};
 use pfl_base::Std;
+use pfl_run::{LabFault, Mode, WordsFault, mode_of, run_lab, tell};
 use pfl_script::LineReader;
-use run::{run_lab, tell};
 use std::env;
 use std::io::{self, ErrorKind};
 use std::process::ExitCode;
@@ -71,6 +65,3 @@ fn main(rt: HostRuntime) -> ExitCode {
         },
     })
 }
-
-#[cfg(test)]
-mod tests;

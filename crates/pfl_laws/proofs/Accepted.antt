@@ -1,15 +1,18 @@
--- What an event that was accepted, or refused, says of a run that begins with it.
-use Rattle.std.specs.Prelude.{◌≡◌, List, [], ◌∷◌, length, Option, Result, Ok, Err, IfErr, OnOk, IsOkAnd, IsSome, IsSomeAnd, is_some, fold, option_and_then, refl}
-use Rattle.std.proofs.Common.{◌∙◌, ap, sym, subst, inl, inr}
-use Rattle.std.proofs.lemmas.List.{nil_from_length}
+-- What the events of a run that were accepted say of it, and what one that is refused does.
+use Rattle.std.specs.Prelude.{◌≡◌, ◌≤◌, ◌<◌, ◌+◌, ◌++◌, ℕ, List, [], ◌∷◌, length, drop, Option, Some, Result, Ok, IsOkAnd, IsSome, IsSomeAnd, is_some, fold, option_and_then, refl}
+use Rattle.std.proofs.Common.{◌∙◌, ap, sym, subst, inr, get_or}
+use Rattle.std.proofs.lemmas.List.{drop_all, drop_more}
 use Rattle.pfl_base.specs.declared.refusal.Refusal.{Refusal}
+use Rattle.pfl_edits.specs.Changes.{Fits, back, LeadsBack-append}
+use Rattle.pfl_world.specs.declared.edit.WorldEdit.{WorldEdit}
 use Rattle.pfl_world.specs.declared.event.Event.{Event}
 use Rattle.pfl_world.specs.declared.outcome.Outcome.{Outcome as Answer}
-use Rattle.pfl_world.specs.Events.{step, IsRefusalOf}
-use Rattle.pfl_world.specs.Outcomes.{Outcome, Stepped, told}
+use Rattle.pfl_world.specs.Events.{step}
+use Rattle.pfl_world.specs.Outcomes.{Stepped, told}
 use Rattle.pfl_world.specs.Runs.{run, after}
-use Rattle.pfl_world.specs.Worlds.{World}
-use Rattle.pfl_laws.specs.Reverting.{IsRefusalAlong}
+use Rattle.pfl_world.specs.WorldEdits.{Finds, put_back, WorldLeadsBack}
+use Rattle.pfl_world.specs.Worlds.{World, IsWorld}
+use Rattle.pfl_laws.specs.Reverting.{IsRefusalAlong, LeadsOn}
 
 -- the answer is the outcome of the step
 pub accepted-outcome : (w v : World) (e : Event) (a : Answer) → step w e ≡ Ok (record { world = v; outcome = told a }) → IsOkAnd (step w e) (λ s. s.outcome ≡ told a)
@@ -20,26 +23,50 @@ run-none : (w : World) → IsSome (run w [])
 unfolding run
 run-none w = refl
 
-pub accepted-none : (w : World) (events : List Event) → length events ≡ 0 → IsSome (run w events)
-accepted-none w events none = subst (λ (es : List Event). IsSome (run w es)) (sym (nil_from_length events none)) (run-none w)
+-- ---- events, one after the other
 
--- behind its first event a run goes on
-run-first : (w v : World) (e : Event) (es : List Event) (o : Outcome) → step w e ≡ Ok (record { world = v; outcome = o }) → run w (e ∷ es) ≡ run v es
+-- after the first i events the pair is v, the rest of the run goes on from there, and the edits lead back
+pub record Along {M : Type 0} (w : World) (events : List Event) (i : ℕ) (v : World) (edits : List (WorldEdit M)) : Type 0 where
+  pub ran : run w events ≡ run v (drop i events)
+  pub refused : (r : Refusal) → IsRefusalAlong v (drop i events) r → IsRefusalAlong w events r
+  pub back : WorldLeadsBack edits w v
+
+-- before the first
+pub along-none : {M : Type 0} (w : World) (events : List Event) (edits : List (WorldEdit M)) → edits ≡ [] → Along w events 0 w edits
+along-none {M = M} w events edits none = record {
+  ran = refl;
+  refused = λ r is. is;
+  back = subst (λ (es : List (WorldEdit M)). WorldLeadsBack es w w) (sym none) (record { fits = tt; back = refl });
+}
+
+-- behind an event that is accepted a run goes on
+run-on : (v u : World) (e : Event) (es : List Event) → after (step v e) ≡ Some u → run v (e ∷ es) ≡ run u es
 unfolding run
-run-first w v e es o is = ap (λ (at : Option World). fold (λ at e. option_and_then (λ u. after (step u e)) at) at es) (ap after is)
+run-on v u e es is = ap (λ (at : Option World). fold (λ at e. option_and_then (λ w. after (step w e)) at) at es) is
 
--- the first event of a run was accepted
-module _ (w v : World) (events : List Event) (e : Event) (es : List Event) (o : Outcome) (begins : events ≡ e ∷ es) (is : step w e ≡ Ok (record { world = v; outcome = o })) where
-  pub accepted-on : {X : Type 0} (r : Result X Refusal) → OnOk r (IsSome (run v es)) → OnOk r (IsSome (run w events))
-  accepted-on (Ok x) some = ap is_some (ap (run w) begins ∙ run-first w v e es o is) ∙ some
-  accepted-on (Err r) some = tt
+-- an event is the first of those from it on
+left-from : (events : List Event) (i : ℕ) (e : Event) → i < length events → e ≡ get_or events i e → drop i events ≡ e ∷ drop (i + 1) events
+left-from events i e within is = drop_more events i e within ∙ ap (λ (x : Event). x ∷ drop (i + 1) events) (sym is)
 
-  pub refused-on : {X : Type 0} (r : Result X Refusal) → IfErr r (IsRefusalAlong v es) → IfErr r (IsRefusalAlong w events)
-  refused-on (Ok x) later = tt
-  refused-on (Err r) later =
-      subst (λ (xs : List Event). IsRefusalAlong w xs r) (sym begins)
-      (inr (subst (λ (at : Result Stepped Refusal). IsSomeAnd (after at) (λ u. IsRefusalAlong u es r)) (sym is) later))
+-- one event more
+pub along-next : {M : Type 0} (w : World) (events : List Event) (i : ℕ) (v : World) (edits : List (WorldEdit M)) → Along w events i v edits
+    → (e : Event) → i < length events → e ≡ get_or events i e → (u : World) (later : List (WorldEdit M)) → after (step v e) ≡ Some u → LeadsOn edits later v u → Along w events (i + 1) u later
+along-next w events i v edits a e within here u later is on =
+    let cut = left-from events i e within here in
+    record {
+      ran = a.ran ∙ (ap (run v) cut ∙ run-on v u e (drop (i + 1) events) is);
+      refused = λ r after_it.
+          a.refused r (subst (λ (xs : List Event). IsRefusalAlong v xs r) (sym cut)
+          (inr (subst (λ (at : Option World). IsSomeAnd at (λ x. IsRefusalAlong x (drop (i + 1) events) r)) (sym is) after_it)));
+      back = on w a.back;
+    }
 
--- it was refused
-pub refused-first : (w : World) (events : List Event) (e : Event) (es : List Event) (r : Refusal) → events ≡ e ∷ es → IsRefusalOf (step w e) r → IsRefusalAlong w events r
-refused-first w events e es r begins refused = subst (λ (xs : List Event). IsRefusalAlong w xs r) (sym begins) (inl refused)
+-- all were accepted
+pub along-all : {M : Type 0} (w : World) (events : List Event) (i : ℕ) (v : World) (edits : List (WorldEdit M)) → Along w events i v edits → length events ≤ i → IsSome (run w events)
+along-all w events i v edits a all = ap is_some (a.ran ∙ ap (run v) (drop_all i events all)) ∙ run-none v
+
+-- edits that lead back, behind others
+pub leads-on : {M : Type 0} (former mid later added : List (WorldEdit M)) (w v : World) → later ≡ mid ++ added → mid ≡ former → Fits Finds IsWorld put_back added v → back put_back added v ≡ w → LeadsOn former later w v
+leads-on {M = M} former mid later added w v lists same fits is origin before =
+    subst (λ (es : List (WorldEdit M)). WorldLeadsBack es origin v) (sym (lists ∙ ap (λ (xs : List (WorldEdit M)). xs ++ added) same))
+    (LeadsBack-append Finds IsWorld put_back former added origin w v before (record { fits = fits; back = is }))

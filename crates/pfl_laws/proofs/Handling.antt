@@ -59,7 +59,7 @@ hold-keeps q n s p other =
     record { creator = refl; next = omega arith; comes = put.comes }
 
 -- the state is not that of the name
-announced-keeps : (q : StateName) (n : Node) (s : State) (dir : Dir) (p : Packet) → Filed n.states → q ≢ s.name → Keeps Alike q n (announced n s dir p).node
+pub announced-keeps : (q : StateName) (n : Node) (s : State) (dir : Dir) (p : Packet) → Filed n.states → q ≢ s.name → Keeps Alike q n (announced n s dir p).node
 announced-keeps q n s dir p filed other =
     let still : Keeps Alike q n n = keeps-itself Alike q n Alike-itself in
     let room : Keeps Alike q n (with_room (mark n s.name Insert)) = room-keeps q (mark n s.name Insert) filed in
@@ -80,7 +80,7 @@ started-keeps q n dir p number r filed given =
     (alike-then q n (with_new n new) (announced (with_new n new) new dir p).node
     (new-keeps q n new other) (announced-keeps q (with_new n new) new dir p (filed-put n.states new filed) other))))
 
-judged-keeps : (q : StateName) (n : Node) (dir : Dir) (p : Packet) → Filed n.states → IsGiven n q → Keeps Alike q n (judged n dir p).node
+pub judged-keeps : (q : StateName) (n : Node) (dir : Dir) (p : Packet) → Filed n.states → IsGiven n q → Keeps Alike q n (judged n dir p).node
 unfolding judged
 judged-keeps q n dir p filed given = one_of Alike q n (verdict n.rules.list p dir).pass _ _ (by_number (verdict n.rules.list p dir).rule) still
   where
@@ -93,7 +93,7 @@ judged-keeps q n dir p filed given = one_of Alike q n (verdict n.rules.list p di
 
 -- ---- a packet of a state
 
-filed-without : (n : Node) (s : State) → Filed n.states → Filed (deleted n s).states
+pub filed-without : (n : Node) (s : State) → Filed n.states → Filed (deleted n s).states
 filed-without n s filed a u at =
     let from = comes-removed n.states s.name a u (ap (λ (m : States). maps.get m a) (sym (deleted-states n s)) ∙ at) in
     ap (λ (v : State). v.name) from.so ∙ filed a from.state from.at
@@ -102,7 +102,7 @@ follows-itself : (C : Type 0) (s : State) → Follows C s s
 follows-itself C s = alike-follows C s s refl
 
 -- the state s moved to t
-accepted-keeps : (q : StateName) (n : Node) (dir : Dir) (p : Packet) (s t : State) → maps.get n.states s.name ≡ Some s → t.name ≡ s.name → tracked s p dir n.clock ≡ Moved t → Keeps (Follows (IsPacket p)) q n (accepted n t).node
+pub accepted-keeps : (q : StateName) (n : Node) (dir : Dir) (p : Packet) (s t : State) → maps.get n.states s.name ≡ Some s → t.name ≡ s.name → tracked s p dir n.clock ≡ Moved t → Keeps (Follows (IsPacket p)) q n (accepted n t).node
 accepted-keeps q n dir p s t at named e =
     keeps-then Alike (Follows (IsPacket p)) (Follows (IsPacket p)) q n (freed n t.name) (changed (freed n t.name) (record t { ack_wanted = false })) (alike-follows-then (IsPacket p))
     (freed-keeps q n t.name)

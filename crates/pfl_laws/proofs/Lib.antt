@@ -1,6 +1,11 @@
 pub mod Following
 pub mod Keeping
 pub mod Handling
+pub mod Flushing
 pub mod Stepping
 pub mod Running
 pub mod Accepted
+pub mod Records
+pub mod Tied
+pub mod Waiting
+pub mod Leaving

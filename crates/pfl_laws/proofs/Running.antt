@@ -1,4 +1,4 @@
--- What events keep under one name of a node, one after the other; and so levels never fall, and names do not come back.
+-- What events keep under one name of a node, one after the other; and so levels never fall, and no name is given twice.
 use Rattle.std.specs.Prelude.{◌≡◌, ⊤, List, [], ◌∷◌, All, Option, Some, None, IfSome, fold, option_and_then, refl}
 use Rattle.std.proofs.Common.{◌∙◌, sym, subst, arith}
 use Rattle.std.proofs.lemmas.List.Elements.{All-head, All-tail}
@@ -6,7 +6,6 @@ use Rattle.pfl_base.specs.declared.node_id.NodeId.{NodeId}
 use Rattle.pfl_base.specs.declared.node_id.NodeId.TheVariants.{A, B}
 use Rattle.pfl_base.specs.declared.state_name.StateName.{StateName}
 use Rattle.pfl_edits.specs.Maps as maps
-use Rattle.pfl_edits.specs.Rows.{some_is_none}
 use Rattle.pfl_track.specs.declared.state.State.{State}
 use Rattle.pfl_track.specs.Laws.{Rises}
 use Rattle.pfl_track.specs.States.{IsState}
@@ -16,7 +15,7 @@ use Rattle.pfl_world.specs.declared.event.Event.{Event}
 use Rattle.pfl_world.specs.Events.{step}
 use Rattle.pfl_world.specs.Runs.{run, after}
 use Rattle.pfl_world.specs.Worlds.{World, IsWorld, node_at}
-use Rattle.pfl_laws.specs.Laws.{IsEvent, LevelsNeverFall, LevelsNeverFallAlong, NamesDoNotComeBack, NamesDoNotComeBackAlong}
+use Rattle.pfl_laws.specs.Laws.{IsEvent, HasRisen, LevelsNeverFall, LevelsNeverFallAlong, NoNameIsGivenTwice}
 use Rattle.pfl_laws.proofs.Following.{Follows, From, inner, stands-rises}
 use Rattle.pfl_laws.proofs.Keeping.{Keeps, keeps-then, keeps-itself, keeps-given}
 use Rattle.pfl_laws.proofs.Stepping.{stepped-keeps, stepped-apart}
@@ -59,7 +58,7 @@ module _ (R : State → State → Type 0) (Q : Event → Type 0) (itself : (s : 
 
 -- ---- levels
 
-node-is : (w : World) (id : NodeId) → IsWorld w → IsNode (node_at w id)
+pub node-is : (w : World) (id : NodeId) → IsWorld w → IsNode (node_at w id)
 node-is w A is = is.a
 node-is w B is = is.b
 
@@ -89,43 +88,44 @@ grows-on e fits s t u grown follows is =
     }
 
 -- the name of a state was given
-given_at : (n : Node) (name : StateName) (s : State) → IsNode n → maps.get n.states name ≡ Some s → IsGiven n name
-given_at n name s is at = subst (IsGiven n) (is.states.filed name s at) (is.each name s at).given
+pub given_at : (n : Node) (name : StateName) (s : State) → IsNode n → maps.get n.states name ≡ Some s → IsGiven n name
+given_at n name s is at = subst (IsGiven n) (is.parts.states.filed name s at) (is.parts.each name s at).given
 
 -- the state that stood is the one
 from-rises : (n : Node) (name : StateName) (s t : State) (R : State → State → Type 0) → maps.get n.states name ≡ Some s → From R n.states name t → R s t
 from-rises n name s t R at from = subst (λ (u : State). R u t) (inner from.state s (sym from.at ∙ at)) from.so
 
+-- without what is at most
+risen : (s t : State) → Rises s t → HasRisen s t
+risen s t r = record { src = r.src; dst = r.dst }
+
 pub levels-step : LevelsNeverFall
 levels-step w e v is accepted id name s t before later =
     let node = node-is w id is in
-    let keeps = stepped-keeps w e v id name accepted node.states (given_at (node_at w id) name s node before) in
-    (from-rises (node_at w id) name s t (Follows (IsEvent e)) before (keeps.comes t later)).rises (node.each name s before).is
+    let keeps = stepped-keeps w e v id name accepted node.parts.states (given_at (node_at w id) name s node before) in
+    risen s t ((from-rises (node_at w id) name s t (Follows (IsEvent e)) before (keeps.comes t later)).rises (node.parts.each name s before).is)
 
 pub levels-along : LevelsNeverFallAlong
-levels-along w es v is fit ran id name s t before later =
+levels-along w es v is fit ran id name s t stands before later =
     let node = node-is w id is in
-    let keeps = along Grows IsEvent grows-itself grows-on w es v id name fit node.states (given_at (node_at w id) name s node before) ran in
-    (from-rises (node_at w id) name s t Grows before (keeps.comes t later) (node.each name s before).is).rises
+    let keeps = along Grows IsEvent grows-itself grows-on w es v id name fit node.parts.states (given_at (node_at w id) name s node before) ran in
+    risen s t (from-rises (node_at w id) name s t Grows before (keeps.comes t later) (node.parts.each name s before).is).rises
 
 -- ---- names
-
--- where nothing stood, nothing stands
-nothing : (R : State → State → Type 0) (q : StateName) (n m : Node) → Keeps R q n m → maps.get n.states q ≡ None → maps.get m.states q ≡ None
-nothing R q n m keeps none = by (maps.get m.states q) refl
-  where
-    by : (o : Option State) → maps.get m.states q ≡ o → o ≡ None
-    by None e = refl
-    by (Some t) e = let from = keeps.comes t e in absurd (some_is_none from.state (sym from.at ∙ none))
 
 abbrev Any : State → State → Type 0
 Any s t = ⊤
 
-pub names-step : NamesDoNotComeBack
-names-step w e v is accepted id name given none =
-    nothing (Follows (IsEvent e)) name (node_at w id) (node_at v id) (stepped-keeps w e v id name accepted (node-is w id is).states given) none
+each-any : (es : List Event) → All (λ e. ⊤) es
+each-any es = λ k d low. tt
 
-pub names-along : NamesDoNotComeBackAlong
-names-along w es v is ran id name given none =
-    nothing Any name (node_at w id) (node_at v id)
-    (along Any (λ e. ⊤) (λ s. tt) (λ e fits s t u before follows. tt) w es v id name (λ k d low. tt) (node-is w id is).states given ran) none
+-- the name was given at the first event, so that the node is past it at the last
+pub names-once : NoNameIsGivenTwice
+names-once w first v es u last x is accepted ran later id name gives again =
+    let states = stepped-apart w first v id accepted (node-is w id is).parts.states in
+    let given : IsGiven (node_at v id) name = λ own. gives.after in
+    let keeps = along Any (λ e. ⊤) (λ s. tt) (λ e fits s t r before follows. tt) v es u id name (each-any es) states given ran in
+    let past = keeps.next in
+    let low = gives.after in
+    let high = again.before in
+    omega arith

@@ -1,18 +1,23 @@
 -- What an event of the pair keeps under one name of one of its nodes.
-use Rattle.std.specs.Prelude.{◌≡◌, ◌+◌, nat_lt, List, [], ◌∷◌, length, Option, Some, None, refl}
+use Rattle.std.specs.Prelude.{◌≡◌, ◌+◌, nat_lt, List, [], ◌∷◌, length, Option, Some, None, Err, refl}
 use Rattle.std.specs.List.{fold}
-use Rattle.std.proofs.Common.{sym, subst}
+use Rattle.std.specs.Option.{option_map_or}
+use Rattle.std.proofs.Common.{◌∙◌, ap, sym, subst}
 use Rattle.pfl_base.specs.declared.node_id.NodeId.{NodeId}
 use Rattle.pfl_base.specs.declared.node_id.NodeId.TheVariants.{A, B}
 use Rattle.pfl_base.specs.declared.refusal.Refusal.{Refusal}
-use Rattle.pfl_base.specs.declared.refusal.Refusal.TheVariants.{ClockFull}
+use Rattle.pfl_base.specs.declared.refusal.Refusal.TheVariants.{NoSuchFrame, LinkFull, ClockFull, CountFull}
 use Rattle.pfl_base.specs.declared.state_name.StateName.{StateName}
+use Rattle.pfl_base.specs.Packets.{IsPacket}
+use Rattle.pfl_edits.specs.Maps as maps
 use Rattle.pfl_edits.specs.Rows.{some_is_none}
+use Rattle.pfl_link.specs.Links.{Link, InFlight, is_full, is_counted_out, sent, without_frame, with_frame, cut_to}
 use Rattle.pfl_track.specs.declared.state.State.{State}
 use Rattle.pfl_table.specs.Tables.{AreStates}
 use Rattle.pfl_table.proofs.Apart.{AreStates-without}
 use Rattle.pfl_node.specs.Nodes.{Node, IsGiven, refused_by, full_tests, last_millisecond}
 use Rattle.pfl_node.specs.Changes.{deleted}
+use Rattle.pfl_node.specs.Flushing.{flushed}
 use Rattle.pfl_node.specs.Events.{ticked, purged, purge_points, expired_states}
 use Rattle.pfl_node.specs.Packets.{handled, packet_points}
 use Rattle.pfl_node.proofs.OneState.{handled-apart}
@@ -20,69 +25,82 @@ use Rattle.pfl_world.specs.declared.event.Event.{Event}
 use Rattle.pfl_world.specs.declared.event.Event.TheVariants as event
 use Rattle.pfl_world.specs.Events.{step}
 use Rattle.pfl_world.specs.Outcomes as outcome
-use Rattle.pfl_world.specs.Outcomes.{Stepped}
+use Rattle.pfl_world.specs.Outcomes.{Outcome, Stepped}
 use Rattle.pfl_world.specs.Runs.{after}
-use Rattle.pfl_world.specs.Steps.{answered, outcome_of, packet_step, tick_step, purge_step}
-use Rattle.pfl_world.specs.Worlds.{World, node_at, with_node}
+use Rattle.pfl_world.specs.Steps.{answered, outcome_of, packet_step, flush_refusal, sent_frame, flush_step, lose_step, repeat_step, cut_step, tick_step, purge_step}
+use Rattle.pfl_world.specs.Worlds.{World, node_at, with_node, with_link}
 use Rattle.pfl_laws.specs.Laws.{IsEvent}
 use Rattle.pfl_laws.proofs.Following.{Alike, Follows, alike-follows, inner}
 use Rattle.pfl_laws.proofs.Keeping.{Keeps, keeps-as, keeps-itself, deleted-states, deletions-keep}
 use Rattle.pfl_laws.proofs.Handling.{handled-keeps}
+use Rattle.pfl_laws.proofs.Flushing.{flushed-keeps, flushed-apart}
 
--- ---- a node
+-- ---- a purge
 
--- the node to which the event happens
-abbrev node_of : Event → NodeId
-node_of (event.Packet id dir p) = id
-node_of (event.Tick id ms) = id
-node_of (event.Purge id) = id
-
--- that node after it
-abbrev turned : Node → Event → Node
-turned n (event.Packet id dir p) = (handled n dir p).node
-turned n (event.Tick id ms) = ticked n ms
-turned n (event.Purge id) = purged n
-
-purged-keeps : (q : StateName) (n : Node) → Keeps Alike q n (purged n)
+pub purged-keeps : (q : StateName) (n : Node) → Keeps Alike q n (purged n)
 unfolding purged
 purged-keeps q n = deletions-keep q (expired_states n) n
-
-turned-keeps : (q : StateName) (n : Node) (e : Event) → AreStates n.states → IsGiven n q → Keeps (Follows (IsEvent e)) q n (turned n e)
-turned-keeps q n (event.Packet id dir p) are given = handled-keeps q n dir p are given
-turned-keeps q n (event.Tick id ms) are given = keeps-itself (Follows (Unit {0})) q n (λ s. alike-follows (Unit {0}) s s refl)
-turned-keeps q n (event.Purge id) are given = keeps-as Alike (Follows (Unit {0})) q n (purged n) (alike-follows (Unit {0})) (purged-keeps q n)
 
 deletions-apart : (xs : List State) (n : Node) → AreStates n.states → AreStates (fold deleted n xs).states
 deletions-apart [] n are = are
 deletions-apart (x ∷ xs) n are = deletions-apart xs (deleted n x) (subst AreStates (sym (deleted-states n x)) (AreStates-without n.states x.name are))
 
-purged-apart : (n : Node) → AreStates n.states → AreStates (purged n).states
+pub purged-apart : (n : Node) → AreStates n.states → AreStates (purged n).states
 unfolding purged
 purged-apart n are = deletions-apart (expired_states n) n are
 
-turned-apart : (n : Node) (e : Event) → AreStates n.states → AreStates (turned n e).states
-turned-apart n (event.Packet id dir p) are = handled-apart n dir p are
-turned-apart n (event.Tick id ms) are = are
-turned-apart n (event.Purge id) are = purged-apart n are
-
 -- ---- the pair
+
+-- each node after the event
+abbrev pub turned : World → Event → NodeId → Node
+turned w (event.Packet id dir p) at = node_at (with_node w id (handled (node_at w id) dir p).node) at
+turned w (event.Flush id) at = node_at (with_node w id (flushed (node_at w id))) at
+turned w (event.Lose ticket) at = node_at w at
+turned w (event.Repeat ticket) at = node_at w at
+turned w (event.Cut ticket len) at = node_at w at
+turned w (event.Tick id ms) at = node_at (with_node w id (ticked (node_at w id) ms)) at
+turned w (event.Purge id) at = node_at (with_node w id (purged (node_at w id))) at
 
 -- the world after an event that is accepted
 answered-world : (o : Option Refusal) (s : Stepped) (v : World) → after (answered o s) ≡ Some v → s.world ≡ v
 answered-world None s v e = inner s.world v e
 answered-world (Some r) s v e = absurd (some_is_none v (sym e))
 
-stepped-world : (w : World) (e : Event) (v : World) → after (step w e) ≡ Some v → with_node w (node_of e) (turned (node_at w (node_of e)) e) ≡ v
-unfolding step packet_step tick_step purge_step
-stepped-world w (event.Packet id dir p) v e =
-    answered-world (refused_by (full_tests (packet_points (node_at w id) dir p)))
-    (record { world = with_node w id (handled (node_at w id) dir p).node; outcome = outcome_of (handled (node_at w id) dir p).fate }) v e
-stepped-world w (event.Tick id ms) v e =
-    answered-world (refused_by ((nat_lt last_millisecond ((node_at w id).clock + ms), ClockFull) ∷ []))
-    (record { world = with_node w id (ticked (node_at w id) ms); outcome = outcome.Clock ((node_at w id).clock + ms) }) v e
-stepped-world w (event.Purge id) v e =
-    answered-world (refused_by (full_tests (purge_points (node_at w id))))
-    (record { world = with_node w id (purged (node_at w id)); outcome = outcome.Purged (length (expired_states (node_at w id))) }) v e
+answered-node : (o : Option Refusal) (s : Stepped) (v : World) (at : NodeId) → after (answered o s) ≡ Some v → node_at s.world at ≡ node_at v at
+answered-node o s v at e = ap (λ (u : World). node_at u at) (answered-world o s v e)
+
+-- another link leaves the nodes
+link-node : (w : World) (l : Link) (at : NodeId) → node_at w at ≡ node_at (with_link w l) at
+link-node w l A = refl
+link-node w l B = refl
+
+-- what becomes of a frame leaves them
+frame-node : (w : World) (frame : Option InFlight) (o : Option Refusal) (l : InFlight → Link) (out : InFlight → Outcome) (v : World) (at : NodeId)
+    → after (option_map_or (λ f. answered o (record { world = with_link w (l f); outcome = out f })) frame (Err NoSuchFrame)) ≡ Some v → node_at w at ≡ node_at v at
+frame-node w None o l out v at e = absurd (some_is_none v (sym e))
+frame-node w (Some f) o l out v at e = link-node w (l f) at ∙ answered-node o (record { world = with_link w (l f); outcome = out f }) v at e
+
+pub stepped-node : (w : World) (e : Event) (v : World) (at : NodeId) → after (step w e) ≡ Some v → turned w e at ≡ node_at v at
+unfolding step packet_step flush_step lose_step repeat_step cut_step tick_step purge_step
+stepped-node w (event.Packet id dir p) v at e =
+    answered-node (refused_by (full_tests (packet_points (node_at w id) dir p)))
+    (record { world = with_node w id (handled (node_at w id) dir p).node; outcome = outcome_of (handled (node_at w id) dir p).fate }) v at e
+stepped-node w (event.Flush id) v at e =
+    link-node (with_node w id (flushed (node_at w id))) (sent w.link (sent_frame w id)) at
+    ∙ answered-node (flush_refusal w id)
+    (record { world = with_link (with_node w id (flushed (node_at w id))) (sent w.link (sent_frame w id)); outcome = outcome.Sent w.link.next (length (sent_frame w id).bytes) }) v at e
+stepped-node w (event.Lose ticket) v at e = frame-node w (maps.get w.link.frames ticket) None (λ f. without_frame w.link ticket) (λ f. outcome.Lost) v at e
+stepped-node w (event.Repeat ticket) v at e =
+    frame-node w (maps.get w.link.frames ticket) (refused_by ((is_full w.link, LinkFull) ∷ (is_counted_out w.link, CountFull) ∷ []))
+    (λ f. sent w.link f) (λ f. outcome.Sent w.link.next (length f.bytes)) v at e
+stepped-node w (event.Cut ticket len) v at e =
+    frame-node w (maps.get w.link.frames ticket) None (λ f. with_frame w.link ticket (cut_to f len)) (λ f. outcome.CutTo (length (cut_to f len).bytes)) v at e
+stepped-node w (event.Tick id ms) v at e =
+    answered-node (refused_by ((nat_lt last_millisecond ((node_at w id).clock + ms), ClockFull) ∷ []))
+    (record { world = with_node w id (ticked (node_at w id) ms); outcome = outcome.Clock ((node_at w id).clock + ms) }) v at e
+stepped-node w (event.Purge id) v at e =
+    answered-node (refused_by (full_tests (purge_points (node_at w id))))
+    (record { world = with_node w id (purged (node_at w id)); outcome = outcome.Purged (length (expired_states (node_at w id))) }) v at e
 
 -- one node of it is another one, and the other node stays
 put-keeps : (R : State → State → Type 0) (q : StateName) (w : World) (id : NodeId) (m : Node) (at : NodeId) → ((s : State) → R s s)
@@ -99,14 +117,40 @@ put-apart w A m B apart are = are
 put-apart w B m A apart are = are
 put-apart w B m B apart are = apart are
 
+-- a state follows itself
+itself : (s : State) → Follows (Unit {0}) s s
+itself s = alike-follows (Unit {0}) s s refl
+
+turned-keeps : (q : StateName) (w : World) (e : Event) (at : NodeId) → AreStates (node_at w at).states → IsGiven (node_at w at) q → Keeps (Follows (IsEvent e)) q (node_at w at) (turned w e at)
+turned-keeps q w (event.Packet id dir p) at are given =
+    put-keeps (Follows (IsPacket p)) q w id (handled (node_at w id) dir p).node at (λ s. alike-follows (IsPacket p) s s refl) (handled-keeps q (node_at w id) dir p) are given
+turned-keeps q w (event.Flush id) at are given =
+    put-keeps (Follows (Unit {0})) q w id (flushed (node_at w id)) at itself
+    (λ a g. keeps-as Alike (Follows (Unit {0})) q (node_at w id) (flushed (node_at w id)) (alike-follows (Unit {0})) (flushed-keeps q (node_at w id) a)) are given
+turned-keeps q w (event.Lose ticket) at are given = keeps-itself (Follows (Unit {0})) q (node_at w at) itself
+turned-keeps q w (event.Repeat ticket) at are given = keeps-itself (Follows (Unit {0})) q (node_at w at) itself
+turned-keeps q w (event.Cut ticket len) at are given = keeps-itself (Follows (Unit {0})) q (node_at w at) itself
+turned-keeps q w (event.Tick id ms) at are given =
+    put-keeps (Follows (Unit {0})) q w id (ticked (node_at w id) ms) at itself (λ a g. keeps-itself (Follows (Unit {0})) q (node_at w id) itself) are given
+turned-keeps q w (event.Purge id) at are given =
+    put-keeps (Follows (Unit {0})) q w id (purged (node_at w id)) at itself
+    (λ a g. keeps-as Alike (Follows (Unit {0})) q (node_at w id) (purged (node_at w id)) (alike-follows (Unit {0})) (purged-keeps q (node_at w id))) are given
+
+turned-apart : (w : World) (e : Event) (at : NodeId) → AreStates (node_at w at).states → AreStates (turned w e at).states
+turned-apart w (event.Packet id dir p) at are = put-apart w id (handled (node_at w id) dir p).node at (handled-apart (node_at w id) dir p) are
+turned-apart w (event.Flush id) at are = put-apart w id (flushed (node_at w id)) at (flushed-apart (node_at w id)) are
+turned-apart w (event.Lose ticket) at are = are
+turned-apart w (event.Repeat ticket) at are = are
+turned-apart w (event.Cut ticket len) at are = are
+turned-apart w (event.Tick id ms) at are = put-apart w id (ticked (node_at w id) ms) at (λ a. a) are
+turned-apart w (event.Purge id) at are = put-apart w id (purged (node_at w id)) at (purged-apart (node_at w id)) are
+
 -- an event that is accepted: what stands under a name that was given comes from what stood there
 pub stepped-keeps : (w : World) (e : Event) (v : World) (at : NodeId) (q : StateName) → after (step w e) ≡ Some v → AreStates (node_at w at).states → IsGiven (node_at w at) q → Keeps (Follows (IsEvent e)) q (node_at w at) (node_at v at)
 stepped-keeps w e v at q accepted are given =
-    subst (λ (u : World). Keeps (Follows (IsEvent e)) q (node_at w at) (node_at u at)) (stepped-world w e v accepted)
-    (put-keeps (Follows (IsEvent e)) q w (node_of e) (turned (node_at w (node_of e)) e) at (λ s. alike-follows (IsEvent e) s s refl) (turned-keeps q (node_at w (node_of e)) e) are given)
+    subst (λ (m : Node). Keeps (Follows (IsEvent e)) q (node_at w at) m) (stepped-node w e v at accepted) (turned-keeps q w e at are given)
 
 -- and each state stands under its own name and keys
 pub stepped-apart : (w : World) (e : Event) (v : World) (at : NodeId) → after (step w e) ≡ Some v → AreStates (node_at w at).states → AreStates (node_at v at).states
 stepped-apart w e v at accepted are =
-    subst (λ (u : World). AreStates (node_at u at).states) (stepped-world w e v accepted)
-    (put-apart w (node_of e) (turned (node_at w (node_of e)) e) at (turned-apart (node_at w (node_of e)) e) are)
+    subst (λ (m : Node). AreStates m.states) (stepped-node w e v at accepted) (turned-apart w e at are)

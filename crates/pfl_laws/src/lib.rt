@@ -4,5 +4,8 @@
 mod laws;
 mod reverting;
 
-pub use laws::{levels_never_fall, names_do_not_come_back};
+pub use laws::{
+    held_packets_have_waiting_states, held_packets_leave_only_so, levels_never_fall,
+    no_name_is_given_twice,
+};
 pub use reverting::{all_there_and_back, there_and_back};

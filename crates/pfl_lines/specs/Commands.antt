@@ -5,6 +5,7 @@ use Rattle.pfl_base.specs.declared.direction.Dir.{Dir}
 use Rattle.pfl_base.specs.declared.node_id.NodeId.{NodeId}
 use Rattle.pfl_base.specs.declared.fields.PacketFields.{PacketFields}
 use Rattle.pfl_base.specs.declared.fields.BadPacket.{BadPacket}
+use Rattle.pfl_base.specs.Numbers.{greatest}
 use Rattle.pfl_base.specs.Packets.{bad_packet}
 use Rattle.pfl_world.specs.declared.event.Event.{Event}
 use Rattle.pfl_world.specs.declared.event.Event.TheVariants as events
@@ -19,7 +20,7 @@ use Rattle.pfl_lines.specs.declared.draft.CommandDraft.TheVariants as draft
 use Rattle.pfl_lines.specs.Words.{words}
 use Rattle.pfl_lines.specs.Readings.{◌>>=◌, Reading, word_at}
 use Rattle.pfl_lines.specs.Parts.{number_at, node_at, dir_at, branch_at}
-use Rattle.pfl_lines.specs.Packets.{greatest, fields_at}
+use Rattle.pfl_lines.specs.Packets.{fields_at}
 
 -- ---- events
 
@@ -30,6 +31,35 @@ packet_at ws = do
   dir ← dir_at node.1
   fields ← fields_at dir.1
   Ok (event_draft.Packet node.0 dir.0 fields.0, fields.1)
+
+-- NODE
+unfoldable pub flush_at : List (List ℕ) → Reading EventDraft
+flush_at ws = do
+  node ← node_at ws
+  Ok (event_draft.Whole (events.Flush node.0), node.1)
+
+-- a ticket
+abbrev pub ticket_at : List (List ℕ) → Reading ℕ
+ticket_at ws = number_at greatest ws
+
+-- TICKET
+unfoldable pub lose_at : List (List ℕ) → Reading EventDraft
+lose_at ws = do
+  ticket ← ticket_at ws
+  Ok (event_draft.Whole (events.Lose ticket.0), ticket.1)
+
+-- TICKET
+unfoldable pub repeat_at : List (List ℕ) → Reading EventDraft
+repeat_at ws = do
+  ticket ← ticket_at ws
+  Ok (event_draft.Whole (events.Repeat ticket.0), ticket.1)
+
+-- TICKET LEN
+unfoldable pub cut_at : List (List ℕ) → Reading EventDraft
+cut_at ws = do
+  ticket ← ticket_at ws
+  len ← number_at greatest ticket.1
+  Ok (event_draft.Whole (events.Cut ticket.0 len.0), len.1)
 
 -- NODE MS
 unfoldable pub tick_at : List (List ℕ) → Reading EventDraft
@@ -48,6 +78,10 @@ purge_at ws = do
 abbrev pub event_by : List ℕ → List (List ℕ) → Reading EventDraft
 event_by word ws =
     if bytes_eq word (codes "packet") then packet_at ws else
+    if bytes_eq word (codes "flush") then flush_at ws else
+    if bytes_eq word (codes "lose") then lose_at ws else
+    if bytes_eq word (codes "repeat") then repeat_at ws else
+    if bytes_eq word (codes "cut") then cut_at ws else
     if bytes_eq word (codes "tick") then tick_at ws else
     if bytes_eq word (codes "purge") then purge_at ws else Err faults.Unknown
 

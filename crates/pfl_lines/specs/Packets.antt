@@ -1,17 +1,12 @@
 -- How packets are written (this project's profile).
-use Rattle.std.specs.Prelude.{ℕ, List, [], ◌∷◌, Option, Some, None, Result, Ok, Err}
-use Rattle.pfl_base.specs.declared.direction.Dir.{Dir}
+use Rattle.std.specs.Prelude.{ℕ, List, [], ◌∷◌, Option, Some, None, Ok}
 use Rattle.pfl_base.specs.declared.fields.PacketFields.{PacketFields}
 use Rattle.pfl_base.specs.declared.proto.Proto.{Proto}
 use Rattle.pfl_base.specs.declared.proto.Proto.TheVariants.{Tcp}
+use Rattle.pfl_base.specs.Numbers.{greatest}
 use Rattle.pfl_lines.specs.declared.draft.Segment.{Segment}
-use Rattle.pfl_lines.specs.declared.fault.LineFault.{LineFault}
 use Rattle.pfl_lines.specs.Readings.{◌>>=◌, Reading}
 use Rattle.pfl_lines.specs.Parts.{number_at, end_at, proto_at, flags_at}
-
--- the greatest number of 32 bits
-abbrev pub greatest : ℕ
-greatest = 4294967295
 
 -- LEN, with nothing of TCP
 unfoldable pub plain_at : List (List ℕ) → Reading Segment

@@ -1,7 +1,8 @@
 -- What is read from the words of a line: a value and the words behind it, or the first fault from the left.
-use Rattle.std.specs.Prelude.{◌≡◌, ℕ, List, [], ◌∷◌, Result, Ok, Err}
+use Rattle.std.specs.Prelude.{◌≡◌, ℕ, List, [], ◌∷◌, Option, Result, Ok, Err}
+use Rattle.std.specs.Option.{ok_or}
 use Rattle.pfl_lines.specs.declared.fault.LineFault.{LineFault}
-use Rattle.pfl_lines.specs.declared.fault.LineFault.TheVariants.{Missing}
+use Rattle.pfl_lines.specs.declared.fault.LineFault.TheVariants.{Missing, Number}
 
 infixl 10 ◌>>=◌
 -- one reading after another
@@ -29,3 +30,7 @@ one_word said ws = do
   word ← word_at ws
   x ← said word.0
   Ok (x, word.1)
+
+-- one of some words; another is not of its form
+abbrev pub choice_at : {X : Type 0} → (List ℕ → Option X) → List (List ℕ) → Reading X
+choice_at at_word ws = one_word (λ word. ok_or (at_word word) Number) ws

@@ -1,45 +1,31 @@
 -- How rules are written: parts in one order, each at most once (this project's profile, after pf.conf(5)).
-use Rattle.std.specs.Prelude.{ℕ, Bool, true, false, ◌||◌, List, [], ◌∷◌, ◌++◌, map, codes, bytes_eq, if◌then◌else◌, Option, Some, None, Result, Ok, Err}
+use Rattle.std.specs.Prelude.{ℕ, Bool, true, false, List, [], ◌∷◌, codes, bytes_eq, if◌then◌else◌, Option, Some, None, Result, Ok, Err}
 use Rattle.std.specs.List.{list_any}
-use Rattle.std.specs.Option.{ok_or}
-use Rattle.pfl_base.specs.declared.addr.End.{End}
 use Rattle.pfl_base.specs.declared.class.Class.{Class}
-use Rattle.pfl_base.specs.declared.proto.Proto.{Proto}
-use Rattle.pfl_base.specs.Classes.{classes, class_at_word}
+use Rattle.pfl_base.specs.Classes.{classes}
+use Rattle.pfl_base.specs.Numbers.{greatest}
 use Rattle.pfl_base.specs.Texts.{class_text}
+use Rattle.pfl_base.specs.Words.{class_at_word}
 use Rattle.pfl_rules.specs.declared.action.Action.{Action}
-use Rattle.pfl_rules.specs.declared.action.Action.TheVariants.{Pass, Block}
 use Rattle.pfl_rules.specs.declared.net.NetFields.{NetFields}
 use Rattle.pfl_rules.specs.declared.rule.Rule.{Rule}
 use Rattle.pfl_rules.specs.declared.rule_dir.RuleDir.{RuleDir}
-use Rattle.pfl_rules.specs.declared.rule_dir.RuleDir.TheVariants.{In, Out, Any}
+use Rattle.pfl_rules.specs.Words.{action_at_word, direction_at_word}
 use Rattle.pfl_lines.specs.declared.fault.LineFault.{LineFault}
 use Rattle.pfl_lines.specs.declared.fault.LineFault.TheVariants.{Unknown, Number, Extra}
-use Rattle.pfl_lines.specs.Readings.{◌>>=◌, Reading, word_at, one_word}
+use Rattle.pfl_lines.specs.Readings.{◌>>=◌, Reading, one_word, choice_at}
 use Rattle.pfl_lines.specs.Addresses.{net_at_word}
 use Rattle.pfl_lines.specs.Parts.{number_at, end_at, proto_at}
-use Rattle.pfl_lines.specs.Packets.{greatest}
 
 -- ---- words
 
--- `pass` or `block`
-abbrev pub action_of : List ℕ → Result Action LineFault
-action_of word = if bytes_eq word (codes "pass") then Ok Pass else if bytes_eq word (codes "block") then Ok Block else Err Number
-
--- an action
+-- an action, `pass` or `block`
 abbrev pub action_at : List (List ℕ) → Reading Action
-action_at ws = one_word action_of ws
+action_at ws = choice_at action_at_word ws
 
--- `in`, `out` or `any`
-abbrev pub rule_dir_of : List ℕ → Result RuleDir LineFault
-rule_dir_of word =
-    if bytes_eq word (codes "in") then Ok In else
-    if bytes_eq word (codes "out") then Ok Out else
-    if bytes_eq word (codes "any") then Ok Any else Err Number
-
--- the way of a rule's packets
+-- the way of a rule's packets, `in`, `out` or `any`
 abbrev pub rule_dir_at : List (List ℕ) → Reading RuleDir
-rule_dir_at ws = one_word rule_dir_of ws
+rule_dir_at ws = choice_at direction_at_word ws
 
 -- a net
 abbrev pub net_at : List (List ℕ) → Reading NetFields
@@ -53,13 +39,9 @@ any_of word = if bytes_eq word (codes "any") then Ok true else Err Number
 abbrev pub any_at : List (List ℕ) → Reading Bool
 any_at ws = one_word any_of ws
 
--- a class
-abbrev pub class_of_word : List ℕ → Result Class LineFault
-class_of_word word = ok_or (class_at_word word) Number
-
 -- a class by its word
 abbrev pub class_at : List (List ℕ) → Reading Class
-class_at ws = one_word class_of_word ws
+class_at ws = choice_at class_at_word ws
 
 -- ---- options
 

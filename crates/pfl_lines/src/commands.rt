@@ -4,14 +4,14 @@ ghost use Rattle.std.specs.Prelude.{◌≡◌};
 ghost use Rattle.std.specs.List.{list_all};
 ghost use Rattle.pfl_lines.specs.Words.{words};
 ghost use Rattle.pfl_lines.specs.Readings.{Gives};
-ghost use Rattle.pfl_lines.specs.Commands.{packet_at, tick_at, purge_at, event_by, event_at, step_at, back_at, show_at, command_by, command_at, finished, whole_event, whole_step, whole_command, command_of, is_text, checked, parsed};
+ghost use Rattle.pfl_lines.specs.Commands.{packet_at, flush_at, ticket_at, lose_at, repeat_at, cut_at, tick_at, purge_at, event_by, event_at, step_at, back_at, show_at, command_by, command_at, finished, whole_event, whole_step, whole_command, command_of, is_text, checked, parsed};
 
 use crate::draft::{CommandDraft, EventDraft};
 use crate::fault::LineFault;
-use crate::packets::{GREATEST, fields_at};
+use crate::packets::fields_at;
 use crate::parts::{branch_at, dir_at, node_at, number_at};
 use crate::words::{is_word, try_read, word_at};
-use pfl_base::Packet;
+use pfl_base::{GREATEST_NUMBER, Packet};
 use pfl_timeline::{BranchWord, Command};
 use pfl_world::Event;
 
@@ -27,6 +27,52 @@ fn packet_at(line: &[u8]) -> Result<(EventDraft, &[u8]), LineFault>
     let (dir, rest) = dir_at(rest)?;
     let (fields, rest) = try_read!(fields_at(rest));
     Ok((EventDraft::Packet { node, dir, fields }, rest))
+}
+
+/// `NODE`.
+#[tactic(auto, unfolding(crate::specs::Commands::flush_at))]
+fn flush_at(line: &[u8]) -> Result<(EventDraft, &[u8]), LineFault>
+    ensures { Gives (λ x. (x.0, words x.1.now)) result (flush_at (words line.now)) }
+{
+    let (node, rest) = node_at(line)?;
+    Ok((EventDraft::Whole(Event::Flush { node }), rest))
+}
+
+/// A ticket.
+fn ticket_at(line: &[u8]) -> Result<(u32, &[u8]), LineFault>
+    ensures { Gives (λ x. (x.0, words x.1.now)) result (ticket_at (words line.now)) }
+{
+    let (ticket, rest) = number_at(line, GREATEST_NUMBER)?;
+    Ok((ticket as u32, rest))
+}
+
+/// `TICKET`.
+#[tactic(auto, unfolding(crate::specs::Commands::lose_at))]
+fn lose_at(line: &[u8]) -> Result<(EventDraft, &[u8]), LineFault>
+    ensures { Gives (λ x. (x.0, words x.1.now)) result (lose_at (words line.now)) }
+{
+    let (ticket, rest) = ticket_at(line)?;
+    Ok((EventDraft::Whole(Event::Lose { ticket }), rest))
+}
+
+/// `TICKET`.
+#[tactic(auto, unfolding(crate::specs::Commands::repeat_at))]
+fn repeat_at(line: &[u8]) -> Result<(EventDraft, &[u8]), LineFault>
+    ensures { Gives (λ x. (x.0, words x.1.now)) result (repeat_at (words line.now)) }
+{
+    let (ticket, rest) = ticket_at(line)?;
+    Ok((EventDraft::Whole(Event::Repeat { ticket }), rest))
+}
+
+/// `TICKET LEN`.
+#[tactic(auto, unfolding(crate::specs::Commands::cut_at))]
+fn cut_at(line: &[u8]) -> Result<(EventDraft, &[u8]), LineFault>
+    ensures { Gives (λ x. (x.0, words x.1.now)) result (cut_at (words line.now)) }
+{
+    let (ticket, rest) = ticket_at(line)?;
+    let (len, rest) = number_at(rest, GREATEST_NUMBER)?;
+    let len = len as u32;
+    Ok((EventDraft::Whole(Event::Cut { ticket, len }), rest))
 }
 
 /// `NODE MS`.
@@ -54,6 +100,18 @@ fn event_by<'a>(word: &[u8], line: &'a [u8]) -> Result<(EventDraft, &'a [u8]), L
 {
     if is_word(word, "packet") {
         return packet_at(line);
+    }
+    if is_word(word, "flush") {
+        return flush_at(line);
+    }
+    if is_word(word, "lose") {
+        return lose_at(line);
+    }
+    if is_word(word, "repeat") {
+        return repeat_at(line);
+    }
+    if is_word(word, "cut") {
+        return cut_at(line);
     }
     if is_word(word, "tick") {
         return tick_at(line);
@@ -89,7 +147,7 @@ fn back_at(line: &[u8]) -> Result<(CommandDraft, &[u8]), LineFault>
     ensures { Gives (λ x. (x.0, words x.1.now)) result (back_at (words line.now)) }
 {
     let (branch, rest) = try_read!(branch_at(line));
-    let (n, rest) = number_at(rest, GREATEST)?;
+    let (n, rest) = number_at(rest, GREATEST_NUMBER)?;
     let n = n as u32;
     Ok((CommandDraft::Whole(Command::Back { branch, n }), rest))
 }

@@ -1,11 +1,9 @@
 //! What is wrong with a line.
 
-ghost use Rattle.std.specs.Prelude.{◌≡◌, Some};
-ghost use Rattle.pfl_lines.specs.Faults.{fault_number, fault_text};
+ghost use Rattle.std.specs.Prelude.{◌≡◌};
+ghost use Rattle.pfl_lines.specs.Faults.{fault_number};
 
 use pfl_base::BadPacket;
-use std::error::Error;
-use std::fmt;
 
 /// Why a line says nothing: the first of these that applies.
 #[derive(Clone, Copy, Debug, PartialEq, Eq)]
@@ -41,29 +39,4 @@ impl LineFault {
             LineFault::Packet(_) => 7,
         }
     }
-
-    /// The word by which a reply names the fault.
-    pub fn word(self) -> &'static str
-        ensures { result.now ≡ fault_text self }
-    {
-        match self {
-            LineFault::Long => "Long",
-            LineFault::NotAscii => "NotAscii",
-            LineFault::Unknown => "Unknown",
-            LineFault::Missing => "Missing",
-            LineFault::Number => "Number",
-            LineFault::Extra => "Extra",
-            LineFault::Packet(_) => "Packet",
-        }
-    }
 }
-
-impl fmt::Display for LineFault {
-    ghost output = { λ fault. Some (fault_text fault) };
-
-    fn fmt<W: fmt::Write>(&self, f: &mut fmt::Formatter<W>) -> fmt::Result {
-        f.write_str(self.word())
-    }
-}
-
-impl Error for LineFault {}

@@ -5,7 +5,6 @@ mod addresses;
 mod commands;
 mod draft;
 mod fault;
-mod limit;
 mod numbers;
 mod packets;
 mod parts;
@@ -15,5 +14,4 @@ mod words;
 
 pub use commands::{LONGEST, parse_line};
 pub use fault::LineFault;
-pub use limit::Limit;
 pub use setup::{SetupLine, parse_setup};

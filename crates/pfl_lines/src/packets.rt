@@ -9,10 +9,7 @@ use crate::draft::Segment;
 use crate::fault::LineFault;
 use crate::parts::{end_at, flags_at, number_at, proto_at};
 use crate::words::{try_read, word_at};
-use pfl_base::{PacketFields, Proto, TcpFlags};
-
-/// The greatest number of 32 bits.
-pub const GREATEST: u64 = 4294967295;
+use pfl_base::{GREATEST_NUMBER, PacketFields, Proto, TcpFlags};
 
 /// `LEN`, with nothing of TCP.
 #[tactic(auto, unfolding(crate::specs::Packets::plain_at))]
@@ -56,8 +53,8 @@ fn tcp_at(line: &[u8]) -> Result<(Segment, &[u8]), LineFault>
     ensures { Gives (λ x. (x.0, words x.1.now)) result (tcp_at (words line.now)) }
 {
     let (flags, rest) = try_read!(flags_at(line));
-    let (seq, rest) = number_at(rest, GREATEST)?;
-    let (ack, rest) = number_at(rest, GREATEST)?;
+    let (seq, rest) = number_at(rest, GREATEST_NUMBER)?;
+    let (ack, rest) = number_at(rest, GREATEST_NUMBER)?;
     let (window, rest) = number_at(rest, 65535)?;
     let (len, rest) = number_at(rest, 65535)?;
     let (scale, rest) = scale_at(rest)?;

@@ -3,12 +3,12 @@
 ghost use Rattle.std.specs.Prelude.{◌≡◌, ◌≤◌, IfOk};
 ghost use Rattle.pfl_lines.specs.Words.{words};
 ghost use Rattle.pfl_lines.specs.Readings.{Gives};
-ghost use Rattle.pfl_lines.specs.Parts.{number_at, end_at, node_of, node_at, dir_of, dir_at, numbered_proto, proto_at_word, proto_at, flag_at, letters_of, flags_at_word, flags_at, branch_at_word, branch_at};
+ghost use Rattle.pfl_lines.specs.Parts.{number_at, end_at, node_at, dir_at, numbered_proto, proto_of, proto_at, with_letter, letters_of, flags_at_word, flags_at, branch_at};
 
 use crate::addresses::end_of;
 use crate::fault::LineFault;
 use crate::numbers::number_of;
-use crate::words::{is_word, word_at};
+use crate::words::{is_word, one_word, word_at};
 use pfl_base::{Dir, End, NodeId, Proto, TcpFlags};
 use pfl_timeline::BranchWord;
 
@@ -17,62 +17,28 @@ pub fn number_at(line: &[u8], greatest: u64) -> Result<(u64, &[u8]), LineFault>
     ensures exact { Gives (λ x. (x.0, words x.1.now)) result (number_at greatest (words line.now)) }
     ensures within { IfOk result (λ x. x.0 ≤ greatest) }
 {
-    let (word, rest) = word_at(line)?;
-    let n = number_of(word, greatest)?;
-    Ok((n, rest))
+    one_word!(line, word => number_of(word, greatest))
 }
 
 /// An end.
 pub fn end_at(line: &[u8]) -> Result<(End, &[u8]), LineFault>
     ensures { Gives (λ x. (x.0, words x.1.now)) result (end_at (words line.now)) }
 {
-    let (word, rest) = word_at(line)?;
-    let end = end_of(word)?;
-    Ok((end, rest))
-}
-
-/// `a` or `b`.
-fn node_of(word: &[u8]) -> Result<NodeId, LineFault>
-    ensures { result ≡ node_of word.now }
-{
-    if is_word(word, "a") {
-        Ok(NodeId::A)
-    } else if is_word(word, "b") {
-        Ok(NodeId::B)
-    } else {
-        Err(LineFault::Number)
-    }
+    one_word!(line, word => end_of(word))
 }
 
 /// A node.
 pub fn node_at(line: &[u8]) -> Result<(NodeId, &[u8]), LineFault>
     ensures { Gives (λ x. (x.0, words x.1.now)) result (node_at (words line.now)) }
 {
-    let (word, rest) = word_at(line)?;
-    let node = node_of(word)?;
-    Ok((node, rest))
-}
-
-/// `in` or `out`.
-fn dir_of(word: &[u8]) -> Result<Dir, LineFault>
-    ensures { result ≡ dir_of word.now }
-{
-    if is_word(word, "in") {
-        Ok(Dir::Inbound)
-    } else if is_word(word, "out") {
-        Ok(Dir::Outbound)
-    } else {
-        Err(LineFault::Number)
-    }
+    one_word!(line, word => NodeId::of_word(word).ok_or(LineFault::Number))
 }
 
 /// A direction.
 pub fn dir_at(line: &[u8]) -> Result<(Dir, &[u8]), LineFault>
     ensures { Gives (λ x. (x.0, words x.1.now)) result (dir_at (words line.now)) }
 {
-    let (word, rest) = word_at(line)?;
-    let dir = dir_of(word)?;
-    Ok((dir, rest))
+    one_word!(line, word => Dir::of_word(word).ok_or(LineFault::Number))
 }
 
 /// A protocol by its number.
@@ -84,18 +50,13 @@ fn numbered_proto(word: &[u8]) -> Result<Proto, LineFault>
     Ok(Proto::of(number as u8))
 }
 
-/// `tcp`, `udp`, `icmp` or a number.
-fn proto_at_word(word: &[u8]) -> Result<Proto, LineFault>
-    ensures { result ≡ proto_at_word word.now }
+/// A protocol by its word or its number.
+fn proto_of(word: &[u8]) -> Result<Proto, LineFault>
+    ensures { result ≡ proto_of word.now }
 {
-    if is_word(word, "tcp") {
-        Ok(Proto::Tcp)
-    } else if is_word(word, "udp") {
-        Ok(Proto::Udp)
-    } else if is_word(word, "icmp") {
-        Ok(Proto::Icmp)
-    } else {
-        numbered_proto(word)
+    match Proto::of_word(word) {
+        Some(proto) => Ok(proto),
+        None => numbered_proto(word),
     }
 }
 
@@ -103,37 +64,42 @@ fn proto_at_word(word: &[u8]) -> Result<Proto, LineFault>
 pub fn proto_at(line: &[u8]) -> Result<(Proto, &[u8]), LineFault>
     ensures { Gives (λ x. (x.0, words x.1.now)) result (proto_at (words line.now)) }
 {
-    let (word, rest) = word_at(line)?;
-    let proto = proto_at_word(word)?;
-    Ok((proto, rest))
+    one_word!(line, word => proto_of(word))
 }
 
-/// The flag's value, if its letter comes first, and what is behind it.
-fn flag_at(bytes: &[u8], letter: u8, value: u8) -> (u8, &[u8])
-    ensures exact { (result.0, result.1.now) ≡ flag_at letter value bytes.now }
-    ensures within { result.0 ≤ value }
+/// The letters of the flags, in the order in which they are written.
+const LETTERS: [(u8, TcpFlags); 6] = [
+    (b'F', TcpFlags::FIN),
+    (b'S', TcpFlags::SYN),
+    (b'R', TcpFlags::RST),
+    (b'P', TcpFlags::PSH),
+    (b'A', TcpFlags::ACK),
+    (b'U', TcpFlags::URG),
+];
+
+/// The flags with this one, and what is behind its letter, where that comes first.
+fn with_letter(flags: TcpFlags, bytes: &[u8], letter: (u8, TcpFlags)) -> (TcpFlags, &[u8])
+    ensures { (result.0, result.1.now) ≡ with_letter (flags, bytes.now) letter }
 {
     match bytes.split_first() {
-        Some((first, rest)) if *first == letter => (value, rest),
-        _ => (0, bytes),
+        Some((first, rest)) if *first == letter.0 => (flags.with(letter.1), rest),
+        _ => (flags, bytes),
     }
 }
 
-/// Letters of `FSRPAU` in that order, each at most once.
-#[tactic(auto, unfolding(crate::specs::Parts::letters_of))]
+/// Letters of flags in their order, each at most once.
 fn letters_of(word: &[u8]) -> Result<TcpFlags, LineFault>
     ensures { result ≡ letters_of word.now }
 {
-    let (fin, rest) = flag_at(word, b'F', 1);
-    let (syn, rest) = flag_at(rest, b'S', 2);
-    let (rst, rest) = flag_at(rest, b'R', 4);
-    let (psh, rest) = flag_at(rest, b'P', 8);
-    let (ack, rest) = flag_at(rest, b'A', 16);
-    let (urg, rest) = flag_at(rest, b'U', 32);
-    if !rest.is_empty() {
-        return Err(LineFault::Number);
+    let (mut flags, mut rest) = (TcpFlags::NONE, word);
+    for letter in LETTERS {
+        (flags, rest) = with_letter(flags, rest, letter);
     }
-    TcpFlags::of_bits(fin + syn + rst + psh + ack + urg).ok_or(LineFault::Number)
+    if rest.is_empty() {
+        Ok(flags)
+    } else {
+        Err(LineFault::Number)
+    }
 }
 
 /// `-` for no flags, or their letters.
@@ -151,23 +117,12 @@ fn flags_at_word(word: &[u8]) -> Result<TcpFlags, LineFault>
 pub fn flags_at(line: &[u8]) -> Result<(TcpFlags, &[u8]), LineFault>
     ensures { Gives (λ x. (x.0, words x.1.now)) result (flags_at (words line.now)) }
 {
-    let (word, rest) = word_at(line)?;
-    let flags = flags_at_word(word)?;
-    Ok((flags, rest))
-}
-
-/// A branch word of at most 32 bytes.
-fn branch_at_word(word: &[u8]) -> Result<BranchWord, LineFault>
-    ensures { result ≡ branch_at_word word.now }
-{
-    BranchWord::of(word).ok_or(LineFault::Number)
+    one_word!(line, word => flags_at_word(word))
 }
 
 /// A branch word.
 pub fn branch_at(line: &[u8]) -> Result<(BranchWord, &[u8]), LineFault>
     ensures { Gives (λ x. (x.0, words x.1.now)) result (branch_at (words line.now)) }
 {
-    let (word, rest) = word_at(line)?;
-    let branch = branch_at_word(word)?;
-    Ok((branch, rest))
+    one_word!(line, word => BranchWord::of(word).ok_or(LineFault::Number))
 }

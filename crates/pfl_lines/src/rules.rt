@@ -4,73 +4,38 @@ ghost use Rattle.std.specs.Prelude.{◌≡◌, codes, bytes_eq};
 ghost use Rattle.std.specs.List.{list_any};
 ghost use Rattle.std.specs.Option.{option_map};
 ghost use Rattle.pfl_base.specs.Classes.{classes};
+ghost use Rattle.pfl_base.specs.Numbers.{greatest};
 ghost use Rattle.pfl_lines.specs.Words.{words};
 ghost use Rattle.pfl_lines.specs.Readings.{Gives};
 ghost use Rattle.pfl_lines.specs.Parts.{number_at, end_at, proto_at};
-ghost use Rattle.pfl_lines.specs.Packets.{greatest};
-ghost use Rattle.pfl_lines.specs.Rules.{action_of, action_at, rule_dir_of, rule_dir_at, net_at, any_of, any_at, class_of_word, class_at, behind_word, option_at, flag_word_at, any_flags_at, behind_class, timeout_at, timeouts_at, option_names, misplaced, rule_ended, rule_of};
+ghost use Rattle.pfl_lines.specs.Rules.{action_at, rule_dir_at, net_at, any_of, any_at, class_at, behind_word, option_at, flag_word_at, any_flags_at, behind_class, timeout_at, timeouts_at, option_names, misplaced, rule_ended, rule_of};
 
 use crate::addresses::net_at_word;
 use crate::fault::LineFault;
-use crate::packets::GREATEST;
 use crate::parts::{end_at, number_at, proto_at};
-use crate::words::{is_word, try_read, word_at};
-use pfl_base::{Class, End, Proto};
+use crate::words::{is_word, one_word, try_read, word_at};
+use pfl_base::{Class, End, GREATEST_NUMBER, Proto};
 use pfl_rules::{Action, Net, Rule, RuleDir};
-
-/// `pass` or `block`.
-fn action_of(word: &[u8]) -> Result<Action, LineFault>
-    ensures { result ≡ action_of word.now }
-{
-    if is_word(word, "pass") {
-        Ok(Action::Pass)
-    } else if is_word(word, "block") {
-        Ok(Action::Block)
-    } else {
-        Err(LineFault::Number)
-    }
-}
 
 /// An action.
 fn action_at(line: &[u8]) -> Result<(Action, &[u8]), LineFault>
     ensures { Gives (λ x. (x.0, words x.1.now)) result (action_at (words line.now)) }
 {
-    let (word, rest) = word_at(line)?;
-    let action = action_of(word)?;
-    Ok((action, rest))
-}
-
-/// `in`, `out` or `any`.
-fn rule_dir_of(word: &[u8]) -> Result<RuleDir, LineFault>
-    ensures { result ≡ rule_dir_of word.now }
-{
-    if is_word(word, "in") {
-        Ok(RuleDir::In)
-    } else if is_word(word, "out") {
-        Ok(RuleDir::Out)
-    } else if is_word(word, "any") {
-        Ok(RuleDir::Any)
-    } else {
-        Err(LineFault::Number)
-    }
+    one_word!(line, word => Action::of_word(word).ok_or(LineFault::Number))
 }
 
 /// The way of a rule's packets.
 fn rule_dir_at(line: &[u8]) -> Result<(RuleDir, &[u8]), LineFault>
     ensures { Gives (λ x. (x.0, words x.1.now)) result (rule_dir_at (words line.now)) }
 {
-    let (word, rest) = word_at(line)?;
-    let direction = rule_dir_of(word)?;
-    Ok((direction, rest))
+    one_word!(line, word => RuleDir::of_word(word).ok_or(LineFault::Number))
 }
 
 /// A net.
 fn net_at(line: &[u8]) -> Result<(Net, &[u8]), LineFault>
     ensures { Gives (λ x. (x.0, words x.1.now)) result (net_at (words line.now)) }
 {
-    let (word, rest) = word_at(line)?;
-    let net = net_at_word(word)?;
-    Ok((net, rest))
+    one_word!(line, word => net_at_word(word))
 }
 
 /// The word `any`.
@@ -88,18 +53,14 @@ fn any_of(word: &[u8]) -> Result<bool, LineFault>
 fn any_at(line: &[u8]) -> Result<(bool, &[u8]), LineFault>
     ensures { Gives (λ x. (x.0, words x.1.now)) result (any_at (words line.now)) }
 {
-    let (word, rest) = word_at(line)?;
-    let any = any_of(word)?;
-    Ok((any, rest))
+    one_word!(line, word => any_of(word))
 }
 
 /// A class by its word.
 fn class_at(line: &[u8]) -> Result<(Class, &[u8]), LineFault>
     ensures { Gives (λ x. (x.0, words x.1.now)) result (class_at (words line.now)) }
 {
-    let (word, rest) = word_at(line)?;
-    let class = Class::of_word(word).ok_or(LineFault::Number)?;
-    Ok((class, rest))
+    one_word!(line, word => Class::of_word(word).ok_or(LineFault::Number))
 }
 
 /// What stands behind an option's word, if the line begins with it.
@@ -172,7 +133,7 @@ fn max_option_at(line: &[u8]) -> Result<(Option<u32>, &[u8]), LineFault>
     let Some(rest) = behind_word(line, "max") else {
         return Ok((None, line));
     };
-    let (max, rest) = number_at(rest, GREATEST)?;
+    let (max, rest) = number_at(rest, GREATEST_NUMBER)?;
     Ok((Some(max as u32), rest))
 }
 
@@ -205,7 +166,7 @@ fn timeout_at(line: &[u8], class: Class) -> Result<(Option<u32>, &[u8]), LineFau
     let Some(rest) = behind_class(line, class) else {
         return Ok((None, line));
     };
-    let (seconds, rest) = number_at(rest, GREATEST)?;
+    let (seconds, rest) = number_at(rest, GREATEST_NUMBER)?;
     Ok((Some(seconds as u32), rest))
 }
 

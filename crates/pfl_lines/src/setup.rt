@@ -1,19 +1,18 @@
 //! Setup lines.
 
-ghost use Rattle.std.specs.Prelude.{◌≡◌, ◌≤◌};
+ghost use Rattle.std.specs.Prelude.{◌≡◌};
 ghost use Rattle.pfl_lines.specs.Words.{words};
 ghost use Rattle.pfl_lines.specs.Readings.{Gives};
 ghost use Rattle.pfl_lines.specs.Commands.{finished};
-ghost use Rattle.pfl_lines.specs.Setup.{limit_of, limit_at, greatest_of, set_of, rule_line_of, setup_by, setup_of, parsed_setup};
+ghost use Rattle.pfl_lines.specs.Setup.{limit_at, set_of, rule_line_of, setup_by, setup_of, parsed_setup};
 
 use crate::commands::checked;
 use crate::fault::LineFault;
-use crate::limit::Limit;
-use crate::packets::GREATEST;
 use crate::parts::{node_at, number_at};
 use crate::rules::rule_of;
-use crate::words::{is_word, word_at};
+use crate::words::{is_word, one_word, word_at};
 use pfl_base::NodeId;
+use pfl_node::Limit;
 use pfl_rules::Rule;
 
 /// What a setup line says.
@@ -27,53 +26,11 @@ pub enum SetupLine {
     Open,
 }
 
-/// The limit with the word.
-fn limit_of(word: &[u8]) -> Result<Limit, LineFault>
-    ensures { result ≡ limit_of word.now }
-{
-    if is_word(word, "states") {
-        Ok(Limit::States)
-    } else if is_word(word, "queue") {
-        Ok(Limit::Queue)
-    } else if is_word(word, "frames") {
-        Ok(Limit::Frames)
-    } else if is_word(word, "mtu") {
-        Ok(Limit::Mtu)
-    } else if is_word(word, "held") {
-        Ok(Limit::Held)
-    } else if is_word(word, "defer") {
-        Ok(Limit::Defer)
-    } else if is_word(word, "defer_ms") {
-        Ok(Limit::DeferMs)
-    } else if is_word(word, "maxupd") {
-        Ok(Limit::MaxUpdates)
-    } else if is_word(word, "batch") {
-        Ok(Limit::Batch)
-    } else if is_word(word, "bulk_ms") {
-        Ok(Limit::BulkMs)
-    } else {
-        Err(LineFault::Unknown)
-    }
-}
-
 /// A limit.
 fn limit_at(line: &[u8]) -> Result<(Limit, &[u8]), LineFault>
     ensures { Gives (λ x. (x.0, words x.1.now)) result (limit_at (words line.now)) }
 {
-    let (word, rest) = word_at(line)?;
-    let limit = limit_of(word)?;
-    Ok((limit, rest))
-}
-
-/// The greatest number that may be written for a limit.
-fn greatest_of(limit: Limit) -> u64
-    ensures exact { result ≡ greatest_of limit }
-    ensures within { result ≤ 4294967295 }
-{
-    match limit {
-        Limit::Defer => 1,
-        _ => GREATEST,
-    }
+    one_word!(line, word => Limit::of_word(word).ok_or(LineFault::Unknown))
 }
 
 /// The setup line, if no word is left over.
@@ -92,8 +49,7 @@ fn set_of(line: &[u8]) -> Result<SetupLine, LineFault>
     ensures { result ≡ set_of (words line.now) }
 {
     let (limit, rest) = limit_at(line)?;
-    let greatest = greatest_of(limit);
-    let (n, rest) = number_at(rest, greatest)?;
+    let (n, rest) = number_at(rest, limit.greatest_said())?;
     let n = n as u32;
     ended(SetupLine::Set { limit, n }, rest)
 }

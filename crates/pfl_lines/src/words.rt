@@ -19,6 +19,17 @@ macro_rules! try_read {
 
 pub(crate) use try_read;
 
+/// What the first word of a line says, and what is behind it.
+macro_rules! one_word {
+    ($line:expr, $word:ident => $said:expr) => {{
+        let ($word, rest) = word_at($line)?;
+        let said = $said?;
+        Ok((said, rest))
+    }};
+}
+
+pub(crate) use one_word;
+
 /// Whether the word is this one.
 pub fn is_word(word: &[u8], name: &str) -> bool
     ensures { result ≡ bytes_eq word.now name.now }

@@ -1,4 +1,4 @@
--- The edits of a link. A frame and the next ticket count as one place (this project's profile).
+-- The edits of a link. A frame that is sent and the next ticket count as one place (this project's profile).
 use Rattle.std.specs.Prelude.{◌≡◌, ℕ, ◌+◌, List, [], ◌∷◌, Option, Some, None, refl}
 use Rattle.std.specs.Coded.{Coded, code_by, coded×, coded_ℕ}
 use Rattle.std.proofs.Common.{sym}
@@ -13,10 +13,9 @@ use Rattle.pfl_link.specs.declared.change.LinkChange.TheVariants.{Sent, Taken, C
 use Rattle.pfl_link.specs.contracts.change.LinkChange as link_change
 use Rattle.pfl_link.specs.Links.{Link, InFlight, IsLink, cut_to, coded_in_flight}
 
--- what one operation did under a ticket: the next ticket from before, and the frame that it sent, took or cut, whole
+-- what one operation did under a ticket: the frame that it sent, took or cut, whole
 pub record LinkEdit : Type 0 where
   pub ticket : ℕ
-  pub next : ℕ
   pub frame : InFlight
   pub change : LinkChange
 
@@ -32,11 +31,17 @@ frame_after Sent f = Some f
 frame_after Taken f = None
 frame_after (Cut n) f = Some (cut_to f n)
 
--- the next ticket after: only a frame that is sent takes one
-abbrev pub next_after : LinkChange → ℕ → ℕ
-next_after Sent next = next + 1
-next_after Taken next = next
-next_after (Cut n) next = next
+-- The next ticket before: a frame that is sent takes it. The other changes leave the next ticket as it is.
+abbrev pub next_before : LinkChange → ℕ → ℕ → ℕ
+next_before Sent ticket next = ticket
+next_before Taken ticket next = next
+next_before (Cut n) ticket next = next
+
+-- the next ticket after
+abbrev pub next_after : LinkChange → ℕ → ℕ → ℕ
+next_after Sent ticket next = ticket + 1
+next_after Taken ticket next = next
+next_after (Cut n) ticket next = next
 
 -- the place has this value: what stands under the ticket, and the next ticket
 pub record Stands (ticket : ℕ) (at : Option InFlight) (next : ℕ) (l : Link) : Type 0 where
@@ -47,21 +52,21 @@ pub record Stands (ticket : ℕ) (at : Option InFlight) (next : ℕ) (l : Link) 
 abbrev pub with_place : ℕ → Option InFlight → ℕ → Link → Link
 with_place ticket at next l = record l { next = next; frames = set_at l.frames ticket at }
 
--- the edit finds its new value in its place
+-- the edit finds its new value in its place; where it took no ticket, the next one may be any
 abbrev pub Finds : LinkEdit → Link → Type 0
-Finds e = Stands e.ticket (frame_after e.change e.frame) (next_after e.change e.next)
+Finds e l = Stands e.ticket (frame_after e.change e.frame) (next_after e.change e.ticket l.next) l
 
 -- and its former value
 abbrev pub FindsFormer : LinkEdit → Link → Type 0
-FindsFormer e = Stands e.ticket (frame_before e.change e.frame) e.next
+FindsFormer e l = Stands e.ticket (frame_before e.change e.frame) (next_before e.change e.ticket l.next) l
 
 -- the link with the former value in the edit's place
 abbrev pub put_back : LinkEdit → Link → Link
-put_back e = with_place e.ticket (frame_before e.change e.frame) e.next
+put_back e l = with_place e.ticket (frame_before e.change e.frame) (next_before e.change e.ticket l.next) l
 
 -- the link with the new value there
 abbrev pub redone : LinkEdit → Link → Link
-redone e = with_place e.ticket (frame_after e.change e.frame) (next_after e.change e.next)
+redone e l = with_place e.ticket (frame_after e.change e.frame) (next_after e.change e.ticket l.next) l
 
 -- the edits lead back from new to old
 abbrev pub LinkLeadsBack : List LinkEdit → Link → Link → Type 0
@@ -79,18 +84,31 @@ with_place-back ticket was new before after l is = λ i. record {
 pub with_place-stands : (ticket : ℕ) (at : Option InFlight) (next : ℕ) (l : Link) → Stands ticket at next (with_place ticket at next l)
 with_place-stands ticket at next l = record { frame = get-set_at_same nat_cmp_total exact_unsigned l.frames ticket at; next_is = refl }
 
+change-both_ways : (c : LinkChange) (ticket : ℕ) (f : InFlight)
+    → LeadsBothWays (λ l. Stands ticket (frame_before c f) (next_before c ticket l.next) l) (λ l. Stands ticket (frame_after c f) (next_after c ticket l.next) l)
+    (λ l. with_place ticket (frame_before c f) (next_before c ticket l.next) l) (λ l. with_place ticket (frame_after c f) (next_after c ticket l.next) l)
+change-both_ways Sent ticket f = record {
+  put_back_finds = λ l is. with_place-stands ticket None ticket l;
+  redone_finds = λ l is. with_place-stands ticket (Some f) (ticket + 1) l;
+  redone_put_back = λ l is. with_place-back ticket (Some f) None (ticket + 1) ticket l is;
+  put_back_redone = λ l is. with_place-back ticket None (Some f) ticket (ticket + 1) l is;
+}
+change-both_ways Taken ticket f = record {
+  put_back_finds = λ l is. with_place-stands ticket (Some f) l.next l;
+  redone_finds = λ l is. with_place-stands ticket None l.next l;
+  redone_put_back = λ l is. with_place-back ticket None (Some f) l.next l.next l is;
+  put_back_redone = λ l is. with_place-back ticket (Some f) None l.next l.next l is;
+}
+change-both_ways (Cut n) ticket f = record {
+  put_back_finds = λ l is. with_place-stands ticket (Some f) l.next l;
+  redone_finds = λ l is. with_place-stands ticket (Some (cut_to f n)) l.next l;
+  redone_put_back = λ l is. with_place-back ticket (Some (cut_to f n)) (Some f) l.next l.next l is;
+  put_back_redone = λ l is. with_place-back ticket (Some f) (Some (cut_to f n)) l.next l.next l is;
+}
+
 -- an edit leads both ways
 pub edit-both_ways : (e : LinkEdit) → LeadsBothWays (FindsFormer e) (Finds e) (put_back e) (redone e)
-edit-both_ways e =
-    let was = frame_before e.change e.frame in
-    let new = frame_after e.change e.frame in
-    let after = next_after e.change e.next in
-    record {
-      put_back_finds = λ l is. with_place-stands e.ticket was e.next l;
-      redone_finds = λ l is. with_place-stands e.ticket new after l;
-      redone_put_back = λ l is. with_place-back e.ticket new was after e.next l is;
-      put_back_redone = λ l is. with_place-back e.ticket was new e.next after l is;
-    }
+edit-both_ways e = change-both_ways e.change e.ticket e.frame
 
 -- an edit whose former value is in its place leads back from what it makes of the link
 pub edit-leads_back : (e : LinkEdit) (l : Link) → IsLink l → FindsFormer e l → LinkLeadsBack (e ∷ []) l (redone e l)
@@ -100,5 +118,5 @@ edit-leads_back e l is former =
 -- an edit is stored as the tuple of its fields
 abbrev pub coded_link_edit : Coded LinkEdit
 coded_link_edit =
-    code_by (ℕ × (ℕ × (InFlight × LinkChange))) (coded× coded_ℕ (coded× coded_ℕ (coded× coded_in_flight link_change.the_row.coded))) (λ e. (e.ticket, (e.next, (e.frame, e.change))))
-    (λ p. record { ticket = p.0; next = p.1.0; frame = p.1.1.0; change = p.1.1.1 }) (λ _. refl)
+    code_by (ℕ × (InFlight × LinkChange)) (coded× coded_ℕ (coded× coded_in_flight link_change.the_row.coded)) (λ e. (e.ticket, (e.frame, e.change)))
+    (λ p. record { ticket = p.0; frame = p.1.0; change = p.1.1 }) (λ _. refl)

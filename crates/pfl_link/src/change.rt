@@ -3,7 +3,7 @@
 /// What was done under a ticket.
 #[derive(Clone, Copy)]
 pub(crate) enum LinkChange {
-    /// A frame came, and the next ticket rose.
+    /// A frame came under the next ticket, which rose.
     Sent,
     /// The frame left.
     Taken,

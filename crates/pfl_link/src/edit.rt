@@ -1,19 +1,18 @@
 //! What takes an operation of a link back.
 ghost use Rattle.std.specs.Prelude.{◌≡◌, Option};
-ghost use Rattle.pfl_link.specs.LinkEdits.{frame_before};
+ghost use Rattle.pfl_link.specs.LinkEdits.{frame_before, next_before};
 
 use crate::change::LinkChange;
 use crate::in_flight::InFlight;
 use std::alloc::Allocator;
 use std::marker::Model;
 
-/// One operation of a link. Its place is a ticket together with the next ticket.
+/// One operation of a link. Its place is a ticket; that of a frame that was sent is its ticket together with the next one.
 ///
 /// It owns the frame as it was before a take or a cut, or as it was sent: both values of the place follow from it.
 #[derive(Drop)]
 pub struct LinkEdit<A: Allocator> {
     ticket: u32,
-    next: u32,
     frame: InFlight<A>,
     change: LinkChange,
 }
@@ -25,17 +24,16 @@ impl<A: Allocator> Model for LinkEdit<A> {
 
     ghost coded = { coded_link_edit };
 
-    ghost view = { λ e. record { ticket = e.ticket; next = e.next; frame = e.frame; change = e.change } };
+    ghost view = { λ e. record { ticket = e.ticket; frame = e.frame; change = e.change } };
 }
 
 impl<A: Allocator> LinkEdit<A> {
-    /// The edit of a change under this ticket, where the next ticket was `next`.
-    pub(crate) fn new(ticket: u32, next: u32, frame: InFlight<A>, change: LinkChange) -> LinkEdit<A>
-        ensures edit { result ≡ record { ticket = ticket; next = next; frame = frame; change = change } }
+    /// The edit of a change under this ticket.
+    pub(crate) fn new(ticket: u32, frame: InFlight<A>, change: LinkChange) -> LinkEdit<A>
+        ensures edit { result ≡ record { ticket = ticket; frame = frame; change = change } }
     {
         LinkEdit {
             ticket,
-            next,
             frame,
             change,
         }
@@ -48,11 +46,14 @@ impl<A: Allocator> LinkEdit<A> {
         self.ticket
     }
 
-    /// The next ticket from before.
-    pub(crate) fn next(&self) -> u32
-        ensures next { result ≡ self.now.next }
+    /// The next ticket from before, where it is `next` now: only a frame that is sent takes one.
+    pub(crate) fn next_before(&self, next: u32) -> u32
+        ensures next { result ≡ next_before self.now.change self.now.ticket next }
     {
-        self.next
+        match self.change {
+            LinkChange::Sent => self.ticket,
+            LinkChange::Taken | LinkChange::Cut(_) => next,
+        }
     }
 
     /// The frame that was sent, taken or cut, whole.
@@ -68,7 +69,6 @@ impl<A: Allocator> LinkEdit<A> {
     {
         let LinkEdit {
             ticket: _,
-            next: _,
             frame,
             change,
         } = self;

@@ -14,7 +14,7 @@ use crate::fault::{LinkFault, Refused};
 use crate::in_flight::InFlight;
 use crate::ticketed::Ticketed;
 use pfl_base::NodeId;
-use pfl_edits::{NoMemory, Reversible, Rows};
+use pfl_edits::{InOrder, NoMemory, Reversible, Rows};
 use std::alloc::Allocator;
 use std::marker::Model;
 
@@ -57,7 +57,7 @@ impl<A: Allocator> Reversible for Link<A> {
     ghost allows = { IsLink };
 
     fn undo(&mut self, edit: LinkEdit<A>) {
-        let (ticket, next) = (edit.ticket(), edit.next());
+        let (ticket, next) = (edit.ticket(), edit.next_before(self.next));
         self.set(ticket, edit.into_former(), next);
     }
 
@@ -100,11 +100,11 @@ impl<A: Allocator> Link<A> {
     }
 
     /// The frames in the order of their tickets.
-    pub fn frames(&self) -> &[Ticketed<A>]
-        ensures frames { map entry_of result.now ≡ maps.entries self.now.frames }
+    pub fn frames(&self) -> InOrder<'_, Ticketed<A>>
+        ensures frames { map entry_of result ≡ maps.entries self.now.frames }
     {
         self.rows.known();
-        self.rows.as_slice()
+        InOrder::of(self.rows.as_slice())
     }
 
     /// How many frames are in flight.
@@ -159,7 +159,7 @@ impl<A: Allocator> Link<A> {
     {
         let next = self.next;
         match self.set(ticket, None, next) {
-            Some(frame) => Ok(LinkEdit::new(ticket, next, frame, LinkChange::Taken)),
+            Some(frame) => Ok(LinkEdit::new(ticket, frame, LinkChange::Taken)),
             None => Err(LinkFault::NoSuchFrame),
         }
     }
@@ -176,10 +176,7 @@ impl<A: Allocator> Link<A> {
     {
         let ticket = self.next;
         self.set(ticket, Some(frame), ticket + 1);
-        (
-            ticket,
-            LinkEdit::new(ticket, ticket, kept, LinkChange::Sent),
-        )
+        (ticket, LinkEdit::new(ticket, kept, LinkChange::Sent))
     }
 
     /// Sets what stands under a ticket together with the next ticket, in room that was made, and gives what stood there.
@@ -256,10 +253,7 @@ impl<A: Allocator + Copy> Link<A> {
         let short = frame.first(count)?;
         let (len, next) = (short.bytes().len(), self.next);
         match self.set(ticket, Some(short), next) {
-            Some(whole) => Ok((
-                len,
-                LinkEdit::new(ticket, next, whole, LinkChange::Cut(count)),
-            )),
+            Some(whole) => Ok((len, LinkEdit::new(ticket, whole, LinkChange::Cut(count)))),
             None => unreachable!(),
         }
     }

@@ -7,10 +7,7 @@ ghost use Rattle.pfl_merge.specs.Laws.{Keeps, Rises, SourceInOrder, DestinationI
 use crate::merged::Merged;
 use crate::received::Received;
 use pfl_base::{Millis, Proto, seq_gt};
-use pfl_track::{Peer, State};
-
-/// The level at which an end of TCP has begun (SYN-SENT).
-const SYN_SENT: u8 = 2;
+use pfl_track::{Peer, SYN_SENT, State};
 
 /// The held end is further than the received one.
 fn is_ahead(held: &Peer, received: &Peer) -> bool

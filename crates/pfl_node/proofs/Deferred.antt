@@ -1,5 +1,5 @@
 -- What a node keeps where a packet is held, and where a full list lets its oldest go.
-use Rattle.std.specs.Prelude.{◌≡◌, ◌≤◌, ◌<◌, ℕ, ◌+◌, suc, Bool, true, false, not, ◌&&◌, ◌||◌, nat_le, List, [], ◌∷◌, ◌++◌, length, filter, find, slice_get, Option, Some, None, is_some, refl}
+use Rattle.std.specs.Prelude.{◌≡◌, ◌≤◌, ◌<◌, ℕ, ◌+◌, suc, Bool, true, false, nat_le, List, [], ◌∷◌, ◌++◌, length, find, slice_get, Option, Some, None, is_some, refl}
 use Rattle.std.specs.Option.{option_map, option_map_or, option_to_list}
 use Rattle.std.proofs.Common.{cond, ◌∙◌, ap, sym, subst, arith, inl, inr}
 use Rattle.std.proofs.lemmas.Bool.Decides.{nat_tests}
@@ -11,23 +11,18 @@ use Rattle.pfl_edits.specs.Maps as maps
 use Rattle.pfl_edits.specs.Places.{get-set_at_same, get-set_at_other, key_cases}
 use Rattle.pfl_track.specs.declared.state.State.{State}
 use Rattle.pfl_table.specs.Tables.{AreStates}
-use Rattle.pfl_queue.specs.declared.Kind.{Kind}
 use Rattle.pfl_queue.specs.declared.Kind.TheVariants.{Insert}
-use Rattle.pfl_queue.specs.Queues.{kind_of, pending}
 use Rattle.pfl_defer.specs.declared.Held.{Held}
 use Rattle.pfl_defer.specs.declared.edits.DeferEdit.{DeferEdit}
 use Rattle.pfl_defer.specs.Deferring as deferring
 use Rattle.pfl_defer.specs.Deferring.{Deferrals, IsDeferrals, held_of, let_go, pushed_out, with_held}
 use Rattle.pfl_defer.specs.Edits.{held_by}
-use Rattle.pfl_defer.specs.Kept.{with_room-has_room, with_held-keeps, found_place, last_cases, absent_stays}
+use Rattle.pfl_defer.specs.Kept.{with_room-has_room, with_held-keeps, found_place, last_cases}
 use Rattle.pfl_node.specs.Changes.{put_state, mark, is_held, freed, count_freed, without_held, not_waiting, released}
-use Rattle.pfl_node.specs.Demands.{one, hold_demands, pushes_out, held_back, started_by}
 use Rattle.pfl_node.specs.Kept.{MayReplace, MayStart}
-use Rattle.pfl_node.specs.Nodes.{Node, IsNode, IsGiven}
-use Rattle.pfl_node.specs.Starting.{announced, with_new, with_room, is_deferred, pass}
-use Rattle.pfl_node.proofs.Growing.{marked-pending}
+use Rattle.pfl_node.specs.Nodes.{Node, AreParts, IsGiven}
+use Rattle.pfl_node.specs.Starting.{announced, with_room, is_deferred, pass, hold}
 use Rattle.pfl_node.proofs.Keeps.{keeps_held, state_still}
-use Rattle.pfl_node.proofs.Meeting.{Grows}
 
 -- ---- a full list lets its oldest go
 
@@ -52,7 +47,7 @@ bare-not_waiting n name = by (maps.get n.states name)
 
 -- the node with the list that has room, but for its states
 abbrev roomy : Node → Option Held → Node
-roomy n o = record n { held = option_map_or (λ h. let_go n.held h.name) o n.held; counters = record n.counters { freed = n.counters.freed + one (is_some o) } }
+roomy n o = record n { held = option_map_or (λ h. let_go n.held h.name) o n.held; counters = record n.counters { freed = n.counters.freed + cond (is_some o) 1 0 } }
 
 -- to make room changes held packets, states, and what is counted as freed
 pub room-rest : (n : Node) → IsDeferrals n.held → bare (with_room n) ≡ bare (roomy n (pushed_out n.held))
@@ -102,8 +97,23 @@ wanted-may n s wanted may = record {
   };
 }
 
+-- nor does a packet that goes out keep it from that
+pub freed-may : (n : Node) (name : StateName) (s : State) → MayReplace n s → MayReplace (freed n name) s
+freed-may n name s may = by (is_held n name)
+  where
+    by : (b : Bool) → MayReplace (cond b (count_freed (without_held n name)) n) s
+    by true = record {
+      former = may.former;
+      stands = may.stands;
+      wire = may.wire;
+      stack = may.stack;
+      no_sync = may.no_sync;
+      is = state_still n (count_freed (without_held n name)) s refl refl refl refl may.is;
+    }
+    by false = may
+
 -- a state of the node may take its own place
-pub stands-may : (n : Node) (name : StateName) (s : State) → IsNode n → maps.get n.states name ≡ Some s → MayReplace n s
+pub stands-may : (n : Node) (name : StateName) (s : State) → AreParts n → maps.get n.states name ≡ Some s → MayReplace n s
 stands-may n name s is at = record {
   former = s;
   stands = ap (maps.get n.states) (is.states.filed name s at) ∙ at;
@@ -158,7 +168,7 @@ room-like n s are at = by (pushed_out n.held)
     by (Some h) = went (is_held n h.name) h
 
 -- and where room was made
-pub room-may : (n : Node) (s : State) → IsNode n → maps.get n.states s.name ≡ Some s → MayReplace (with_room n) s
+pub room-may : (n : Node) (s : State) → AreParts n → maps.get n.states s.name ≡ Some s → MayReplace (with_room n) s
 room-may n s is at =
     let like = room-like n s is.states at in
     let rest = room-rest n is.deferrals in
@@ -176,7 +186,7 @@ pub record IsRoomFor (n : Node) (name : StateName) : Type 0 where
   pub free : length n.held.list < n.held.limit
   pub fresh : held_of n.held name ≡ None
 
-pub room-made : (n : Node) (name : StateName) → IsNode n → held_of n.held name ≡ None → IsRoomFor (with_room n) name
+pub room-made : (n : Node) (name : StateName) → AreParts n → held_of n.held name ≡ None → IsRoomFor (with_room n) name
 room-made n name is fresh =
     let least : 1 ≤ n.limits.held = is.limits.1.1.1.1.0.0 in
     let limit = is.held_limit in
@@ -184,48 +194,10 @@ room-made n name is fresh =
     let held : deferring.with_room n.held ≡ (with_room n).held = sym (ap (λ (m : Node). m.held) (room-rest n is.deferrals)) in
     record { free = subst (λ (d : Deferrals). length d.list < d.limit) held left.room; fresh = subst (λ (d : Deferrals). held_of d name ≡ None) held (left.fresh name fresh) }
 
--- ---- a packet less
-
-fewer_held : (name : StateName) (hs : List Held) (h : Held) → find (λ k. is_name name k.name) hs ≡ Some h → length (filter (λ k. not (is_name name k.name)) hs) < length hs
-fewer_held name [] h e = absurd (cc)
-fewer_held name (k ∷ hs) h e =
-    elim (is_name name k.name) as (λ b. cond b (Some k) (find (λ k. is_name name k.name) hs) ≡ Some h → length (cond (not b) (k ∷ filter (λ k. not (is_name name k.name)) hs) (filter (λ k. not (is_name name k.name)) hs)) < length (k ∷ hs)) [
-      | true ↦ λ t. let few = no_more name hs in omega (arith, few)
-      | false ↦ λ t. let few = fewer_held name hs h t in omega (arith, few)
-    ] e
-  where
-    no_more : (name : StateName) (hs : List Held) → length (filter (λ k. not (is_name name k.name)) hs) ≤ length hs
-    no_more name [] = omega arith
-    no_more name (k ∷ hs) =
-        elim (is_name name k.name) as (λ b. length (cond (not b) (k ∷ filter (λ k. not (is_name name k.name)) hs) (filter (λ k. not (is_name name k.name)) hs)) ≤ length (k ∷ hs)) [
-          | true ↦ let few = no_more name hs in omega (arith, few)
-          | false ↦ let few = no_more name hs in omega (arith, few)
-        ]
-
--- where the packet of a name was let go, there is room
-pub pushes-left : (d : Deferrals) (name : StateName) → IsDeferrals d → pushes_out (let_go d name) ≡ (pushes_out d && not (is_some (held_of d name)))
-pushes-left d name is = by (held_of d name) refl
-  where
-    and_true : (b : Bool) → b ≡ (b && true)
-    and_true true = refl
-    and_true false = refl
-
-    and_false : (b : Bool) → false ≡ (b && false)
-    and_false true = refl
-    and_false false = refl
-
-    by : (o : Option Held) → held_of d name ≡ o → pushes_out (let_go d name) ≡ (pushes_out d && not (is_some o))
-    by None e = ap (λ (hs : List Held). pushes_out (record d { list = hs })) (absent_stays name d.list e) ∙ and_true (pushes_out d)
-    by (Some h) e =
-        let few = fewer_held name d.list h e in
-        let most = is.few in
-        let room : nat_le d.limit (length (let_go d name).list) ≡ false = grind (arith, nat_tests) in
-        ap (λ b. is_some (cond b (slice_get (let_go d name).list 0) None)) room ∙ and_false (pushes_out d)
-
 -- ---- a packet is held
 
 -- no packet is held of a name that was not given
-pub fresh-held : (n : Node) (s : State) → IsNode n → MayStart n s → held_of n.held s.name ≡ None
+pub fresh-held : (n : Node) (s : State) → AreParts n → MayStart n s → held_of n.held s.name ≡ None
 fresh-held n s is may = by n.held.list (λ i h at. (is.held i h at).0)
   where
     by : (hs : List Held) → ((i : ℕ) (h : Held) → slice_get hs i ≡ Some h → IsGiven n h.name) → find (λ h. is_name s.name h.name) hs ≡ None
@@ -242,7 +214,7 @@ fresh-held n s is may = by n.held.list (λ i h at. (is.held i h at).0)
         ] refl
 
 -- a node with one packet more, which is held from now on
-pub held-node : (n : Node) (name : StateName) (p : Packet) → IsNode n → IsGiven n name → length n.held.list < n.held.limit → held_of n.held name ≡ None → IsNode (record n { held = with_held n.held name p n.clock })
+pub held-node : (n : Node) (name : StateName) (p : Packet) → AreParts n → IsGiven n name → length n.held.list < n.held.limit → held_of n.held name ≡ None → AreParts (record n { held = with_held n.held name p n.clock })
 held-node n name p is given free fresh =
     keeps_held n (with_held n.held name p n.clock) is (with_held-keeps n.held name p n.clock is.deferrals free fresh (λ i h at. (is.held i h at).1)) refl
     (λ i h at. elim (last_cases n.held.list (record { name = name; packet = p; held_at = n.clock }) i h at) [
@@ -275,43 +247,21 @@ one_edit (Some d) e none = absurd (cc)
 
 -- ---- a packet that makes a state
 
-one_of : {X : Type 0} (a b : Bool) (x y z : X) → (a || not b) ≡ true → cond a x (cond b y z) ≡ cond a x z
-one_of true b x y z e = refl
-one_of false true x y z e = absurd (cc)
-one_of false false x y z e = refl
+-- what the peer is told of a new state is what is queued in the end
+pub announced-queue : (n : Node) (s : State) (dir : Dir) (p : Packet) → IsDeferrals n.held → s.no_sync ≡ false → (announced n s dir p).node.queue ≡ (mark n s.name Insert).queue
+announced-queue n s dir p is told = ap (λ b. (cond b (pass n (Some s.name)) (cond (is_deferred n dir) (hold (with_room (mark n s.name Insert)) s p) (pass (mark n s.name Insert) (Some s.name)))).node.queue) told ∙ by (is_deferred n dir)
+  where
+    by : (b : Bool) → (cond b (hold (with_room (mark n s.name Insert)) s p) (pass (mark n s.name Insert) (Some s.name))).node.queue ≡ (mark n s.name Insert).queue
+    by true = ap (λ (m : Node). m.queue) (room-rest (mark n s.name Insert) is)
+    by false = refl
 
-middle : {X : Type 0} (a b : Bool) (x y z : X) → (a || not b) ≡ false → cond a x (cond b y z) ≡ y
-middle true b x y z e = absurd (cc)
-middle false true x y z e = refl
-middle false false x y z e = absurd (cc)
+-- a state that is not told of lets its packet go on
+pub announced-quiet : (n : Node) (s : State) (dir : Dir) (p : Packet) → s.no_sync ≡ true → announced n s dir p ≡ pass n (Some s.name)
+announced-quiet n s dir p quiet = ap (λ b. cond b (pass n (Some s.name)) (cond (is_deferred n dir) (hold (with_room (mark n s.name Insert)) s p) (pass (mark n s.name Insert) (Some s.name)))) quiet
 
--- a packet that does not go on is of a state that is told of
-pub told_of : (a b : Bool) → (a || not b) ≡ false → a ≡ false
-told_of true b e = absurd (cc)
-told_of false b e = refl
+-- any other one holds it, where packets are deferred
+pub announced-held : (n : Node) (s : State) (dir : Dir) (p : Packet) → s.no_sync ≡ false → is_deferred n dir ≡ true → announced n s dir p ≡ hold (with_room (mark n s.name Insert)) s p
+announced-held n s dir p told on = ap (λ b. cond b (pass n (Some s.name)) (cond (is_deferred n dir) (hold (with_room (mark n s.name Insert)) s p) (pass (mark n s.name Insert) (Some s.name)))) told ∙ ap (λ b. cond b (hold (with_room (mark n s.name Insert)) s p) (pass (mark n s.name Insert) (Some s.name))) on
 
--- it goes on, where the peer is not told of the state or nothing is deferred
-pub announced-begun : (n : Node) (s : State) (dir : Dir) (p : Packet) → (s.no_sync || not (is_deferred n dir)) ≡ true → announced (with_new n s) s dir p ≡ started_by n s
-announced-begun n s dir p e = one_of s.no_sync (is_deferred n dir) (pass (with_new n s) (Some s.name)) (held_back n s p) (pass (mark (with_new n s) s.name Insert) (Some s.name)) e
-
--- and else it is held
-pub announced-held : (n : Node) (s : State) (dir : Dir) (p : Packet) → (s.no_sync || not (is_deferred n dir)) ≡ false → announced (with_new n s) s dir p ≡ held_back n s p
-announced-held n s dir p e = middle s.no_sync (is_deferred n dir) (pass (with_new n s) (Some s.name)) (held_back n s p) (pass (mark (with_new n s) s.name Insert) (Some s.name)) e
-
--- what a packet asks for that is held
-pub hold-grows : (n : Node) (s : State) (p : Packet) → IsDeferrals n.held → kind_of n.queue s.name ≡ None → Grows n (held_back n s p).node (hold_demands (pushes_out n.held))
-hold-grows n s p is fresh =
-    let rest = room-rest (mark (with_new n s) s.name Insert) is in
-    record {
-      limit = ap (λ (m : Node). m.queue.limit) rest;
-      pending = ap (λ (m : Node). pending m.queue) rest ∙ (marked-pending n.queue s.name Insert ∙ ap (λ (o : Option Kind). pending n.queue + one (not (is_some o))) fresh);
-      next_id = ap (λ (m : Node). m.next_id) rest;
-      next = ap (λ (m : Node). m.queue.next) rest;
-      passed = let e = ap (λ (m : Node). m.counters.passed) rest in omega (arith, e);
-      blocked = let e = ap (λ (m : Node). m.counters.blocked) rest in omega (arith, e);
-      freed = ap (λ (m : Node). m.counters.freed) rest;
-      lost = ap (λ (m : Node). m.counters.lost) rest;
-      bad = ap (λ (m : Node). m.counters.bad) rest;
-      stale = ap (λ (m : Node). m.counters.stale) rest;
-      broken = ap (λ (m : Node). m.counters.broken) rest;
-    }
+pub announced-passed : (n : Node) (s : State) (dir : Dir) (p : Packet) → s.no_sync ≡ false → is_deferred n dir ≡ false → announced n s dir p ≡ pass (mark n s.name Insert) (Some s.name)
+announced-passed n s dir p told off = ap (λ b. cond b (pass n (Some s.name)) (cond (is_deferred n dir) (hold (with_room (mark n s.name Insert)) s p) (pass (mark n s.name Insert) (Some s.name)))) told ∙ ap (λ b. cond b (hold (with_room (mark n s.name Insert)) s p) (pass (mark n s.name Insert) (Some s.name))) off

@@ -1,5 +1,5 @@
 -- What a packet does, by cases.
-use Rattle.std.specs.Prelude.{◌≡◌, ℕ, Bool, true, false, nat_le, List, [], ◌∷◌, length, IfSome, ◌<◌, ◌≤◌, slice_get, Option, Some, None, Result, Ok, Err, zero, suc, if◌then◌else◌, refl}
+use Rattle.std.specs.Prelude.{◌≡◌, ℕ, Bool, true, false, nat_le, List, [], ◌∷◌, length, IfSome, ◌<◌, slice_get, Option, Some, None, zero, suc, if◌then◌else◌, refl}
 use Rattle.std.proofs.Common.{◌∙◌, ap, sym, subst, arith}
 use Rattle.pfl_base.specs.declared.direction.Dir.{Dir}
 use Rattle.pfl_base.specs.declared.packet.Packet.{Packet}
@@ -8,7 +8,6 @@ use Rattle.pfl_base.specs.Packets.{IsPacket}
 use Rattle.pfl_edits.specs.Maps as maps
 use Rattle.pfl_rules.specs.declared.rule.Rule.{Rule}
 use Rattle.pfl_track.specs.declared.state.State.{State}
-use Rattle.pfl_track.specs.declared.tracked.Tracked.{Tracked}
 use Rattle.pfl_track.specs.declared.tracked.Tracked.TheVariants.{Moved}
 use Rattle.pfl_track.specs.Keys.{AreKeys}
 use Rattle.pfl_track.specs.Tracking.{tracked, start_state}
@@ -19,14 +18,8 @@ use Rattle.pfl_track.proofs.Keeping.{tracked-is, start-is}
 use Rattle.pfl_track.proofs.Moving.{tracked-used}
 use Rattle.pfl_table.specs.Tables.{found, key_in_use}
 use Rattle.pfl_table.proofs.Apart.{found-stands}
-use Rattle.pfl_base.specs.declared.refusal.Refusal.{Refusal}
-use Rattle.pfl_edits.specs.Changes.{Edits, Extends-from_empty}
-use Rattle.pfl_node.specs.declared.edit.NodeEdit.{NodeEdit}
-use Rattle.pfl_node.specs.declared.fate.Fate.{Fate}
-use Rattle.pfl_node.specs.Demands.{Does}
-use Rattle.pfl_node.specs.Edits.{Finds, put_back, NodeExtends}
 use Rattle.pfl_node.specs.Kept.{MayReplace, MayStart}
-use Rattle.pfl_node.specs.Nodes.{Node, IsNode, IsGiven, IsPast, IsRefusal, points_refusal}
+use Rattle.pfl_node.specs.Nodes.{Node, AreParts, IsGiven, IsPast}
 use Rattle.pfl_node.specs.Starting.{Handled, judged, next_name}
 use Rattle.pfl_node.specs.Packets.{handled, handled_by, followed, packet_points, before_rules, on_the_way}
 
@@ -43,7 +36,7 @@ points-some n dir p s at =
     ap (λ (h : Handled). h.node ∷ before_rules n dir p (found n.states (key p dir) dir)) (handled-some n dir p s at)
     ∙ ap (λ (o : Option State). (followed n dir p s (tracked s p dir n.clock)).node ∷ before_rules n dir p o) at
 
-pub found-replaces : (n : Node) (dir : Dir) (p : Packet) (s t : State) → IsNode n → IsPacket p → found n.states (key p dir) dir ≡ Some s → tracked s p dir n.clock ≡ Moved t → MayReplace n t
+pub found-replaces : (n : Node) (dir : Dir) (p : Packet) (s t : State) → AreParts n → IsPacket p → found n.states (key p dir) dir ≡ Some s → tracked s p dir n.clock ≡ Moved t → MayReplace n t
 found-replaces n dir p s t is packet at moved =
     let used = tracked-used s p dir n.clock t moved in
     let stands = found-stands n.states (key p dir) dir s is.states at in
@@ -75,38 +68,6 @@ unfolding packet_points
 points-none n dir p at =
     ap (λ (h : Handled). h.node ∷ before_rules n dir p (found n.states (key p dir) dir)) (handled-none n dir p at)
     ∙ ap (λ (ns : List Node). (judged n dir p).node ∷ ns) (ap (before_rules n dir p) at)
-
--- ---- what was tried is what it comes to
-
-pub does-of : (old new : Node) (result : Result (Fate × Edits NodeEdit) Refusal) (h k : Handled) (ps qs : List Node) → k ≡ h → qs ≡ ps → Does old new result h ps → Does old new result k qs
-does-of old new result h k ps qs same points does =
-    subst (λ (x : Handled). Does old new result x qs) (sym same) (subst (λ (x : List Node). Does old new result h x) (sym points) does)
-
--- of a packet that a state takes
-pub does-followed : (old new : Node) (result : Result (Fate × Edits NodeEdit) Refusal) (dir : Dir) (p : Packet) (s : State) (t u : Tracked) → u ≡ t
-    → Does old new result (followed old dir p s t) ((followed old dir p s t).node ∷ on_the_way old s t)
-    → Does old new result (followed old dir p s u) ((followed old dir p s u).node ∷ on_the_way old s u)
-does-followed old new result dir p s t u same does =
-    subst (λ (x : Tracked). Does old new result (followed old dir p s x) ((followed old dir p s x).node ∷ on_the_way old s x)) (sym same) does
-
-pub does-as : (old new : Node) (result : Result (Fate × Edits NodeEdit) Refusal) (h k : Handled) → k ≡ h → Does old new result h (h.node ∷ []) → Does old new result k (k.node ∷ [])
-does-as old new result h k same does = subst (λ (x : Handled). Does old new result x (x.node ∷ [])) (sym same) does
-
--- what is refused changes nothing
-pub does-refuse : (n : Node) (r : Refusal) (h : Handled) (points : List Node) → IsRefusal (points_refusal points) r → Does n n (Err r) h points
-does-refuse n r h points is = record { refused = is; unchanged = refl; not_refused = tt; step = tt; leads_back = tt; weight = tt }
-
--- what is not refused is done by a few edits
-pub does-done : (old new : Node) (fate : Fate) (x y : Edits NodeEdit) (h : Handled) (points : List Node) (most : ℕ)
-    → points_refusal points ≡ None → record { fate = fate; node = new } ≡ h → most ≤ 24 → x.list ≡ [] → NodeExtends most x y old new → Does old new (Ok (fate, y)) h points
-does-done old new fate x y h points most free step few none extends = record {
-  refused = tt;
-  unchanged = tt;
-  not_refused = free;
-  step = step;
-  leads_back = Extends-from_empty Finds IsNode put_back most x y old new none extends;
-  weight = let empty = ap length none in let long = extends.length in omega (arith, few, empty, long);
-}
 
 -- ---- a new state
 

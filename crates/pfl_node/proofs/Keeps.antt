@@ -17,7 +17,7 @@ use Rattle.pfl_bulk.specs.declared.BulkServer.TheVariants as server
 use Rattle.pfl_bulk.specs.declared.BulkClient.{BulkClient}
 use Rattle.pfl_bulk.specs.declared.BulkClient.TheVariants as client
 use Rattle.pfl_node.specs.declared.counters.Counters.{Counters}
-use Rattle.pfl_node.specs.Nodes.{Node, IsNode, IsNodeState, IsGiven, IsPast, MarksRightly, ServesSince, AskedAt, is_overcounted, greatest, last_millisecond}
+use Rattle.pfl_node.specs.Nodes.{Node, AreParts, IsNodeState, IsGiven, IsPast, MarksRightly, ServesSince, AskedAt, is_overcounted, greatest, last_millisecond}
 
 -- a time that is kept stays past
 past_later : (o : Option ℕ) (t u : ℕ) → t ≤ u → IfSome o (λ x. x ≤ t) → IfSome o (λ x. x ≤ u)
@@ -40,10 +40,10 @@ pub state_still : (n k : Node) (s : State) → k.creator ≡ n.creator → k.nex
 state_still n k s creator ids rules clocks is = state_later n k s creator (subst (λ i. n.next_id ≤ i) (sym ids) (omega arith)) rules (subst (λ c. n.clock ≤ c) (sym clocks) (omega arith)) is
 
 -- other states
-pub keeps_states : (n : Node) (m : States) → IsNode n → AreStates m → maps.len m ≤ n.limits.states
+pub keeps_states : (n : Node) (m : States) → AreParts n → AreStates m → maps.len m ≤ n.limits.states
     → ((name : StateName) (s : State) → maps.get m name ≡ Some s → IsNodeState n s)
     → ((name : StateName) (k : Mark) → maps.get n.queue.marks name ≡ Some k → MarksRightly (record n { states = m }) name k)
-    → IsNode (record n { states = m })
+    → AreParts (record n { states = m })
 keeps_states n m is are few each rightly = record {
   limits = is.limits;
   rules = is.rules;
@@ -59,7 +59,6 @@ keeps_states n m is are few each rightly = record {
   serving = is.serving;
   waiting = is.waiting;
   clock = is.clock;
-  counted = is.counted;
 }
 
 -- ---- what is counted
@@ -125,10 +124,10 @@ waiting_later n clock client.Idle le h = tt
 waiting_later n clock (client.Waiting tries asked) le h = omega arith
 
 -- another queue
-pub keeps_queue : (n : Node) (q : Queue) → IsNode n → IsQueue q → q.limit ≡ n.queue.limit → q.next ≤ greatest
+pub keeps_queue : (n : Node) (q : Queue) → AreParts n → IsQueue q → q.limit ≡ n.queue.limit
     → ((name : StateName) (k : Mark) → maps.get q.marks name ≡ Some k → IsGiven n name × MarksRightly n name k)
-    → IsNode (record n { queue = q })
-keeps_queue n q is queue limit countable marks = record {
+    → AreParts (record n { queue = q })
+keeps_queue n q is queue limit marks = record {
   limits = is.limits;
   rules = is.rules;
   states = is.states;
@@ -143,13 +142,12 @@ keeps_queue n q is queue limit countable marks = record {
   serving = is.serving;
   waiting = is.waiting;
   clock = is.clock;
-  counted = let c = counted_all n is.counted in all_counted (record n { queue = q }) (record { next_id = c.next_id; next = countable; passed = c.passed; blocked = c.blocked; freed = c.freed; lost = c.lost; bad = c.bad; stale = c.stale; broken = c.broken });
 }
 
 -- other held packets
-pub keeps_held : (n : Node) (d : Deferrals) → IsNode n → IsDeferrals d → d.limit ≡ n.held.limit
+pub keeps_held : (n : Node) (d : Deferrals) → AreParts n → IsDeferrals d → d.limit ≡ n.held.limit
     → ((i : ℕ) (h : Held) → slice_get d.list i ≡ Some h → IsGiven n h.name × IsPast n h.held_at)
-    → IsNode (record n { held = d })
+    → AreParts (record n { held = d })
 keeps_held n d is deferrals limit held = record {
   limits = is.limits;
   rules = is.rules;
@@ -165,12 +163,11 @@ keeps_held n d is deferrals limit held = record {
   serving = is.serving;
   waiting = is.waiting;
   clock = is.clock;
-  counted = is.counted;
 }
 
 -- another server
-pub keeps_server : (n : Node) (server : BulkServer) → IsNode n → ServesSince n server
-    → IsNode (record n { server = server })
+pub keeps_server : (n : Node) (server : BulkServer) → AreParts n → ServesSince n server
+    → AreParts (record n { server = server })
 keeps_server n server is serving = record {
   limits = is.limits;
   rules = is.rules;
@@ -186,12 +183,11 @@ keeps_server n server is serving = record {
   serving = serving_still n server serving;
   waiting = is.waiting;
   clock = is.clock;
-  counted = is.counted;
 }
 
 -- another client
-pub keeps_client : (n : Node) (client : BulkClient) → IsNode n → AskedAt n client
-    → IsNode (record n { client = client })
+pub keeps_client : (n : Node) (client : BulkClient) → AreParts n → AskedAt n client
+    → AreParts (record n { client = client })
 keeps_client n client is waiting = record {
   limits = is.limits;
   rules = is.rules;
@@ -207,12 +203,11 @@ keeps_client n client is waiting = record {
   serving = is.serving;
   waiting = waiting_still n client waiting;
   clock = is.clock;
-  counted = is.counted;
 }
 
 -- a later clock
-pub keeps_clock : (n : Node) (clock : ℕ) → IsNode n → n.clock ≤ clock → clock ≤ last_millisecond
-    → IsNode (record n { clock = clock })
+pub keeps_clock : (n : Node) (clock : ℕ) → AreParts n → n.clock ≤ clock → clock ≤ last_millisecond
+    → AreParts (record n { clock = clock })
 keeps_clock n clock is later within = record {
   limits = is.limits;
   rules = is.rules;
@@ -228,13 +223,12 @@ keeps_clock n clock is later within = record {
   serving = serving_later n clock n.server later is.serving;
   waiting = waiting_later n clock n.client later is.waiting;
   clock = within;
-  counted = is.counted;
 }
 
 -- a greater next id
-pub keeps_next_id : (n : Node) (next_id : ℕ) → IsNode n → n.next_id ≤ next_id → next_id ≤ greatest
-    → IsNode (record n { next_id = next_id })
-keeps_next_id n next_id is more countable = record {
+pub keeps_next_id : (n : Node) (next_id : ℕ) → AreParts n → n.next_id ≤ next_id
+    → AreParts (record n { next_id = next_id })
+keeps_next_id n next_id is more = record {
   limits = is.limits;
   rules = is.rules;
   states = is.states;
@@ -249,12 +243,11 @@ keeps_next_id n next_id is more countable = record {
   serving = is.serving;
   waiting = is.waiting;
   clock = is.clock;
-  counted = let c = counted_all n is.counted in all_counted (record n { next_id = next_id }) (record { next_id = countable; next = c.next; passed = c.passed; blocked = c.blocked; freed = c.freed; lost = c.lost; bad = c.bad; stale = c.stale; broken = c.broken });
 }
 
 -- another push mark
-pub keeps_push : (n : Node) (push : Bool) → IsNode n
-    → IsNode (record n { push = push })
+pub keeps_push : (n : Node) (push : Bool) → AreParts n
+    → AreParts (record n { push = push })
 keeps_push n push is = record {
   limits = is.limits;
   rules = is.rules;
@@ -270,13 +263,12 @@ keeps_push n push is = record {
   serving = is.serving;
   waiting = is.waiting;
   clock = is.clock;
-  counted = is.counted;
 }
 
 -- other counters
-pub keeps_counters : (n : Node) (counters : Counters) → IsNode n → is_overcounted (record n { counters = counters }) ≡ false
-    → IsNode (record n { counters = counters })
-keeps_counters n counters is counted = record {
+pub keeps_counters : (n : Node) (counters : Counters) → AreParts n
+    → AreParts (record n { counters = counters })
+keeps_counters n counters is = record {
   limits = is.limits;
   rules = is.rules;
   states = is.states;
@@ -291,5 +283,4 @@ keeps_counters n counters is counted = record {
   serving = is.serving;
   waiting = is.waiting;
   clock = is.clock;
-  counted = counted;
 }

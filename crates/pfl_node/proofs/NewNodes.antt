@@ -57,20 +57,22 @@ neither a b p q = ap (λ c. c || b) p ∙ q
 
 pub new_node-is : NewNodesAreNodes
 new_node-is l r creator next clock limits rules low on_time = record {
-  limits = limits;
-  rules = rules;
-  states = no_states;
-  few = subst (λ (k : ℕ). k ≤ l.states) (sym (len-empty name_cmp State)) (omega arith);
-  each = λ n s is. nothing n s is;
-  queue = none_pending l.queue next low;
-  queue_limit = refl;
-  marks = λ n m is. nothing n m is;
-  deferrals = none_held l.held;
-  held_limit = refl;
-  held = λ i h is. absurd (some_is_none h (sym is));
-  serving = tt;
-  waiting = tt;
-  clock = on_time;
+  parts = record {
+    limits = limits;
+    rules = rules;
+    states = no_states;
+    few = subst (λ (k : ℕ). k ≤ l.states) (sym (len-empty name_cmp State)) (omega arith);
+    each = λ n s is. nothing n s is;
+    queue = none_pending l.queue next low;
+    queue_limit = refl;
+    marks = λ n m is. nothing n m is;
+    deferrals = none_held l.held;
+    held_limit = refl;
+    held = λ i h is. absurd (some_is_none h (sym is));
+    serving = tt;
+    waiting = tt;
+    clock = on_time;
+  };
   counted =
       let high : nat_lt greatest next ≡ false = le-ltb greatest next low in
       neither (nat_lt greatest next) _ high (neither (nat_lt greatest next) false high refl);

@@ -1,8 +1,7 @@
 -- What a node keeps where a state is put, and where a name is marked.
-use Rattle.std.specs.Prelude.{◌≡◌, ◌≢◌, ◌≤◌, ◌<◌, ℕ, ◌+◌, Bool, true, false, not, ◌&&◌, nat_le, Option, Some, None, is_some, IfSome, if◌then◌else◌, refl}
+use Rattle.std.specs.Prelude.{◌≡◌, ◌≢◌, ◌≤◌, ◌<◌, ℕ, ◌+◌, Bool, true, false, Option, Some, None, is_some, IfSome, refl}
 use Rattle.std.specs.Option.{option_map}
 use Rattle.std.proofs.Common.{cond, ◌∙◌, ap, sym, subst, arith, inl, inr}
-use Rattle.std.proofs.lemmas.Bool.Decides.{nat_tests}
 use Rattle.pfl_base.specs.declared.state_name.StateName.{StateName}
 use Rattle.pfl_base.specs.Names.{names_total, names_exact}
 use Rattle.pfl_edits.specs.Maps as maps
@@ -15,11 +14,10 @@ use Rattle.pfl_table.proofs.Apart.{OwnsKeys, OwnsKeys-known, OwnsKeys-unused, Ar
 use Rattle.pfl_queue.specs.declared.Kind.{Kind}
 use Rattle.pfl_queue.specs.declared.Kind.TheVariants.{Delete}
 use Rattle.pfl_queue.specs.declared.Mark.{Mark}
-use Rattle.pfl_queue.specs.declared.QueueFault.TheVariants.{QueueFull, CountFull}
-use Rattle.pfl_queue.specs.Queues.{Queue, mark_fault, kind_of, pending}
-use Rattle.pfl_queue.proofs.Keeping.{marked_kept, has_room, has_number}
-use Rattle.pfl_node.specs.Kept.{MayReplace, MayStart}
-use Rattle.pfl_node.specs.Nodes.{Node, IsNode, IsNodeState, IsGiven, MarksRightly, greatest}
+use Rattle.pfl_queue.specs.Queues.{kind_of, room_fault, most_numbers}
+use Rattle.pfl_queue.proofs.Keeping.{marked_kept}
+use Rattle.pfl_node.specs.Kept.{MayReplace, MayStart, MayAdd, MayMark}
+use Rattle.pfl_node.specs.Nodes.{Node, AreParts, IsNodeState, IsGiven, MarksRightly}
 use Rattle.pfl_node.specs.Changes.{put_state, mark}
 use Rattle.pfl_node.specs.Starting.{with_new}
 use Rattle.pfl_node.proofs.Keeps.{keeps_states, keeps_queue, keeps_next_id}
@@ -36,8 +34,8 @@ pub rightly-still : (n : Node) (m : States) (name : StateName) (k : Mark) → ma
 rightly-still n m name k still rightly =
     ((λ gone. still ∙ rightly.0.0 gone, λ none. rightly.0.1 (sym still ∙ none)), subst IsTold (sym still) rightly.1)
 
-put-node : (n : Node) (s : State) → IsNode n → OwnsKeys n.states s → maps.len (maps.insert n.states s.name s) ≤ n.limits.states → IsNodeState n s
-    → ((k : Mark) → maps.get n.queue.marks s.name ≡ Some k → (k.kind ≢ Delete) × (s.no_sync ≡ false)) → IsNode (put_state n s)
+put-node : (n : Node) (s : State) → AreParts n → OwnsKeys n.states s → maps.len (maps.insert n.states s.name s) ≤ n.limits.states → IsNodeState n s
+    → ((k : Mark) → maps.get n.queue.marks s.name ≡ Some k → (k.kind ≢ Delete) × (s.no_sync ≡ false)) → AreParts (put_state n s)
 put-node n s is owns few it kinds =
     let m = maps.insert n.states s.name s in
     keeps_states n m is (AreStates-with n.states s is.states owns) few
@@ -54,7 +52,7 @@ put-node n s is owns few it kinds =
     ])
 
 -- in place of a state of its name and keys
-pub replaced-node : (n : Node) (s : State) → IsNode n → MayReplace n s → IsNode (put_state n s)
+pub replaced-node : (n : Node) (s : State) → AreParts n → MayReplace n s → AreParts (put_state n s)
 replaced-node n s is may =
     let filed : may.former.name ≡ s.name = is.states.filed s.name may.former may.stands in
     let stands : maps.get n.states may.former.name ≡ Some may.former = ap (maps.get n.states) filed ∙ may.stands in
@@ -68,17 +66,17 @@ replaced-node n s is may =
 -- ---- a new state
 
 -- its name was on no queue
-pub fresh-name : (n : Node) (name : StateName) → IsNode n → name.creator ≡ n.creator → name.id ≡ n.next_id → (k : Mark) → maps.get n.queue.marks name ≡ Some k → ⊥
+pub fresh-name : (n : Node) (name : StateName) → AreParts n → name.creator ≡ n.creator → name.id ≡ n.next_id → (k : Mark) → maps.get n.queue.marks name ≡ Some k → ⊥
 fresh-name n name is creator id k at = let below = (is.marks name k at).0 creator in absurd (omega (arith, id, below))
 
 no_mark : (o : Option Mark) → ((k : Mark) → o ≡ Some k → ⊥) → option_map (λ (m : Mark). m.kind) o ≡ None
 no_mark None h = refl
 no_mark (Some k) h = absurd (h k refl)
 
-pub fresh-at : (n : Node) (name : StateName) → IsNode n → name.creator ≡ n.creator → name.id ≡ n.next_id → kind_of n.queue name ≡ None
+pub fresh-at : (n : Node) (name : StateName) → AreParts n → name.creator ≡ n.creator → name.id ≡ n.next_id → kind_of n.queue name ≡ None
 fresh-at n name is creator id = no_mark (maps.get n.queue.marks name) (fresh-name n name is creator id)
 
-pub fresh-kind : (n : Node) (s : State) → IsNode n → MayStart n s → kind_of n.queue s.name ≡ None
+pub fresh-kind : (n : Node) (s : State) → AreParts n → MayStart n s → kind_of n.queue s.name ≡ None
 fresh-kind n s is may = fresh-at n s.name is may.creator may.id
 
 within : (b : Bool) (len limit : ℕ) → len < limit → cond b len (len + 1) ≤ limit
@@ -86,37 +84,45 @@ within true len limit h = omega arith
 within false len limit h = omega arith
 
 -- the next id is taken, and the state is put
-pub started-node : (n : Node) (s : State) → IsNode n → n.next_id < greatest → MayStart n s → IsNode (with_new n s)
-started-node n s is countable may =
-    let next = keeps_next_id n (n.next_id + 1) is (omega arith) (omega arith) in
+pub started-node : (n : Node) (s : State) → AreParts n → MayStart n s → AreParts (with_new n s)
+started-node n s is may =
+    let next = keeps_next_id n (n.next_id + 1) is (omega arith) in
     let id = may.id in
     put-node (record n { next_id = n.next_id + 1 }) s next (OwnsKeys-unused n.states s may.unused)
     (subst (λ (k : ℕ). k ≤ n.limits.states) (sym (len-insert names_total n.states s.name s)) (within (maps.contains_key n.states s.name) (maps.len n.states) n.limits.states may.room))
     (record { is = may.is; given = λ own. omega arith; rule = may.rule; last = may.last; peer_change = may.peer_change; updates = may.updates })
     (λ k at. absurd (fresh-name n s.name is may.creator may.id k at))
 
+no_state : (n : Node) (s : State) (o : Option State) → AreParts n → s.name.creator ≡ n.creator → s.name.id ≡ n.next_id → maps.get n.states s.name ≡ o → o ≡ None
+no_state n s None is creator id at = refl
+no_state n s (Some t) is creator id at =
+    let below = (is.each s.name t at).given in
+    let filed : t.name ≡ s.name = is.states.filed s.name t at in
+    let given : s.name.id < n.next_id = subst (IsGiven n) filed below creator in
+    absurd (omega (arith, id, given))
+
+-- then it may be added
+pub started-may : (n : Node) (s : State) → AreParts n → MayStart n s → MayAdd (record n { next_id = n.next_id + 1 }) s
+started-may n s is may = record { fresh = no_state n s (maps.get n.states s.name) is may.creator may.id refl; unused = may.unused; room = may.room }
+
 -- ---- marks
 
-counted_by : (full counted : Bool) → (if full then Some QueueFull else if counted then Some CountFull else None) ≡ None → counted ≡ false
-counted_by true counted e = cc
-counted_by false true e = cc
-counted_by false false e = refl
-
--- a name that can be marked leaves the next number countable
-pub number_left : (q : Queue) (name : StateName) → mark_fault q name ≡ None → q.next + 1 ≤ greatest
-number_left q name free =
-    let left = counted_by (not (is_some (maps.get q.marks name)) && nat_le q.limit (pending q)) (nat_le 4294967295 q.next) free in
-    grind (arith, nat_tests)
-
--- a name with a state that is told of is marked, as anything but deleted
-pub marked-node : (n : Node) (name : StateName) (kind : Kind) (s : State) → IsNode n → maps.get n.states name ≡ Some s → s.no_sync ≡ false → IsGiven n name → kind ≢ Delete → mark_fault n.queue name ≡ None
-    → IsNode (mark n name kind)
-marked-node n name kind s is there told given other free =
-    keeps_queue n _ is (marked_kept n.queue is.queue name kind (has_room n.queue name free) (has_number n.queue name free)) refl (number_left n.queue name free)
+-- a name that may be on a queue, and that there is room for, is marked
+pub marked-node : (n : Node) (name : StateName) (kind : Kind) → AreParts n → MayMark n name kind → room_fault n.queue name ≡ None → n.queue.next < most_numbers → AreParts (mark n name kind)
+marked-node n name kind is may free number =
+    keeps_queue n _ is (marked_kept n.queue is.queue name kind free number) refl
     (λ q k at. elim (get-set_at_cases names_total names_exact n.queue.marks name (Some (record { name = name; kind = kind; number = n.queue.next })) q k at) [
-      | inl here ↦
-          let kinds : kind ≡ k.kind = ap (λ (m : Mark). m.kind) (inner _ k here.1) in
-          let stands = ap (maps.get n.states) here.0 ∙ there in
-          (subst (IsGiven n) (sym here.0) given, ((λ gone. absurd (other (kinds ∙ gone)), λ none. absurd (some_is_none s (sym stands ∙ none))), subst IsTold (sym stands) told))
+      | inl here ↦ (subst (IsGiven n) (sym here.0) may.given, subst (λ (o : StateName). MarksRightly n o k) (sym here.0) (subst (MarksRightly n name) (inner _ k here.1) may.rightly))
       | inr old ↦ is.marks q k old.1
     ])
+
+-- a name with a state that is told of may be on each queue but that of deletions
+pub told-may : (n : Node) (name : StateName) (kind : Kind) (s : State) → maps.get n.states name ≡ Some s → s.no_sync ≡ false → IsGiven n name → kind ≢ Delete → MayMark n name kind
+told-may n name kind s there told given other = record {
+  given = given;
+  rightly = ((λ gone. absurd (other gone), λ none. absurd (some_is_none s (sym there ∙ none))), subst IsTold (sym there) told);
+}
+
+-- a name without a state may be on that
+pub gone-may : (n : Node) (name : StateName) → maps.get n.states name ≡ None → IsGiven n name → MayMark n name Delete
+gone-may n name none given = record { given = given; rightly = ((λ gone. none, λ nothing. refl), subst IsTold (sym none) tt) }

@@ -1,8 +1,10 @@
 -- The frame that a node sends (pfsync(4)).
-use Rattle.std.specs.Prelude.{ℕ, ◌-◌, ◌/◌, false, List, [], ◌∷◌}
+use Rattle.std.specs.Prelude.{ℕ, ◌-◌, ◌/◌, ◌==◌, false, List, [], ◌∷◌, Option, Some, None, if◌then◌else◌}
 use Rattle.std.specs.List.{fold, flat_map}
 use Rattle.std.specs.Option.{option_map_or}
 use Rattle.pfl_base.specs.Lists.{neighbours}
+use Rattle.pfl_base.specs.declared.refusal.Refusal.{Refusal}
+use Rattle.pfl_base.specs.declared.refusal.Refusal.TheVariants.{NothingPending}
 use Rattle.pfl_base.specs.declared.state_name.StateName.{StateName}
 use Rattle.pfl_edits.specs.Maps as maps
 use Rattle.pfl_track.specs.declared.state.State.{State}
@@ -15,6 +17,7 @@ use Rattle.pfl_queue.specs.declared.Entry.{Entry}
 use Rattle.pfl_queue.specs.declared.Entry.TheVariants.{Marked, Request, Status, Clear}
 use Rattle.pfl_queue.specs.declared.Kind.{Kind}
 use Rattle.pfl_queue.specs.declared.Kind.TheVariants.{Insert, InsertAck, Update, UpdateShort, Delete}
+use Rattle.pfl_queue.specs.Queues.{pending}
 use Rattle.pfl_queue.specs.Taking.{next_frame, left_by, one_action}
 use Rattle.pfl_node.specs.Nodes.{Node, expiry_at}
 use Rattle.pfl_node.specs.Changes.{put_state}
@@ -77,3 +80,7 @@ unfoldable pub flushed : Node → Node
 flushed n =
     let entries = next_frame n.queue n.limits.mtu in
     fold update_count_cleared (record n { queue = left_by n.queue entries; push = false }) entries
+
+-- a node that has nothing pending sends no frame
+abbrev pub flush_refusal : Node → Option Refusal
+flush_refusal n = if pending n.queue == 0 then Some NothingPending else None

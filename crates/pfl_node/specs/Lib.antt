@@ -6,10 +6,9 @@ pub mod Kept
 pub mod Changes
 pub mod Starting
 pub mod Packets
-pub mod Demands
 pub mod Judging
 pub mod Receiving
 pub mod Flushing
+pub mod Sending
 pub mod Events
-pub mod Tallies
 pub mod Laws

@@ -138,8 +138,8 @@ pub record IsNodeState (n : Node) (s : State) : Type 0 where
   pub peer_change : IfSome s.peer_change (IsPast n)
   pub updates : s.updates ≤ 255
 
--- a node: true of each value that an event or its undoing passes through
-pub record IsNode (n : Node) : Type 0 where
+-- the parts of a node: true of each value that an event or its undoing passes through
+pub record AreParts (n : Node) : Type 0 where
   pub limits : AreLimits n.limits
   pub rules : AreRules n.rules
   pub states : AreStates n.states
@@ -154,4 +154,8 @@ pub record IsNode (n : Node) : Type 0 where
   pub serving : ServesSince n n.server
   pub waiting : AskedAt n n.client
   pub clock : n.clock ≤ last_millisecond
+
+-- a node: between events no number is past the greatest; inside an event one may be, which is then refused
+pub record IsNode (n : Node) : Type 0 where
+  pub parts : AreParts n
   pub counted : is_overcounted n ≡ false

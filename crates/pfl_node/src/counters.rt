@@ -3,23 +3,25 @@
 ghost use Rattle.std.specs.Prelude.{◌≡◌};
 ghost use Rattle.pfl_node.specs.Nodes.{no_counts};
 
+use crate::edit::Counter;
+
 /// What a node counts.
 #[derive(Clone, Copy, Debug, PartialEq, Eq)]
 pub struct Counters {
     /// Packets that went on at once.
-    pub passed: u32,
+    pub passed: u64,
     /// Packets that were dropped.
-    pub blocked: u32,
+    pub blocked: u64,
     /// Held packets that went on.
-    pub freed: u32,
+    pub freed: u64,
     /// Held packets that were dropped.
-    pub lost: u32,
+    pub lost: u64,
     /// Records that could not be used.
-    pub bad: u32,
+    pub bad: u64,
     /// Records that were behind what is held.
-    pub stale: u32,
+    pub stale: u64,
     /// Frames that could not be read.
-    pub broken: u32,
+    pub broken: u64,
 }
 
 impl Counters {
@@ -35,6 +37,41 @@ impl Counters {
             bad: 0,
             stale: 0,
             broken: 0,
+        }
+    }
+}
+
+impl Counters {
+    ghost use Rattle.std.specs.Prelude.{◌≡◌};
+    ghost use Rattle.pfl_node.specs.Edits.{count_of, with_count};
+
+    /// One number.
+    pub(crate) fn get(&self, counter: Counter) -> u64
+        ensures number { result ≡ count_of counter self.now }
+    {
+        match counter {
+            Counter::Passed => self.passed,
+            Counter::Blocked => self.blocked,
+            Counter::Freed => self.freed,
+            Counter::Lost => self.lost,
+            Counter::Bad => self.bad,
+            Counter::Stale => self.stale,
+            Counter::Broken => self.broken,
+        }
+    }
+
+    /// Sets one number.
+    pub(crate) fn set(&mut self, counter: Counter, number: u64)
+        ensures set { self.new ≡ with_count counter self.old number }
+    {
+        match counter {
+            Counter::Passed => self.passed = number,
+            Counter::Blocked => self.blocked = number,
+            Counter::Freed => self.freed = number,
+            Counter::Lost => self.lost = number,
+            Counter::Bad => self.bad = number,
+            Counter::Stale => self.stale = number,
+            Counter::Broken => self.broken = number,
         }
     }
 }

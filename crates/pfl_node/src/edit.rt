@@ -45,8 +45,8 @@ pub enum NodeEdit {
         after: Millis,
     },
     NextId {
-        before: u32,
-        after: u32,
+        before: u64,
+        after: u64,
     },
     Push {
         before: bool,
@@ -54,7 +54,7 @@ pub enum NodeEdit {
     },
     Count {
         counter: Counter,
-        before: u32,
-        after: u32,
+        before: u64,
+        after: u64,
     },
 }

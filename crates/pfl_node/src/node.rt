@@ -1,53 +1,41 @@
 //! The node.
 
+mod readers;
+
 ghost use Rattle.std.specs.Prelude.{◌≡◌, IfOk};
+ghost use Rattle.pfl_node.specs.Kept.{most_edits as most};
 ghost use Rattle.pfl_node.specs.Limits.{AreLimits};
 ghost use Rattle.pfl_node.specs.Nodes.{Node as Whole, IsNode, new_node};
 
-use crate::counters::Counters;
+use crate::edit::NodeEdit;
 use crate::limits::Limits;
-use pfl_base::Millis;
-use pfl_bulk::{BulkClient, BulkServer};
-use pfl_defer::Deferrals;
-use pfl_edits::NoMemory;
-use pfl_queue::Pending;
+use crate::parts::Parts;
+use pfl_edits::{Change, NoMemory, Reversible};
 use pfl_rules::RuleSet;
-use pfl_table::StateTable;
 use std::alloc::Allocator;
 use std::marker::Model;
 
 /// One firewall of the pair: its states, what it has to tell its peer, and what it counts. Its limits and rules never
-/// change. All room is made by `new`.
+/// change. All room is made by `new`, also that for the edits of an event while it is carried out and judged.
 #[derive(Drop)]
 pub struct Node<A: Allocator> {
     pub(crate) alloc: A,
-    pub(crate) limits: Limits,
-    pub(crate) rules: RuleSet<A>,
-    pub(crate) table: StateTable<A>,
-    pub(crate) queue: Pending<A>,
-    pub(crate) held: Deferrals<A>,
-    pub(crate) server: BulkServer,
-    pub(crate) client: BulkClient,
-    pub(crate) clock: Millis,
-    pub(crate) creator: u32,
-    pub(crate) next_id: u32,
-    pub(crate) push: bool,
-    pub(crate) counters: Counters,
+    pub(crate) parts: Parts<A>,
+    pub(crate) edits: Change<NodeEdit, A>,
 }
 
 impl<A: Allocator> Model for Node<A> {
     ghost use Rattle.pfl_node.specs.Nodes.{Node, IsNode};
     ghost use Rattle.pfl_node.specs.Codes.{coded_node};
+    ghost use Rattle.pfl_node.specs.Kept.{IsReady};
 
     ghost Value = { Node };
 
     ghost coded = { coded_node };
 
-    ghost use Rattle.pfl_node.specs.Kept.{node_of, IsTimely};
+    ghost view = { λ n. n.parts };
 
-    ghost view = { λ n. node_of n.limits n.rules n.table n.queue n.held n.server n.client n.clock n.creator n.next_id n.push n.counters };
-
-    ghost invariant = { λ n. IsTimely n.limits n.rules n.table × IsNode (node_of n.limits n.rules n.table n.queue n.held n.server n.client n.clock n.creator n.next_id n.push n.counters) };
+    ghost invariant = { λ n. IsNode n.parts × IsReady n.parts.limits n.edits };
 }
 
 impl<A: Allocator + Copy> Node<A> {
@@ -57,23 +45,12 @@ impl<A: Allocator + Copy> Node<A> {
         ensures new { IfOk result (λ n. n ≡ new_node limits rules creator 1 0) }
     {
         rules.known();
-        let table = StateTable::new(alloc, limits.states as usize)?;
-        let queue = Pending::new(alloc, limits.queue as usize)?;
-        let held = Deferrals::new(alloc, limits.held as usize)?;
+        let parts = Parts::new(alloc, limits, rules, creator)?;
+        let edits = Change::with_room(alloc, most_edits(&limits))?;
         Ok(Node {
             alloc,
-            limits,
-            rules,
-            table,
-            queue,
-            held,
-            server: BulkServer::Idle,
-            client: BulkClient::Idle,
-            clock: 0,
-            creator,
-            next_id: 1,
-            push: false,
-            counters: Counters::none(),
+            parts,
+            edits,
         })
     }
 
@@ -81,20 +58,12 @@ impl<A: Allocator + Copy> Node<A> {
     pub fn copy(&self) -> Result<Self, NoMemory>
         ensures same { IfOk result (λ copied. copied ≡ self.now) }
     {
+        let parts = self.parts.copy()?;
+        let edits = Change::with_room(self.alloc, most_edits(&parts.limits))?;
         Ok(Node {
             alloc: self.alloc,
-            limits: self.limits,
-            rules: self.rules.copy()?,
-            table: self.table.copy()?,
-            queue: self.queue.copy()?,
-            held: self.held.copy()?,
-            server: self.server,
-            client: self.client,
-            clock: self.clock,
-            creator: self.creator,
-            next_id: self.next_id,
-            push: self.push,
-            counters: self.counters,
+            parts,
+            edits,
         })
     }
 }
@@ -104,6 +73,36 @@ impl<A: Allocator> Node<A> {
     pub fn known(&self)
         ensures node { IsNode self.now }
     {
-        let _clock = &self.clock;
+        let _parts = &self.parts;
     }
+}
+
+/// How many edits an event records at most: five for each state, two for each entry that is pending, and those of a packet.
+fn most_edits(limits: &Limits) -> usize
+    ensures most { result ≡ most limits.now }
+{
+    5 * limits.states as usize + 2 * limits.queue as usize + 24
+}
+
+impl<A: Allocator> Reversible for Node<A> {
+    ghost use Rattle.pfl_node.specs.Nodes.{IsNode};
+    ghost use Rattle.pfl_node.specs.Edits.{Finds, FindsFormer, put_back, redone, edit-both_ways};
+
+    type Edit = NodeEdit;
+
+    ghost finds = { Finds };
+
+    ghost finds_former = { FindsFormer };
+
+    ghost put_back = { put_back };
+
+    ghost redone = { redone };
+
+    ghost allows = { IsNode };
+
+    fn undo(&mut self, edit: NodeEdit) {
+        self.parts.undo(edit);
+    }
+
+    ghost both_ways = { edit-both_ways };
 }

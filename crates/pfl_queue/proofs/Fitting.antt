@@ -236,3 +236,7 @@ pub longest_bounded : (n : ℕ) (es : List Entry) (mtu : ℕ) → mtu < 8 * n + 
 longest_bounded n es mtu few =
     ap (λ fronts. unwrap_or (last_of fronts) []) (bounded_fronts (λ front. nat_le (entry_bytes front) mtu) n es
     (λ j above within. too_long es mtu j (omega (arith, few, above, bytes_weight (map entry_action (take j es)), many_bytes (map entry_action (take j es)), length-map (take j es) entry_action, length-take-le j es within))))
+
+-- each entry of a frame has at least as many
+pub entries_bytes : (es : List Entry) → 8 * length es + 20 ≤ entry_bytes es
+entries_bytes es = omega (arith, bytes_weight (map entry_action es), many_bytes (map entry_action es), length-map es entry_action)

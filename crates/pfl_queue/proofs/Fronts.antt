@@ -40,14 +40,14 @@ prefixes_begin : {X : Type 0} (xs : List X) → AllByRecursion (BeginsWith xs) (
 prefixes_begin [] = (record { rest = []; is = refl }, tt)
 prefixes_begin (x ∷ xs) = (record { rest = x ∷ xs; is = refl }, all_map (BeginsWith (x ∷ xs)) (λ front. x ∷ front) (prefixes xs) (all_longer x xs (prefixes xs) (prefixes_begin xs)))
 
-all_filter : {X : Type 0} (P : X → Type 0) (test : X → Bool) (xs : List X) → AllByRecursion P xs → AllByRecursion P (filter test xs)
+pub all_filter : {X : Type 0} (P : X → Type 0) (test : X → Bool) (xs : List X) → AllByRecursion P xs → AllByRecursion P (filter test xs)
 all_filter P test [] all = tt
 all_filter P test (x ∷ xs) all = elim (test x) as (λ b. AllByRecursion P (cond b (x ∷ filter test xs) (filter test xs))) [
   | true ↦ (all.0, all_filter P test xs all.1)
   | false ↦ all_filter P test xs all.1
 ]
 
-last_or : {X : Type 0} (P : X → Type 0) (d : X) (xs : List X) → P d → AllByRecursion P xs → P (unwrap_or (last_of xs) d)
+pub last_or : {X : Type 0} (P : X → Type 0) (d : X) (xs : List X) → P d → AllByRecursion P xs → P (unwrap_or (last_of xs) d)
 last_or P d [] h all = h
 last_or P d (x ∷ []) h all = all.0
 last_or P d (x ∷ y ∷ ys) h all = last_or P d (y ∷ ys) h all.1
@@ -113,13 +113,13 @@ module _ (q : Queue) (is : IsQueue q) (e : Entry) (rest : List Entry) where
       ap (λ x. in_turn (gone q x)) same
       ∙ ap (λ ms. map entry_of ms ++ map Request q.requests ++ map Status q.statuses ++ map clear_of q.clears) (first_mark_gone q is m ms marks) ∙ others
 
-front_gone : (q : Queue) → IsQueue q → (e : Entry) (rest : List Entry) → in_turn q ≡ e ∷ rest → in_turn (gone q e) ≡ rest
+pub front_gone : (q : Queue) → IsQueue q → (e : Entry) (rest : List Entry) → in_turn q ≡ e ∷ rest → in_turn (gone q e) ≡ rest
 front_gone q is e rest turn = of_marks q is e rest (in_order mark_before (maps.values q.marks)) refl turn
 
 -- An edit that takes the first entry finds it there.
 module _ (q : Queue) (is : IsQueue q) (e : Entry) (rest : List Entry) where
   abbrev Found : Entry → Type 0
-  Found x = FindsFormer (taking q.next x) q
+  Found x = FindsFormer (taking x) q
 
   found_clear : (cs : List Cleared) → q.clears ≡ cs → map clear_of cs ≡ e ∷ rest → Found e
   found_clear [] clears turn = absurd (cc)
@@ -138,9 +138,9 @@ module _ (q : Queue) (is : IsQueue q) (e : Entry) (rest : List Entry) where
   found_mark (m ∷ ms) marks turn =
       let same : e ≡ entry_of m = cc in
       let stands = subst (AllByRecursion (λ m. maps.get q.marks m.name ≡ Some m)) marks (order-all mark_before (λ m. maps.get q.marks m.name ≡ Some m) (maps.values q.marks) (values_stand q is)) in
-      subst Found (sym same) (stands.0, refl)
+      subst Found (sym same) stands.0
 
-first_found : (q : Queue) → IsQueue q → (e : Entry) (rest : List Entry) → in_turn q ≡ e ∷ rest → FindsFormer (taking q.next e) q
+pub first_found : (q : Queue) → IsQueue q → (e : Entry) (rest : List Entry) → in_turn q ≡ e ∷ rest → FindsFormer (taking e) q
 first_found q is e rest turn = found_mark q is e rest (in_order mark_before (maps.values q.marks)) refl turn
 
 without_first : {X : Type 0} (xs : List X) → remove xs 0 ≡ drop 1 xs
@@ -148,27 +148,27 @@ without_first [] = refl
 without_first (x ∷ xs) = refl
 
 -- and takes it out
-redone_gone : (q : Queue) (e : Entry) → redone (taking q.next e) q ≡ gone q e
+pub redone_gone : (q : Queue) (e : Entry) → redone (taking e) q ≡ gone q e
 redone_gone q (Marked kind number name) = refl
 redone_gone q (Request name) = ap (λ (xs : List StateName). record q { requests = xs }) (without_first q.requests)
 redone_gone q (Status status) = ap (λ (xs : List BulkStatus). record q { statuses = xs }) (without_first q.statuses)
 redone_gone q (Clear creator bound) = ap (λ (xs : List Cleared). record q { clears = xs }) (without_first q.clears)
 
-next_stays : (q : Queue) (e : Entry) → (gone q e).next ≡ q.next
+pub next_stays : (q : Queue) (e : Entry) → (gone q e).next ≡ q.next
 next_stays q (Marked kind number name) = refl
 next_stays q (Request name) = refl
 next_stays q (Status status) = refl
 next_stays q (Clear creator bound) = refl
 
 -- the edits of the first entries lead back from what they leave
-pub frame_leads_back : (es : List Entry) (q : Queue) → IsQueue q → (rest : List Entry) → es ++ rest ≡ in_turn q → QueueLeadsBack (map (taking q.next) es) q (left_by q es)
+pub frame_leads_back : (es : List Entry) (q : Queue) → IsQueue q → (rest : List Entry) → es ++ rest ≡ in_turn q → QueueLeadsBack (map taking es) q (left_by q es)
 frame_leads_back [] q is rest turn = LeadsBack-none Finds IsQueue put_back q
 frame_leads_back (e ∷ es) q is rest turn =
     let found = first_found q is e (es ++ rest) (sym turn) in
     let later = frame_leads_back es (gone q e) (gone_kept q is e) rest (sym (front_gone q is e (es ++ rest) (sym turn))) in
-    LeadsBack-append Finds IsQueue put_back (taking q.next e ∷ []) (map (taking q.next) es) q (gone q e) (left_by (gone q e) es)
-    (subst (QueueLeadsBack (taking q.next e ∷ []) q) (redone_gone q e) (redone-leads_back (taking q.next e) q is found))
-    (subst (λ n. QueueLeadsBack (map (taking n) es) (gone q e) (left_by (gone q e) es)) (next_stays q e) later)
+    LeadsBack-append Finds IsQueue put_back (taking e ∷ []) (map taking es) q (gone q e) (left_by (gone q e) es)
+    (subst (QueueLeadsBack (taking e ∷ []) q) (redone_gone q e) (redone-leads_back (taking e) q is found))
+    later
 
 all_gone : (es : List Entry) (q : Queue) → IsQueue q → (rest : List Entry) → es ++ rest ≡ in_turn q → in_turn (left_by q es) ≡ rest
 all_gone [] q is rest turn = sym turn

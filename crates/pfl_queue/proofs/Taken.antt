@@ -33,6 +33,6 @@ first_taken q mtu es frame =
     sym (take-append_seam es begins.rest) ∙ ap (take (length es)) all
 
 -- and their edits lead back
-pub taken_leads_back : (q : Queue) → IsQueue q → (es : List Entry) → es ≡ take (length es) (in_turn q) → QueueLeadsBack (map (taking q.next) es) q (left_by q es)
+pub taken_leads_back : (q : Queue) → IsQueue q → (es : List Entry) → es ≡ take (length es) (in_turn q) → QueueLeadsBack (map taking es) q (left_by q es)
 taken_leads_back q is es first =
     frame_leads_back es q is (drop (length es) (in_turn q)) (ap (λ (xs : List Entry). xs ++ drop (length es) (in_turn q)) first ∙ take-append-drop (length es) (in_turn q))

@@ -6,23 +6,28 @@ use Rattle.pfl_base.specs.Names.{names_total, names_exact}
 use Rattle.pfl_edits.specs.Changes.{LeadsBack, LeadsBothWays, LeadsBack-one}
 use Rattle.pfl_edits.specs.Maps as maps
 use Rattle.pfl_edits.specs.Maps.{set_at}
-use Rattle.pfl_edits.specs.Places.{StandsAt, with_position, position-both_ways, part-both_ways, get-set_at_same, set_at-back}
+use Rattle.pfl_edits.specs.Places.{StandsAt, with_position, position-both_ways, part-both_ways, key-both_ways, get-set_at_same, set_at-back}
 use Rattle.pfl_wire.specs.declared.message.BulkStatus.{BulkStatus}
 use Rattle.pfl_queue.specs.declared.Kind.{Kind}
 use Rattle.pfl_queue.specs.declared.Mark.{Mark}
 use Rattle.pfl_queue.specs.declared.Entry.{Entry}
 use Rattle.pfl_queue.specs.declared.Entry.TheVariants.{Marked, Request, Status, Clear}
 use Rattle.pfl_queue.specs.declared.edits.QueueEdit.{QueueEdit}
-use Rattle.pfl_queue.specs.declared.edits.QueueEdit.TheVariants.{OfMark, OfRequest, OfStatus, OfClear}
+use Rattle.pfl_queue.specs.declared.edits.QueueEdit.TheVariants.{OfMark, OfName, OfRequest, OfStatus, OfClear}
 use Rattle.pfl_queue.specs.Queues.{Queue, IsQueue}
 
--- what stands under the name, and the next number
+-- the queues with this under the name, and this next number
 abbrev pub with_mark : Queue → StateName → Option Mark → ℕ → Queue
 with_mark q name at next = record q { next = next; marks = set_at q.marks name at }
+
+-- the queues with this under the name alone
+abbrev pub with_name : Queue → StateName → Option Mark → Queue
+with_name q name at = record q { marks = set_at q.marks name at }
 
 -- the edit with its former value and its new one exchanged
 abbrev pub reversed : QueueEdit → QueueEdit
 reversed (OfMark name before after next_before next_after) = OfMark name after before next_after next_before
+reversed (OfName name before after) = OfName name after before
 reversed (OfRequest position before after) = OfRequest position after before
 reversed (OfStatus position before after) = OfStatus position after before
 reversed (OfClear position before after) = OfClear position after before
@@ -30,6 +35,7 @@ reversed (OfClear position before after) = OfClear position after before
 -- the edit finds its former value in its place
 abbrev pub FindsFormer : QueueEdit → Queue → Type 0
 FindsFormer (OfMark name before after next_before next_after) q = (maps.get q.marks name ≡ before) × (q.next ≡ next_before)
+FindsFormer (OfName name before after) q = maps.get q.marks name ≡ before
 FindsFormer (OfRequest position before after) q = StandsAt q.requests position before
 FindsFormer (OfStatus position before after) q = StandsAt q.statuses position before
 FindsFormer (OfClear position before after) q = StandsAt q.clears position before
@@ -37,6 +43,7 @@ FindsFormer (OfClear position before after) q = StandsAt q.clears position befor
 -- the queues with the edit's new value in its place
 abbrev pub redone : QueueEdit → Queue → Queue
 redone (OfMark name before after next_before next_after) q = with_mark q name after next_after
+redone (OfName name before after) q = with_name q name after
 redone (OfRequest position before after) q = record q { requests = with_position q.requests position before after }
 redone (OfStatus position before after) q = record q { statuses = with_position q.statuses position before after }
 redone (OfClear position before after) q = record q { clears = with_position q.clears position before after }
@@ -59,7 +66,7 @@ marking q name kind = OfMark name (maps.get q.marks name) (Some (record { name =
 
 -- what taking a name off records,
 abbrev pub unmarking : Queue → StateName → QueueEdit
-unmarking q name = OfMark name (maps.get q.marks name) None q.next q.next
+unmarking q name = OfName name (maps.get q.marks name) None
 
 -- what listing a request, a status and a clear records,
 abbrev pub requesting : Queue → StateName → QueueEdit
@@ -71,18 +78,18 @@ listing_status q status = OfStatus (length q.statuses) None (Some status)
 abbrev pub listing_clear : Queue → ℕ → ℕ → QueueEdit
 listing_clear q creator bound = OfClear (length q.clears) None (Some (record { creator = creator; bound = bound }))
 
--- and what a frame records that takes the entry, the first one pending, where this is the next number
-abbrev pub taking : ℕ → Entry → QueueEdit
-taking next (Marked kind number name) = OfMark name (Some (record { name = name; kind = kind; number = number })) None next next
-taking next (Request name) = OfRequest 0 (Some name) None
-taking next (Status status) = OfStatus 0 (Some status) None
-taking next (Clear creator bound) = OfClear 0 (Some (record { creator = creator; bound = bound })) None
+-- and what a frame records that takes the entry, the first one pending
+abbrev pub taking : Entry → QueueEdit
+taking (Marked kind number name) = OfName name (Some (record { name = name; kind = kind; number = number })) None
+taking (Request name) = OfRequest 0 (Some name) None
+taking (Status status) = OfStatus 0 (Some status) None
+taking (Clear creator bound) = OfClear 0 (Some (record { creator = creator; bound = bound })) None
 
 mark-back : (q : Queue) (name : StateName) (was at : Option Mark) (next former : ℕ) → maps.get q.marks name ≡ was → q.next ≡ former → with_mark (with_mark q name at next) name was former ≡ q
 mark-back q name was at next former is same =
     ap (λ m. record q { next = former; marks = m }) (set_at-back names_total names_exact q.marks name was at is) ∙ ap (λ n. record q { next = n }) (sym same)
 
--- a name with the next number, a position of each list: an edit leads both ways
+-- a name with the next number or alone, a position of each list: an edit leads both ways
 pub edit-both_ways : (e : QueueEdit) → LeadsBothWays (FindsFormer e) (Finds e) (put_back e) (redone e)
 edit-both_ways (OfMark name before after next_before next_after) = record {
   put_back_finds = λ q is. (get-set_at_same names_total names_exact q.marks name before, refl);
@@ -90,6 +97,8 @@ edit-both_ways (OfMark name before after next_before next_after) = record {
   redone_put_back = λ q is. mark-back q name after before next_before next_after is.0 is.1;
   put_back_redone = λ q is. mark-back q name before after next_after next_before is.0 is.1;
 }
+edit-both_ways (OfName name before after) =
+    part-both_ways (λ (q : Queue). q.marks) (λ q ms. record q { marks = ms }) (λ q ms. refl) (λ q. refl) (λ q ms ns. refl) _ _ _ _ (key-both_ways names_total names_exact name before after)
 edit-both_ways (OfRequest position before after) =
     part-both_ways (λ (q : Queue). q.requests) (λ q xs. record q { requests = xs }) (λ q xs. refl) (λ q. refl) (λ q xs ys. refl) _ _ _ _ (position-both_ways position before after)
 edit-both_ways (OfStatus position before after) =

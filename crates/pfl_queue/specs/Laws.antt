@@ -1,11 +1,15 @@
 -- Laws of the pending queues, in their own words (pfsync(4); the numbers are this project's profile).
-use Rattle.std.specs.Prelude.{◌≡◌, ◌≤◌, ◌==◌, ℕ, List, ◌++◌, map, is_some, if◌then◌else◌}
+use Rattle.std.specs.Prelude.{◌≡◌, ◌≢◌, ◌≤◌, ◌<◌, ◌==◌, ℕ, List, [], ◌∷◌, ◌++◌, map, Some, None, is_some, if◌then◌else◌}
 use Rattle.std.specs.List.{fold, IsDistinct}
 use Rattle.pfl_base.specs.declared.state_name.StateName.{StateName}
 use Rattle.pfl_base.specs.Names.{is_name}
+use Rattle.pfl_edits.specs.Changes.{Fits}
 use Rattle.pfl_edits.specs.Maps as maps
 use Rattle.pfl_wire.specs.declared.message.BulkStatus.{BulkStatus}
 use Rattle.pfl_queue.specs.declared.Kind.{Kind}
+use Rattle.pfl_queue.specs.declared.Mark.{Mark}
+use Rattle.pfl_queue.specs.declared.edits.QueueEdit.TheVariants.{OfName}
+use Rattle.pfl_queue.specs.Edits.{Finds, put_back}
 use Rattle.pfl_queue.specs.Queues.{Queue, IsQueue, pending, empty_queue, marked, unmarked, requested, with_status, with_clear, mark_fault, request_fault, list_fault}
 use Rattle.pfl_queue.specs.Taking.{in_turn, next_frame, left_by}
 
@@ -41,3 +45,8 @@ NothingTwiceAfterCalls = (limit next : ℕ) (calls : List Call) → next ≤ 429
 -- a frame takes from the front of what is pending and skips nothing, and what it does not carry is still pending
 abbrev pub FramesTakeFromTheFront : Type 0
 FramesTakeFromTheFront = (q : Queue) (mtu : ℕ) → IsQueue q → next_frame q mtu ++ in_turn (left_by q (next_frame q mtu)) ≡ in_turn q
+
+-- a mark that was taken off fits queues that have room, where its name is off and its former number was given and stands nowhere
+abbrev pub FormerMarksGoBack : Type 0
+FormerMarksGoBack = (q : Queue) (m : Mark) → IsQueue q → maps.get q.marks m.name ≡ None → pending q < q.limit → m.number < q.next
+    → ((n : StateName) (k : Mark) → maps.get q.marks n ≡ Some k → k.number ≢ m.number) → Fits Finds IsQueue put_back (OfName m.name (Some m) None ∷ []) q

@@ -12,13 +12,19 @@ use std::mem::swap;
 /// by one.
 #[derive(Clone, Copy, Debug)]
 pub enum QueueEdit {
-    /// What stands under a name, together with the next queueing number.
+    /// What stands under a name, together with the next queueing number: both were set.
     OfMark {
         name: StateName,
         before: Option<Mark>,
         after: Option<Mark>,
         next_before: u64,
         next_after: u64,
+    },
+    /// What stands under a name, alone: no number was set.
+    OfName {
+        name: StateName,
+        before: Option<Mark>,
+        after: Option<Mark>,
     },
     /// What stands at a position of the list of requests.
     OfRequest {
@@ -58,6 +64,7 @@ impl QueueEdit {
                 swap(before, after);
                 swap(next_before, next_after);
             }
+            QueueEdit::OfName { before, after, .. } => swap(before, after),
             QueueEdit::OfRequest { before, after, .. } => swap(before, after),
             QueueEdit::OfStatus { before, after, .. } => swap(before, after),
             QueueEdit::OfClear { before, after, .. } => swap(before, after),

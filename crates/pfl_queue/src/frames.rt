@@ -51,17 +51,15 @@ impl Entry {
         }
     }
 
-    /// The edit that takes the entry out, where it is the first one pending and `next` is the next number.
-    fn taking(&self, next: u64) -> QueueEdit
-        ensures edit { result ≡ taking next self.now }
+    /// The edit that takes the entry out, where it is the first one pending.
+    fn taking(&self) -> QueueEdit
+        ensures edit { result ≡ taking self.now }
     {
         match *self {
-            Entry::Marked { kind, number, name } => QueueEdit::OfMark {
+            Entry::Marked { kind, number, name } => QueueEdit::OfName {
                 name,
                 before: Some(Mark { name, kind, number }),
                 after: None,
-                next_before: next,
-                next_after: next,
             },
             Entry::Request(name) => QueueEdit::OfRequest {
                 position: 0,
@@ -83,12 +81,12 @@ impl Entry {
 }
 
 /// Records that the entries were taken out, one after another, in room that was made.
-fn record<A: Allocator>(entries: &[Entry], next: u64, change: &mut Change<QueueEdit, A>)
+fn record<A: Allocator>(entries: &[Entry], change: &mut Change<QueueEdit, A>)
     requires room { length entries.now ≤ change.old.spare }
-    ensures edits { change.new.list ≡ change.old.list ++ map (taking next) entries.now }
+    ensures edits { change.new.list ≡ change.old.list ++ map taking entries.now }
 {
     for entry in entries {
-        let edit = entry.taking(next);
+        let edit = entry.taking();
         change.push(edit);
     }
 }
@@ -150,9 +148,9 @@ impl<A: Allocator + Copy> Pending<A> {
         ensures first { IfOk result (λ entries. entries.items ≡ first_of_each most marks.now self.now) }
     {
         let marks = first(marks, most);
-        let requests = first(self.requests(), most);
-        let statuses = first(self.statuses(), most);
-        let clears = first(self.clears(), most);
+        let requests = self.first_requests(most);
+        let statuses = self.first_statuses(most);
+        let clears = self.first_clears(most);
         let entries = marks
             .iter()
             .map(|mark| Entry::from(*mark))
@@ -182,6 +180,7 @@ impl<A: Allocator + Copy> Pending<A> {
         ensures unchanged { OnErr result (self.new ≡ self.old) }
         ensures frame { IfOk result (λ r. r.0.items ≡ next_frame self.old mtu) }
         ensures left { OnOk result (self.new ≡ left_by self.old (next_frame self.old mtu)) }
+        ensures edits { IfOk result (λ r. r.1.list ≡ map taking (next_frame self.old mtu)) }
         ensures one_each { IfOk result (λ r. length r.1.list ≡ length (next_frame self.old mtu)) }
         ensures leads_back { IfOk result (λ r. QueueLeadsBack r.1.list self.old self.new) }
     {
@@ -189,7 +188,7 @@ impl<A: Allocator + Copy> Pending<A> {
         let entries = self.frame_of(&marks, mtu)?;
         let mut change = Change::new(self.allocator());
         change.reserve(entries.len())?;
-        record(&entries, self.next(), &mut change);
+        record(&entries, &mut change);
         self.known();
         self.take_out(&marks, entries.len());
         Ok((entries, change))

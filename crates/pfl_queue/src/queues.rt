@@ -9,10 +9,10 @@ ghost use Rattle.pfl_queue.specs.Parts.{lists_in_turn};
 ghost use Rattle.pfl_queue.specs.Edits.{QueueLeadsBack, FindsFormer, redone, marking, unmarking, requesting, listing_status, listing_clear};
 
 use crate::edits::QueueEdit;
-use crate::lists::{set_position, take_first};
+use crate::lists::{first, set_position, take_first};
 use crate::{Cleared, Kind, Mark, QueueFault};
 use pfl_base::StateName;
-use pfl_edits::{NoMemory, Reversible, Rows};
+use pfl_edits::{InOrder, NoMemory, Reversible, Rows};
 use pfl_wire::BulkStatus;
 use std::alloc::Allocator;
 use std::marker::Model;
@@ -108,33 +108,54 @@ impl<A: Allocator> Pending<A> {
     }
 
     /// The marks, in the order of their names.
-    pub fn marks(&self) -> &[Mark]
-        ensures marks { result.now ≡ maps.values self.now.marks }
+    pub fn marks(&self) -> InOrder<'_, Mark>
+        ensures marks { result ≡ maps.values self.now.marks }
     {
         let _limit = &self.limit;
         self.marks.known();
-        self.marks.as_slice()
+        InOrder::of(self.marks.as_slice())
     }
 
     /// The requests, in the order in which they were listed.
-    pub fn requests(&self) -> &[StateName]
-        ensures requests { result.now ≡ self.now.requests }
+    pub fn requests(&self) -> InOrder<'_, StateName>
+        ensures requests { result ≡ self.now.requests }
     {
-        &self.requests
+        InOrder::of(&self.requests)
     }
 
     /// The bulk statuses, in the order in which they were listed.
-    pub fn statuses(&self) -> &[BulkStatus]
-        ensures statuses { result.now ≡ self.now.statuses }
+    pub fn statuses(&self) -> InOrder<'_, BulkStatus>
+        ensures statuses { result ≡ self.now.statuses }
     {
-        &self.statuses
+        InOrder::of(&self.statuses)
     }
 
     /// The clears, in the order in which they were listed.
-    pub fn clears(&self) -> &[Cleared]
-        ensures clears { result.now ≡ self.now.clears }
+    pub fn clears(&self) -> InOrder<'_, Cleared>
+        ensures clears { result ≡ self.now.clears }
     {
-        &self.clears
+        InOrder::of(&self.clears)
+    }
+
+    /// The first requests, at most so many.
+    pub(crate) fn first_requests(&self, most: usize) -> &[StateName]
+        ensures first { result.now ≡ take most self.now.requests }
+    {
+        first(&self.requests, most)
+    }
+
+    /// The first bulk statuses, at most so many.
+    pub(crate) fn first_statuses(&self, most: usize) -> &[BulkStatus]
+        ensures first { result.now ≡ take most self.now.statuses }
+    {
+        first(&self.statuses, most)
+    }
+
+    /// The first clears, at most so many.
+    pub(crate) fn first_clears(&self, most: usize) -> &[Cleared]
+        ensures first { result.now ≡ take most self.now.clears }
+    {
+        first(&self.clears, most)
     }
 
     /// What is known of all pending queues, also of a copy and after a change was taken back.
@@ -251,14 +272,12 @@ impl<A: Allocator> Pending<A> {
         ensures edit { IfSome result (λ e. e ≡ unmarking self.old name) }
         ensures leads_back { IfSome result (λ e. QueueLeadsBack (e ∷ []) self.old self.new) }
     {
+        self.known();
         let mark = self.mark_of(name)?;
-        let number = self.next;
-        let edit = QueueEdit::OfMark {
+        let edit = QueueEdit::OfName {
             name,
             before: Some(mark),
             after: None,
-            next_before: number,
-            next_after: number,
         };
         self.make(edit);
         Some(edit)
@@ -411,6 +430,9 @@ impl<A: Allocator> Pending<A> {
             } => {
                 self.marks.set(name, after);
                 self.next = next_after;
+            }
+            QueueEdit::OfName { name, after, .. } => {
+                self.marks.set(name, after);
             }
             QueueEdit::OfRequest {
                 position,

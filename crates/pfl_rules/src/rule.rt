@@ -4,12 +4,11 @@ ghost use Rattle.std.specs.Prelude.{◌≡◌, ◌&&◌, ◌==◌, false, is_som
 ghost use Rattle.std.specs.Option.{option_map_or};
 ghost use Rattle.pfl_rules.specs.Matching.{if_said};
 ghost use Rattle.pfl_rules.specs.Nets.{in_net};
-ghost use Rattle.pfl_base.specs.Packets.{is_request};
 
 use crate::action::Action;
 use crate::net::Net;
 use crate::rule_dir::RuleDir;
-use pfl_base::{Addr, Class, Dir, End, Packet, Proto, TcpFlags};
+use pfl_base::{Addr, Class, Dir, End, Packet, Proto};
 
 /// A rule of a filter (pf.conf(5)). What is not said matches every packet. On a block rule the last five parts have no
 /// effect, though their faults count.
@@ -112,7 +111,7 @@ impl Rule {
         ensures { result ≡ can_start self.now packet.now }
     {
         let is_tcp = matches!(packet.proto(), Proto::Tcp);
-        (!is_tcp || self.any_flags || is_request(packet)) && self.nat_fits(packet.src().addr)
+        (!is_tcp || self.any_flags || packet.is_request()) && self.nat_fits(packet.src().addr)
     }
 
     fn nat_fits(&self, addr: Addr) -> bool
@@ -143,12 +142,4 @@ fn is_said(wanted: Option<u16>, port: u16) -> bool
         Some(wanted) => wanted == port,
         None => true,
     }
-}
-
-/// Whether the packet asks for a connection: SYN without ACK (RFC 9293, 3.5).
-fn is_request(packet: &Packet) -> bool
-    ensures { result ≡ is_request packet.now }
-{
-    let flags = packet.flags();
-    flags.contains(TcpFlags::SYN) && !flags.contains(TcpFlags::ACK)
 }

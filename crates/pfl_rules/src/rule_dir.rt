@@ -15,8 +15,37 @@ pub enum RuleDir {
 }
 
 impl RuleDir {
+    ghost use Rattle.std.specs.Prelude.{IfSome};
     ghost use Rattle.pfl_rules.specs.Matching.{goes};
     ghost use Rattle.pfl_rules.specs.Rules.{is_out};
+    ghost use Rattle.pfl_rules.specs.Texts.{direction_text};
+    ghost use Rattle.pfl_rules.specs.Words.{direction_at_word};
+
+    /// All directions of rules.
+    pub const ALL: [RuleDir; 3] = [RuleDir::In, RuleDir::Out, RuleDir::Any];
+
+    /// The direction's word in lines, which no other direction has.
+    pub fn word(self) -> &'static str
+        ensures word { result.now ≡ direction_text self }
+        ensures read_again { direction_at_word result.now ≡ Some self }
+    {
+        match self {
+            RuleDir::In => "in",
+            RuleDir::Out => "out",
+            RuleDir::Any => "any",
+        }
+    }
+
+    /// The direction with the word, if there is one.
+    pub fn of_word(word: &[u8]) -> Option<RuleDir>
+        ensures found { result ≡ direction_at_word word.now }
+        ensures word { IfSome result (λ direction. direction_text direction ≡ word.now) }
+    {
+        RuleDir::ALL
+            .iter()
+            .copied()
+            .find(|direction| direction.word().as_bytes() == word)
+    }
 
     /// Whether the rule is for packets that go this way.
     pub(crate) fn goes(self, dir: Dir) -> bool
@@ -42,10 +71,6 @@ impl fmt::Display for RuleDir {
     ghost output = { λ direction. Some (direction_text direction) };
 
     fn fmt<W: fmt::Write>(&self, f: &mut fmt::Formatter<W>) -> fmt::Result {
-        f.write_str(match self {
-            RuleDir::In => "in",
-            RuleDir::Out => "out",
-            RuleDir::Any => "any",
-        })
+        f.write_str(self.word())
     }
 }

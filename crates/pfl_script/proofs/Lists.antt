@@ -16,6 +16,12 @@ pub pushed_more : {X : Type 0} (line : X → List ℕ) (xs : List X) (i : ℕ) (
 pushed_more line xs i x d first so_far now before pushed here within =
     pushed ∙ (ap (λ text. text ++ line x) before ∙ (append_assoc first (flat_map line (take i xs)) (line x) ∙ ap (λ text. first ++ text) (text_more line xs i x d here within)))
 
+-- the text of the first element is put behind a text, before those of the others
+pub pushed_next : {X : Type 0} (line : X → List ℕ) (xs rest : List X) (x : X) (so_far now : List ℕ) → xs ≡ x ∷ rest → now ≡ so_far ++ line x →
+    now ++ flat_map line rest ≡ so_far ++ flat_map line xs
+pushed_next line xs rest x so_far now is pushed =
+    ap (λ text. text ++ flat_map line rest) pushed ∙ (append_assoc so_far (line x) (flat_map line rest) ∙ ap (λ ys. so_far ++ flat_map line ys) (sym is))
+
 -- parts that are put behind a text, one after another
 pub pushed_two : (first a b one two : List ℕ) → one ≡ first ++ a → two ≡ one ++ b → two ≡ first ++ (a ++ b)
 pushed_two first a b one two e f = f ∙ (ap (λ text. text ++ b) e ∙ append_assoc first a b)

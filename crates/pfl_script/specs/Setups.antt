@@ -1,5 +1,5 @@
 -- How lines set up a pair (this project's profile).
-use Rattle.std.specs.Prelude.{◌≡◌, ℕ, ◌+◌, Bool, true, false, not, ◌==◌, List, [], ◌∷◌, ◌++◌, length, if◌then◌else◌, Option, Some, None, ◌⊎◌, Result, Ok, Err}
+use Rattle.std.specs.Prelude.{◌≡◌, ℕ, ◌+◌, Bool, true, false, not, List, [], ◌∷◌, ◌++◌, length, if◌then◌else◌, Option, Some, None, ◌⊎◌, Result, Ok, Err}
 use Rattle.std.specs.List.{fold, list_all}
 use Rattle.std.specs.Option.{option_or}
 use Rattle.pfl_base.specs.declared.node_id.NodeId.{NodeId}
@@ -8,9 +8,8 @@ use Rattle.pfl_rules.specs.declared.rule.Rule.{Rule}
 use Rattle.pfl_rules.specs.declared.fault.RuleFault.{RuleFault}
 use Rattle.pfl_rules.specs.Rules.{Rules, rule_set, rule_fault}
 use Rattle.pfl_node.specs.declared.Limits.{Limits}
+use Rattle.pfl_node.specs.Limits.{default_limits, with_limit}
 use Rattle.pfl_lines.specs.declared.fault.LineFault.{LineFault}
-use Rattle.pfl_lines.specs.declared.limit.Limit.{Limit}
-use Rattle.pfl_lines.specs.declared.limit.Limit.TheVariants.{States, Queue, Frames, Mtu, Held, Defer, DeferMs, MaxUpdates, Batch, BulkMs}
 use Rattle.pfl_lines.specs.declared.setup.SetupLine.{SetupLine}
 use Rattle.pfl_lines.specs.declared.setup.SetupLine.TheVariants as setup
 use Rattle.pfl_lines.specs.Setup.{parsed_setup}
@@ -26,26 +25,9 @@ pub record Draft : Type 0 where
   pub a : List Rule
   pub b : List Rule
 
--- the limits where no line sets them
-abbrev pub default_limits : Limits
-default_limits = record { states = 64; queue = 256; frames = 64; mtu = 1500; held = 128; defer = false; defer_ms = 20; maxupd = 128; batch = 16; bulk_ms = 10000 }
-
 -- nothing is set
 abbrev pub nothing_set : Draft
 nothing_set = record { limits = default_limits; a = []; b = [] }
-
--- the limits with this value of one; of `defer`, 0 is no
-abbrev pub with_limit : Limits → Limit → ℕ → Limits
-with_limit l States n = record l { states = n }
-with_limit l Queue n = record l { queue = n }
-with_limit l Frames n = record l { frames = n }
-with_limit l Mtu n = record l { mtu = n }
-with_limit l Held n = record l { held = n }
-with_limit l Defer n = record l { defer = not (n == 0) }
-with_limit l DeferMs n = record l { defer_ms = n }
-with_limit l MaxUpdates n = record l { maxupd = n }
-with_limit l Batch n = record l { batch = n }
-with_limit l BulkMs n = record l { bulk_ms = n }
 
 -- one rule more of a node
 abbrev pub with_rule : Draft → NodeId → Rule → Draft

@@ -29,7 +29,7 @@ pub use link_lines::{FrameLine, LinkLine};
 pub use node_lines::{
     AskLine, BulkWords, BusLine, ClearLine, CountLine, HeldLine, NodeLine, NumbersWords, QueueLine,
 };
-pub use setup::{Setup, default_limits, read_setup};
+pub use setup::{Setup, read_setup};
 pub use setup_fault::SetupFault;
 pub use state_lines::StateLine;
 pub use writing::{write_reply, write_text};

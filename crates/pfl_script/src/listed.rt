@@ -9,7 +9,7 @@ use crate::node_lines::{AskLine, BusLine, ClearLine, HeldLine, QueueLine};
 use crate::state_lines::StateLine;
 use pfl_base::{NodeId, StateName};
 use pfl_defer::Held;
-use pfl_edits::NoMemory;
+use pfl_edits::{InOrder, NoMemory};
 use pfl_queue::{Cleared, Mark};
 use pfl_table::Row;
 use pfl_wire::BulkStatus;
@@ -94,15 +94,15 @@ impl Listed for Held {
     }
 }
 
-/// Puts the lines of a list behind a text.
+/// Puts the lines of entries behind a text, one after another.
 pub fn push_list<A: Allocator, X: Listed>(
     text: &mut Vec<u8, A>,
     node: NodeId,
-    entries: &[X],
+    mut entries: InOrder<'_, X>,
 ) -> Result<(), NoMemory>
-    ensures { OnOk result (text.new.items ≡ text.old.items ++ flat_map (X.line node) entries.now) }
+    ensures { OnOk result (text.new.items ≡ text.old.items ++ flat_map (X.line node) entries.entry) }
 {
-    for entry in entries {
+    while let Some(entry) = entries.next() {
         entry.push_line(node, text)?;
     }
     Ok(())

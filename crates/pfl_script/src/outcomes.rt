@@ -53,6 +53,9 @@ impl fmt::Display for OutcomeWords {
                 let reason = ReasonWord(reason);
                 write!(f, "drop {reason}")
             }
+            Outcome::Sent { ticket, len } => write!(f, "sent {ticket} {len}"),
+            Outcome::Lost => f.write_str("lost"),
+            Outcome::CutTo(len) => write!(f, "cut {len}"),
             Outcome::Clock(ms) => write!(f, "clock {ms}"),
             Outcome::Purged(states) => write!(f, "purged {states}"),
         }

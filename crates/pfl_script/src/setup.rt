@@ -5,14 +5,14 @@ ghost use Rattle.pfl_base.specs.Counts.{Counts};
 ghost use Rattle.pfl_rules.specs.Rules.{rule_fault, rule_set};
 ghost use Rattle.pfl_script.specs.Readers.{lines_after, room, CountsTurns};
 ghost use Rattle.pfl_script.specs.Scans.{Gives};
-ghost use Rattle.pfl_script.specs.Setups.{default_limits, kept_words, nothing_set, with_limit, with_rule, is_rule, CountsLines, Finishes, IsFinishStop, IsReadStop, IsRuleStop, IsSetupFault, IsTakeFault, ReadsSetup, ReadsSetupTo, Takes};
+ghost use Rattle.pfl_script.specs.Setups.{kept_words, nothing_set, with_rule, is_rule, CountsLines, Finishes, IsFinishStop, IsReadStop, IsRuleStop, IsSetupFault, IsTakeFault, ReadsSetup, ReadsSetupTo, Takes};
 
 use crate::fault::EngineFault;
 use crate::line::Line;
 use crate::line_reader::LineReader;
 use crate::setup_fault::SetupFault;
 use pfl_base::{Input, NodeId};
-use pfl_lines::{Limit, SetupLine};
+use pfl_lines::SetupLine;
 use pfl_node::Limits;
 use pfl_rules::{Rule, RuleFault, RuleSet};
 use std::alloc::{AllocError, Allocator};
@@ -42,60 +42,6 @@ impl<A: Allocator> Model for SetupDraft<A> {
     ghost view = { λ d. record { limits = d.limits; a = d.a.items; b = d.b.items } };
 }
 
-/// The limits where no line sets them.
-pub fn default_limits() -> Limits
-    ensures { result ≡ default_limits }
-{
-    Limits {
-        states: 64,
-        queue: 256,
-        frames: 64,
-        mtu: 1500,
-        held: 128,
-        defer: false,
-        defer_ms: 20,
-        maxupd: 128,
-        batch: 16,
-        bulk_ms: 10000,
-    }
-}
-
-/// The limits with this value of one.
-fn with_limit(limits: Limits, limit: Limit, n: u32) -> Limits
-    ensures { result ≡ with_limit limits limit n }
-{
-    match limit {
-        Limit::States => Limits {
-            states: n,
-            ..limits
-        },
-        Limit::Queue => Limits { queue: n, ..limits },
-        Limit::Frames => Limits {
-            frames: n,
-            ..limits
-        },
-        Limit::Mtu => Limits { mtu: n, ..limits },
-        Limit::Held => Limits { held: n, ..limits },
-        Limit::Defer => Limits {
-            defer: n != 0,
-            ..limits
-        },
-        Limit::DeferMs => Limits {
-            defer_ms: n,
-            ..limits
-        },
-        Limit::MaxUpdates => Limits {
-            maxupd: n,
-            ..limits
-        },
-        Limit::Batch => Limits { batch: n, ..limits },
-        Limit::BulkMs => Limits {
-            bulk_ms: n,
-            ..limits
-        },
-    }
-}
-
 impl<A: Allocator> SetupDraft<A> {
     /// Nothing is set.
     fn new(a: Vec<Rule, A>, b: Vec<Rule, A>) -> Self
@@ -104,7 +50,7 @@ impl<A: Allocator> SetupDraft<A> {
         ensures { result ≡ nothing_set }
     {
         SetupDraft {
-            limits: default_limits(),
+            limits: Limits::default(),
             a,
             b,
         }
@@ -129,7 +75,7 @@ impl<A: Allocator> SetupDraft<A> {
     {
         match setup {
             SetupLine::Set { limit, n } => {
-                self.limits = with_limit(self.limits, limit, n);
+                self.limits = self.limits.with(limit, n);
                 Ok(false)
             }
             SetupLine::Rule { node, rule } => match self.push_rule(node, rule) {

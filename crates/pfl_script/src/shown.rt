@@ -11,7 +11,7 @@ use crate::link_lines::{FrameLine, LinkLine};
 use crate::listed::{push_list, push_shown};
 use crate::node_lines::{BulkWords, CountLine, NodeLine, NumbersWords};
 use pfl_base::NodeId;
-use pfl_edits::NoMemory;
+use pfl_edits::{InOrder, NoMemory};
 use pfl_link::{Link, Ticketed};
 use pfl_node::Node;
 use pfl_queue::Pending;
@@ -44,7 +44,7 @@ fn push_node_line<A: Allocator, B: Allocator>(
     let numbers = NumbersWords {
         clock: node.clock(),
         boot: node.creator(),
-        next_id: u64::from(node.next_id()),
+        next_id: node.next_id(),
         next_number: node.queue().next(),
     };
     let bulk = BulkWords {
@@ -70,7 +70,7 @@ fn push_states<A: Allocator, B: Allocator>(
 ) -> Result<(), NoMemory>
     ensures { OnOk result (text.new.items ≡ text.old.items ++ flat_map (state_line id) (maps.values (states_of table.now))) }
 {
-    push_list(text, id, table.as_slice())
+    push_list(text, id, table.iter())
 }
 
 /// Puts the lines of what a node has to tell its peer behind a text.
@@ -82,7 +82,7 @@ fn push_queue<A: Allocator, B: Allocator + Copy>(
     ensures { OnOk result (text.new.items ≡ text.old.items ++ queue_lines id queue.now) }
 {
     let marks = queue.marks_in_turn()?;
-    push_list(text, id, marks.as_slice())?;
+    push_list(text, id, InOrder::of(marks.as_slice()))?;
     push_list(text, id, queue.requests())?;
     push_list(text, id, queue.statuses())?;
     push_list(text, id, queue.clears())
@@ -106,7 +106,7 @@ fn push_node<A: Allocator, B: Allocator + Copy>(
     )?;
     push_states(text, id, node.states())?;
     push_queue(text, id, node.queue())?;
-    push_list(text, id, node.held().as_slice())
+    push_list(text, id, InOrder::of(node.held().as_slice()))
 }
 
 /// Puts the line of a frame behind a text.
@@ -130,11 +130,11 @@ fn push_frame<A: Allocator, B: Allocator>(
 /// Puts the lines of frames behind a text.
 fn push_frames<A: Allocator, B: Allocator>(
     text: &mut Vec<u8, A>,
-    frames: &[Ticketed<B>],
+    mut frames: InOrder<'_, Ticketed<B>>,
 ) -> Result<(), NoMemory>
-    ensures { OnOk result (text.new.items ≡ text.old.items ++ flat_map (λ t. frame_line (entry_of t)) frames.now) }
+    ensures { OnOk result (text.new.items ≡ text.old.items ++ flat_map (λ t. frame_line (entry_of t)) frames.entry) }
 {
-    for ticketed in frames {
+    while let Some(ticketed) = frames.next() {
         push_frame(text, ticketed)?;
     }
     Ok(())

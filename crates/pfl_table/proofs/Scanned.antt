@@ -23,13 +23,13 @@ module _ {X Y : Type 0} (f : X → Y) (p : Y → Bool) where
   pub count_by-map : (xs : List X) → count_by p (map f xs) ≡ count_by (λ x. p (f x)) xs
   count_by-map xs = fold-map f (λ n y. n + cond (p y) 1 0) 0 xs
 
-  -- those that pass
-  pub filter-map : (xs : List X) → filter p (map f xs) ≡ map f (filter (λ x. p (f x)) xs)
-  filter-map [] = refl
-  filter-map (x ∷ xs) = elim (p (f x)) as (λ b. cond b (f x ∷ filter p (map f xs)) (filter p (map f xs)) ≡ map f (cond b (x ∷ filter (λ y. p (f y)) xs) (filter (λ y. p (f y)) xs))) [
-    | true ↦ ap (λ (ys : List Y). f x ∷ ys) (filter-map xs)
-    | false ↦ filter-map xs
-  ]
+-- the first that passes
+pub first-filter : {X : Type 0} (p : X → Bool) (xs : List X) → slice_get (filter p xs) 0 ≡ find p xs
+first-filter p [] = refl
+first-filter p (x ∷ xs) = elim (p x) as (λ b. slice_get (cond b (x ∷ filter p xs) (filter p xs)) 0 ≡ cond b (Some x) (find p xs)) [
+  | true ↦ refl
+  | false ↦ first-filter p xs
+]
 
 -- the first of a list in order is its first element, or the first of the rest, if that does not stand behind it
 pub first-put_before : {X : Type 0} (before : X → X → Bool) (x : X) (xs : List X)

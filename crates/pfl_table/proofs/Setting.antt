@@ -7,11 +7,11 @@ use Rattle.pfl_base.specs.declared.state_name.StateName.{StateName}
 use Rattle.pfl_base.specs.Names.{names_total, names_exact}
 use Rattle.pfl_edits.specs.Maps as maps
 use Rattle.pfl_edits.specs.Maps.{len-insert, len-remove}
-use Rattle.pfl_edits.specs.Places.{get-set_at_same}
+use Rattle.pfl_edits.specs.Places.{get-set_at_same, set_at-same}
 use Rattle.pfl_track.specs.declared.state.State.{State}
 use Rattle.pfl_table.specs.declared.edit.TableEdit.{TableEdit}
 use Rattle.pfl_table.specs.declared.row.Row.{Row}
-use Rattle.pfl_table.specs.Tables.{Table, IsTable, AreStates, states_of, by_wire, by_stack, put_fault, with_row, edit_of, TableLeadsBack, edit_of-leads_back, get-states_of, states_of-with_row}
+use Rattle.pfl_table.specs.Tables.{Table, IsTable, AreStates, states_of, by_wire, by_stack, put_fault, row_with, with_row, edit_of, TableLeadsBack, edit_of-leads_back, get-states_of, states_of-with_row}
 use Rattle.pfl_table.proofs.Apart.{OwnsKeys-unused, OwnsKeys-known, AreStates-with, AreStates-without}
 
 -- nothing keeps the state from being put
@@ -86,6 +86,19 @@ table_without t name is = record {
     less : (b : Bool) (n limit : ℕ) → n ≤ limit → cond b (n - 1) n ≤ limit
     less true n limit h = omega arith
     less false n limit h = h
+
+-- the state of a row that was made of it
+pub state_of_row_with : (state : Option State) (expires : ℕ) → option_map (λ (r : Row). r.state) (row_with state expires) ≡ state
+state_of_row_with None expires = refl
+state_of_row_with (Some s) expires = refl
+
+-- what stood under the name of an edit
+pub state_before : (t : Table) (name : StateName) (at : Option Row) (e : TableEdit) → e ≡ edit_of t name at → maps.get (states_of t) name ≡ option_map (λ (r : Row). r.state) e.before
+state_before t name at e is = get-states_of t name ∙ ap (λ (f : TableEdit). option_map (λ (r : Row). r.state) f.before) (sym is)
+
+-- to take out what does not stand there changes nothing
+pub without_none : (t : Table) (name : StateName) → maps.get t.rows name ≡ None → with_row t name None ≡ t
+without_none t name none = ap (λ m. record { limit = t.limit; rows = m }) (set_at-same names_total names_exact t.rows name None none)
 
 -- what a table has under a name is a row of that name
 pub own_name : (t : Table) (name : StateName) (at : Option Row) → IsTable (with_row t name at) → IfSome at (λ r. r.state.name ≡ name)

@@ -1,5 +1,5 @@
 -- The table of states: a map from names, with one state for each wire key and each stack key (pf(4)), and the edits of it.
-use Rattle.std.specs.Prelude.{◌≡◌, ◌≤◌, ℕ, Bool, false, ◌&&◌, ◌||◌, ◌==◌, nat_lt, nat_le, find, List, codes, [], ◌∷◌, map, filter, Option, Some, None, is_some, if◌then◌else◌, refl}
+use Rattle.std.specs.Prelude.{◌≡◌, ◌≤◌, ℕ, Bool, false, ◌&&◌, ◌||◌, ◌==◌, nat_lt, nat_le, find, List, codes, [], ◌∷◌, map, Option, Some, None, is_some, if◌then◌else◌, refl}
 use Rattle.std.specs.List.{count_by, slice_get}
 use Rattle.std.specs.Option.{option_map, option_map_or}
 use Rattle.std.specs.Ordering.{is_lt}
@@ -83,9 +83,13 @@ row_before r q = nat_lt r.expires q.expires || ((r.expires == q.expires) && is_l
 abbrev pub first_expiring : Table → Option Row
 first_expiring t = slice_get (in_order row_before (maps.values t.rows)) 0
 
--- the rows whose names are above this one
-abbrev pub rows_after : Table → StateName → List Row
-rows_after t name = filter (λ r. is_lt (name_cmp name r.state.name)) (maps.values t.rows)
+-- the row of the first name above this one
+abbrev pub row_after : Table → StateName → Option Row
+row_after t name = find (λ r. is_lt (name_cmp name r.state.name)) (maps.values t.rows)
+
+-- the state of the first name above this one
+abbrev pub state_after : States → StateName → Option State
+state_after m name = find (λ s. is_lt (name_cmp name s.name)) (maps.values m)
 
 -- why a state may not be put, if there is a reason: the first one
 abbrev pub put_fault : Table → State → Option PutFault
@@ -110,6 +114,10 @@ put_fault_text WireInUse = codes "the wire key is in use"
 put_fault_text StackInUse = codes "the stack key is in use"
 
 -- ---- edits: each names one place, that of a name
+
+-- the row of a state that expires at this time, if there is a state
+abbrev pub row_with : Option State → ℕ → Option Row
+row_with state expires = option_map (λ s. record { state = s; expires = expires }) state
 
 -- the table with this under the name
 abbrev pub with_row : Table → StateName → Option Row → Table

@@ -2,6 +2,7 @@
 
 ghost use Rattle.std.specs.Prelude.{◌≡◌};
 ghost use Rattle.pfl_base.specs.Names.{name_cmp, names_total, names_exact};
+ghost use Rattle.pfl_table.specs.Tables.{row_with};
 
 use pfl_base::StateName;
 use pfl_edits::Keyed;
@@ -36,4 +37,12 @@ impl Keyed for Row {
     ghost total = { names_total };
 
     ghost exact = { names_exact };
+}
+
+/// The row of a state that expires at this time, if there is a state.
+pub(crate) fn row_with(state: Option<State>, expires: u64) -> Option<Row>
+    ensures { result ≡ row_with state expires }
+{
+    let state = state?;
+    Some(Row { state, expires })
 }

@@ -1,18 +1,17 @@
 //! The table of states.
 
-ghost use Rattle.std.specs.Prelude.{◌≡◌, ℕ, [], ◌∷◌, map, filter, nat_le, Some, None, IfOk, IfErr, IfSome, IfNone, IsSome, OnOk, OnErr, OnSome, MatchOption};
-ghost use Rattle.std.specs.Option.{option_copied};
-ghost use Rattle.std.specs.Ordering.{is_lt};
-ghost use Rattle.pfl_base.specs.Names.{name_cmp};
+ghost use Rattle.std.specs.Prelude.{◌≡◌, ℕ, [], ◌∷◌, map, nat_le, Some, None, IfOk, IfErr, IfSome, IfNone, IsSome, OnOk, OnErr, OnSome, MatchOption};
+ghost use Rattle.std.specs.Option.{option_copied, option_map};
 ghost use Rattle.pfl_edits.specs.Maps as maps;
-ghost use Rattle.pfl_table.specs.Tables.{Table, IsTable, TableLeadsBack, states_of, by_wire, by_stack, found, count_of_rule, first_expiring, rows_after, put_fault, with_row, edit_of};
+ghost use Rattle.pfl_edits.specs.Maps.{set_at};
+ghost use Rattle.pfl_table.specs.Tables.{Table, IsTable, TableLeadsBack, states_of, by_wire, by_stack, found, count_of_rule, first_expiring, row_after, state_after, put_fault, row_with, with_row, edit_of};
 
 use crate::edit::TableEdit;
 use crate::fault::PutFault;
-use crate::row::Row;
+use crate::row::{Row, row_with};
 use crate::scans::{count_of_rule, first_to_expire, row_of_stack, row_of_wire, state_of};
 use pfl_base::{Dir, Key, StateName};
-use pfl_edits::{NoMemory, Reversible, Rows};
+use pfl_edits::{InOrder, NoMemory, Reversible, Rows};
 use pfl_track::State;
 use std::alloc::Allocator;
 use std::marker::Model;
@@ -80,7 +79,16 @@ impl<A: Allocator> StateTable<A> {
     }
 
     /// The rows, in the order of the names.
-    pub fn as_slice(&self) -> &[Row]
+    pub fn iter(&self) -> InOrder<'_, Row>
+        ensures rows { result ≡ maps.values self.now.rows }
+        ensures states { map (λ r. r.state) result ≡ maps.values (states_of self.now) }
+        ensures names { map (λ r. r.state.name) result ≡ maps.keys (states_of self.now) }
+    {
+        InOrder::of(self.as_slice())
+    }
+
+    /// The rows as they are kept.
+    fn as_slice(&self) -> &[Row]
         ensures rows { result.now ≡ maps.values self.now.rows }
         ensures states { map (λ r. r.state) result.now ≡ maps.values (states_of self.now) }
         ensures names { map (λ r. r.state.name) result.now ≡ maps.keys (states_of self.now) }
@@ -127,13 +135,13 @@ impl<A: Allocator> StateTable<A> {
         }
     }
 
-    /// The rows whose names are above this one, in the order of the names.
-    pub fn after(&self, name: StateName) -> &[Row]
-        ensures rows { result.now ≡ rows_after self.now name }
-        ensures states { map (λ r. r.state) result.now ≡ filter (λ s. is_lt (name_cmp name s.name)) (maps.values (states_of self.now)) }
+    /// The row of the first name above this one.
+    pub fn after(&self, name: StateName) -> Option<&Row>
+        ensures row { option_copied result ≡ row_after self.now name }
+        ensures state { option_map (λ r. r.state) (option_copied result) ≡ state_after (states_of self.now) name }
     {
         self.rows.known();
-        self.rows.after(name)
+        self.rows.after(name).first()
     }
 
     /// The row that expires first: the one of least expiry, and among those the one of least name.
@@ -164,7 +172,7 @@ impl<A: Allocator> StateTable<A> {
             return Err(fault);
         }
         let name = state.name();
-        Ok(self.set(name, &Some(Row { state, expires })))
+        Ok(self.set(name, Some(state), expires))
     }
 
     /// Why the state may not be put, if there is a reason: the first one.
@@ -201,7 +209,7 @@ impl<A: Allocator> StateTable<A> {
         self.known();
         let name = state.name();
         self.by_name(name)?;
-        Some(self.set(name, &Some(Row { state, expires })))
+        Some(self.set(name, Some(state), expires))
     }
 
     /// Takes the state with the name out. `None`: there is none. It takes no memory.
@@ -213,12 +221,27 @@ impl<A: Allocator> StateTable<A> {
         ensures leads_back { IfSome result (λ r. TableLeadsBack (r.1 ∷ []) self.old self.new) }
     {
         self.known();
-        let state = *self.by_name(name)?;
-        Some((state, self.set(name, &None)))
+        let edit = self.set(name, None, 0);
+        let before = edit.before;
+        match before {
+            Some(row) => Some((row.state, edit)),
+            None => None,
+        }
     }
 
-    /// Sets what stands under a name.
-    fn set(&mut self, name: StateName, at: &Option<Row>) -> TableEdit
+    /// Sets what stands under a name: a state that expires at this time, or none, whatever stood there. It takes no memory.
+    pub fn set(&mut self, name: StateName, state: Option<State>, expires: u64) -> TableEdit
+        requires table { IsTable (with_row self.old name (row_with state expires)) }
+        ensures set { self.new ≡ with_row self.old name (row_with state expires) }
+        ensures states { states_of self.new ≡ set_at (states_of self.old) name state }
+        ensures edit { result ≡ edit_of self.old name (row_with state expires) }
+        ensures leads_back { TableLeadsBack (result ∷ []) self.old self.new }
+    {
+        self.set_row(name, &row_with(state, expires))
+    }
+
+    /// Sets the row that stands under a name.
+    fn set_row(&mut self, name: StateName, at: &Option<Row>) -> TableEdit
         requires { IsTable (with_row self.old name at.now) }
         ensures set { self.new ≡ with_row self.old name at.now }
         ensures edit { result ≡ edit_of self.old name at.now }
@@ -262,7 +285,7 @@ impl<A: Allocator> Reversible for StateTable<A> {
     ghost allows = { IsTable };
 
     fn undo(&mut self, edit: TableEdit) {
-        self.set(edit.name, &edit.before);
+        self.set_row(edit.name, &edit.before);
     }
 
     ghost both_ways = { table-both_ways };

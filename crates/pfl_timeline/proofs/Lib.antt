@@ -8,3 +8,5 @@ pub mod Wants
 pub mod Prefixes
 pub mod Keeping
 pub mod Stepped
+pub mod Others
+pub mod Shows

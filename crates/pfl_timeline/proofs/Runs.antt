@@ -17,8 +17,8 @@ use Rattle.pfl_timeline.specs.Kept.{IsKept, edits_of, before, rooted}
 use Rattle.pfl_timeline.specs.Rooted.{shown}
 use Rattle.pfl_timeline.specs.Timelines.{is_branch_name}
 
-abbrev pub Change : Type 0
-Change = Edits WorldEdit
+abbrev pub Change : Type 0 → Type 0
+Change M = Edits (WorldEdit M)
 
 abbrev no_events : List Event
 no_events = []
@@ -27,16 +27,13 @@ take_none : (k : ℕ) → take k no_events ≡ no_events
 take_none zero = refl
 take_none (suc k) = refl
 
-abbrev no_changes : List Change
-no_changes = []
-
-drop_none : (k : ℕ) → drop k no_changes ≡ no_changes
+drop_none : {M : Type 0} (k : ℕ) → drop {A = Change M} k [] ≡ []
 drop_none zero = refl
 drop_none (suc k) = refl
 
-edits_of-last : (cs : List Change) (c : Change) → edits_of (cs ++ c ∷ []) ≡ edits_of cs ++ c.list
+edits_of-last : {M : Type 0} (cs : List (Change M)) (c : Change M) → edits_of (cs ++ c ∷ []) ≡ edits_of cs ++ c.list
 edits_of-last [] c = append-nil c.list
-edits_of-last (x ∷ cs) c = ap (λ (es : List WorldEdit). x.list ++ es) (edits_of-last cs c) ∙ sym (append_assoc x.list (edits_of cs) c.list)
+edits_of-last {M = M} (x ∷ cs) c = ap (λ (es : List (WorldEdit M)). x.list ++ es) (edits_of-last cs c) ∙ sym (append_assoc x.list (edits_of cs) c.list)
 
 -- one event more
 pub run-last : (w : World) (es : List Event) (e : Event) → run w (es ++ e ∷ []) ≡ option_and_then (λ v. after (step v e)) (run w es)
@@ -49,37 +46,37 @@ unfolding run
 run-none w = refl
 
 -- the world before the changes, the newest of them taken back
-before-last : (cs : List Change) (c : Change) (w : World) → before (cs ++ c ∷ []) w ≡ before cs (back put_back c.list w)
-before-last cs c w = ap (λ (es : List WorldEdit). back put_back es w) (edits_of-last cs c) ∙ back-append Finds IsWorld put_back (edits_of cs) c.list w
+before-last : {M : Type 0} (cs : List (Change M)) (c : Change M) (w : World) → before (cs ++ c ∷ []) w ≡ before cs (back put_back c.list w)
+before-last {M = M} cs c w = ap (λ (es : List (WorldEdit M)). back put_back es w) (edits_of-last cs c) ∙ back-append Finds IsWorld put_back (edits_of cs) c.list w
 
-before-drop-last : (k : ℕ) (cs : List Change) (c : Change) (w : World) → k ≤ length cs → before (drop k (cs ++ c ∷ [])) w ≡ before (drop k cs) (back put_back c.list w)
-before-drop-last k cs c w h = ap (λ (ds : List Change). before ds w) (drop-append-le k cs (c ∷ []) h) ∙ before-last (drop k cs) c w
+before-drop-last : {M : Type 0} (k : ℕ) (cs : List (Change M)) (c : Change M) (w : World) → k ≤ length cs → before (drop k (cs ++ c ∷ [])) w ≡ before (drop k cs) (back put_back c.list w)
+before-drop-last {M = M} k cs c w h = ap (λ (ds : List (Change M)). before ds w) (drop-append-le k cs (c ∷ []) h) ∙ before-last (drop k cs) c w
 
 -- the world that the branch shows is the one that is kept
-pub shown-kept : (name : List ℕ) (w : World) (events : List Event) (cs : List Change) → IsKept name w events cs → shown (rooted name w events cs) ≡ Some w
-shown-kept name w events cs k = k.each (length cs) (le_refl (length cs)) ∙ ap (λ (ds : List Change). Some (before ds w)) (drop_of_length-le cs (le_refl (length cs)))
+pub shown-kept : {M : Type 0} (name : List ℕ) (w : World) (events : List Event) (cs : List (Change M)) → IsKept name w events cs → shown (rooted name w events cs) ≡ Some w
+shown-kept {M = M} name w events cs k = k.each (length cs) (le_refl (length cs)) ∙ ap (λ (ds : List (Change M)). Some (before ds w)) (drop_of_length-le cs (le_refl (length cs)))
 
 -- a branch without events
-pub kept-new : (name : List ℕ) (w : World) → IsTrue (is_branch_name name) → IsWorld w → IsKept name w [] []
-kept-new name w named is = record {
+pub kept-new : {M : Type 0} (name : List ℕ) (w : World) → IsTrue (is_branch_name name) → IsWorld w → IsKept {M = M} name w [] []
+kept-new {M = M} name w named is = record {
   named = named;
   opening = is;
   within = omega arith;
   fits = tt;
-  each = λ k h. ap (run w) (take_none k) ∙ run-none w ∙ ap (λ (ds : List Change). Some (before ds w)) (sym (drop_none k));
+  each = λ k h. ap (run w) (take_none k) ∙ run-none w ∙ ap (λ (ds : List (Change M)). Some (before ds w)) (sym (drop_none k));
   whole = subst (λ o. IsTrue (is_some o)) (sym (run-none w)) refl;
 }
 
 -- The newest change is taken back.
-module _ (name : List ℕ) (w : World) (events : List Event) (cs ds : List Change) (c : Change) (is : cs ≡ ds ++ c ∷ []) (k : IsKept name w events cs) where
+module _ {M : Type 0} (name : List ℕ) (w : World) (events : List Event) (cs ds : List (Change M)) (c : Change M) (is : cs ≡ ds ++ c ∷ []) (k : IsKept name w events cs) where
   fits_all : Fits Finds IsWorld put_back (edits_of ds ++ c.list) w
-  fits_all = subst (λ (es : List WorldEdit). Fits Finds IsWorld put_back es w) (ap edits_of is ∙ edits_of-last ds c) k.fits
+  fits_all = subst (λ (es : List (WorldEdit M)). Fits Finds IsWorld put_back es w) (ap edits_of is ∙ edits_of-last ds c) k.fits
 
   pub fits_last : Fits Finds IsWorld put_back c.list w
   fits_last = Fits-rest Finds IsWorld put_back (edits_of ds) c.list w fits_all
 
   same_opening : before cs w ≡ before ds (back put_back c.list w)
-  same_opening = ap (λ (es : List Change). before es w) is ∙ before-last ds c w
+  same_opening = ap (λ (es : List (Change M)). before es w) is ∙ before-last ds c w
 
   one_less : length ds + 1 ≡ length cs
   one_less = sym (length-append ds (c ∷ [])) ∙ ap length (sym is)
@@ -96,7 +93,7 @@ module _ (name : List ℕ) (w : World) (events : List Event) (cs ds : List Chang
     each = λ i h.
         ap (λ (o : World). run o (take i events)) (sym same_opening)
         ∙ k.each i (omega (arith, h, one_less))
-        ∙ ap (λ (es : List Change). Some (before (drop i es) w)) is
+        ∙ ap (λ (es : List (Change M)). Some (before (drop i es) w)) is
         ∙ ap Some (before-drop-last i ds c w h);
     whole = subst (λ (o : World). IsTrue (is_some (run o events))) same_opening k.whole;
   }
@@ -108,7 +105,7 @@ module _ (name : List ℕ) (w : World) (events : List Event) (cs ds : List Chang
       ∙ ap (λ n. record { opening = before cs w; branch = record { name = name; events = events; cursor = n } }) fewer
 
 -- An event happened.
-module _ (name : List ℕ) (w new : World) (events : List Event) (cs : List Change) (c : Change) (e : Event) (out : Outcome)
+module _ {M : Type 0} (name : List ℕ) (w new : World) (events : List Event) (cs : List (Change M)) (c : Change M) (e : Event) (out : Outcome)
     (k : IsKept name w events cs) (stepped : step w e ≡ Ok (record { world = new; outcome = out }))
     (fits : Fits Finds IsWorld put_back c.list new) (back_is : back put_back c.list new ≡ w) where
   same : before (cs ++ c ∷ []) new ≡ before cs w
@@ -135,7 +132,7 @@ module _ (name : List ℕ) (w new : World) (events : List Event) (cs : List Chan
     named = k.named;
     opening = subst IsWorld (sym same) k.opening;
     within = omega (arith, taken, length-append (take (length cs) events) (e ∷ []), length-append cs (c ∷ []));
-    fits = subst (λ (es : List WorldEdit). Fits Finds IsWorld put_back es new) (sym (edits_of-last cs c))
+    fits = subst (λ (es : List (WorldEdit M)). Fits Finds IsWorld put_back es new) (sym (edits_of-last cs c))
         (Fits-append Finds IsWorld put_back (edits_of cs) c.list new (subst (Fits Finds IsWorld put_back (edits_of cs)) (sym back_is) k.fits) fits);
     each = λ i h. elim (cases_le i (length cs) (omega (arith, h, length-append cs (c ∷ [])))) [
       | inl early ↦
@@ -146,7 +143,7 @@ module _ (name : List ℕ) (w new : World) (events : List Event) (cs : List Chan
       | inr last ↦
           ap (run (before (cs ++ c ∷ []) new)) (take_all i (take (length cs) events ++ e ∷ []) (omega (arith, taken, length-append (take (length cs) events) (e ∷ []), last)))
           ∙ at_end
-          ∙ ap (λ (ds : List Change). Some (before ds new)) (sym (drop_of_length-le (cs ++ c ∷ []) (omega (arith, length-append cs (c ∷ []), last))))
+          ∙ ap (λ (ds : List (Change M)). Some (before ds new)) (sym (drop_of_length-le (cs ++ c ∷ []) (omega (arith, length-append cs (c ∷ []), last))))
     ];
     whole = subst (λ o. IsTrue (is_some o)) (sym at_end) refl;
   }
@@ -159,11 +156,11 @@ module _ (name : List ℕ) (w new : World) (events : List Event) (cs : List Chan
 
 -- ---- of equal ones
 
-pub kept_as : (name : List ℕ) (w v : World) (es fs : List Event) (cs ds : List Change) → v ≡ w → fs ≡ es → ds ≡ cs → IsKept name w es cs → IsKept name v fs ds
+pub kept_as : {M : Type 0} (name : List ℕ) (w v : World) (es fs : List Event) (cs ds : List (Change M)) → v ≡ w → fs ≡ es → ds ≡ cs → IsKept name w es cs → IsKept name v fs ds
 kept_as name w v es fs cs ds a b c k = rw (a, b, c) k
 
-pub rooted_as : (name : List ℕ) (w : World) (es fs : List Event) (cs ds : List Change) → fs ≡ es → ds ≡ cs → rooted name w fs ds ≡ rooted name w es cs
-rooted_as name w es fs cs ds a b = ap (λ (xs : List Event). rooted name w xs ds) a ∙ ap (λ (xs : List Change). rooted name w es xs) b
+pub rooted_as : {M : Type 0} (name : List ℕ) (w : World) (es fs : List Event) (cs ds : List (Change M)) → fs ≡ es → ds ≡ cs → rooted name w fs ds ≡ rooted name w es cs
+rooted_as {M = M} name w es fs cs ds a b = ap (λ (xs : List Event). rooted name w xs ds) a ∙ ap (λ (xs : List (Change M)). rooted name w es xs) b
 
-pub put_as : (es fs : List Event) (cs ds : List Change) (e : Event) → fs ≡ es → ds ≡ cs → take (length ds) fs ++ e ∷ [] ≡ take (length cs) es ++ e ∷ []
-put_as es fs cs ds e a b = ap (λ (xs : List Event). take (length ds) xs ++ e ∷ []) a ∙ ap (λ (xs : List Change). take (length xs) es ++ e ∷ []) b
+pub put_as : {M : Type 0} (es fs : List Event) (cs ds : List (Change M)) (e : Event) → fs ≡ es → ds ≡ cs → take (length ds) fs ++ e ∷ [] ≡ take (length cs) es ++ e ∷ []
+put_as {M = M} es fs cs ds e a b = ap (λ (xs : List Event). take (length ds) xs ++ e ∷ []) a ∙ ap (λ (xs : List (Change M)). take (length xs) es ++ e ∷ []) b

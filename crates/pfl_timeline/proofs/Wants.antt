@@ -1,10 +1,13 @@
 -- Where memory is wanted, what is asked is not refused.
-use Rattle.std.specs.Prelude.{◌≡◌, ℕ, ◌+◌, ◌-◌, Bool, true, false, nat_lt, List, [], ◌∷◌, length, Option, Some, None, Result, Ok, Err, refl}
+use Rattle.std.specs.Prelude.{◌≡◌, ℕ, ◌+◌, ◌-◌, Bool, true, false, nat_lt, ◌==◌, List, [], ◌∷◌, length, Option, Some, None, Result, Ok, Err, refl}
 use Rattle.std.specs.List.{list_any}
 use Rattle.std.specs.Option.{option_map_or}
 use Rattle.std.proofs.Common.{sym, ◌∙◌, ap, subst}
 use Rattle.pfl_base.specs.declared.refusal.Refusal.{Refusal}
-use Rattle.pfl_base.specs.declared.refusal.Refusal.TheVariants.{QueueFull, ClockFull, CountFull, NoMemory}
+use Rattle.pfl_base.specs.declared.refusal.Refusal.TheVariants.{NoSuchFrame, NothingPending, LinkFull, QueueFull, ClockFull, CountFull, NoMemory}
+use Rattle.pfl_edits.specs.Maps as maps
+use Rattle.pfl_link.specs.Links.{InFlight, is_full, is_counted_out}
+use Rattle.pfl_queue.specs.Queues.{pending}
 use Rattle.pfl_node.specs.Events.{purge_points}
 use Rattle.pfl_node.specs.Nodes.{Node, refused_by, points_refusal, is_overfull, is_overcounted, last_millisecond}
 use Rattle.pfl_node.specs.Packets.{packet_points}
@@ -12,7 +15,7 @@ use Rattle.pfl_world.specs.declared.event.Event.{Event}
 use Rattle.pfl_world.specs.declared.event.Event.TheVariants as event
 use Rattle.pfl_world.specs.Events.{step, IsRefusalOf}
 use Rattle.pfl_world.specs.Outcomes.{Stepped}
-use Rattle.pfl_world.specs.Steps.{answered as step_given, packet_step, tick_step, purge_step}
+use Rattle.pfl_world.specs.Steps.{answered as step_given, with_ticket, packet_step, flush_refusal, flush_step, lose_step, repeat_step, cut_step, tick_step, purge_step}
 use Rattle.pfl_world.specs.Worlds.{World, node_at}
 use Rattle.pfl_timeline.specs.declared.command.Command.{Command}
 use Rattle.pfl_timeline.specs.declared.command.Command.TheVariants as command
@@ -43,11 +46,32 @@ answered_is_other : (o : Option Refusal) (s : Stepped) → (o ≡ Some NoMemory 
 answered_is_other None s other is = cc
 answered_is_other (Some r) s other is = let same : r ≡ NoMemory = cc in other (ap Some same)
 
+frame_is_other : (w : World) (ticket : ℕ) (done : InFlight → Result Stepped Refusal) → ((f : InFlight) → done f ≡ Err NoMemory → ⊥) → with_ticket w ticket done ≡ Err NoMemory → ⊥
+frame_is_other w ticket done other =
+    elim (maps.get w.link.frames ticket) as (λ o. option_map_or done o (Err NoSuchFrame) ≡ Err NoMemory → ⊥) [
+      | None ↦ λ is. cc
+      | Some f ↦ other f
+    ]
+
+room_is_other : (full counted : Bool) → refused_by ((full, LinkFull) ∷ (counted, CountFull) ∷ []) ≡ Some NoMemory → ⊥
+room_is_other true counted is = cc
+room_is_other false true is = cc
+room_is_other false false is = cc
+
+none_goes_out_is_other : (none full counted : Bool) → refused_by ((none, NothingPending) ∷ (full, LinkFull) ∷ (counted, CountFull) ∷ []) ≡ Some NoMemory → ⊥
+none_goes_out_is_other true full counted is = cc
+none_goes_out_is_other false full counted is = room_is_other full counted is
+
 pub step_is_other : (w : World) (e : Event) → step w e ≡ Err NoMemory → ⊥
-unfolding step packet_step tick_step purge_step
+unfolding step packet_step flush_step lose_step repeat_step cut_step tick_step purge_step
 step_is_other w (event.Packet node dir p) is =
     let points = packet_points (node_at w node) dir p in
     answered_is_other (points_refusal points) _ (points_are_other points) is
+step_is_other w (event.Flush node) is = answered_is_other (flush_refusal w node) _ (none_goes_out_is_other (pending (node_at w node).queue == 0) (is_full w.link) (is_counted_out w.link)) is
+step_is_other w (event.Lose ticket) is = frame_is_other w ticket _ (λ f at. cc) is
+step_is_other w (event.Repeat ticket) is =
+    frame_is_other w ticket _ (λ f at. answered_is_other (refused_by ((is_full w.link, LinkFull) ∷ (is_counted_out w.link, CountFull) ∷ [])) _ (room_is_other (is_full w.link) (is_counted_out w.link)) at) is
+step_is_other w (event.Cut ticket len) is = frame_is_other w ticket _ (λ f at. cc) is
 step_is_other w (event.Tick node ms) is =
     let late = nat_lt last_millisecond ((node_at w node).clock + ms) in
     answered_is_other (refused_by ((late, ClockFull) ∷ [])) _ (clock_is_other late) is

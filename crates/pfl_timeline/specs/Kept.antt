@@ -1,4 +1,5 @@
--- How what is kept stands for a branch and for a timeline (this project's profile).
+-- How what is kept stands for a branch and for a timeline. M is the allocator of the frames in edits, of which nothing is said
+-- (this project's profile).
 use Rattle.std.specs.Prelude.{◌≡◌, ◌≤◌, ℕ, false, List, [], ◌∷◌, ◌++◌, length, map, take, drop, Some, is_some, IsTrue}
 use Rattle.std.specs.List.{AllByRecursion}
 use Rattle.pfl_edits.specs.Changes.{Edits, back, Fits}
@@ -14,20 +15,20 @@ use Rattle.pfl_timeline.specs.Timelines.{Timeline, IsTimeline, is_branch_name}
 -- ---- a branch: its world, its events, and one change for each event before the cursor
 
 -- the edits of all changes, the oldest first
-abbrev pub edits_of : List (Edits WorldEdit) → List WorldEdit
+abbrev pub edits_of : {M : Type 0} → List (Edits (WorldEdit M)) → List (WorldEdit M)
 edits_of [] = []
 edits_of (c ∷ cs) = c.list ++ edits_of cs
 
 -- the world from before the changes
-abbrev pub before : List (Edits WorldEdit) → World → World
+abbrev pub before : {M : Type 0} → List (Edits (WorldEdit M)) → World → World
 before cs w = back put_back (edits_of cs) w
 
 -- the branch that they stand for: it begins where no change was made yet
-abbrev pub rooted : List ℕ → World → List Event → List (Edits WorldEdit) → Rooted
+abbrev pub rooted : {M : Type 0} → List ℕ → World → List Event → List (Edits (WorldEdit M)) → Rooted
 rooted name w events cs = record { opening = before cs w; branch = record { name = name; events = events; cursor = length cs } }
 
 -- the changes lead back from the world to an opening: without those from k on it is the world that the first k events give
-pub record IsKept (name : List ℕ) (w : World) (events : List Event) (cs : List (Edits WorldEdit)) : Type 0 where
+pub record IsKept {M : Type 0} (name : List ℕ) (w : World) (events : List Event) (cs : List (Edits (WorldEdit M))) : Type 0 where
   pub named : IsTrue (is_branch_name name)
   pub opening : IsWorld (before cs w)
   pub within : length cs ≤ length events

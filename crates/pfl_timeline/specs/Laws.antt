@@ -1,5 +1,5 @@
 -- Laws of timelines, in their own words (this project's profile).
-use Rattle.std.specs.Prelude.{◌≡◌, ◌≢◌, List, [], ◌∷◌, length, map, Some, is_some, IsTrue}
+use Rattle.std.specs.Prelude.{◌≡◌, ◌≢◌, ℕ, Bool, false, List, [], ◌∷◌, length, map, Some, is_some, IsTrue, IsFalse}
 use Rattle.std.specs.List.{AllByRecursion}
 use Rattle.pfl_base.specs.declared.refusal.Refusal.TheVariants.{NoMemory}
 use Rattle.pfl_world.specs.declared.event.Event.{Event}
@@ -10,7 +10,7 @@ use Rattle.pfl_timeline.specs.declared.command.Command.TheVariants as command
 use Rattle.pfl_timeline.specs.declared.refused.Refused.TheVariants as refused
 use Rattle.pfl_timeline.specs.Commands.{show_command, command_step, replayed}
 use Rattle.pfl_timeline.specs.Replies as reply
-use Rattle.pfl_timeline.specs.Timelines.{Timeline, IsTimeline, new_timeline, main_name, world_of}
+use Rattle.pfl_timeline.specs.Timelines.{Branch, Timeline, IsTimeline, branch_of, new_timeline, main_name, same_name, standing, world_of}
 
 -- the one branch `main` over a world is a timeline
 abbrev pub NewTimelinesAreTimelines : Type 0
@@ -44,3 +44,25 @@ pub record StepsShow (opening : World) (es : List Event) (w : World) : Type 0 wh
 -- events that have a run, stepped one after another, show the world of their run
 abbrev pub StepsAreRuns : Type 0
 StepsAreRuns = (opening : World) (es : List Event) (w : World) → run opening es ≡ Some w → StepsShow opening es w
+
+-- the command changes the branch of this name
+abbrev pub touches : Command → List ℕ → Bool
+touches (command.Step of e) name = same_name of name
+touches (command.Back of n) name = same_name of name
+touches (command.Show of) name = false
+
+-- a command leaves every other branch as it was
+abbrev pub CommandsLeaveOthers : Type 0
+CommandsLeaveOthers = (t : Timeline) (c : Command) (name : List ℕ) → IsFalse (touches c name) → branch_of (command_step t c).timeline name ≡ branch_of t name
+
+-- the events before the branch's cursor have a run from the opening, and the branch shows the world of it
+pub record ShowsItsRun (opening : World) (t : Timeline) (b : Branch) : Type 0 where
+  pub world : World
+  pub runs : run opening (standing b) ≡ Some world
+  pub shown : (show_command t b.name).reply ≡ reply.Shown b.name (length b.events) b.cursor world
+
+-- whatever commands came, each branch shows the run of the events before its cursor
+abbrev pub BranchesShowTheirRuns : Type 0
+BranchesShowTheirRuns =
+    (opening : World) (cs : List Command) → IsWorld opening
+    → let t = replayed (new_timeline opening) cs in AllByRecursion (ShowsItsRun opening t) t.branches

@@ -1,6 +1,6 @@
 //! Laws of timelines. They have no code: each is a theorem over the definitions, which a function's contract names.
 
-ghost use Rattle.pfl_timeline.specs.Laws.{NewTimelinesAreTimelines, CommandsKeepTimelines, BranchesShowWorlds, NoReplyTellsWantOfMemory, StepsAreRuns};
+ghost use Rattle.pfl_timeline.specs.Laws.{NewTimelinesAreTimelines, CommandsKeepTimelines, BranchesShowWorlds, BranchesShowTheirRuns, CommandsLeaveOthers, NoReplyTellsWantOfMemory, StepsAreRuns};
 
 /// The timeline that opens over a world keeps all that is true of each timeline.
 pub fn new_timelines_are_timelines()
@@ -11,6 +11,16 @@ pub fn new_timelines_are_timelines()
 pub fn commands_keep_timelines()
     ensures kept { CommandsKeepTimelines }
     ensures shown { BranchesShowWorlds }
+{}
+
+/// Whatever commands came, each branch shows the world that the events before its cursor give from the opening.
+pub fn branches_show_their_runs()
+    ensures { BranchesShowTheirRuns }
+{}
+
+/// A command leaves every branch but the one that it changes as it was.
+pub fn commands_leave_others()
+    ensures { CommandsLeaveOthers }
 {}
 
 /// No reply tells want of memory, which is answered in place of a reply.

@@ -14,8 +14,8 @@ pub use answer::Answer;
 pub use branch::Branch;
 pub use command::Command;
 pub use laws::{
-    commands_keep_timelines, new_timelines_are_timelines, no_reply_tells_want_of_memory,
-    steps_are_runs,
+    branches_show_their_runs, commands_keep_timelines, commands_leave_others,
+    new_timelines_are_timelines, no_reply_tells_want_of_memory, steps_are_runs,
 };
 pub use refused::Refused;
 pub use reply::Reply;

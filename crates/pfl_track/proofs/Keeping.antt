@@ -12,7 +12,7 @@ use Rattle.pfl_track.specs.declared.tracked.Tracked.TheVariants.{Moved, OutOfWin
 use Rattle.pfl_track.specs.Keys.{AreKeys}
 use Rattle.pfl_track.specs.Peers.{IsPeer}
 use Rattle.pfl_track.specs.States.{IsState}
-use Rattle.pfl_track.specs.Windows.{begun, in_window, sender_after, receiver_after}
+use Rattle.pfl_track.specs.Windows.{begun, is_inside, sender_after, receiver_after}
 use Rattle.pfl_track.specs.Tracking.{first_peer, start_state, sender, receiver, moved, used, from_src, tracked, tracked_tcp, tracked_other, is_closed}
 use Rattle.pfl_track.proofs.Moving.{tracked-used}
 use Rattle.pfl_track.proofs.Rising.{tracked-rises}
@@ -51,7 +51,7 @@ receiver-shift : (s : State) (dir : Dir) → IsState s → IsShift (receiver s d
 receiver-shift s dir is = shift-of (from_src s dir) s.dst s.src is.dst.scale is.src.scale
 
 tcp-shifts : (s : State) (p : Packet) (dir : Dir) (now : ℕ) (t : State) → IsState s → IsPacket p → tracked_tcp s p dir now ≡ Moved t → Shifts t
-tcp-shifts s p dir now t is packet e = by_tests (is_request p && is_closed s) (in_window (sender s dir) (receiver s dir) p) e
+tcp-shifts s p dir now t is packet e = by_tests (is_request p && is_closed s) (is_inside (begun (sender s dir) (receiver s dir) p) (receiver s dir) p) e
   where
     m : State
     m = moved s dir (sender_after (begun (sender s dir) (receiver s dir) p) p) (receiver_after (begun (sender s dir) (receiver s dir) p) (receiver s dir) p) now

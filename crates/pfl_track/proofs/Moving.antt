@@ -7,7 +7,7 @@ use Rattle.pfl_base.specs.Packets.{is_tcp, is_request}
 use Rattle.pfl_track.specs.declared.peer.Peer.{Peer}
 use Rattle.pfl_track.specs.declared.state.State.{State}
 use Rattle.pfl_track.specs.declared.tracked.Tracked.TheVariants.{Moved, OutOfWindow, Reused}
-use Rattle.pfl_track.specs.Windows.{begun, in_window, sender_after, receiver_after}
+use Rattle.pfl_track.specs.Windows.{begun, is_inside, sender_after, receiver_after}
 use Rattle.pfl_track.specs.Tracking.{sender, receiver, moved, used, from_src, tracked, tracked_tcp, tracked_other, is_closed}
 
 -- the state is s with its own ends, used now
@@ -22,7 +22,7 @@ moved-used s dir from to now = by (from_src s dir)
     by false = refl
 
 tcp-used : (s : State) (p : Packet) (dir : Dir) (now : ℕ) (t : State) → tracked_tcp s p dir now ≡ Moved t → IsUsed s now t
-tcp-used s p dir now t e = by_tests (is_request p && is_closed s) (in_window (sender s dir) (receiver s dir) p) e
+tcp-used s p dir now t e = by_tests (is_request p && is_closed s) (is_inside (begun (sender s dir) (receiver s dir) p) (receiver s dir) p) e
   where
     m : State
     m = moved s dir (sender_after (begun (sender s dir) (receiver s dir) p) p) (receiver_after (begun (sender s dir) (receiver s dir) p) (receiver s dir) p) now

@@ -8,7 +8,7 @@ use Rattle.pfl_track.specs.declared.peer.Peer.{Peer}
 use Rattle.pfl_track.specs.declared.state.State.{State}
 use Rattle.pfl_track.specs.declared.tracked.Tracked.{Tracked}
 use Rattle.pfl_track.specs.declared.tracked.Tracked.TheVariants.{Moved, OutOfWindow, Reused}
-use Rattle.pfl_track.specs.Windows.{in_window}
+use Rattle.pfl_track.specs.Windows.{begun, is_inside}
 use Rattle.pfl_track.specs.Tracking.{sender, receiver, moved, used, from_src, tracked, tracked_tcp, tracked_other, is_closed}
 
 -- name, keys and direction are those of before
@@ -43,5 +43,5 @@ by_proto false s x y f g = g
 pub tracked-stays : (s : State) (p : Packet) (dir : Dir) (now : ℕ) → Stays s (tracked s p dir now)
 tracked-stays s p dir now =
     by_proto (is_tcp p.proto) s (tracked_tcp s p dir now) (Moved (tracked_other s dir now))
-    (by_tests (is_request p && is_closed s) (in_window (sender s dir) (receiver s dir) p) s _ (moved-same s dir _ _ now))
+    (by_tests (is_request p && is_closed s) (is_inside (begun (sender s dir) (receiver s dir) p) (receiver s dir) p) s _ (moved-same s dir _ _ now))
     (moved-same s dir _ _ now)

@@ -9,7 +9,7 @@ use Rattle.pfl_track.specs.declared.peer.Peer.{Peer}
 use Rattle.pfl_track.specs.declared.state.State.{State}
 use Rattle.pfl_track.specs.declared.tracked.Tracked.TheVariants.{Moved, OutOfWindow, Reused}
 use Rattle.pfl_track.specs.Levels.{acknowledged, sender_level, receiver_level}
-use Rattle.pfl_track.specs.Windows.{begun, in_window, sender_after, receiver_after}
+use Rattle.pfl_track.specs.Windows.{begun, is_inside, sender_after, receiver_after}
 use Rattle.pfl_track.specs.Tracking.{sender, receiver, moved, used, from_src, tracked, tracked_tcp, tracked_other, is_closed}
 use Rattle.pfl_track.specs.States.{IsState}
 use Rattle.pfl_track.specs.Laws.{Rises}
@@ -76,7 +76,7 @@ begun-rises : (s d : Peer) (p : Packet) → s.level ≤ 10 → (s.level ≤ (beg
 begun-rises s d p h = begun_level (s.level == 0) s.level s _ (λ e. grind (arith, nat_tests)) h refl
 
 tcp-rises : (s : State) (p : Packet) (dir : Dir) (now : ℕ) (t : State) → IsState s → tracked_tcp s p dir now ≡ Moved t → Rises s t
-tcp-rises s p dir now t is e = by_tests (is_request p && is_closed s) (in_window (sender s dir) (receiver s dir) p) e
+tcp-rises s p dir now t is e = by_tests (is_request p && is_closed s) (is_inside (begun (sender s dir) (receiver s dir) p) (receiver s dir) p) e
   where
     m : State
     m = moved s dir (sender_after (begun (sender s dir) (receiver s dir) p) p) (receiver_after (begun (sender s dir) (receiver s dir) p) (receiver s dir) p) now

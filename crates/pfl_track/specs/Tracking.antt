@@ -12,7 +12,7 @@ use Rattle.pfl_track.specs.declared.state.State.{State}
 use Rattle.pfl_track.specs.declared.tracked.Tracked.{Tracked}
 use Rattle.pfl_track.specs.declared.tracked.Tracked.TheVariants.{Moved, OutOfWindow, Reused}
 use Rattle.pfl_track.specs.Levels.{syn_sent, fin_wait_2, single, multiple, first_class, class_after}
-use Rattle.pfl_track.specs.Windows.{end_of, begun, in_window, sender_after, receiver_after}
+use Rattle.pfl_track.specs.Windows.{end_of, begun, is_inside, sender_after, receiver_after}
 
 -- an end that was not heard of
 abbrev pub silent : Peer
@@ -70,9 +70,11 @@ is_closed s = nat_le fin_wait_2 s.src.level && nat_le fin_wait_2 s.dst.level
 -- a TCP packet: a new connection over a closed one, one outside the window, or one that moves the state
 abbrev pub tracked_tcp : State → Packet → Dir → ℕ → Tracked
 tracked_tcp s p dir now =
+    let to = receiver s dir in
+    let from = begun (sender s dir) to p in
     if is_request p && is_closed s then Reused else
-    if not (in_window (sender s dir) (receiver s dir) p) then OutOfWindow else
-    Moved (moved s dir (sender_after (begun (sender s dir) (receiver s dir) p) p) (receiver_after (begun (sender s dir) (receiver s dir) p) (receiver s dir) p) now)
+    if not (is_inside from to p) then OutOfWindow else
+    Moved (moved s dir (sender_after from p) (receiver_after from to p) now)
 
 -- a packet of another protocol: the sender is heard, and the other end answered (pf(4))
 abbrev pub tracked_other : State → Dir → ℕ → State

@@ -46,20 +46,20 @@ right_edge s p = seq_geq s.hi (end_of p)
 abbrev pub left_edge : Peer → ℕ → Packet → Bool
 left_edge s window p = seq_geq p.seq (sub32 s.lo window)
 
--- the other end's lo is at most 67035, scaled, ahead of the acknowledged number, and at most 67035 behind it
+-- how far an acknowledged number may be from what the other end sent: a packet of 65535 bytes, and one more of 1500 (pf's MAXACKWINDOW)
+abbrev pub max_ack_window : ℕ
+max_ack_window = 67035
+
+-- the other end's lo is at most so far ahead of the acknowledged number, and at most an acknowledgement's window behind it
 abbrev pub ack_near : ℕ → Peer → Packet → Bool
-ack_near ahead d p = nat_le (sub32 d.lo p.ack) ahead || nat_le (2 ^ 32 - 67035) (sub32 d.lo p.ack)
+ack_near ahead d p = nat_le (sub32 d.lo p.ack) ahead || nat_le (2 ^ 32 - max_ack_window) (sub32 d.lo p.ack)
 
 -- the packet of s, which has begun, to d is inside the window
 abbrev pub is_inside : Peer → Peer → Packet → Bool
 is_inside s d p =
     right_edge s p
     && left_edge s (at_scale (is_scaled s d p) d d.window) p
-    && (not (acknowledges d p) || ack_near (at_scale (is_scaled s d p) s 67035) d p)
-
--- the packet of s to d is inside the window
-abbrev pub in_window : Peer → Peer → Packet → Bool
-in_window s d p = is_inside (begun s d p) d p
+    && (not (acknowledges d p) || ack_near (at_scale (is_scaled s d p) s max_ack_window) d p)
 
 -- the sender after it
 abbrev pub sender_after : Peer → Packet → Peer

@@ -5,7 +5,8 @@ ghost use Rattle.pfl_track.specs.Levels as meant;
 
 use pfl_base::{Class, Packet, Proto, TcpFlags};
 
-pub(crate) const SYN_SENT: u8 = 2;
+/// The level at which an end of TCP has begun.
+pub const SYN_SENT: u8 = 2;
 
 const ESTABLISHED: u8 = 4;
 

@@ -1,7 +1,6 @@
 //! How packets move states.
 
 ghost use Rattle.std.specs.Prelude.{◌≡◌, ◌≤◌};
-ghost use Rattle.pfl_base.specs.Packets.{is_request as asks};
 ghost use Rattle.pfl_track.specs.Tracking as meant;
 
 use crate::levels::{FIN_WAIT_2, answered, class_after, heard};
@@ -9,7 +8,7 @@ use crate::peer::{Peer, PeerFields};
 use crate::state::State;
 use crate::tracked::Tracked;
 use crate::window::{begun, is_inside, receiver_after, sender_after};
-use pfl_base::{Dir, Millis, Packet, Proto, TcpFlags};
+use pfl_base::{Dir, Millis, Packet, Proto};
 
 /// What a packet of the state's flow does to the state, at a time in milliseconds (pf(4)).
 pub fn track(state: &State, packet: &Packet, dir: Dir, now: Millis) -> Tracked
@@ -24,7 +23,7 @@ pub fn track(state: &State, packet: &Packet, dir: Dir, now: Millis) -> Tracked
 fn track_tcp(state: &State, packet: &Packet, dir: Dir, now: Millis) -> Tracked
     ensures { result ≡ meant.tracked_tcp state.now packet.now dir now }
 {
-    if is_request(packet) && is_closed(state) {
+    if packet.is_request() && is_closed(state) {
         return Tracked::Reused;
     }
     let receiver = receiver(state, dir);
@@ -48,14 +47,6 @@ fn track_other(state: &State, dir: Dir, now: Millis) -> State
         at_level(&to, answered(to.level())),
         now,
     )
-}
-
-/// Whether the packet asks for a new connection: SYN without ACK (RFC 9293, 3.5).
-fn is_request(packet: &Packet) -> bool
-    ensures { result ≡ asks packet.now }
-{
-    let flags = packet.flags();
-    flags.contains(TcpFlags::SYN) && !flags.contains(TcpFlags::ACK)
 }
 
 /// Whether both ends have closed.

@@ -7,8 +7,9 @@ use crate::levels::{SYN_SENT, receiver_level, sender_level};
 use crate::peer::{Peer, PeerFields};
 use pfl_base::{Packet, TcpFlags, seq_geq, seq_gt};
 
-/// How far an acknowledged number may be from what the other end sent: a packet of 65535 bytes, and one more of 1500.
-const MAX_SKEW: u32 = 67035;
+/// How far an acknowledged number may be from what the other end sent: a packet of 65535 bytes, and one more of 1500 (pf's
+/// MAXACKWINDOW).
+const MAX_ACK_WINDOW: u32 = 67035;
 
 /// The sequence number after the packet: SYN and FIN take one each (RFC 9293, 3.4).
 pub(crate) fn end_of(packet: &Packet) -> u32
@@ -81,13 +82,13 @@ fn left_edge(sender: &Peer, window: u32, packet: &Packet) -> bool
     seq_geq(packet.seq(), sender.lo().wrapping_sub(window))
 }
 
-/// Whether the acknowledged number is near what the other end sent: at most `ahead` behind it, and at most [`MAX_SKEW`]
+/// Whether the acknowledged number is near what the other end sent: at most `ahead` behind it, and at most [`MAX_ACK_WINDOW`]
 /// ahead of it.
 fn ack_near(ahead: u32, receiver: &Peer, packet: &Packet) -> bool
     ensures { result ≡ meant.ack_near ahead receiver.now packet.now }
 {
     let behind = receiver.lo().wrapping_sub(packet.ack());
-    behind <= ahead || behind >= MAX_SKEW.wrapping_neg()
+    behind <= ahead || behind >= MAX_ACK_WINDOW.wrapping_neg()
 }
 
 /// Whether the packet of a sender that has begun is inside the window.
@@ -96,7 +97,7 @@ pub(crate) fn is_inside(sender: &Peer, receiver: &Peer, packet: &Packet) -> bool
 {
     let scaled = is_scaled(sender, receiver, packet);
     let window = at_scale(scaled, receiver, u32::from(receiver.window()));
-    let ahead = at_scale(scaled, sender, MAX_SKEW);
+    let ahead = at_scale(scaled, sender, MAX_ACK_WINDOW);
     seq_geq(sender.hi(), end_of(packet))
         && left_edge(sender, window, packet)
         && (!acknowledges(receiver, packet) || ack_near(ahead, receiver, packet))

@@ -1,5 +1,6 @@
 -- What a node's edits are at the pair.
-use Rattle.std.specs.Prelude.{◌≡◌, Result, Ok, Err, IfOk, OnErr, List, [], ◌∷◌, refl}
+use Rattle.std.specs.Prelude.{◌≡◌, false, Result, Ok, Err, IfOk, OnOk, OnErr, List, [], ◌∷◌, refl}
+use Rattle.std.specs.Result.{is_err}
 use Rattle.std.proofs.Common.{◌∙◌, ap, sym, subst}
 use Rattle.pfl_base.specs.declared.node_id.NodeId.{NodeId}
 use Rattle.pfl_base.specs.declared.node_id.NodeId.TheVariants.{A, B}
@@ -69,7 +70,7 @@ world_with w is B n at same = record {
 }
 
 -- where they lead back at the node, they lead back at the world
-of_node-leads_back : (w : World) → IsWorld w → (id : NodeId) (es : List NodeEdit) (n : Node) → NodeLeadsBack es (node_at w id) n → WorldLeadsBack (of_node id es) w (with_node w id n)
+of_node-leads_back : {M : Type 0} (w : World) → IsWorld w → (id : NodeId) (es : List NodeEdit) (n : Node) → NodeLeadsBack es (node_at w id) n → WorldLeadsBack {M = M} (of_node id es) w (with_node w id n)
 of_node-leads_back w is A es n l =
     LeadsBack-embedded nodes.Finds (HasLimits w.a.limits) nodes.put_back Finds IsWorld put_back (OfNode A) (with_node w A)
     (λ e s h. h) (λ s h. world_with w is A s h.0 h.1) (λ e s. refl) es w.a n (leads_limits es w.a n l)
@@ -86,11 +87,11 @@ with_node-again w A n = refl
 with_node-again w B n = refl
 
 -- an event at a node leads back at the world
-pub lifted : (old mid new : World) → IsWorld old → (id : NodeId) (n : Node) (es : List NodeEdit) (edits : List WorldEdit) → mid ≡ with_node old id n → NodeLeadsBack es (node_at old id) (node_at mid id) → edits ≡ of_node id es → new ≡ mid → WorldLeadsBack edits old new
-lifted old mid new is id n es edits made l list same =
+pub lifted : {M : Type 0} (old mid new : World) → IsWorld old → (id : NodeId) (n : Node) (es : List NodeEdit) (edits : List (WorldEdit M)) → mid ≡ with_node old id n → NodeLeadsBack es (node_at old id) (node_at mid id) → edits ≡ of_node id es → new ≡ mid → WorldLeadsBack edits old new
+lifted {M = M} old mid new is id n es edits made l list same =
     let at = ap (λ (w : World). node_at w id) made ∙ node_at-with old id n in
     subst (λ (w : World). WorldLeadsBack edits old w) (sym (same ∙ made))
-    (subst (λ (fs : List WorldEdit). WorldLeadsBack fs old (with_node old id n)) (sym list)
+    (subst (λ (fs : List (WorldEdit M)). WorldLeadsBack fs old (with_node old id n)) (sym list)
     (of_node-leads_back old is id es n (subst (NodeLeadsBack es (node_at old id)) at l)))
 
 -- and taken back at the node, the world is as it was
@@ -104,3 +105,8 @@ undone old mid new id n es made l is =
 pub limits_after : {X R : Type 0} (old new : Node) (result : Result (X × Edits NodeEdit) R) → OnErr result (new ≡ old) → IfOk result (λ r. NodeLeadsBack r.1.list old new) → new.limits ≡ old.limits
 limits_after old new (Ok r) same l = same_limits r.1.list old new l
 limits_after old new (Err e) same l = ap (λ (n : Node). n.limits) same
+
+-- what is so where a call did not fail
+pub where_ok : {T E P : Type 0} (r : Result T E) → is_err r ≡ false → OnOk r P → P
+where_ok (Ok x) fine so = so
+where_ok (Err e) fine so = absurd (cc)

@@ -6,4 +6,7 @@ mod Refusals
 pub mod NewWorlds
 pub mod Leads
 pub mod Stepping
+pub mod Tickets
+pub mod Sending
 pub mod Ranges
+pub mod LimitFaults

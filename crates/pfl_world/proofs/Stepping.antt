@@ -43,7 +43,7 @@ pub refused_as : {X : Type 0} (o : Option Refusal) (s : Stepped) (at : Result St
 refused_as o s at is (Ok x) r = tt
 refused_as o s at is (Err given) r = subst (λ (v : Result Stepped Refusal). IsRefusalOf v given) (sym is) (refusal_of o s given r)
 
-abbrev accepted : World → Outcome → Result Stepped Refusal
+abbrev pub accepted : World → Outcome → Result Stepped Refusal
 accepted w o = Ok (record { world = w; outcome = o })
 
 step_tick : (w : World) (e : Event) (id : NodeId) (ms : ℕ) → e ≡ event.Tick id ms → step w e ≡ answered (tick_refusal (node_at w id) ms) (ticked_to w id ms)
@@ -110,7 +110,7 @@ purge_accepted old new e id at (Ok r) none made is =
     ∙ ap (λ (a : Answer). accepted new (told a)) (sym is)
 
 -- a deletion records at most five edits
-pub purge_weight : (w : World) (e : Event) (id : NodeId) → e ≡ event.Purge id → (result : Result (Answer × Edits WorldEdit) Refusal)
+pub purge_weight : {M : Type 0} (w : World) (e : Event) (id : NodeId) → e ≡ event.Purge id → (result : Result (Answer × Edits (WorldEdit M)) Refusal)
     → IfOk result (λ r. length r.1.list ≤ 5 * length (expired_states (node_at w id))) → IfOk result (λ r. length r.1.list ≤ weight w e)
 purge_weight w e id is (Err r) few = tt
 purge_weight w e id is (Ok r) few =

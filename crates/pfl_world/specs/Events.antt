@@ -1,16 +1,22 @@
 -- One step of the pair, over the events that the code has.
-use Rattle.std.specs.Prelude.{◌≡◌, Result, Ok, Err}
+use Rattle.std.specs.Prelude.{◌≡◌, ◌⊎◌, ℕ, IsOk, IsSomeAnd, Result, Ok, Err}
 use Rattle.pfl_base.specs.declared.refusal.Refusal.{Refusal}
 use Rattle.pfl_base.specs.declared.refusal.Refusal.TheVariants.{NoMemory}
+use Rattle.pfl_edits.specs.Maps as maps
+use Rattle.pfl_wire.specs.Reading.{reading}
 use Rattle.pfl_world.specs.declared.event.Event.{Event}
 use Rattle.pfl_world.specs.declared.event.Event.TheVariants as event
 use Rattle.pfl_world.specs.Outcomes.{Stepped}
 use Rattle.pfl_world.specs.Worlds.{World}
-use Rattle.pfl_world.specs.Steps.{packet_step, tick_step, purge_step}
+use Rattle.pfl_world.specs.Steps.{packet_step, flush_step, deliver_step, lose_step, repeat_step, cut_step, tick_step, purge_step}
 
 -- an event of the pair (this project's profile)
 unfoldable pub step : World → Event → Result Stepped Refusal
 step w (event.Packet node dir p) = packet_step w node dir p
+step w (event.Flush node) = flush_step w node
+step w (event.Lose ticket) = lose_step w ticket
+step w (event.Repeat ticket) = repeat_step w ticket
+step w (event.Cut ticket len) = cut_step w ticket len
 step w (event.Tick node ms) = tick_step w node ms
 step w (event.Purge node) = purge_step w node
 
@@ -18,3 +24,12 @@ step w (event.Purge node) = purge_step w node
 abbrev pub IsRefusalOf : Result Stepped Refusal → Refusal → Type 0
 IsRefusalOf (Err first) r = r ≡ first
 IsRefusalOf (Ok s) r = r ≡ NoMemory
+
+-- the frame of the ticket can be read
+abbrev pub IsReadable : World → ℕ → Type 0
+IsReadable w ticket = IsSomeAnd (maps.get w.link.frames ticket) (λ f. IsOk (reading f.bytes))
+
+-- a delivery that is refused does so too; but where memory is wanted for the records of its frame, that comes before whatever
+-- they would be refused for
+abbrev pub IsDeliveryRefusal : World → ℕ → Refusal → Type 0
+IsDeliveryRefusal w ticket r = IsRefusalOf (deliver_step w ticket) r ⊎ ((r ≡ NoMemory) × IsReadable w ticket)

@@ -37,5 +37,8 @@ abbrev pub told : Answer → Outcome
 told (answer.Pass name) = Pass name
 told (answer.Held name) = Held name
 told (answer.Dropped why) = Dropped why
+told (answer.Sent ticket len) = Sent ticket len
+told answer.Lost = Lost
+told (answer.CutTo len) = CutTo len
 told (answer.Clock time) = Clock time
 told (answer.Purged n) = Purged n

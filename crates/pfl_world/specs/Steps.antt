@@ -62,14 +62,20 @@ packet_step w node dir p =
 
 -- ---- frames
 
+-- no frame goes out of a node that has nothing pending, nor to a link without room or a number for it
+abbrev pub flush_refusal : World → NodeId → Option Refusal
+flush_refusal w node = refused_by ((pending (node_at w node).queue == 0, NothingPending) ∷ (is_full w.link, LinkFull) ∷ (is_counted_out w.link, CountFull) ∷ [])
+
+-- the frame of a node, on its way to the other node
+abbrev pub sent_frame : World → NodeId → InFlight
+sent_frame w node = record { to = other_node node; bytes = spelling (frame_of (node_at w node)) }
+
 -- one frame goes to the other node
 unfoldable pub flush_step : World → NodeId → Result Stepped Refusal
-flush_step w node =
-    let n = node_at w node in
-    let bytes = spelling (frame_of n) in
-    unless ((pending n.queue == 0, NothingPending) ∷ (is_full w.link, LinkFull) ∷ (is_counted_out w.link, CountFull) ∷ [])
-    (with_link (with_node w node (flushed n)) (sent w.link (record { to = other_node node; bytes = bytes })))
-    (outcome.Sent w.link.next (length bytes))
+flush_step w node = answered (flush_refusal w node) (record {
+  world = with_link (with_node w node (flushed (node_at w node))) (sent w.link (sent_frame w node));
+  outcome = outcome.Sent w.link.next (length (sent_frame w node).bytes);
+})
 
 -- the records of a frame, one after another
 abbrev pub records_of : Frame → List Message

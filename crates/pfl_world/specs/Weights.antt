@@ -70,6 +70,10 @@ turn_work w node = length (turn_of (node_at w node))
 -- what an event is about; a loss, a repeat, a cut, a tick, a restart and a retry are about none
 abbrev pub work : World → Event → ℕ
 work w (event.Packet node dir p) = packet_work
+work w (event.Flush node) = flush_work w node
+work w (event.Lose ticket) = 0
+work w (event.Repeat ticket) = 0
+work w (event.Cut ticket len) = 0
 work w (event.Tick node ms) = 0
 work w (event.Purge node) = purge_work w node
 

@@ -128,6 +128,10 @@ impl<A: Allocator + Copy> World<A> {
     {
         match event {
             Event::Packet { node, dir, packet } => self.packet(*node, *dir, packet),
+            Event::Flush { node } => self.flush(*node),
+            Event::Lose { ticket } => self.lose(*ticket),
+            Event::Repeat { ticket } => self.repeat(*ticket),
+            Event::Cut { ticket, len } => self.cut(*ticket, *len),
             Event::Tick { node, ms } => self.tick(*node, *ms),
             Event::Purge { node } => self.purge(*node),
         }

@@ -2,14 +2,18 @@
 
 use pfl_base::NodeId;
 use pfl_edits::Change;
+use pfl_link::LinkEdit;
 use pfl_node::NodeEdit;
+use std::alloc::Allocator;
 
 /// A change of one place of the pair.
-#[derive(Clone, Copy, Debug)]
-pub enum WorldEdit {
+#[derive(Drop)]
+pub enum WorldEdit<A: Allocator> {
     /// Of a node.
     OfNode(NodeId, NodeEdit),
+    /// Of the link.
+    OfLink(LinkEdit<A>),
 }
 
 /// What an event changed, by which it can be taken back.
-pub type WorldChange<A> = Change<WorldEdit, A>;
+pub type WorldChange<A> = Change<WorldEdit<A>, A>;

@@ -11,6 +11,23 @@ pub enum Event {
         dir: Dir,
         packet: Packet,
     },
+    /// A node sends one frame.
+    Flush {
+        node: NodeId,
+    },
+    /// A frame is lost.
+    Lose {
+        ticket: u32,
+    },
+    /// A frame is copied under the next ticket.
+    Repeat {
+        ticket: u32,
+    },
+    /// A frame keeps its first bytes.
+    Cut {
+        ticket: u32,
+        len: u32,
+    },
     /// A node's clock goes on.
     Tick {
         node: NodeId,

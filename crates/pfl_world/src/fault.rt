@@ -1,12 +1,10 @@
 //! Why limits are none.
 
-ghost use Rattle.std.specs.Prelude.{◌≡◌, ◌<◌, nat_lt};
-ghost use Rattle.std.specs.List.{list_any};
-ghost use Rattle.pfl_node.specs.Limits.{ranges};
+ghost use Rattle.std.specs.Prelude.{◌≡◌};
 ghost use Rattle.pfl_world.specs.Worlds.{world_fault};
 
 use pfl_edits::NoMemory;
-use pfl_node::Limits;
+use pfl_node::{LimitFault, Limits};
 use std::error::Error;
 use std::fmt;
 
@@ -61,46 +59,13 @@ impl From<NoMemory> for WorldFault {
 }
 
 /// Why these limits are none, if there is a reason.
+#[tactic(auto, using(crate::proofs::LimitFaults::too_small, crate::proofs::LimitFaults::too_large, crate::proofs::LimitFaults::no_fault))]
 pub(crate) fn fault_of(limits: &Limits) -> Option<WorldFault>
     ensures fault { result ≡ world_fault limits.now }
 {
-    let ranges = ranges_of(limits);
-    if any_too_small(&ranges) {
-        Some(WorldFault::TooSmall)
-    } else if any_too_large(&ranges) {
-        Some(WorldFault::TooLarge)
-    } else {
-        None
+    match limits.fault() {
+        Some(LimitFault::TooSmall) => Some(WorldFault::TooSmall),
+        Some(LimitFault::TooLarge) => Some(WorldFault::TooLarge),
+        None => None,
     }
-}
-
-/// Each limit with its least and its greatest value.
-fn ranges_of(limits: &Limits) -> [(u32, u32, u32); 9]
-    ensures ranges { result ≡ ranges limits.now }
-{
-    [
-        (limits.states, 1, 65536),
-        (limits.queue, 1, 65536),
-        (limits.frames, 1, 4096),
-        (limits.mtu, 148, 9000),
-        (limits.held, 1, 128),
-        (limits.defer_ms, 1, 10000),
-        (limits.maxupd, 1, 255),
-        (limits.batch, 1, 256),
-        (limits.bulk_ms, 1, 60000),
-    ]
-}
-
-/// A value is below its least.
-fn any_too_small(ranges: &[(u32, u32, u32)]) -> bool
-    ensures any { result ≡ list_any (λ r. nat_lt r.0 r.1) ranges.now }
-{
-    ranges.iter().any(|range| range.0 < range.1)
-}
-
-/// A value is above its greatest.
-fn any_too_large(ranges: &[(u32, u32, u32)]) -> bool
-    ensures any { result ≡ list_any (λ r. nat_lt r.2 r.0) ranges.now }
-{
-    ranges.iter().any(|range| range.2 < range.0)
 }

@@ -2,9 +2,11 @@
 #![tactic(auto)]
 
 mod applying;
+mod carrying;
 mod edit;
 mod event;
 mod fault;
+mod flushing;
 mod laws;
 mod lifting;
 mod outcome;

@@ -1,16 +1,19 @@
-//! What a node changed, as a change of the pair.
+//! What a node or the link changed, as a change of the pair.
 
-ghost use Rattle.std.specs.Prelude.{◌≡◌, ◌≤◌, ◌++◌, length, IfOk, IfErr, OnOk, OnErr};
+ghost use Rattle.std.specs.Prelude.{◌≡◌, ◌≤◌, [], ◌∷◌, ◌++◌, length, IfOk, IfErr, OnOk, OnErr};
 ghost use Rattle.pfl_edits.specs.Changes.{Fits, back};
 ghost use Rattle.pfl_node.specs.Edits as nodes;
 ghost use Rattle.pfl_node.specs.Nodes.{IsNode};
-ghost use Rattle.pfl_world.specs.WorldEdits.{of_node};
-ghost use Rattle.pfl_world.specs.Worlds.{node_at, with_node};
+ghost use Rattle.pfl_link.specs.LinkEdits as links;
+ghost use Rattle.pfl_link.specs.Links.{IsLink};
+ghost use Rattle.pfl_world.specs.WorldEdits.{of_node, of_link};
+ghost use Rattle.pfl_world.specs.Worlds.{node_at, with_node, with_link};
 
 use crate::edit::{WorldChange, WorldEdit};
 use crate::world::World;
 use pfl_base::{NodeId, Refusal};
-use pfl_edits::{Change, undo_all};
+use pfl_edits::{Change, Reversible, undo_all};
+use pfl_link::LinkEdit;
 use pfl_node::NodeEdit;
 use std::alloc::Allocator;
 
@@ -62,6 +65,23 @@ impl<A: Allocator + Copy> World<A> {
             return Err(Refusal::NoMemory);
         }
         record_all(node, change, &mut edits);
+        Ok(edits)
+    }
+
+    /// What the link changed, as a change of the pair. Where there is no memory for that, the link is as it was.
+    pub(crate) fn lift_link(&mut self, edit: LinkEdit<A>) -> Result<WorldChange<A>, Refusal>
+        requires fits { Fits links.Finds IsLink links.put_back (edit ∷ []) self.old.link }
+        ensures refused { IfErr result (λ refusal. refusal ≡ Refusal.NoMemory) }
+        ensures edits { IfOk result (λ edits. edits.list ≡ of_link (edit ∷ [])) }
+        ensures kept { OnOk result (self.new ≡ self.old) }
+        ensures undone { OnErr result (self.new ≡ with_link self.old (back links.put_back (edit ∷ []) self.old.link)) }
+    {
+        let mut edits = Change::new(self.alloc);
+        if edits.reserve(1).is_err() {
+            self.link.undo(edit);
+            return Err(Refusal::NoMemory);
+        }
+        edits.push(WorldEdit::OfLink(edit));
         Ok(edits)
     }
 }

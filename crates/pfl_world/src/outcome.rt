@@ -12,6 +12,12 @@ pub enum Outcome {
     Held(StateName),
     /// The packet is dropped.
     Dropped(Reason),
+    /// A frame of so many bytes is in flight under this ticket.
+    Sent { ticket: u32, len: usize },
+    /// The frame is lost.
+    Lost,
+    /// The frame has so many bytes now.
+    CutTo(usize),
     /// The node's clock shows this time.
     Clock(Millis),
     /// So many states had expired, and were deleted.

@@ -15,7 +15,7 @@ impl<A: Allocator> Reversible for World<A> {
     ghost use Rattle.pfl_world.specs.Worlds.{IsWorld};
     ghost use Rattle.pfl_world.specs.WorldEdits.{Finds, FindsFormer, put_back, redone, edit-both_ways};
 
-    type Edit = WorldEdit;
+    type Edit = WorldEdit<A>;
 
     ghost finds = { Finds };
 
@@ -27,10 +27,11 @@ impl<A: Allocator> Reversible for World<A> {
 
     ghost allows = { IsWorld };
 
-    fn undo(&mut self, edit: WorldEdit) {
+    fn undo(&mut self, edit: WorldEdit<A>) {
         match edit {
             WorldEdit::OfNode(NodeId::A, edit) => self.a.undo(edit),
             WorldEdit::OfNode(NodeId::B, edit) => self.b.undo(edit),
+            WorldEdit::OfLink(edit) => self.link.undo(edit),
         }
     }
 

@@ -8,5 +8,5 @@ use Rattle.pfl_script.proofs.shown.push_states.Goals as goal
 
 pub returns : goal.returns
 returns g c = IfOk-weaker c.push_list.result _ _ (λ _ pushed.
-    let states = sym (flat_map-map (state_line c.args.id) (λ (r : Row). r.state) c.as_slice.result.now) ∙ ap (flat_map (state_line c.args.id)) c.as_slice.ensures.states in
+    let states = sym (flat_map-map (state_line c.args.id) (λ (r : Row). r.state) c.iter.result) ∙ ap (flat_map (state_line c.args.id)) c.iter.ensures.states in
     pushed ∙ ap (λ lines. c.args.text.now.items ++ lines) states) c.push_list.ensures

@@ -1,29 +1,38 @@
-use Rattle.std.proofs.Common.{◌≡◌, Some, None, ◌∙◌, ap, sym}
-use Rattle.pfl_base.specs.Keys.{key}
-use Rattle.pfl_table.specs.Tables.{found, states_of}
-use Rattle.pfl_node.specs.Nodes.{Node}
-use Rattle.pfl_node.proofs.Fated.{does-of, handled-none, points-none, handled-some, points-some}
+use Rattle.std.proofs.Common.{◌≡◌, ◌≤◌, Result, length, arith}
+use Rattle.std.specs.Prelude.{Ok, Err, IfOk}
+use Rattle.pfl_base.specs.declared.refusal.Refusal.{Refusal}
+use Rattle.pfl_edits.specs.Changes.{Edits}
+use Rattle.pfl_node.specs.declared.edit.NodeEdit.{NodeEdit}
+use Rattle.pfl_node.specs.declared.fate.Fate.{Fate}
+use Rattle.pfl_node.specs.Packets.{handled, packet_points}
+use Rattle.pfl_node.proofs.Points.{packet-ends}
+use Rattle.pfl_node.proofs.Settling.{begins, settled, settled-answer}
 use Rattle.pfl_node.proofs.node.Node.packet.Goals as goal
 
-pub returns-in_default : goal.returns-in_default
-returns-in_default g c =
-    let n = c.args.self.now in
-    let p = c.args.packet.now in
-    let at : found n.states (key p c.args.dir) c.args.dir ≡ None = ap (λ (m : Node). found m.states (key p c.args.dir) c.args.dir) (sym c.self.view_is) ∙ (ap (λ k. found (states_of c.self.inside.table) k c.args.dir) (sym c.key.ensures) ∙ (sym c.found.ensures.state ∙ (sym c.copied.ensures ∙ c.in_default.is))) in
-    let d = does-of n c.judge.new.self c.judge.result _ _ _ _ (handled-none n c.args.dir p at) (points-none n c.args.dir p at) c.judge.ensures.done in
-    record { refused = d.refused; unchanged = d.unchanged; not_refused = d.not_refused; step = d.step; leads_back = d.leads_back; weight = d.weight }
+few : (result : Result (Fate × Edits NodeEdit) Refusal) → IfOk result (λ r. length r.1.list ≤ 14) → IfOk result (λ r. length r.1.list ≤ 24)
+few (Ok r) h = omega (arith, h)
+few (Err e) h = tt
 
-pub follow-requires : goal.follow-requires
-follow-requires g c =
-    let p = c.args.packet.now in
-    let at = ap (λ (m : Node). found m.states (key p c.args.dir) c.args.dir) (sym c.self.view_is) ∙ (ap (λ k. found (states_of c.self.inside.table) k c.args.dir) (sym c.key.ensures) ∙ (sym c.found.ensures.state ∙ (sym c.copied.ensures ∙ c.in-Some.is))) in
-    record { found = at }
+pub handle-tried-requires-clause-room : goal.handle-tried-requires-clause-room
+handle-tried-requires-clause-room g c =
+    let b = begins c.self.inside.parts c.self.inside.edits c.self.invariant.0 c.self.invariant.1 in
+    let room = b.room in
+    omega (arith, room)
+
+pub handle-tried-requires-clause-countable : goal.handle-tried-requires-clause-countable
+handle-tried-requires-clause-countable g c = (begins c.self.inside.parts c.self.inside.edits c.self.invariant.0 c.self.invariant.1).countable
+
+pub invariant_of-self : goal.invariant_of-self
+invariant_of-self g c =
+    let h = c.handle-tried.ensures.done in
+    let e = c.settle.ensures in
+    let s = settled 14 c.self.inside.parts c.handle-tried.new.self c.settle.new.parts c.self.inside.edits c.handle-tried.new.change c.settle.new.change c.handle-tried.result (packet_points c.self.inside.parts c.args.dir c.args.packet.now) c.self.invariant.0 c.self.invariant.1 h.extends h.went (packet-ends c.self.inside.parts c.handle-tried.new.self c.args.dir c.args.packet.now c.handle-tried.result h.step) e.none e.room c.settle.result e.refused e.undone e.stands e.kept e.parts e.edits in
+    (s.node, s.ready)
 
 pub returns : goal.returns
 returns g c =
-    let n = c.args.self.now in
-    let p = c.args.packet.now in
-    let s = c.in-Some.state in
-    let at : found n.states (key p c.args.dir) c.args.dir ≡ Some s = ap (λ (m : Node). found m.states (key p c.args.dir) c.args.dir) (sym c.self.view_is) ∙ (ap (λ k. found (states_of c.self.inside.table) k c.args.dir) (sym c.key.ensures) ∙ (sym c.found.ensures.state ∙ (sym c.copied.ensures ∙ c.in-Some.is))) in
-    let d = does-of n c.follow.new.self c.follow.result _ _ _ _ (handled-some n c.args.dir p s at) (points-some n c.args.dir p s at) c.follow.ensures.done in
-    record { refused = d.refused; unchanged = d.unchanged; not_refused = d.not_refused; step = d.step; leads_back = d.leads_back; weight = d.weight }
+    let h = c.handle-tried.ensures.done in
+    let e = c.settle.ensures in
+    let s = settled 14 c.self.inside.parts c.handle-tried.new.self c.settle.new.parts c.self.inside.edits c.handle-tried.new.change c.settle.new.change c.handle-tried.result (packet_points c.self.inside.parts c.args.dir c.args.packet.now) c.self.invariant.0 c.self.invariant.1 h.extends h.went (packet-ends c.self.inside.parts c.handle-tried.new.self c.args.dir c.args.packet.now c.handle-tried.result h.step) e.none e.room c.settle.result e.refused e.undone e.stands e.kept e.parts e.edits in
+    let step = settled-answer c.handle-tried.new.self c.settle.new.parts c.handle-tried.result (λ fate n. record { fate = fate; node = n } ≡ handled c.self.inside.parts c.args.dir c.args.packet.now) h.step c.settle.result e.stands e.kept in
+    rw (← c.self.view_is) (record { refused = s.refused; unchanged = s.unchanged; not_refused = s.not_refused; step = step; leads_back = s.leads_back; weight = few c.settle.result s.weight })

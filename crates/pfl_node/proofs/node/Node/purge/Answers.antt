@@ -1,30 +1,31 @@
-use Rattle.std.proofs.Common.{◌≡◌, None, ◌∙◌, ap, sym}
-use Rattle.pfl_edits.specs.Changes.{Extends-from_empty}
-use Rattle.pfl_node.specs.Edits.{Finds, put_back}
-use Rattle.pfl_node.specs.Nodes.{IsNode}
-use Rattle.pfl_node.specs.Tallies.{tally_refusal, purge_tally}
-use Rattle.pfl_node.proofs.Meeting.{as_refused, as_wanting}
-use Rattle.pfl_node.proofs.Tallying.{purge-refusal}
+use Rattle.std.proofs.Common.{◌≡◌, ◌*◌, length, arith}
+use Rattle.pfl_node.specs.Events.{purged, purge_points, expired_states}
+use Rattle.pfl_node.proofs.Expired.{expired-few}
+use Rattle.pfl_node.proofs.Purged.{purged-ends}
+use Rattle.pfl_node.proofs.Settling.{begins, settled, settled-answer}
 use Rattle.pfl_node.proofs.node.Node.purge.Goals as goal
 
-pub returns-in-Some-clause-refused : goal.returns-in-Some-clause-refused
-returns-in-Some-clause-refused g c =
-    as_refused _ _ c.in-Some.refusal (purge-refusal c.args.self.now c.known.ensures.node) (ap tally_refusal (sym c.tally_in_turn-tally.ensures.tally) ∙ sym c.in-Some.ensures.refusal)
+pub purge-tried-requires-clause-room : goal.purge-tried-requires-clause-room
+purge-tried-requires-clause-room g c =
+    let b = begins c.self.inside.parts c.self.inside.edits c.self.invariant.0 c.self.invariant.1 in
+    let few = expired-few c.self.inside.parts in
+    let states = c.self.invariant.0.parts.few in
+    let room = b.room in
+    omega (arith, few, states, room)
 
-pub returns-in-Err-room-clause-refused : goal.returns-in-Err-room-clause-refused
-returns-in-Err-room-clause-refused g c =
-    let none : tally_refusal (purge_tally c.args.self.now) ≡ None = ap tally_refusal (sym c.tally_in_turn-tally.ensures.tally) ∙ (sym c.refusal.ensures.refusal ∙ c.in_default.is) in
-    as_wanting _ _ c.in-Err-room.refusal (purge-refusal c.args.self.now c.known.ensures.node) none c.in-Err-room.ensures.refused
+pub purge-tried-requires-clause-countable : goal.purge-tried-requires-clause-countable
+purge-tried-requires-clause-countable g c = (begins c.self.inside.parts c.self.inside.edits c.self.invariant.0 c.self.invariant.1).countable
 
-pub delete_expired-requires-clause-allowed : goal.delete_expired-requires-clause-allowed
-delete_expired-requires-clause-allowed g c =
-    let none : tally_refusal (purge_tally c.args.self.now) ≡ None = ap tally_refusal (sym c.tally_in_turn-tally.ensures.tally) ∙ (sym c.refusal.ensures.refusal ∙ c.in_default.is) in
-    purge-refusal c.args.self.now c.known.ensures.node ∙ none
+pub invariant_of-self : goal.invariant_of-self
+invariant_of-self g c =
+    let e = c.settle.ensures in
+    let s = settled (5 * length (expired_states c.self.inside.parts)) c.self.inside.parts c.purge-tried.new.self c.settle.new.parts c.self.inside.edits c.purge-tried.new.change c.settle.new.change c.purge-tried.result (purge_points c.self.inside.parts) c.self.invariant.0 c.self.invariant.1 c.purge-tried.ensures.extends c.purge-tried.ensures.went (purged-ends c.self.inside.parts c.purge-tried.new.self c.purge-tried.result c.self.invariant.0.counted c.purge-tried.ensures.node) e.none e.room c.settle.result e.refused e.undone e.stands e.kept e.parts e.edits in
+    (s.node, s.ready)
 
-pub returns-clause-not_refused : goal.returns-clause-not_refused
-returns-clause-not_refused g c =
-    let none : tally_refusal (purge_tally c.args.self.now) ≡ None = ap tally_refusal (sym c.tally_in_turn-tally.ensures.tally) ∙ (sym c.refusal.ensures.refusal ∙ c.in_default.is) in
-    purge-refusal c.args.self.now c.known.ensures.node ∙ none
-
-pub returns-clause-leads_back : goal.returns-clause-leads_back
-returns-clause-leads_back g c = Extends-from_empty Finds IsNode put_back _ _ _ _ _ c.in-Ok-room.ensures.list c.delete_expired.ensures.extends
+pub returns : goal.returns
+returns g c =
+    let e = c.settle.ensures in
+    let s = settled (5 * length (expired_states c.self.inside.parts)) c.self.inside.parts c.purge-tried.new.self c.settle.new.parts c.self.inside.edits c.purge-tried.new.change c.settle.new.change c.purge-tried.result (purge_points c.self.inside.parts) c.self.invariant.0 c.self.invariant.1 c.purge-tried.ensures.extends c.purge-tried.ensures.went (purged-ends c.self.inside.parts c.purge-tried.new.self c.purge-tried.result c.self.invariant.0.counted c.purge-tried.ensures.node) e.none e.room c.settle.result e.refused e.undone e.stands e.kept e.parts e.edits in
+    let node = settled-answer c.purge-tried.new.self c.settle.new.parts c.purge-tried.result (λ count n. n ≡ purged c.self.inside.parts) c.purge-tried.ensures.node c.settle.result e.stands e.kept in
+    let count = settled-answer c.purge-tried.new.self c.settle.new.parts c.purge-tried.result (λ count n. count ≡ length (expired_states c.self.inside.parts)) c.purge-tried.ensures.count c.settle.result e.stands e.kept in
+    rw (← c.self.view_is) (record { refused = s.refused; unchanged = s.unchanged; not_refused = s.not_refused; node = node; count = count; leads_back = s.leads_back; weight = s.weight })

@@ -4,4 +4,4 @@ use Rattle.pfl_edits.specs.Ordered.{values-map_of}
 use Rattle.pfl_queue.proofs.queues.Pending.marks.Goals as goal
 
 pub returns : goal.returns
-returns g c = record { marks = rw (← c.self.view_is) (c.as_slice.ensures.rows ∙ sym (values-map_of names_total (λ m. m.name) _ c.known.ensures.rows.rising)) }
+returns g c = record { marks = c.of.ensures.entries ∙ rw (← c.self.view_is) (c.as_slice.ensures.rows ∙ sym (values-map_of names_total (λ m. m.name) _ c.known.ensures.rows.rising)) }

@@ -13,11 +13,16 @@ returns-clause-left g c =
     let count = c.len-2.ensures ∙ c.in_ok-entries.entries.ok.0 in
     c.take_out.ensures.left ∙ ap (left_by q) (ap (λ n. take n (in_turn q)) count ∙ (sym first ∙ c.in_ok-entries.ensures.frame))
 
+pub returns-clause-edits : goal.returns-clause-edits
+returns-clause-edits g c =
+    let none = c.in_ok-reserve.ensures.list ∙ c.new-change.ensures.list in
+    c.record.ensures.edits ∙ (ap (λ (xs : List QueueEdit). xs ++ map taking c.deref-2.result.now) none
+    ∙ (ap (map taking) c.deref-2.ensures.value ∙ ap (map taking) c.in_ok-entries.ensures.frame))
+
 pub returns-clause-one_each : goal.returns-clause-one_each
 returns-clause-one_each g c =
-    let next = c.next.result in
-    let edits = c.record.ensures.edits ∙ (ap (λ (es : List QueueEdit). es ++ map (taking next) c.deref-2.result.now) (c.in_ok-reserve.ensures.list ∙ c.new-change.ensures.list) ∙ ap (map (taking next)) c.deref-2.ensures.value) in
-    ap length edits ∙ (length-map c.in_ok-entries.entries.items (taking next) ∙ ap length c.in_ok-entries.ensures.frame)
+    let edits = c.record.ensures.edits ∙ (ap (λ (es : List QueueEdit). es ++ map taking c.deref-2.result.now) (c.in_ok-reserve.ensures.list ∙ c.new-change.ensures.list) ∙ ap (map taking) c.deref-2.ensures.value) in
+    ap length edits ∙ (length-map c.in_ok-entries.entries.items taking ∙ ap length c.in_ok-entries.ensures.frame)
 
 pub returns-clause-leads_back : goal.returns-clause-leads_back
 returns-clause-leads_back g c =
@@ -28,7 +33,6 @@ returns-clause-leads_back g c =
     let left = c.take_out.ensures.left ∙ ap (left_by q) (ap (λ n. take n (in_turn q)) count ∙ sym first) in
     let none = c.in_ok-reserve.ensures.list ∙ c.new-change.ensures.list in
     let edits =
-    c.record.ensures.edits ∙ (ap (λ (xs : List QueueEdit). xs ++ map (taking c.next.result) c.deref-2.result.now) none
-    ∙ (ap (λ n. map (taking n) c.deref-2.result.now) c.next.ensures.next ∙ ap (map (taking q.next)) c.deref-2.ensures.value)) in
+    c.record.ensures.edits ∙ (ap (λ (xs : List QueueEdit). xs ++ map taking c.deref-2.result.now) none ∙ ap (map taking) c.deref-2.ensures.value) in
     subst (λ (xs : List QueueEdit). QueueLeadsBack xs q c.take_out.new.self) (sym edits)
-    (subst (QueueLeadsBack (map (taking q.next) es) q) (sym left) (taken_leads_back q c.known.ensures.queue es first))
+    (subst (QueueLeadsBack (map taking es) q) (sym left) (taken_leads_back q c.known.ensures.queue es first))

@@ -10,3 +10,8 @@ pub set-requires-clause-keyed : goal.set-requires-clause-keyed
 set-requires-clause-keyed g c =
     let is = subst (λ (e : QueueEdit). IsQueue (redone e c.args.self.now)) c.in-OfMark.is c.requires.allowed in
     set_at-keyed names_total names_exact (λ m. m.name) c.args.self.now.marks c.in-OfMark.name c.in-OfMark.after is.filed
+
+pub set-requires-in-OfName-clause-keyed : goal.set-requires-in-OfName-clause-keyed
+set-requires-in-OfName-clause-keyed g c =
+    let is = subst (λ (e : QueueEdit). IsQueue (redone e c.args.self.now)) c.in-OfName.is c.requires.allowed in
+    set_at-keyed names_total names_exact (λ m. m.name) c.args.self.now.marks c.in-OfName.name c.in-OfName.after is.filed

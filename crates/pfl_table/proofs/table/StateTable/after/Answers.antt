@@ -1,4 +1,6 @@
-use Rattle.std.proofs.Common.{map, filter, sym, ◌∙◌, ap}
+use Rattle.std.proofs.Common.{List, find, sym, ◌∙◌, ap}
+use Rattle.std.specs.List.{slice_get}
+use Rattle.std.specs.Option.{option_map}
 use Rattle.std.specs.Ordering.{is_lt}
 use Rattle.pfl_base.specs.Names.{name_cmp, names_total}
 use Rattle.pfl_edits.specs.Maps as maps
@@ -6,16 +8,17 @@ use Rattle.pfl_edits.specs.Ordered.{values-map_of}
 use Rattle.pfl_track.specs.declared.state.State.{State}
 use Rattle.pfl_table.specs.declared.row.Row.{Row}
 use Rattle.pfl_table.specs.Tables.{values-states_of}
-use Rattle.pfl_table.proofs.Scanned.{filter-map}
+use Rattle.pfl_table.proofs.Scanned.{find-map, first-filter}
 use Rattle.pfl_table.proofs.table.StateTable.after.Goals as goal
 
-pub returns-clause-rows : goal.returns-clause-rows
-returns-clause-rows g c =
+pub returns-clause-row : goal.returns-clause-row
+returns-clause-row g c =
     let above = λ (r : Row). is_lt (name_cmp c.args.name r.state.name) in
-    rw (← c.self.view_is) (c.after.ensures.above ∙ ap (filter above) (sym (values-map_of names_total (λ (r : Row). r.state.name) _ c.known.ensures.rows.rising)))
+    rw (← c.self.view_is) (c.first.ensures.value ∙ (ap (λ (rows : List Row). slice_get rows 0) c.after.ensures.above
+    ∙ (first-filter above _ ∙ ap (find above) (sym (values-map_of names_total (λ (r : Row). r.state.name) _ c.known.ensures.rows.rising)))))
 
-pub returns-clause-states : goal.returns-clause-states
-returns-clause-states g c =
+pub returns-clause-state : goal.returns-clause-state
+returns-clause-state g c =
     let above = λ (s : State). is_lt (name_cmp c.args.name s.name) in
-    ap (map (λ (r : Row). r.state)) (returns-clause-rows g c)
-    ∙ (sym (filter-map (λ (r : Row). r.state) above (maps.values c.args.self.now.rows)) ∙ ap (filter above) (sym (values-states_of c.args.self.now)))
+    ap (option_map (λ (r : Row). r.state)) (returns-clause-row g c)
+    ∙ (sym (find-map (λ (r : Row). r.state) above (maps.values c.args.self.now.rows)) ∙ ap (find above) (sym (values-states_of c.args.self.now)))

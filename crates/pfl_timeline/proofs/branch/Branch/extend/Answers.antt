@@ -18,7 +18,7 @@ returns-then-is_err-clause-refused g c =
 pub invariant_of-self-in-Ok : goal.invariant_of-self-in-Ok
 invariant_of-self-in-Ok g c =
     let events = c.put-dropped.ensures.events ∙ put_as _ _ _ _ c.args.event.now c.make_room.ensures.events c.make_room.ensures.changes in
-    let changes = c.put-dropped.ensures.changes ∙ ap (λ (cs : List Change). cs ++ c.in-Ok.change ∷ []) c.make_room.ensures.changes in
+    let changes = c.put-dropped.ensures.changes ∙ ap (λ (cs : List (Change _)). cs ++ c.in-Ok.change ∷ []) c.make_room.ensures.changes in
     kept_as _ _ _ _ _ _ _ refl events changes
     (kept-more _ _ _ _ _ c.in-Ok.change c.args.event.now _ c.self.invariant c.in-Ok.ensures.step c.in-Ok.ensures.fits c.in-Ok.ensures.back)
 
@@ -29,7 +29,7 @@ returns-else-is_err-clause-stepped g c =
 pub returns-else-is_err-clause-extended : goal.returns-else-is_err-clause-extended
 returns-else-is_err-clause-extended g c =
     let events = c.put-dropped.ensures.events ∙ put_as _ _ _ _ c.args.event.now c.make_room.ensures.events c.make_room.ensures.changes in
-    let changes = c.put-dropped.ensures.changes ∙ ap (λ (cs : List Change). cs ++ c.in-Ok.change ∷ []) c.make_room.ensures.changes in
+    let changes = c.put-dropped.ensures.changes ∙ ap (λ (cs : List (Change _)). cs ++ c.in-Ok.change ∷ []) c.make_room.ensures.changes in
     rooted_as _ _ _ _ _ _ events changes
     ∙ more _ _ _ _ _ c.in-Ok.change c.args.event.now _ c.self.invariant c.in-Ok.ensures.step c.in-Ok.ensures.fits c.in-Ok.ensures.back
     ∙ ap (λ (v : Rooted). record { opening = v.opening; branch = extended v.branch c.args.event.now }) c.self.view_is

@@ -1,0 +1,275 @@
+-- A frame goes out: what is taken out of the queue, and that it leads back.
+use Rattle.std.proofs.Common.{◌≡◌, ◌≢◌, Bool, true, false, ℕ, ◌+◌, ◌^◌, ◌<◌, ◌≤◌, List, [], ◌∷◌, ◌++◌, map, length, take, get_or, Option, Some, None, refl, sym, ◌∙◌, ap, subst, arith, length-append}
+use Rattle.std.specs.Prelude.{◌==◌, IsSome, Result, Ok, Err, IfOk, IfErr, OnOk, if◌then◌else◌}
+use Rattle.std.specs.List.{AllByRecursion, fold}
+use Rattle.std.specs.Option.{option_map_or}
+use Rattle.std.proofs.lemmas.Bool.Decides.{nat_tests}
+use Rattle.std.proofs.lemmas.List.{take_all, length-map}
+use Rattle.std.proofs.lemmas.List.Sums.{fold_more}
+use Rattle.pfl_edits.specs.Changes.{Edits, LeadsBack, LeadsBack-one, LeadsBack-none, LeadsBack-append}
+use Rattle.pfl_edits.specs.Maps as maps
+use Rattle.pfl_track.specs.declared.state.State.{State}
+use Rattle.pfl_queue.specs.declared.Entry.{Entry}
+use Rattle.pfl_queue.specs.declared.Entry.TheVariants.{Marked, Request, Status, Clear}
+use Rattle.pfl_queue.specs.declared.Kind.{Kind}
+use Rattle.pfl_queue.specs.declared.Kind.TheVariants.{Insert, InsertAck, Update, UpdateShort, Delete}
+use Rattle.pfl_queue.specs.declared.edits.QueueEdit.{QueueEdit}
+use Rattle.pfl_queue.specs.Edits.{taking}
+use Rattle.pfl_queue.specs.Fitting.{entry_bytes}
+use Rattle.pfl_queue.specs.Queues.{Queue, pending}
+use Rattle.pfl_queue.specs.Taking.{in_turn, gone, left_by, next_frame}
+use Rattle.pfl_queue.proofs.Carried.{frame_carries, pending-in_turn}
+use Rattle.pfl_queue.proofs.Framed.{Stands, mark_stood, frame_stands, frame_begins, frame_fits}
+use Rattle.pfl_queue.proofs.Fronts.{first_found, front_gone, redone_gone, next_stays}
+use Rattle.pfl_queue.proofs.Keeping.{gone_kept}
+use Rattle.pfl_node.specs.declared.edit.NodeEdit.{NodeEdit}
+use Rattle.pfl_node.specs.declared.edit.NodeEdit.TheVariants.{OfQueue}
+use Rattle.pfl_node.specs.Edits.{Finds, FindsFormer, NextStays, put_back, redone, edit-both_ways, NodeExtends, total}
+use Rattle.pfl_node.specs.Nodes.{Node, AreParts, IsRefusal, is_overcounted}
+use Rattle.pfl_node.specs.Judging.{judged_as}
+use Rattle.pfl_base.specs.declared.refusal.Refusal.TheVariants.{NothingPending, NoMemory}
+use Rattle.pfl_base.specs.declared.refusal.Refusal.{Refusal}
+use Rattle.pfl_node.specs.Changes.{put_state}
+use Rattle.pfl_node.specs.Flushing.{frame_of, flushed, update_count_cleared, flush_refusal}
+use Rattle.pfl_node.specs.Sending.{IsTold, frame_with, of_queue, taken_from}
+use Rattle.pfl_node.proofs.Keeps.{keeps_queue}
+use Rattle.pfl_node.proofs.Recording.{extends-none, extends-then, extends-more}
+
+-- ---- what is left is a node
+
+limit_stays : (q : Queue) (e : Entry) → (gone q e).limit ≡ q.limit
+limit_stays q (Marked kind number name) = refl
+limit_stays q (Request name) = refl
+limit_stays q (Status status) = refl
+limit_stays q (Clear creator bound) = refl
+
+gone-node : (n : Node) (e : Entry) → AreParts n → AreParts (record n { queue = gone n.queue e })
+gone-node n e is =
+    keeps_queue n (gone n.queue e) is (gone_kept n.queue is.queue e) (limit_stays n.queue e)
+    (λ name k at. is.marks name k (mark_stood n.queue is.queue e name k at))
+
+pub left-node : (es : List Entry) (n : Node) → AreParts n → AreParts (record n { queue = left_by n.queue es })
+left-node [] n is = is
+left-node (e ∷ es) n is = left-node es (record n { queue = gone n.queue e }) (gone-node n e is)
+
+-- ---- the edits lead back
+
+-- no number changes
+taking-stays : (e : Entry) → NextStays (taking e)
+taking-stays (Marked kind number name) = tt
+taking-stays (Request name) = tt
+taking-stays (Status status) = tt
+taking-stays (Clear creator bound) = tt
+
+taken-back : (es : List Entry) (n : Node) → AreParts n → (rest : List Entry) → es ++ rest ≡ in_turn n.queue
+    → LeadsBack Finds AreParts put_back (of_queue (map taking es)) n (record n { queue = left_by n.queue es })
+taken-back [] n is rest turn = LeadsBack-none Finds AreParts put_back n
+taken-back (e ∷ es) n is rest turn =
+    let q = n.queue in
+    let m : Node = record n { queue = gone q e } in
+    let former : FindsFormer (OfQueue (taking e)) n = (first_found q is.queue e (es ++ rest) (sym turn), taking-stays e) in
+    let both = edit-both_ways (OfQueue (taking e)) in
+    let one = LeadsBack-one Finds AreParts put_back (OfQueue (taking e)) n (redone (OfQueue (taking e)) n) (both.redone_finds n former) is (both.put_back_redone n former) in
+    let later = taken-back es m (gone-node n e is) rest (sym (front_gone q is.queue e (es ++ rest) (sym turn))) in
+    LeadsBack-append Finds AreParts put_back (OfQueue (taking e) ∷ []) (of_queue (map taking es)) n m (record n { queue = left_by (gone q e) es })
+    (subst (λ (p : Queue). LeadsBack Finds AreParts put_back (OfQueue (taking e) ∷ []) n (record n { queue = p })) (redone_gone q e) one)
+    later
+
+left-next : (es : List Entry) (q : Queue) → (left_by q es).next ≡ q.next
+left-next [] q = refl
+left-next (e ∷ es) q = left-next es (gone q e) ∙ next_stays q e
+
+left-total : (n : Node) (q : Queue) → q.next ≡ n.queue.next → total (record n { queue = q }) ≡ total n
+unfolding total
+left-total n q same = ap (λ (k : ℕ). n.next_id + k + n.counters.passed + n.counters.blocked + n.counters.freed + n.counters.lost + n.counters.bad + n.counters.stale + n.counters.broken) same
+
+-- the entries of a node's next frame
+abbrev pub frame_entries : Node → List Entry
+frame_entries n = next_frame n.queue n.limits.mtu
+
+-- the entries were taken out, and that is recorded
+pub taken-extends : (n m : Node) (x y : Edits NodeEdit) (taken : List QueueEdit) → AreParts n → m ≡ taken_from n → taken ≡ map taking (frame_entries n) → length taken ≡ length (frame_entries n)
+    → y.list ≡ x.list ++ of_queue taken → y.spare + length taken ≡ x.spare → NodeExtends (length (frame_entries n)) x y n m
+taken-extends n m x y taken is left edits one_each lists spares =
+    let es = frame_entries n in
+    let begins = frame_begins n.queue n.limits.mtu in
+    let leads = taken-back es n is begins.rest begins.is in
+    let here = subst (λ (k : Node). LeadsBack Finds AreParts put_back (of_queue (map taking es)) n k) (sym left) leads in
+    let sum = ap total left ∙ left-total n (left_by n.queue es) (left-next es n.queue) in
+    let long = ap (λ (es : List NodeEdit). length es) lists ∙ (length-append x.list (of_queue taken) ∙ ap (λ k. length x.list + k) (length-map taken OfQueue)) in
+    record {
+      spare = omega (arith, spares, one_each);
+      room = omega (arith, spares, long);
+      counted = omega (arith, spares, sum);
+      leads_back = λ origin before.
+          subst (λ (l : List NodeEdit). LeadsBack Finds AreParts put_back l origin m) (sym (lists ∙ ap (λ (t : List QueueEdit). x.list ++ of_queue t) edits))
+          (LeadsBack-append Finds AreParts put_back x.list (of_queue (map taking es)) origin n m before here);
+    }
+
+-- ---- what its entries tell is there
+
+has-state : (o : Option State) (kind : Kind) → kind ≢ Delete → (o ≡ None → kind ≡ Delete) → IsSome o
+has-state None kind other gone = absurd (other (gone refl))
+has-state (Some s) kind other gone = refl
+
+marked-told : (n : Node) → AreParts n → (e : Entry) → Stands n.queue e → IsTold n e
+marked-told n is (Marked Insert number name) at = has-state (maps.get n.states name) Insert (λ e. absurd (cc)) (is.marks name _ at).1.0.1
+marked-told n is (Marked InsertAck number name) at = has-state (maps.get n.states name) InsertAck (λ e. absurd (cc)) (is.marks name _ at).1.0.1
+marked-told n is (Marked Update number name) at = has-state (maps.get n.states name) Update (λ e. absurd (cc)) (is.marks name _ at).1.0.1
+marked-told n is (Marked UpdateShort number name) at = has-state (maps.get n.states name) UpdateShort (λ e. absurd (cc)) (is.marks name _ at).1.0.1
+marked-told n is (Marked Delete number name) at = tt
+marked-told n is (Request name) at = tt
+marked-told n is (Status status) at = tt
+marked-told n is (Clear creator bound) at = tt
+
+all-told : (n : Node) → AreParts n → (es : List Entry) → AllByRecursion (Stands n.queue) es → AllByRecursion (IsTold n) es
+all-told n is [] all = tt
+all-told n is (e ∷ es) all = (marked-told n is e all.0, all-told n is es all.1)
+
+pub frame-told : (n : Node) (mtu : ℕ) → AreParts n → AllByRecursion (IsTold n) (next_frame n.queue mtu)
+frame-told n mtu is = all-told n is (next_frame n.queue mtu) (frame_stands n.queue mtu is.queue)
+
+-- ---- and there is a frame for them
+
+-- the limits of the node keep a frame short
+pub frame-short : (n : Node) → AreParts n → entry_bytes (next_frame n.queue n.limits.mtu) < 2 ^ 16
+frame-short n is =
+    let range = is.limits.1.1.1.0 in
+    let low = range.0 in
+    let high = range.1 in
+    let fits = frame_fits n.queue n.limits.mtu (omega arith) in
+    omega (arith, fits, high)
+
+-- ---- the frame, and the node after it
+
+pub frame-is : (n m : Node) (es : List Entry) → m ≡ taken_from n → es ≡ frame_entries n → frame_with m es ≡ frame_of n
+unfolding frame_of
+frame-is n m es left same = ap (λ (k : Node). frame_with k es) left ∙ ap (frame_with n) same
+
+pub flushed-is : (n m k : Node) (es : List Entry) → m ≡ taken_from n → es ≡ frame_entries n → k ≡ fold update_count_cleared (record m { push = false }) es → k ≡ flushed n
+unfolding flushed
+flushed-is n m k es left same is =
+    is ∙ (ap (λ (h : Node). fold update_count_cleared (record h { push = false }) es) left ∙ ap (fold update_count_cleared (record (taken_from n) { push = false })) same)
+
+-- what its entries tell is there in the node without them
+pub sent-told : (n m : Node) (es : List Entry) → AreParts n → m ≡ taken_from n → es ≡ frame_entries n → AllByRecursion (IsTold m) es
+sent-told n m es is left same =
+    subst (λ (k : Node). AllByRecursion (IsTold k) es) (sym left) (subst (AllByRecursion (IsTold n)) (sym same) (frame-told n n.limits.mtu is))
+
+pub sent-short : (n : Node) (es : List Entry) → AreParts n → es ≡ frame_entries n → entry_bytes es < 2 ^ 16
+sent-short n es is same = subst (λ (xs : List Entry). entry_bytes xs < 2 ^ 16) (sym same) (frame-short n is)
+
+-- ---- the counts of updates are cleared one after another
+
+-- m is what n was made to by the first i of the entries, recorded in y
+pub record IsCleared (n m : Node) (es : List Entry) (i : ℕ) (x y : Edits NodeEdit) : Type 0 where
+  pub within : i ≤ length es
+  pub node : m ≡ fold update_count_cleared n (take i es)
+  pub extends : NodeExtends i x y n m
+
+pub cleared-first : (n : Node) (es : List Entry) (x : Edits NodeEdit) → IsCleared n n es 0 x x
+cleared-first n es x = record { within = omega arith; node = refl; extends = extends-none x n }
+
+pub cleared-more : (n m k : Node) (es : List Entry) (i : ℕ) (d : Entry) (x y z : Edits NodeEdit) → i < length es → IsCleared n m es i x y → k ≡ update_count_cleared m (get_or es i d) → NodeExtends 1 y z m k → IsCleared n k es (i + 1) x z
+cleared-more n m k es i d x y z below so is more = record {
+  within = omega arith;
+  node = is ∙ (ap (λ (h : Node). update_count_cleared h (get_or es i d)) so.node ∙ sym (fold_more update_count_cleared n es i d below));
+  extends = extends-then i 1 x y z n m k so.extends more;
+}
+
+pub cleared-room : (n m : Node) (es : List Entry) (i : ℕ) (x y : Edits NodeEdit) → IsCleared n m es i x y → length es ≤ x.spare → i < length es → 0 < y.spare
+cleared-room n m es i x y so room below = let spare = so.extends.spare in omega (arith, spare)
+
+-- after the last of them
+pub record IsAllCleared (n m : Node) (es : List Entry) (x y : Edits NodeEdit) : Type 0 where
+  pub node : m ≡ fold update_count_cleared n es
+  pub extends : NodeExtends (length es) x y n m
+
+pub cleared-all : (n m : Node) (es : List Entry) (i : ℕ) (x y : Edits NodeEdit) → IsCleared n m es i x y → length es ≤ i → IsAllCleared n m es x y
+cleared-all n m es i x y so end = record {
+  node = so.node ∙ ap (fold update_count_cleared n) (take_all i es end);
+  extends = extends-more i (length es) x y n m so.within so.extends;
+}
+
+-- ---- an event that sends it has room for its edits
+
+begins-few : (es rest all : List Entry) → es ++ rest ≡ all → length es ≤ length all
+begins-few es rest all is = let long = ap (λ (xs : List Entry). length xs) is in omega (arith, long, length-append es rest)
+
+pub frame-few : (n : Node) → AreParts n → length (frame_entries n) ≤ n.limits.queue
+frame-few n is =
+    let begins = frame_begins n.queue n.limits.mtu in
+    let few = begins-few (frame_entries n) begins.rest (in_turn n.queue) begins.is in
+    let all = pending-in_turn n.queue in
+    let pending = is.queue.few in
+    let limit = is.queue_limit in
+    omega (arith, few, all, pending, limit)
+
+-- ---- what is not refused carries something
+
+not_refused : (nothing : Bool) → (if nothing then Some NothingPending else None) ≡ None → nothing ≡ false
+not_refused true e = cc
+not_refused false e = refl
+
+not_none : (k : ℕ) → (k == 0) ≡ false → 0 < k
+not_none k e = grind (arith, nat_tests)
+
+pub sent-carries : (n : Node) → AreParts n → flush_refusal n ≡ None → 0 < length (frame_entries n)
+sent-carries n is free =
+    let range = is.limits.1.1.1.0 in
+    let low = range.0 in
+    frame_carries n.queue n.limits.mtu low (not_none (pending n.queue) (not_refused (pending n.queue == 0) free))
+
+-- ---- what it counts
+
+-- a node without its states
+abbrev bare : Node → Node
+bare n = record n { states = maps.empty }
+
+bare-cleared : (n : Node) (e : Entry) → bare (update_count_cleared n e) ≡ bare n
+bare-cleared n (Marked kind number name) = by (maps.get n.states name)
+  where
+    by : (o : Option State) → bare (option_map_or (λ s. put_state n (record s { updates = 0 })) o n) ≡ bare n
+    by None = refl
+    by (Some s) = refl
+bare-cleared n (Request name) = refl
+bare-cleared n (Status status) = refl
+bare-cleared n (Clear creator bound) = refl
+
+bare-all : (n : Node) (es : List Entry) → bare (fold update_count_cleared n es) ≡ bare n
+bare-all n [] = refl
+bare-all n (e ∷ es) = bare-all (update_count_cleared n e) es ∙ bare-cleared n e
+
+-- a frame counts nothing
+pub flushed-counted : (n m : Node) → m ≡ flushed n → is_overcounted n ≡ false → is_overcounted m ≡ false
+unfolding flushed
+flushed-counted n m same low =
+    let q = left_by n.queue (frame_entries n) in
+    ap is_overcounted same
+    ∙ (ap is_overcounted (bare-all (record n { queue = q; push = false }) (frame_entries n))
+    ∙ (ap (λ (k : ℕ). is_overcounted (record n { queue = record q { next = k } })) (left-next (frame_entries n) n.queue) ∙ low))
+
+-- ---- how a flush ends
+
+pub flushed-ends : {T : Type 0} (n m : Node) (sent : Result T Refusal) → is_overcounted n ≡ false → OnOk sent (m ≡ flushed n) → (t : T) → sent ≡ Ok t → is_overcounted m ≡ false
+flushed-ends {T} n m sent low node t stands = let same = subst (λ (q : Result T Refusal). OnOk q (m ≡ flushed n)) stands node in flushed-counted n m same low
+
+-- only want of memory refuses it then
+pub wants-memory : {T U : Type 0} (sent : Result T Refusal) → IfErr sent (λ e. e ≡ NoMemory) → (result : Result U Refusal) → IfErr result (IsRefusal (judged_as sent)) → IfErr result (IsRefusal None)
+wants-memory sent memory (Ok r) refused = tt
+wants-memory (Ok t) memory (Err e) refused = refused
+wants-memory (Err f) memory (Err e) refused = refused ∙ memory
+
+-- what was answered stands
+pub sent-answer : {T : Type 0} (sent : Result T Refusal) (P : T → Type 0) → IfOk sent P → (result : Result (T × Edits NodeEdit) Refusal) → IfOk result (λ r. sent ≡ Ok r.0) → IfOk result (λ r. P r.0)
+sent-answer {T} sent P answer (Ok r) stands = subst (λ (q : Result T Refusal). IfOk q P) stands answer
+sent-answer sent P answer (Err e) stands = tt
+
+-- and so does the node
+pub sent-node : {T : Type 0} (n b m : Node) (sent : Result T Refusal) → OnOk sent (b ≡ flushed n) → (result : Result (T × Edits NodeEdit) Refusal) → IfOk result (λ r. sent ≡ Ok r.0) → OnOk result (m ≡ b) → OnOk result (m ≡ flushed n)
+sent-node {T} n b m sent node (Ok r) stands kept = let here = subst (λ (q : Result T Refusal). OnOk q (b ≡ flushed n)) stands node in kept ∙ here
+sent-node n b m sent node (Err e) stands kept = tt
+
+pub where_ok : {P T : Type 0} (result : Result T Refusal) → P → OnOk result P
+where_ok (Ok r) p = p
+where_ok (Err e) p = tt

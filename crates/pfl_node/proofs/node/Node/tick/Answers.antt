@@ -1,0 +1,48 @@
+use Rattle.std.proofs.Common.{◌≡◌, ◌+◌, ◌≤◌, ℕ, Bool, Result, None, Option, false, [], length, ◌∙◌, ap, sym, subst, refl, arith}
+use Rattle.std.specs.Prelude.{Ok, Err, IfOk, IfErr, OnOk}
+use Rattle.std.specs.List.{list_any}
+use Rattle.pfl_base.specs.declared.refusal.Refusal.{Refusal}
+use Rattle.pfl_edits.specs.Changes.{Edits}
+use Rattle.pfl_node.specs.declared.edit.NodeEdit.{NodeEdit}
+use Rattle.pfl_node.specs.declared.parts.judge.Overfull.{Overfull}
+use Rattle.pfl_node.specs.Events.{tick_refusal, ticked}
+use Rattle.pfl_node.specs.Nodes.{Node, IsRefusal, is_overcounted}
+use Rattle.pfl_node.proofs.Settling.{settled, settled-answer}
+use Rattle.pfl_node.proofs.node.Node.tick.Goals as goal
+
+-- the clock counts nothing
+after-clock : (n m : Node) (clock : ℕ) → is_overcounted n ≡ false → m ≡ record n { clock = clock } → (tried : Result (ℕ × Bool) Overfull) (t : ℕ) → tried ≡ Ok (t, false) → list_any is_overcounted [] ≡ false → is_overcounted m ≡ false
+after-clock n m clock low same tried t stands none = ap is_overcounted same ∙ low
+
+few : (result : Result (ℕ × Edits NodeEdit) Refusal) → IfOk result (λ r. length r.1.list ≤ 1) → IfOk result (λ r. length r.1.list ≤ 12)
+few (Ok r) h = omega (arith, h)
+few (Err e) h = tt
+
+where_ok : {P : Type 0} (result : Result (ℕ × Edits NodeEdit) Refusal) → P → OnOk result P
+where_ok (Ok r) p = p
+where_ok (Err e) p = tt
+
+pub invariant_of-self : goal.invariant_of-self
+invariant_of-self g c =
+    let e = c.settle.ensures in
+    let s = settled 1 c.self.inside.parts c.set_clock.new.self c.settle.new.parts c.self.inside.edits c.set_clock.new.change c.settle.new.change (Ok (c.clock.result + c.args.ms, false)) [] c.self.invariant.0 c.self.invariant.1 c.set_clock.ensures.extends (refl, refl) (after-clock c.self.inside.parts c.set_clock.new.self _ c.self.invariant.0.counted c.set_clock.ensures.node (Ok (c.clock.result + c.args.ms, false))) e.none e.room c.settle.result e.refused e.undone e.stands e.kept e.parts e.edits in
+    (s.node, s.ready)
+
+pub returns : goal.returns
+returns g c =
+    let e = c.settle.ensures in
+    let s = settled 1 c.self.inside.parts c.set_clock.new.self c.settle.new.parts c.self.inside.edits c.set_clock.new.change c.settle.new.change (Ok (c.clock.result + c.args.ms, false)) [] c.self.invariant.0 c.self.invariant.1 c.set_clock.ensures.extends (refl, refl) (after-clock c.self.inside.parts c.set_clock.new.self _ c.self.invariant.0.counted c.set_clock.ensures.node (Ok (c.clock.result + c.args.ms, false))) e.none e.room c.settle.result e.refused e.undone e.stands e.kept e.parts e.edits in
+    let none : tick_refusal c.args.self.now c.args.ms ≡ None = sym c.tick_refusal.ensures.refusal ∙ c.in_default.is in
+    let clocks = c.clock.ensures.clock ∙ ap (λ (n : Node). n.clock) (sym c.self.view_is) in
+    let later : c.set_clock.new.self ≡ ticked c.self.inside.parts c.args.ms = c.set_clock.ensures.node ∙ ap (λ k. record c.self.inside.parts { clock = k + c.args.ms }) clocks in
+    let node = settled-answer c.set_clock.new.self c.settle.new.parts (Ok (c.clock.result + c.args.ms, false)) (λ (t : ℕ) (n : Node). n ≡ ticked c.self.inside.parts c.args.ms) later c.settle.result e.stands e.kept in
+    let clock = settled-answer c.set_clock.new.self c.settle.new.parts (Ok (c.clock.result + c.args.ms, false)) (λ (t : ℕ) (n : Node). t ≡ n.clock) (ap (λ (n : Node). n.clock) (sym c.set_clock.ensures.node)) c.settle.result e.stands e.kept in
+    record {
+      refused = subst (λ (o : Option Refusal). IfErr c.settle.result (IsRefusal o)) (sym none) e.refused;
+      unchanged = rw (← c.self.view_is) s.unchanged;
+      not_refused = where_ok c.settle.result none;
+      node = rw (← c.self.view_is) node;
+      clock = clock;
+      leads_back = rw (← c.self.view_is) s.leads_back;
+      weight = few c.settle.result s.weight;
+    }

@@ -1,0 +1,49 @@
+-- The parts of a flush. No contract of a public call cites this.
+use Rattle.std.specs.Prelude.{ℕ, List, map, IsSome}
+use Rattle.std.specs.List.{flat_map, prefix_len}
+use Rattle.pfl_base.specs.Lists.{neighbours}
+use Rattle.pfl_base.specs.declared.state_name.StateName.{StateName}
+use Rattle.pfl_edits.specs.Maps as maps
+use Rattle.pfl_wire.specs.declared.action.Action.{Action}
+use Rattle.pfl_wire.specs.declared.message.Message.{Message}
+use Rattle.pfl_wire.specs.Frames.{Frame, action_of}
+use Rattle.pfl_queue.specs.declared.Entry.{Entry}
+use Rattle.pfl_queue.specs.declared.Entry.TheVariants.{Marked}
+use Rattle.pfl_queue.specs.declared.Kind.{Kind}
+use Rattle.pfl_queue.specs.declared.Kind.TheVariants.{Delete}
+use Rattle.pfl_queue.specs.Taking.{entry_action, one_action, next_frame, left_by}
+use Rattle.pfl_queue.specs.declared.edits.QueueEdit.{QueueEdit}
+use Rattle.pfl_node.specs.declared.edit.NodeEdit.{NodeEdit}
+use Rattle.pfl_node.specs.declared.edit.NodeEdit.TheVariants.{OfQueue}
+use Rattle.pfl_node.specs.Flushing.{messages_of}
+use Rattle.pfl_node.specs.Nodes.{Node}
+
+-- what is told of a name by the kind is there: its state, except of a deletion
+abbrev pub HasState : Node → Kind → StateName → Type 0
+HasState n Delete name = Unit {0}
+HasState n _ name = IsSome (maps.get n.states name)
+
+-- what is told by the entry is there
+abbrev pub IsTold : Node → Entry → Type 0
+IsTold n (Marked kind number name) = HasState n kind name
+IsTold n _ = Unit {0}
+
+-- how many of the entries in front are told by the action
+abbrev pub run_of : Action → List Entry → ℕ
+run_of action es = prefix_len (λ e. one_action (entry_action e) action) es
+
+-- the groups of a frame of these entries
+abbrev pub groups_of : Node → List Entry → List (List Message)
+groups_of n es = neighbours (λ a b. one_action (action_of a) (action_of b)) (flat_map (messages_of n) es)
+
+-- the frame of these entries
+abbrev pub frame_with : Node → List Entry → Frame
+frame_with n es = record { print = n.rules.print; groups = groups_of n es }
+
+-- the node without the entries of its next frame
+abbrev pub taken_from : Node → Node
+taken_from n = record n { queue = left_by n.queue (next_frame n.queue n.limits.mtu) }
+
+-- the edits of what is pending, as edits of the node
+abbrev pub of_queue : List QueueEdit → List NodeEdit
+of_queue edits = map OfQueue edits

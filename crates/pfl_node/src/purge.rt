@@ -1,0 +1,70 @@
+//! What has expired is deleted (pf.conf(5), `interval`).
+
+ghost use Rattle.std.specs.List.{slice_get};
+ghost use Rattle.std.specs.Prelude.{◌≡◌, ◌≤◌, ◌+◌, ◌*◌, None, IfOk, IfErr, OnOk, OnErr, length};
+ghost use Rattle.pfl_node.specs.Edits.{NodeExtends, NodeLeadsBack, total};
+ghost use Rattle.pfl_node.specs.Events as event;
+ghost use Rattle.pfl_node.specs.Judging.{Went};
+ghost use Rattle.pfl_node.specs.Nodes.{Node as Whole, IsRefusal, points_refusal};
+ghost use Rattle.pfl_queue.specs.Queues.{most_numbers};
+
+use crate::edit::NodeEdit;
+use crate::node::Node;
+use crate::parts::Parts;
+use crate::parts::judge::{Overfull, any, settle};
+use pfl_base::Refusal;
+use pfl_edits::Change;
+use pfl_track::State;
+use std::alloc::Allocator;
+
+impl<A: Allocator + Copy> Node<A> {
+    /// Deletes all states that have expired, the first to expire first, and tells how many. It is refused where after one of
+    /// the deletions too much would be pending, and else where after one of them a number would be too high.
+    pub fn purge(&mut self) -> Result<(usize, Change<NodeEdit, A>), Refusal>
+        ensures refused { IfErr result (IsRefusal (points_refusal (event.purge_points self.old))) }
+        ensures unchanged { OnErr result (self.new ≡ self.old) }
+        ensures not_refused { OnOk result (points_refusal (event.purge_points self.old) ≡ None) }
+        ensures node { OnOk result (self.new ≡ event.purged self.old) }
+        ensures count { IfOk result (λ r. r.0 ≡ length (event.expired_states self.old)) }
+        ensures leads_back { IfOk result (λ r. NodeLeadsBack r.1.list self.old self.new) }
+        ensures weight { IfOk result (λ r. length r.1.list ≤ 5 * length (event.expired_states self.old)) }
+    {
+        let tried = self.parts.purge(&mut self.edits);
+        settle(self.alloc, &mut self.parts, &mut self.edits, tried)
+    }
+}
+
+impl<A: Allocator> Parts<A> {
+    /// Deletes all states that have expired, and tells how many, and whether after one of them a number was too high.
+    fn purge(&mut self, change: &mut Change<NodeEdit, A>) -> Result<(usize, bool), Overfull>
+        requires room { 5 * length (event.expired_states self.old) ≤ change.old.spare }
+        requires countable { total self.old + change.old.spare ≤ most_numbers }
+        ensures went { Went result (event.purge_points self.old) }
+        ensures node { OnOk result (self.new ≡ event.purged self.old) }
+        ensures count { IfOk result (λ r. r.0 ≡ length (event.expired_states self.old)) }
+        ensures extends { NodeExtends (5 * length (event.expired_states self.old)) change.old change.new self.old self.new }
+    {
+        self.known();
+        let mut count = 0;
+        let mut overcounted = false;
+        while let Some(state) = self.first_expired() {
+            self.known();
+            self.delete(&state, change)?;
+            overcounted = any(overcounted, self.is_overcounted());
+            count += 1;
+        }
+        Ok((count, overcounted))
+    }
+
+    /// Of the states that have expired, the first to expire.
+    fn first_expired(&self) -> Option<State>
+        ensures first { result ≡ slice_get (event.expired_states self.now) 0 }
+    {
+        let row = self.table.first_expiring()?;
+        if row.expires <= self.clock {
+            Some(row.state)
+        } else {
+            None
+        }
+    }
+}

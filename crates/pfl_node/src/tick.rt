@@ -1,0 +1,55 @@
+//! The clock goes on.
+
+ghost use Rattle.std.specs.Prelude.{◌≡◌, ◌≤◌, None, IfOk, IfErr, OnOk, OnErr, length};
+ghost use Rattle.pfl_node.specs.Edits.{NodeLeadsBack};
+ghost use Rattle.pfl_node.specs.Events as event;
+ghost use Rattle.pfl_node.specs.Nodes.{IsRefusal};
+
+use crate::edit::NodeEdit;
+use crate::node::Node;
+use crate::parts::judge::settle;
+use pfl_base::{Millis, Refusal};
+use pfl_edits::Change;
+use std::alloc::Allocator;
+
+/// The last millisecond that a clock shows.
+const LAST_MILLISECOND: Millis = 1_000_000_000_000;
+
+impl<A: Allocator> Node<A> {
+    /// Why the clock does not go on by so many milliseconds, if there is a reason.
+    fn tick_refusal(&self, ms: u64) -> Option<Refusal>
+        ensures refusal { result ≡ event.tick_refusal self.now ms }
+    {
+        self.known();
+        if LAST_MILLISECOND - self.clock() < ms {
+            Some(Refusal::ClockFull)
+        } else {
+            None
+        }
+    }
+}
+
+impl<A: Allocator + Copy> Node<A> {
+    /// The clock goes on by so many milliseconds; its new time is answered.
+    pub fn tick(&mut self, ms: u64) -> Result<(Millis, Change<NodeEdit, A>), Refusal>
+        ensures refused { IfErr result (IsRefusal (event.tick_refusal self.old ms)) }
+        ensures unchanged { OnErr result (self.new ≡ self.old) }
+        ensures not_refused { OnOk result (event.tick_refusal self.old ms ≡ None) }
+        ensures node { OnOk result (self.new ≡ event.ticked self.old ms) }
+        ensures clock { IfOk result (λ r. r.0 ≡ self.new.clock) }
+        ensures leads_back { IfOk result (λ r. NodeLeadsBack r.1.list self.old self.new) }
+        ensures weight { IfOk result (λ r. length r.1.list ≤ 12) }
+    {
+        if let Some(refusal) = self.tick_refusal(ms) {
+            return Err(refusal);
+        }
+        let clock = self.clock() + ms;
+        self.parts.set_clock(clock, &mut self.edits);
+        settle(
+            self.alloc,
+            &mut self.parts,
+            &mut self.edits,
+            Ok((clock, false)),
+        )
+    }
+}

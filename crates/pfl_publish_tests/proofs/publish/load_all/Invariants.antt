@@ -1,5 +1,0 @@
-use Rattle.std.proofs.Common.{◌≡◌, length, true}
-use Rattle.pfl_publish_tests.proofs.publish.load_all.Given as goal
-
-abbrev pub invariant-loop-i : goal.invariant-loop-i
-invariant-loop-i l = (l.viewer.table ≡ l.initial.viewer.table) × (l.viewer.trying ≡ true) × (length l.viewer.held ≡ l.i)

@@ -1,5 +1,0 @@
-//! Worked queues, through the public calls of pfl_queue.
-#![tactic(auto)]
-
-#[cfg(test)]
-mod queue;

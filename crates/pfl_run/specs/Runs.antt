@@ -1,0 +1,122 @@
+-- What a run of the laboratory does (this project's profile).
+use Rattle.std.specs.Prelude.{◌≡◌, ℕ, ◌==◌, Bool, true, false, List, take, Option, Some, None, ◌⊎◌, if◌then◌else◌}
+use Rattle.std.specs.Io.KnownBytes.{Appends, Keeps}
+use Rattle.pfl_rules.specs.declared.fault.RuleFault.{RuleFault}
+use Rattle.pfl_rules.specs.Rules.{Rules}
+use Rattle.pfl_node.specs.declared.limits.Limits.{Limits}
+use Rattle.pfl_world.specs.declared.fault.WorldFault.{WorldFault}
+use Rattle.pfl_world.specs.Worlds.{new_world, world_fault}
+use Rattle.pfl_timeline.specs.Timelines.{Timeline, new_timeline}
+use Rattle.pfl_script.specs.Readers.{Source}
+use Rattle.pfl_script.specs.Answers.{RunsWhole, RunsPart}
+use Rattle.pfl_script.specs.Setups.{IsFaultyAt, IsUnopened, HasRuleFault, ReadsSetupTo}
+use Rattle.pfl_run.specs.declared.fault.LabFault.{LabFault}
+use Rattle.pfl_run.specs.declared.fault.LabFault.TheVariants as fault
+use Rattle.pfl_run.specs.Faults.{fault_text, fault_status}
+
+-- the lines up to number n set a pair up, and its branch `main` is empty
+pub record SetsUp (old new : Option (List ℕ)) (n : ℕ) (t : Timeline) : Type 0 where
+  pub limits : Limits
+  pub rules_a : Rules
+  pub rules_b : Rules
+  pub setup : ReadsSetupTo old new n limits rules_a rules_b
+  pub faultless : world_fault limits ≡ None
+  pub opening : t ≡ new_timeline (new_world limits rules_a rules_b)
+
+-- all lines were executed, and so many of those behind the setup are faulty
+pub record RunsToEnd (old new : Option (List ℕ)) (w v : Option (List ℕ)) (bad : ℕ) : Type 0 where
+  pub mid : Option (List ℕ)
+  pub number : ℕ
+  pub first : Timeline
+  pub last : Timeline
+  pub lines : ℕ
+  pub sets_up : SetsUp old mid number first
+  pub runs : RunsWhole mid new first last w v lines bad
+
+-- a pair was set up, and first lines behind the setup were executed
+pub record RunsFirst (old : Option (List ℕ)) (w v : Option (List ℕ)) : Type 0 where
+  pub mid : Option (List ℕ)
+  pub number : ℕ
+  pub first : Timeline
+  pub last : Timeline
+  pub sets_up : SetsUp old mid number first
+  pub runs : RunsPart mid first last w v
+
+-- the lines up to number n set up limits that are none, for this reason
+pub record HasWorldFault (old : Option (List ℕ)) (n : ℕ) (why : WorldFault) : Type 0 where
+  pub mid : Option (List ℕ)
+  pub limits : Limits
+  pub rules_a : Rules
+  pub rules_b : Rules
+  pub setup : ReadsSetupTo old mid n limits rules_a rules_b
+  pub first : world_fault limits ≡ Some why
+
+-- the lines up to number n set up rules that are none, for this reason
+abbrev pub HasRuleFaultAt : Option (List ℕ) → ℕ → RuleFault → Type 0
+HasRuleFaultAt old n why = (mid : Option (List ℕ)) × HasRuleFault old mid n why
+
+-- why no pair opens over limits of a setup whose line `open` has this number: their first fault; where they have none,
+-- want of memory
+abbrev pub IsOpeningStop : LabFault → ℕ → Option WorldFault → Type 0
+IsOpeningStop (fault.World m why) n first = (m ≡ n) × (first ≡ Some why)
+IsOpeningStop fault.NoMemory n first = first ≡ None
+IsOpeningStop _ n first = ⊥
+
+-- why no pair was set up
+abbrev pub IsSetupStop : LabFault → Option (List ℕ) → Type 0
+IsSetupStop (fault.Line n why) old = IsFaultyAt old n why
+IsSetupStop (fault.Rule n why) old = HasRuleFaultAt old n why
+IsSetupStop (fault.World n why) old = HasWorldFault old n why
+IsSetupStop (fault.NoOpen n) old = IsUnopened old n
+IsSetupStop fault.Write old = ⊥
+IsSetupStop _ old = Unit {0}
+
+-- nothing was written, or the text of first lines behind the setup but for a part of the last one's
+abbrev pub WritesFirst : Option (List ℕ) → Option (List ℕ) → Option (List ℕ) → Type 0
+WritesFirst old w v = Keeps w v ⊎ RunsFirst old w v
+
+-- why a run stopped; the first four come before any command, and want of memory at any time
+abbrev pub IsStop : LabFault → Option (List ℕ) → Option (List ℕ) → Option (List ℕ) → Type 0
+IsStop (fault.Line n why) old w v = IsFaultyAt old n why × Keeps w v
+IsStop (fault.Rule n why) old w v = HasRuleFaultAt old n why × Keeps w v
+IsStop (fault.World n why) old w v = HasWorldFault old n why × Keeps w v
+IsStop (fault.NoOpen n) old w v = IsUnopened old n × Keeps w v
+IsStop fault.Write old w v = RunsFirst old w v
+IsStop _ old w v = WritesFirst old w v
+
+-- reader and writer have failed where a fault says so
+abbrev pub IsDeviceFault : LabFault → Source → Bool → Type 0
+IsDeviceFault fault.Read s failed = s.failed ≡ true
+IsDeviceFault fault.Write s failed = failed ≡ true
+IsDeviceFault fault.TooManyTurns s failed = s.turns ≡ 16777216
+IsDeviceFault _ s failed = Unit {0}
+
+-- the exit status after so many faulty lines
+abbrev pub ended_status : ℕ → ℕ
+ended_status bad = if bad == 0 then 0 else 1
+
+-- a text was written: whole, unless the writer has failed, and else in part
+pub record IsTold (text : List ℕ) (w v : Option (List ℕ)) (failed : Bool) : Type 0 where
+  pub whole : failed ≡ false → Appends w v text
+  pub part : (n : ℕ) × Appends w v (take n text)
+
+-- all lines were executed, and no fault is told
+pub record Ends (old new w v f g : Option (List ℕ)) (status : ℕ) : Type 0 where
+  pub bad : ℕ
+  pub runs : RunsToEnd old new w v bad
+  pub quiet : Keeps f g
+  pub exit : status ≡ ended_status bad
+
+-- the run stopped, and its fault is told; `broken` says of the writer, and `failed` of what the fault is told to, that it
+-- has failed
+pub record Stops (old : Option (List ℕ)) (reader : Source) (w v : Option (List ℕ)) (broken : Bool)
+    (f g : Option (List ℕ)) (failed : Bool) (status : ℕ) : Type 0 where
+  pub fault : LabFault
+  pub stop : IsStop fault old w v
+  pub device : IsDeviceFault fault reader broken
+  pub told : IsTold (fault_text fault) f g failed
+  pub exit : status ≡ fault_status fault
+
+-- a run's exit status: that of its end after so many faulty lines, or that of the fault that stopped it
+abbrev pub IsRunStatus : ℕ → Type 0
+IsRunStatus status = ((bad : ℕ) × (status ≡ ended_status bad)) ⊎ ((why : LabFault) × (status ≡ fault_status why))

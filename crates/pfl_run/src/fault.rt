@@ -1,0 +1,160 @@
+//! Why a run of the laboratory stopped.
+
+ghost use Rattle.std.specs.Prelude.{◌≡◌, ◌+◌, ◌≤◌, ◌++◌, length, codes};
+ghost use Rattle.std.specs.Fmt.{decimal};
+ghost use Rattle.arrayvec.specs.ArrayString.{array_string_len};
+ghost use Rattle.pfl_run.specs.Faults.{at_line, fault_text, fault_status, of_world};
+
+use arrayvec::ArrayString;
+use itoa::Buffer;
+use pfl_lines::LineFault;
+use pfl_rules::RuleFault;
+use pfl_script::{EngineFault, SetupFault};
+use pfl_world::WorldFault;
+
+/// A line that tells a fault.
+pub type FaultLine = ArrayString<80>;
+
+/// Why a run of the laboratory stopped. Lines count from 1.
+#[derive(Clone, Copy, Debug, PartialEq, Eq)]
+pub enum LabFault {
+    /// This line of the setup has a fault.
+    Line(u64, LineFault),
+    /// The rules have a fault; the line is that of `open`.
+    Rule(u64, RuleFault),
+    /// The limits have a fault; the line is that of `open`.
+    World(u64, WorldFault),
+    /// The lines ended, after so many, before `open`.
+    NoOpen(u64),
+    /// The reader failed.
+    Read,
+    /// The writer failed.
+    Write,
+    /// More calls of `read` were wanted than one run may make.
+    TooManyTurns,
+    /// There was no memory.
+    NoMemory,
+}
+
+impl LabFault {
+    /// A fault of limits, which the line `open` with this number ends.
+    pub fn of_world(line: u64, fault: WorldFault) -> LabFault
+        ensures { result ≡ of_world line fault }
+    {
+        match fault {
+            WorldFault::TooSmall | WorldFault::TooLarge => LabFault::World(line, fault),
+            WorldFault::NoMemory => LabFault::NoMemory,
+        }
+    }
+
+    /// The line that tells the fault; it takes no memory.
+    pub fn line(self) -> FaultLine
+        ensures { result.bytes ≡ fault_text self }
+    {
+        match self {
+            LabFault::Line(line, fault) => numbered_line(line, "line ", fault.number()),
+            LabFault::Rule(line, fault) => numbered_line(line, "rule ", fault.number()),
+            LabFault::World(line, fault) => numbered_line(line, "world ", fault.number()),
+            LabFault::NoOpen(line) => unopened_line(line),
+            LabFault::Read => plain_line("pfl_lab: read\n"),
+            LabFault::Write => plain_line("pfl_lab: write\n"),
+            LabFault::TooManyTurns => plain_line("pfl_lab: too many turns\n"),
+            LabFault::NoMemory => plain_line("pfl_lab: no memory\n"),
+        }
+    }
+
+    /// The exit status of the program: 3 for want of memory, else 1.
+    pub fn status(self) -> u8
+        ensures { result ≡ fault_status self }
+    {
+        match self {
+            LabFault::NoMemory => 3,
+            _ => 1,
+        }
+    }
+}
+
+/// Appends a number.
+fn push_number(line: &mut FaultLine, number: u64)
+    requires room { array_string_len line.old ≤ 60 }
+    ensures bytes { line.new.bytes ≡ line.old.bytes ++ decimal number }
+    ensures few { array_string_len line.new ≤ array_string_len line.old + 20 }
+{
+    let mut digits = Buffer::new();
+    line.push_str(digits.format(number));
+}
+
+/// A line with this text.
+fn plain_line(text: &str) -> FaultLine
+    requires room { length text.now ≤ 80 }
+    ensures bytes { result.bytes ≡ text.now }
+    ensures len { array_string_len result ≡ length text.now }
+{
+    let mut line = ArrayString::new();
+    line.push_str(text);
+    line
+}
+
+/// The first words of the line for a fault of the setup, which is at the line with the number.
+fn setup_line(number: u64) -> FaultLine
+    ensures bytes { result.bytes ≡ codes "pfl_lab: setup line " ++ decimal number ++ codes ": " }
+    ensures few { array_string_len result ≤ 42 }
+{
+    let mut line = plain_line("pfl_lab: setup line ");
+    push_number(&mut line, number);
+    line.push_str(": ");
+    line
+}
+
+/// The line for a fault of the setup that has a number of its own, behind the word that says what it is of.
+fn numbered_line(number: u64, what: &str, fault: u8) -> FaultLine
+    requires short { length what.now ≤ 6 }
+    ensures { result.bytes ≡ at_line number (what.now ++ decimal fault ++ codes "\n") }
+{
+    let mut line = setup_line(number);
+    line.push_str(what);
+    push_number(&mut line, u64::from(fault));
+    line.push_str("\n");
+    line
+}
+
+/// The line for lines that end, after so many, before `open`.
+fn unopened_line(number: u64) -> FaultLine
+    ensures { result.bytes ≡ at_line number (codes "no open\n") }
+{
+    let mut line = setup_line(number);
+    line.push_str("no open\n");
+    line
+}
+
+impl From<SetupFault> for LabFault {
+    ghost use Rattle.pfl_run.specs.Faults.{of_setup};
+
+    ghost from_gives = { λ setup fault. fault ≡ of_setup setup };
+
+    fn from(fault: SetupFault) -> LabFault {
+        match fault {
+            SetupFault::Line(line, fault) => LabFault::Line(line, fault),
+            SetupFault::Rule(line, fault) => LabFault::Rule(line, fault),
+            SetupFault::NoOpen(lines) => LabFault::NoOpen(lines),
+            SetupFault::Read => LabFault::Read,
+            SetupFault::TooManyTurns => LabFault::TooManyTurns,
+            SetupFault::NoMemory => LabFault::NoMemory,
+        }
+    }
+}
+
+impl From<EngineFault> for LabFault {
+    ghost use Rattle.pfl_run.specs.Faults.{of_engine};
+
+    ghost from_gives = { λ engine fault. fault ≡ of_engine engine };
+
+    fn from(fault: EngineFault) -> LabFault {
+        match fault {
+            EngineFault::Read => LabFault::Read,
+            EngineFault::Write => LabFault::Write,
+            EngineFault::TooManyTurns => LabFault::TooManyTurns,
+            EngineFault::NoMemory => LabFault::NoMemory,
+        }
+    }
+}

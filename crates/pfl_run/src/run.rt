@@ -1,0 +1,120 @@
+//! Runs of the laboratory.
+
+ghost use Rattle.std.specs.Prelude.{◌≡◌, ◌⊎◌, None, false, IfOk, IfErr, OnOk};
+ghost use Rattle.pfl_world.specs.Worlds.{new_world, world_fault};
+ghost use Rattle.pfl_timeline.specs.Timelines.{new_timeline};
+ghost use Rattle.pfl_run.specs.Faults.{fault_status, fault_text};
+ghost use Rattle.pfl_run.specs.Runs.{Ends, IsDeviceFault, IsOpeningStop, IsSetupStop, IsStop, IsTold, RunsToEnd, SetsUp, Stops, ended_status};
+
+use crate::fault::LabFault;
+use pfl_base::{Input, Output};
+use pfl_edits::NoMemory;
+use pfl_script::{Ended, LineReader, Setup, read_setup, run_lines, write_text};
+use pfl_timeline::Timeline;
+use pfl_world::World;
+use std::alloc::Allocator;
+
+/// The pair of a setup, with an empty branch `main`. The setup's line `open` has the number.
+fn open_timeline<A: Allocator + Copy>(
+    alloc: A,
+    setup: Setup<A>,
+    number: u64,
+) -> Result<Timeline<A>, LabFault>
+    ensures faultless { OnOk result (world_fault setup.limits ≡ None) }
+    ensures opening { IfOk result (λ timeline. timeline ≡ new_timeline (new_world setup.limits setup.rules_a setup.rules_b)) }
+    ensures fault { IfErr result (λ fault. IsOpeningStop fault number (world_fault setup.limits)) }
+{
+    let Setup {
+        limits,
+        rules_a,
+        rules_b,
+    } = setup;
+    match World::new(alloc, limits, rules_a, rules_b) {
+        Ok(world) => match Timeline::new(alloc, world) {
+            Ok(timeline) => Ok(timeline),
+            Err(NoMemory) => Err(LabFault::NoMemory),
+        },
+        Err(fault) => Err(LabFault::of_world(number, fault)),
+    }
+}
+
+/// Sets a pair up by the first lines that the reader has, up to `open`.
+fn set_up<A: Allocator + Copy, R: Input>(
+    alloc: A,
+    reader: &mut LineReader<R>,
+) -> Result<Timeline<A>, LabFault>
+    requires fresh { reader.old.lines ≡ 0 }
+    ensures sets_up { IfOk result (λ timeline. SetsUp reader.old.left reader.new.left reader.new.lines timeline) }
+    ensures stop { IfErr result (λ fault. IsSetupStop fault reader.old.left) }
+    ensures device { IfErr result (λ fault. IsDeviceFault fault reader.new false) }
+{
+    match read_setup(alloc, reader) {
+        Ok(setup) => open_timeline(alloc, setup, reader.lines()),
+        Err(fault) => Err(LabFault::from(fault)),
+    }
+}
+
+/// Sets a pair up by the first lines of the reader, and executes the others: their replies go to the writer.
+pub fn run_whole<A: Allocator + Copy, R: Input, W: Output>(
+    alloc: A,
+    reader: &mut LineReader<R>,
+    writer: &mut W,
+) -> Result<Ended, LabFault>
+    requires fresh { reader.old.lines ≡ 0 }
+    ensures ends { IfOk result (λ ended. RunsToEnd reader.old.left reader.new.left (W.written writer.old) (W.written writer.new) ended.bad) }
+    ensures stop { IfErr result (λ fault. IsStop fault reader.old.left (W.written writer.old) (W.written writer.new)) }
+    ensures device { IfErr result (λ fault. IsDeviceFault fault reader.new (W.has_failed writer.new)) }
+{
+    match set_up(alloc, reader) {
+        Ok(mut timeline) => match run_lines(alloc, reader, writer, &mut timeline) {
+            Ok(ended) => Ok(ended),
+            Err(fault) => Err(LabFault::from(fault)),
+        },
+        Err(fault) => Err(fault),
+    }
+}
+
+/// Writes a text as far as the writer takes it.
+fn tell_text<F: Output>(faults: &mut F, text: &[u8])
+    ensures { IsTold text.now (F.written faults.old) (F.written faults.new) (F.has_failed faults.new) }
+{
+    let _ = write_text(faults, text);
+}
+
+/// Tells a fault by its line, and answers the program's exit status.
+pub fn tell<F: Output>(fault: LabFault, faults: &mut F) -> u8
+    ensures told { IsTold (fault_text fault) (F.written faults.old) (F.written faults.new) (F.has_failed faults.new) }
+    ensures status { result ≡ fault_status fault }
+{
+    let line = fault.line();
+    tell_text(faults, line.as_str().as_bytes());
+    fault.status()
+}
+
+/// The exit status after so many faulty lines.
+fn ended_status(bad: u64) -> u8
+    ensures { result ≡ ended_status bad }
+{
+    if bad == 0 { 0 } else { 1 }
+}
+
+/// Runs the lines of a reader: the first set a pair up, and the others are executed; their replies go to the writer. Why
+/// a run stops is told in one line to `faults`. The answer is the program's exit status: 0, or 1 after a fault or a faulty
+/// line, or 3 for want of memory.
+pub fn run_lab<A: Allocator + Copy, R: Input, W: Output, F: Output>(
+    alloc: A,
+    reader: &mut LineReader<R>,
+    writer: &mut W,
+    faults: &mut F,
+) -> u8
+    requires fresh { reader.old.lines ≡ 0 }
+    ensures { Ends reader.old.left reader.new.left (W.written writer.old) (W.written writer.new)
+        (F.written faults.old) (F.written faults.new) result
+        ⊎ Stops reader.old.left reader.new (W.written writer.old) (W.written writer.new) (W.has_failed writer.new)
+        (F.written faults.old) (F.written faults.new) (F.has_failed faults.new) result }
+{
+    match run_whole(alloc, reader, writer) {
+        Ok(ended) => ended_status(ended.bad),
+        Err(fault) => tell(fault, faults),
+    }
+}

@@ -1,0 +1,96 @@
+-- A command leaves every other branch as it was.
+use Rattle.std.specs.Prelude.{◌≡◌, ℕ, ◌-◌, Bool, true, false, nat_lt, List, [], ◌∷◌, length, map, find, Option, Some, None, Ok, Err, refl, if◌then◌else◌}
+use Rattle.std.specs.Option.{option_map_or}
+use Rattle.std.proofs.Common.{cond, sym, ◌∙◌, ap}
+use Rattle.std.proofs.lemmas.Slice.Eq.{bytes_eq-Decides}
+use Rattle.pfl_edits.specs.Rows.{some_is_none}
+use Rattle.pfl_node.specs.Nodes.{refused_by}
+use Rattle.pfl_world.specs.declared.event.Event.{Event}
+use Rattle.pfl_world.specs.Events.{step}
+use Rattle.pfl_timeline.specs.declared.command.Command.TheVariants as command
+use Rattle.pfl_timeline.specs.declared.refused.Refused.{Refused}
+use Rattle.pfl_timeline.specs.declared.refused.Refused.TheVariants as refused
+use Rattle.pfl_timeline.specs.Commands.{replied, answered, with_branch, extended, step_answered, step_reply, back_reply, show_reply, step_command, back_command, show_command, command_step}
+use Rattle.pfl_timeline.specs.Laws.{CommandsLeaveOthers}
+use Rattle.pfl_timeline.specs.Replies.{Replied, Shown, Refused as Refusing}
+use Rattle.pfl_timeline.specs.Timelines.{Branch, Timeline, branch_of, same_name, world_of}
+
+-- ---- a search for another name
+
+-- the branches of the name
+abbrev called : List ℕ → Branch → Bool
+called name c = same_name c.name name
+
+-- a branch in place of the one of its name
+abbrev put : Branch → Branch → Branch
+put b c = if same_name c.name b.name then b else c
+
+-- one of the same name has another name than this, too
+apart_too : (b c : Branch) (name : List ℕ) → same_name b.name name ≡ false → same_name c.name b.name ≡ true → same_name c.name name ≡ false
+apart_too b c name apart same = ap (λ n. same_name n name) ((bytes_eq-Decides c.name b.name).0 same) ∙ apart
+
+module _ (b : Branch) (name : List ℕ) (apart : same_name b.name name ≡ false) where
+  find_put : (bs : List Branch) → find (called name) (map (put b) bs) ≡ find (called name) bs
+  find_put [] = refl
+  find_put (c ∷ cs) =
+      elim (same_name c.name b.name) as (λ t. same_name c.name b.name ≡ t → find (called name) ((if t then b else c) ∷ map (put b) cs) ≡ find (called name) (c ∷ cs)) [
+        | true ↦ λ same.
+            ap (λ t. cond t (Some b) (find (called name) (map (put b) cs))) apart
+            ∙ (find_put cs ∙ sym (ap (λ t. cond t (Some c) (find (called name) cs)) (apart_too b c name apart same)))
+        | false ↦ λ _. ap (λ (o : Option Branch). cond (same_name c.name name) (Some c) o) (find_put cs)
+      ] refl
+
+-- ---- commands
+
+-- the branch that is found has the name
+has_the_name : (of : List ℕ) (bs : List Branch) (b : Branch) → find (called of) bs ≡ Some b → same_name b.name of ≡ true
+has_the_name of [] b is = absurd (some_is_none b (sym is))
+has_the_name of (c ∷ cs) b is =
+    elim (same_name c.name of) as (λ t. same_name c.name of ≡ t → cond t (Some c) (find (called of) cs) ≡ Some b → same_name b.name of ≡ true) [
+      | true ↦ λ has here. let same : c ≡ b = cc in ap (λ (d : Branch). same_name d.name of) (sym same) ∙ has
+      | false ↦ λ _ later. has_the_name of cs b later
+    ] refl is
+
+abbrev Leaves : Timeline → List ℕ → Replied → Type 0
+Leaves t name done = branch_of done.timeline name ≡ branch_of t name
+
+leaves_named : (t : Timeline) (of name : List ℕ) (done : Branch → Replied) → ((b : Branch) → same_name b.name of ≡ true → Leaves t name (done b)) → Leaves t name (with_branch t of done)
+leaves_named t of name done leaves =
+    elim (branch_of t of) as (λ o. branch_of t of ≡ o → Leaves t name (option_map_or done o (replied t (Refusing refused.NoBranch)))) [
+      | None ↦ λ _. refl
+      | Some b ↦ λ here. leaves b (has_the_name of t.branches b here)
+    ] refl
+
+leaves_answered : (t : Timeline) (name : List ℕ) (o : Option Refused) (done : Replied) → Leaves t name done → Leaves t name (answered t o done)
+leaves_answered t name None done leaves = leaves
+leaves_answered t name (Some why) done leaves = refl
+
+module _ (t : Timeline) (of name : List ℕ) (apart : same_name of name ≡ false) where
+  other : (b : Branch) → same_name b.name of ≡ true → same_name b.name name ≡ false
+  other b has = ap (λ n. same_name n name) ((bytes_eq-Decides b.name of).0 has) ∙ apart
+
+  leaves_step : (e : Event) (b : Branch) → same_name b.name of ≡ true → Leaves t name (step_reply t e b)
+  leaves_step e b has =
+      elim (world_of t b) as (λ o. Leaves t name (option_map_or (λ w. step_answered t b e (step w e)) o (replied t (Refusing refused.NoBranch)))) [
+        | None ↦ refl
+        | Some w ↦ (elim (step w e) as (λ r. Leaves t name (step_answered t b e r)) [
+          | Ok s ↦ find_put (extended b e) name (other b has) t.branches
+          | Err why ↦ refl
+        ])
+      ]
+
+  leaves_back : (n : ℕ) (b : Branch) → same_name b.name of ≡ true → Leaves t name (back_reply t n b)
+  leaves_back n b has = leaves_answered t name (refused_by ((nat_lt b.cursor n, refused.TooFarBack) ∷ [])) _ (find_put (record b { cursor = b.cursor - n }) name (other b has) t.branches)
+
+leaves_show : (t : Timeline) (name : List ℕ) (b : Branch) → Leaves t name (show_reply t b)
+leaves_show t name b =
+    elim (world_of t b) as (λ o. Leaves t name (option_map_or (λ w. replied t (Shown b.name (length b.events) b.cursor w)) o (replied t (Refusing refused.NoBranch)))) [
+      | None ↦ refl
+      | Some w ↦ refl
+    ]
+
+pub others-stay : CommandsLeaveOthers
+unfolding command_step step_command back_command show_command
+others-stay t (command.Step of e) name apart = leaves_named t of name (step_reply t e) (leaves_step t of name apart e)
+others-stay t (command.Back of n) name apart = leaves_named t of name (back_reply t n) (leaves_back t of name apart n)
+others-stay t (command.Show of) name apart = leaves_named t of name (show_reply t) (λ b _. leaves_show t name b)

@@ -1,0 +1,8 @@
+use Rattle.std.proofs.Common.{arith, ◌≤◌, ◌∙◌, sym}
+use Rattle.pfl_world.proofs.Leads.{where_ok}
+use Rattle.pfl_world.proofs.world.World.lift_link.Goals as goal
+
+pub push-requires : goal.push-requires
+push-requires g c =
+    let room : 1 ≤ c.reserve.new.self.spare = where_ok c.reserve.result (sym c.is_err.ensures.value ∙ c.if-is_err.false) c.reserve.ensures.room in
+    record { room = omega (arith, room) }

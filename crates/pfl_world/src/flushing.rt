@@ -1,0 +1,114 @@
+//! A node's frame goes out to the other node (pfsync(4)).
+
+ghost use Rattle.std.specs.Prelude.{◌≡◌, ◌≤◌, ◌+◌, ◌*◌, None, IfOk, IfErr, OnOk, OnErr, length};
+ghost use Rattle.pfl_edits.specs.Changes.{Fits, back};
+ghost use Rattle.pfl_wire.specs.Spelling.{spelling};
+ghost use Rattle.pfl_node.specs.Edits.{NodeLeadsBack};
+ghost use Rattle.pfl_node.specs.Flushing as flushing;
+ghost use Rattle.pfl_node.specs.Nodes.{IsRefusal};
+ghost use Rattle.pfl_link.specs.Faults.{room_fault};
+ghost use Rattle.pfl_link.specs.Links.{sent};
+ghost use Rattle.pfl_world.specs.Steps.{flush_refusal, sent_frame};
+ghost use Rattle.pfl_world.specs.Weights.{flush_work};
+ghost use Rattle.pfl_world.specs.WorldEdits.{Finds, put_back, WorldLeadsBack};
+ghost use Rattle.pfl_world.specs.Worlds.{IsWorld, node_at, with_node, with_link};
+
+use crate::edit::{WorldChange, WorldEdit};
+use crate::outcome::Outcome;
+use crate::world::World;
+use pfl_base::{NodeId, Refusal};
+use pfl_edits::{Change, NoMemory};
+use pfl_link::Bytes;
+use pfl_node::NodeEdit;
+use std::alloc::Allocator;
+
+impl<A: Allocator> World<A> {
+    /// Why no frame goes out of a node, if there is a reason. It takes no memory.
+    fn flush_refusal(&self, node: NodeId) -> Option<Refusal>
+        ensures refusal { result ≡ flush_refusal self.now node }
+    {
+        if let Some(refusal) = self.node(node).flush_refusal() {
+            return Some(refusal);
+        }
+        match self.link.room_fault() {
+            Some(fault) => Some(Refusal::from(fault)),
+            None => None,
+        }
+    }
+}
+
+impl<A: Allocator + Copy> World<A> {
+    /// A frame goes out of a node.
+    pub(crate) fn flush(&mut self, node: NodeId) -> Result<(Outcome, WorldChange<A>), Refusal>
+        ensures refused { IfErr result (IsRefusal (flush_refusal self.old node)) }
+        ensures unchanged { OnErr result (self.new ≡ self.old) }
+        ensures not_refused { OnOk result (flush_refusal self.old node ≡ None) }
+        ensures world { OnOk result (self.new ≡ with_link (with_node self.old node (flushing.flushed (node_at self.old node))) (sent self.old.link (sent_frame self.old node))) }
+        ensures outcome { IfOk result (λ r. r.0 ≡ Outcome.Sent self.old.link.next (length (sent_frame self.old node).bytes)) }
+        ensures leads_back { IfOk result (λ r. WorldLeadsBack r.1.list self.old self.new) }
+        ensures weight { IfOk result (λ r. length r.1.list ≤ 2 + 2 * flush_work self.old node) }
+    {
+        self.known();
+        if let Some(refusal) = self.flush_refusal(node) {
+            return Err(refusal);
+        }
+        let (bytes, change) = self.flush_node(node)?;
+        let edits = self.lift(node, change)?;
+        match self.send(node.other(), Bytes::from(bytes), edits) {
+            Ok(sent) => Ok(sent),
+            Err(_) => Err(Refusal::NoMemory),
+        }
+    }
+
+    /// A node sends a frame, with the node's own edits.
+    fn flush_node(&mut self, node: NodeId) -> Result<(Vec<u8, A>, Change<NodeEdit, A>), Refusal>
+        ensures refused { IfErr result (IsRefusal (flushing.flush_refusal (node_at self.old node))) }
+        ensures unchanged { OnErr result (self.new ≡ self.old) }
+        ensures world { OnOk result (self.new ≡ with_node self.old node (flushing.flushed (node_at self.old node))) }
+        ensures bytes { IfOk result (λ r. r.0.items ≡ spelling (flushing.frame_of (node_at self.old node))) }
+        ensures leads_back { IfOk result (λ r. NodeLeadsBack r.1.list (node_at self.old node) (node_at self.new node)) }
+        ensures weight { IfOk result (λ r. length r.1.list ≤ 1 + 2 * flush_work self.old node) }
+    {
+        match node {
+            NodeId::A => {
+                let result = self.a.flush();
+                self.a.known();
+                result
+            }
+            NodeId::B => {
+                let result = self.b.flush();
+                self.b.known();
+                result
+            }
+        }
+    }
+
+    /// The link takes a frame, behind what was changed for it. Where there is no memory, all that is taken back.
+    fn send(
+        &mut self,
+        to: NodeId,
+        bytes: Bytes<A>,
+        mut edits: WorldChange<A>,
+    ) -> Result<(Outcome, WorldChange<A>), NoMemory>
+        requires fits { Fits Finds IsWorld put_back edits.list self.old }
+        requires room { room_fault self.old.link ≡ None }
+        ensures undone { OnErr result (self.new ≡ back put_back edits.list self.old) }
+        ensures world { OnOk result (self.new ≡ with_link self.old (sent self.old.link (record { to = to; bytes = bytes }))) }
+        ensures outcome { IfOk result (λ r. r.0 ≡ Outcome.Sent self.old.link.next (length bytes)) }
+        ensures leads_back { IfOk result (λ r. WorldLeadsBack r.1.list (back put_back edits.list self.old) self.new) }
+        ensures weight { IfOk result (λ r. length r.1.list ≡ length edits.list + 1) }
+    {
+        if edits.reserve(1).is_err() {
+            self.revert(edits);
+            return Err(NoMemory);
+        }
+        let len = bytes.len();
+        let Ok((ticket, edit)) = self.link.send(to, bytes) else {
+            self.revert(edits);
+            return Err(NoMemory);
+        };
+        self.link.known();
+        edits.push(WorldEdit::OfLink(edit));
+        Ok((Outcome::Sent { ticket, len }, edits))
+    }
+}

@@ -1,0 +1,70 @@
+//! Runs worked cases: scripts of the laboratory, below whose lines stand the replies that are expected. The words of the
+//! command line name folders; each of their files `*.pfl` is a case.
+#![tactic(auto)]
+
+mod difference;
+mod expected;
+mod trial;
+
+use anyhow::{Context, Result};
+use difference::Difference;
+use std::process::ExitCode;
+use std::{env, fs};
+use trial::Trial;
+
+/// Tells the first difference of a case, and answers whether there is none.
+fn passes(rt: &HostRuntime, path: &str) -> Result<bool> {
+    let script = fs::read_to_string(rt, path).context(format_args!("reading {path}"))?;
+    let trial = Trial::of(rt.alloc(), script.as_str())?;
+    match Difference::first(rt.alloc(), script.as_str(), &trial)? {
+        None => Ok(true),
+        Some(difference) => {
+            eprintln!(rt; "{path}{difference}")?;
+            Ok(false)
+        }
+    }
+}
+
+/// Adds the paths of a folder's cases.
+fn add_cases(rt: &HostRuntime, folder: &str, paths: &mut Vec<String>) -> Result<()> {
+    for entry in fs::read_dir(rt, folder).context(format_args!("opening {folder}"))? {
+        let entry = entry?;
+        if entry.file_name().ends_with(".pfl") {
+            paths.push(format!(in rt.alloc(); "{folder}/{}", entry.file_name())?)?;
+        }
+    }
+    Ok(())
+}
+
+/// The paths of the cases in all folders that the command line names, in order.
+fn case_paths(rt: &HostRuntime) -> Result<Vec<String>> {
+    let mut paths = Vec::new(rt.alloc());
+    for folder in env::args(rt)?.skip(1) {
+        add_cases(rt, folder.as_str(), &mut paths)?;
+    }
+    paths.sort()?;
+    Ok(paths)
+}
+
+/// How many of the cases fail.
+fn failures(rt: &HostRuntime, paths: &[String]) -> Result<usize> {
+    let mut failed = 0usize;
+    for path in paths {
+        if !passes(rt, path.as_str())? {
+            failed = failed.saturating_add(1);
+        }
+    }
+    Ok(failed)
+}
+
+fn main(rt: HostRuntime) -> Result<ExitCode> {
+    let paths = case_paths(&rt)?;
+    let failed = failures(&rt, paths.as_slice())?;
+    let count = paths.len();
+    if failed == 0 && count > 0 {
+        println!(rt; "{count} cases passed")?;
+        return Ok(ExitCode::SUCCESS);
+    }
+    println!(rt; "{failed} of {count} cases failed")?;
+    Ok(ExitCode::FAILURE)
+}

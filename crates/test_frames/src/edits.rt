@@ -1,0 +1,161 @@
+//! A value that goes back, rows in order, and want of memory.
+ghost use Rattle.std.specs.Prelude.{◌≡◌, IfSome, ⊤};
+ghost use Rattle.std.specs.Ordering.{nat_cmp};
+ghost use Rattle.std.proofs.lemmas.Cmp.{nat_cmp_total};
+ghost use Rattle.std.proofs.lemmas.Map.Lookups.{exact_unsigned};
+ghost use Rattle.pfl_edits.specs.Places.{value-both_ways};
+
+use linked_list_allocator::LocalHeap;
+use pfl_edits::{Change, Keyed, NoMemory, Reversible, Rows, undo_all};
+use std::alloc::Allocator;
+use std::cmp::Ordering;
+use std::test::*;
+use test_devices::Refusing;
+
+/// A number that counts up and down.
+#[derive(Drop)]
+struct Counter {
+    count: u64,
+}
+
+#[derive(Clone, Copy)]
+struct Counted {
+    before: u64,
+    after: u64,
+}
+
+impl Counter {
+    fn count_to(&mut self, after: u64) -> Counted
+        ensures edit { result ≡ record { before = self.old.count; after = after } }
+        ensures count { self.new.count ≡ after }
+    {
+        let before = self.count;
+        self.count = after;
+        Counted { before, after }
+    }
+}
+
+impl Reversible for Counter {
+    type Edit = Counted;
+
+    ghost finds = { λ e s. s ≡ record { count = e.after } };
+
+    ghost finds_former = { λ e s. s ≡ record { count = e.before } };
+
+    ghost put_back = { λ e s. record { count = e.before } };
+
+    ghost redone = { λ e s. record { count = e.after } };
+
+    ghost allows = { λ s. ⊤ };
+
+    fn undo(&mut self, edit: Counted) {
+        self.count = edit.before;
+    }
+
+    ghost both_ways = { λ e. value-both_ways (record { count = e.before }) (record { count = e.after }) };
+}
+
+#[test]
+fn takes_edits_back(rt: HostRuntime) -> Result<(), Fail> {
+    let mut counter = Counter { count: 1 };
+    let mut change = Change::new(rt.alloc());
+    change.reserve(2)?;
+    assert!(rt; change.is_empty());
+    change.push(counter.count_to(2));
+    change.push(counter.count_to(3));
+    assert_eq!(rt; (counter.count, change.len()), (3, 2));
+    undo_all(&mut counter, change);
+    assert_eq!(rt; counter.count, 1);
+    Ok(())
+}
+
+#[test]
+fn wants_memory(rt: HostRuntime) -> Result<(), Fail> {
+    let mut change: Change<Counted, _> = Change::new(rt.alloc());
+    assert_eq!(rt; change.reserve(usize::MAX), Err(NoMemory));
+    assert_eq!(rt; change.len(), 0);
+    assert!(rt; Rows::<Squared, _>::new(rt.alloc(), usize::MAX).is_err());
+    assert_eq!(rt; format!(in rt.alloc(); "{NoMemory}")?.as_str(), "no memory");
+    Ok(())
+}
+
+#[test]
+fn a_refused_growth_changes_nothing(rt: HostRuntime) {
+    let mut change: Change<Counted, _> = Change::new(Refusing);
+    assert_eq!(rt; change.reserve(1), Err(NoMemory));
+    assert_eq!(rt; (change.len(), change.reserve(0)), (0, Ok(())));
+    assert!(rt; Rows::<Squared, _>::new(Refusing, 1).is_err());
+}
+
+/// A number under its root.
+#[derive(Clone, Copy, Debug, PartialEq)]
+struct Squared {
+    root: u64,
+    square: u64,
+}
+
+impl Keyed for Squared {
+    type Key = u64;
+
+    ghost key = { λ s. s.root };
+
+    ghost order = { nat_cmp };
+
+    fn key(&self) -> u64 {
+        self.root
+    }
+
+    fn compare(a: u64, b: u64) -> Ordering {
+        a.cmp(&b)
+    }
+
+    ghost total = { nat_cmp_total };
+
+    ghost exact = { exact_unsigned };
+}
+
+const ONE: Squared = Squared { root: 1, square: 1 };
+
+const TWO: Squared = Squared { root: 2, square: 4 };
+
+const THREE: Squared = Squared { root: 3, square: 9 };
+
+/// Sets what stands under a root, where not all room is taken.
+fn set<A: Allocator>(rows: &mut Rows<Squared, A>, root: u64, at: Option<Squared>) -> Option<Squared>
+    requires keyed { IfSome at (λ s. s.root ≡ root) }
+{
+    if rows.is_full() {
+        return None;
+    }
+    rows.known();
+    rows.set(root, at)
+}
+
+#[test]
+fn keeps_rows_in_order(rt: HostRuntime) -> Result<(), Fail> {
+    let mut rows = Rows::new(rt.alloc(), 4)?;
+    set(&mut rows, 3, Some(THREE));
+    set(&mut rows, 1, Some(ONE));
+    set(&mut rows, 2, Some(TWO));
+    let copied = rows.copy()?;
+    assert_eq!(rt; set(&mut rows, 1, None), Some(ONE));
+    assert_eq!(rt;
+        (rows.get(1).copied(), rows.get(2).copied()),
+        (None, Some(TWO))
+    );
+    assert_eq!(rt; (copied.len(), copied.is_full()), (3, false));
+    assert_eq!(rt; copied.as_slice(), [ONE, TWO, THREE].as_slice());
+    assert_eq!(rt; copied.after(1), [TWO, THREE].as_slice());
+    Ok(())
+}
+
+#[test]
+fn a_copy_without_memory_changes_nothing(rt: HostRuntime) -> Result<(), Fail> {
+    // Room for one list of four rows.
+    let heap = LocalHeap::new(rt.alloc(), 96)?;
+    let mut rows = Rows::new(&heap, 4)?;
+    set(&mut rows, 2, Some(TWO));
+    assert_eq!(rt; rows.copy().err(), Some(NoMemory));
+    assert_eq!(rt; rows.as_slice(), [TWO].as_slice());
+    Ok(())
+}

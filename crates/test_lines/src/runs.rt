@@ -1,0 +1,82 @@
+//! Runs over devices that fail and without memory, a script that is empty, and words of the command line.
+
+use pfl_base::Std;
+use pfl_run::{Mode, mode_of, run_lab};
+use pfl_script::LineReader;
+use std::alloc::Global;
+use test_devices::{Bytewise, Narrow, Refusing};
+
+/// Nothing is read, so not even a setup.
+#[test]
+fn an_empty_script(rt: HostRuntime) {
+    let mut writer = Std::new(Vec::new(rt.alloc()));
+    let mut faults = Std::new(Vec::new(rt.alloc()));
+    let mut reader = LineReader::new(Std::new(b"".as_slice()));
+    let status = run_lab(rt.alloc(), &mut reader, &mut writer, &mut faults);
+    assert_eq!(rt; status, 1);
+    assert!(rt; writer.into_inner().is_empty());
+    assert!(rt; faults.into_inner().as_slice() == b"pfl_lab: setup line 0: no open\n".as_slice());
+}
+
+#[test]
+fn a_reader_fails(rt: HostRuntime) {
+    let mut writer = Std::new(Vec::new(rt.alloc()));
+    let mut faults = Std::new(Vec::new(rt.alloc()));
+    let mut reader = LineReader::new(Std::new(Bytewise {
+        bytes: b"open\nback main 0\n",
+        good: 16,
+    }));
+    let status = run_lab(rt.alloc(), &mut reader, &mut writer, &mut faults);
+    assert_eq!(rt; status, 1);
+    assert!(rt; writer.into_inner().is_empty());
+    assert!(rt; faults.into_inner().as_slice() == b"pfl_lab: read\n".as_slice());
+}
+
+#[test]
+fn a_writer_fails(rt: HostRuntime) {
+    let mut writer = Std::new(Narrow::new(3));
+    let mut faults = Std::new(Vec::new(rt.alloc()));
+    let mut reader = LineReader::new(Std::new(b"open\nback main 0\nback main 0\n".as_slice()));
+    let status = run_lab(rt.alloc(), &mut reader, &mut writer, &mut faults);
+    assert_eq!(rt; status, 1);
+    assert_eq!(rt; writer.into_inner().len, 3);
+    assert!(rt; faults.into_inner().as_slice() == b"pfl_lab: write\n".as_slice());
+}
+
+#[test]
+fn without_memory(rt: HostRuntime) {
+    let mut writer = Std::new(Vec::new(rt.alloc()));
+    let mut faults = Std::new(Vec::new(rt.alloc()));
+    let mut reader = LineReader::new(Std::new(b"rule a pass out\nopen\n".as_slice()));
+    let status = run_lab(Refusing, &mut reader, &mut writer, &mut faults);
+    assert_eq!(rt; status, 3);
+    assert!(rt; faults.into_inner().as_slice() == b"pfl_lab: no memory\n".as_slice());
+}
+
+#[test]
+fn a_fault_is_told_without_memory(rt: HostRuntime) {
+    let mut writer = Std::new(Vec::new(rt.alloc()));
+    let mut faults = Std::new(Vec::new(rt.alloc()));
+    let mut reader = LineReader::new(Std::new(b"set states x\n".as_slice()));
+    let status = run_lab(Refusing, &mut reader, &mut writer, &mut faults);
+    assert_eq!(rt; status, 1);
+    assert!(rt; faults.into_inner().as_slice() == b"pfl_lab: setup line 1: line 5\n".as_slice());
+}
+
+/// Why the words ask for no mode: the exit status, if they do not.
+fn words_status(alloc: Global, words: &[&str]) -> Option<u8> {
+    match mode_of(alloc, words) {
+        Ok(Mode::Run) => None,
+        Err(fault) => Some(fault.status()),
+    }
+}
+
+#[test]
+fn words(rt: HostRuntime) {
+    let alloc = rt.alloc();
+    assert_eq!(rt; words_status(alloc, &["pfl_lab", "run"]), None);
+    assert_eq!(rt; words_status(alloc, &["pfl_lab"]), Some(2));
+    assert_eq!(rt; words_status(alloc, &["pfl_lab", "fly"]), Some(2));
+    assert_eq!(rt; words_status(alloc, &["pfl_lab", "run", "now"]), Some(2));
+    assert_eq!(rt; words_status(alloc, &["pfl_lab", "--help"]), Some(0));
+}

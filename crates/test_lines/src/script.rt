@@ -1,0 +1,136 @@
+//! Lines over memory, and devices that fail.
+
+use pfl_base::{Output, Std};
+use pfl_lines::LineFault;
+use pfl_node::Limits;
+use pfl_rules::{Action, RuleFault, RuleSet};
+use pfl_script::{EngineFault, LineReader, Setup, SetupFault, read_setup, write_text};
+use std::alloc::{Allocator, Global};
+use std::test::Fail;
+use test_devices::{Bytewise, Endless, Narrow, Refusing};
+
+#[test]
+fn a_writer_fails_in_mid_line(rt: HostRuntime) {
+    let mut writer = Std::new(Narrow::new(20));
+    let written = write_text(&mut writer, b"bad 3 Unknown\nbad 3 Unknown\n");
+    assert_eq!(rt; written, Err(EngineFault::Write));
+    assert!(rt; writer.failed());
+    let Narrow { taken, len, .. } = writer.into_inner();
+    assert_eq!(rt; len, 20);
+    assert_eq!(rt; &taken[..20], b"bad 3 Unknown\nbad 3 ".as_slice());
+}
+
+#[test]
+fn long_lines(rt: HostRuntime) -> Result<(), Fail> {
+    let mut bytes = [b'0'; 1100];
+    bytes[..10].copy_from_slice(b"back main ");
+    bytes[512] = b'\r';
+    bytes[513] = b'\n';
+    bytes[514] = b'x';
+    let mut reader = LineReader::new(Std::new(&bytes[..]));
+    let Some(first) = reader.next_line()? else {
+        return Err("a line of 512 bytes".into());
+    };
+    assert!(rt; matches!(first.parse(), Ok(_)));
+    let Some(second) = reader.next_line()? else {
+        return Err("a longer line".into());
+    };
+    assert!(rt; matches!(second.parse(), Err(LineFault::Long)));
+    assert!(rt; second.has_word());
+    assert!(rt; reader.next_line()?.is_none());
+    assert!(rt; reader.next_line()?.is_none());
+    assert_eq!(rt; reader.lines(), 2);
+    Ok(())
+}
+
+/// What the rule with the number does.
+fn action_of<A: Allocator>(rules: &RuleSet<A>, number: u16) -> Option<Action> {
+    match rules.rule(number) {
+        Some(rule) => Some(rule.action),
+        None => None,
+    }
+}
+
+/// The setup lines have this fault.
+fn is_bad_setup(alloc: Global, lines: &[u8], fault: SetupFault) -> bool {
+    let mut reader = LineReader::new(Std::new(lines));
+    matches!(read_setup(alloc, &mut reader), Err(given) if given == fault)
+}
+
+#[test]
+fn setup_of_both_nodes(rt: HostRuntime) -> Result<(), Fail> {
+    let lines =
+        b"set states 2\n# a comment\nset defer 1\nset states 3\nrule b block any\nrule b pass out\nopen\nshow main\n".as_slice();
+    let mut reader = LineReader::new(Std::new(lines));
+    let Ok(setup) = read_setup(rt.alloc(), &mut reader) else {
+        return Err("a setup".into());
+    };
+    let Setup {
+        limits,
+        rules_a,
+        rules_b,
+    } = setup;
+    assert_eq!(rt;
+        limits,
+        Limits {
+            states: 3,
+            defer: true,
+            ..Limits::default()
+        }
+    );
+    assert_eq!(rt; action_of(&rules_a, 0), None);
+    assert_eq!(rt; action_of(&rules_b, 0), Some(Action::Block));
+    assert_eq!(rt; action_of(&rules_b, 1), Some(Action::Pass));
+    assert_eq!(rt; reader.lines(), 7);
+    let Some(next) = reader.next_line()? else {
+        return Err("the line behind the setup".into());
+    };
+    assert!(rt; matches!(next.parse(), Ok(_)));
+    Ok(())
+}
+
+#[test]
+fn faulty_setups(rt: HostRuntime) -> Result<(), Fail> {
+    assert!(rt; is_bad_setup(rt.alloc(), b"", SetupFault::NoOpen(0)));
+    assert!(rt;
+        is_bad_setup(
+            rt.alloc(),
+            b"\n# no more\nrule a pass out",
+            SetupFault::NoOpen(3)
+        )
+    );
+    assert!(rt;
+        is_bad_setup(
+            rt.alloc(),
+            b"\nset states x\nopen\n",
+            SetupFault::Line(2, LineFault::Number)
+        )
+    );
+    assert!(rt;
+        is_bad_setup(
+            rt.alloc(),
+            b"rule b pass any nat 10.0.0.1:1\nrule a pass out max 0\nopen\n",
+            SetupFault::Rule(3, RuleFault::ZeroMax)
+        )
+    );
+    let mut reader = LineReader::new(Std::new(b"rule a pass out\nopen\n".as_slice()));
+    assert!(rt; matches!(read_setup(Refusing, &mut reader), Err(SetupFault::NoMemory)));
+    let bytes = Bytewise {
+        bytes: b"open\n",
+        good: 4,
+    };
+    let mut reader = LineReader::new(Std::new(bytes));
+    assert!(rt; matches!(read_setup(rt.alloc(), &mut reader), Err(SetupFault::Read)));
+    assert!(rt; reader.turns() == 5);
+    Ok(())
+}
+
+#[test]
+fn a_line_without_end(rt: HostRuntime) {
+    let mut reader = LineReader::new(Endless { calls: 0 });
+    let setup = read_setup(rt.alloc(), &mut reader);
+    assert!(rt; matches!(setup, Err(SetupFault::TooManyTurns)));
+    assert_eq!(rt; reader.turns(), 16777216);
+    assert_eq!(rt; reader.lines(), 0);
+    assert_eq!(rt; reader.into_inner().calls, 16777216);
+}

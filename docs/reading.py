@@ -1,0 +1,227 @@
+#!/usr/bin/env python3
+"""Keeps what README.md, docs/*.md and crates/*/*.md quote from the sources as it stands there.
+
+A page quotes by a comment on a line of its own, and the fenced block behind it is what this script writes:
+
+    <!-- definition CRATE NAME -->           a definition of specs/, with the sentence above it
+    <!-- theorem CRATE NAME -->              what a theorem of proofs/ says, without its proof
+    <!-- contracts CRATE FUNCTION.. -->      signatures and clauses of public functions, as in `Pending::mark` or `merge`
+    <!-- function CRATE FUNCTION -->         a whole function
+    <!-- file PATH -->                       a whole file
+
+Names are looked up in the crate, whatever file they stand in; a name that is gone or that stands twice is an error.
+
+    docs/reading.py            writes the blocks
+    docs/reading.py --check    changes nothing, and ends with 1 where a block is stale or a name is not found
+"""
+
+import re
+import sys
+import textwrap
+from pathlib import Path
+
+TOP = Path(__file__).resolve().parent.parent
+# Crates that are one to a page, so that it need not know in which of them a name stands.
+FAMILIES = {
+    "pfl_lab": ("pfl_lab", "pfl_run"),
+    "pfl_node": ("pfl_node", "pfl_parts"),
+    "test_publish": ("test_publish", "pfl_publish_tests"),
+    "test_states": ("test_states", "pfl_state_tests"),
+}
+WIDTH = 120
+MARKER = re.compile(r"<!-- (definition|theorem|contracts|function|file) (.+?) -->$")
+DEFINITION = r"^ *(?:abbrev pub|unfoldable pub|pub record|pub data) {name}(?= |$)"
+THEOREM = r"^{name} :"
+FUNCTION = r"^ *(?:pub(?:\(crate\))? )?(?:const )?fn {name}[(<]"
+CLAUSE = re.compile(r" *(?:ensures|requires)\b")
+
+
+class Missing(Exception):
+    """A name that stands nowhere, or in more than one place."""
+
+
+def crates(family):
+    return FAMILIES.get(family, (family,))
+
+
+def sources(family, folder, suffix):
+    """The files of a crate's folder, with their lines."""
+    for crate in crates(family):
+        for path in sorted((TOP / "crates" / crate / folder).rglob("*" + suffix)):
+            yield path, path.read_text().splitlines()
+
+
+def only(found, what):
+    """The one thing that was found."""
+    if len(found) != 1:
+        places = ", ".join(str(path.relative_to(TOP)) for path, *_ in found)
+        raise Missing(f"{what}: " + (f"stands in more than one place: {places}" if found else "not found"))
+    return found[0]
+
+
+def search(family, folder, suffix, pattern, what):
+    """The file, the lines and the index of the one line that matches."""
+    matcher = re.compile(pattern)
+    return only([(path, lines, at) for path, lines in sources(family, folder, suffix)
+                 for at, line in enumerate(lines) if matcher.match(line)], what)
+
+
+def with_comment(lines, at, *signs):
+    """The index of the first line of the comment above."""
+    while at > 0 and lines[at - 1].lstrip().startswith(signs):
+        at -= 1
+    return at
+
+
+def paragraph_end(lines, at):
+    """The index of the first blank line from here on."""
+    while at < len(lines) and lines[at].strip():
+        at += 1
+    return at
+
+
+def module(path):
+    return ".".join(path.relative_to(TOP / "crates").with_suffix("").parts)
+
+
+def dedented(lines):
+    return textwrap.dedent("\n".join(lines)).splitlines()
+
+
+def definition(family, name):
+    path, lines, at = search(family, "specs", ".antt", DEFINITION.format(name=re.escape(name)), f"definition {name} of {family}")
+    return [f"-- {module(path)}"] + dedented(lines[with_comment(lines, at, "--"):paragraph_end(lines, at)])
+
+
+def folded(statement):
+    """An equation on one line, or its two sides in lines of their own."""
+    sides = [statement] if len(statement) <= WIDTH else re.split(r" (?=≡ )", statement, maxsplit=1)
+    return [line for at, side in enumerate(sides)
+            for line in textwrap.wrap(side, WIDTH, initial_indent="    " if at else "", subsequent_indent="    ",
+                                      break_long_words=False, break_on_hyphens=False)]
+
+
+def theorem(family, name):
+    path, lines, at = search(family, "proofs", ".antt", THEOREM.format(name=re.escape(name)), f"theorem {name} of {family}")
+    end = at + 1
+    while end < len(lines) and not lines[end].startswith((name + " ", "unfolding ")):
+        end += 1
+    comment = lines[with_comment(lines, at, "--"):at]
+    return [f"-- {module(path)}"] + comment + folded(" ".join(line.strip() for line in lines[at:end]))
+
+
+def owner(lines, at):
+    """The type of the `impl` that the line stands in, or nothing."""
+    if not lines[at].startswith(" "):
+        return ""
+    while at > 0 and (lines[at].startswith(" ") or not lines[at].strip()):
+        at -= 1
+    head = re.sub(r"<[^<>]*>", "", re.sub(r"<[^<>]*>", "", lines[at])).split("{")[0]
+    return re.split(r" for |^impl ", head)[-1].strip()
+
+
+def find_function(family, name):
+    """The one function of the name, which has its type before it if it is a method."""
+    kind, _, last = name.rpartition("::")
+    pattern = re.compile(FUNCTION.format(name=re.escape(last)))
+    found = [(path, lines, at) for path, lines in sources(family, "src", ".rt")
+             for at, line in enumerate(lines) if pattern.match(line) and owner(lines, at) == kind]
+    return only(found, f"function {name} of {family}")
+
+
+def indent_of(line):
+    return " " * (len(line) - len(line.lstrip()))
+
+
+def body_start(lines, at):
+    """The index of the line that opens the body: a brace alone, or at the end of a signature without clauses."""
+    alone = (indent_of(lines[at]) + "{", indent_of(lines[at]) + "{}")
+    while lines[at] not in alone and not (lines[at].endswith((" {", " {}")) and not CLAUSE.match(lines[at])):
+        at += 1
+    return at
+
+
+def contract(family, name):
+    _path, lines, at = find_function(family, name)
+    end = body_start(lines, at)
+    comment = [line for line in lines[with_comment(lines, at, "///", "#["):at] if line.lstrip().startswith("///")]
+    head = lines[at:end] if lines[end].strip() in ("{", "{}") else lines[at:end] + [re.sub(r" \{\}?$", "", lines[end])]
+    named = re.sub(r"\bfn \w+", f"fn {name}", head[0], count=1)
+    return dedented([*comment, named, *head[1:]])
+
+
+def contracts(family, *names):
+    out, missing = [], []
+    for name in names:
+        try:
+            out += ["", *contract(family, name)]
+        except Missing as fault:
+            missing.append(str(fault))
+    if missing:
+        raise Missing("; ".join(missing))
+    return out[1:]
+
+
+def function(family, name):
+    _path, lines, at = find_function(family, name)
+    end = body_start(lines, at)
+    while not lines[end].startswith(indent_of(lines[at]) + "}") and not lines[end].endswith("{}"):
+        end += 1
+    return dedented(lines[with_comment(lines, at, "///", "#["):end + 1])
+
+
+def file(path):
+    return (TOP / path).read_text().splitlines()
+
+
+LANGUAGES = {definition: "antt", theorem: "antt", contracts: "rust", function: "rust", file: "text"}
+QUOTES = {quote.__name__: quote for quote in LANGUAGES}
+
+
+def refreshed(page):
+    """The page's text with each quoted block as the sources have it, and what was not found."""
+    lines, out, faults, at = page.read_text().splitlines(), [], [], 0
+    while at < len(lines):
+        out.append(lines[at])
+        marker = MARKER.match(lines[at])
+        at += 1
+        if not marker:
+            continue
+        quote = QUOTES[marker[1]]
+        try:
+            text = quote(*marker[2].split())
+        except (Missing, FileNotFoundError) as fault:
+            faults.append(f"{page.relative_to(TOP)}:{at}: {fault}")
+            continue
+        out += ["```" + LANGUAGES[quote], *text, "```"]
+        if at < len(lines) and lines[at].startswith("```"):
+            at = lines.index("```", at + 1) + 1
+    return "\n".join(out) + "\n", faults
+
+
+def pages():
+    return [TOP / "README.md", *sorted((TOP / "docs").glob("*.md")), *sorted((TOP / "crates").glob("*/*.md"))]
+
+
+def main(words):
+    check, faults = words == ["--check"], []
+    if words and not check:
+        print(__doc__.strip(), file=sys.stderr)
+        return 2
+    for page in pages():
+        text, missing = refreshed(page)
+        faults += missing
+        if text == page.read_text():
+            continue
+        if check:
+            faults.append(f"{page.relative_to(TOP)}: stale; run docs/reading.py, and read what it changed")
+        else:
+            page.write_text(text)
+            print(f"{page.relative_to(TOP)}: written")
+    for fault in faults:
+        print(f"docs/reading.py: {fault}", file=sys.stderr)
+    return 1 if faults else 0
+
+
+if __name__ == "__main__":
+    sys.exit(main(sys.argv[1:]))
