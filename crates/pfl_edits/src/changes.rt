@@ -2,6 +2,7 @@
 ghost use Rattle.std.specs.Prelude.{◌≡◌, ℕ, ◌+◌, ◌<◌, ◌≤◌, List, [], ◌∷◌, ◌++◌, length, OnOk, OnErr, IfOk, IsOk, IsTrue, ◌↔◌, MatchOption};
 ghost use Rattle.pfl_edits.specs.Changes.{Edits};
 
+use crate::in_order::InOrder;
 use crate::no_memory::NoMemory;
 use std::alloc::Allocator;
 use std::marker::Model;
@@ -86,6 +87,13 @@ impl<E, A: Allocator> Change<E, A> {
         ensures none { IsTrue result ↔ (self.now.list ≡ []) }
     {
         self.edits.is_empty()
+    }
+
+    /// The edits, the oldest first.
+    pub fn edits(&self) -> InOrder<'_, E>
+        ensures edits { result ≡ self.now.list }
+    {
+        InOrder::of(&self.edits)
     }
 
     /// Takes the newest edit out, if there is one. The room that it had is given back.

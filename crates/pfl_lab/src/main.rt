@@ -1,11 +1,11 @@
-//! The laboratory's program: it runs lines over a pair of pf(4) firewalls that share their states by pfsync(4).
+//! The laboratory's program: it runs or checks lines over a pair of pf(4) firewalls that share their states by pfsync(4).
 #![tactic(auto)]
 
 ghost use Rattle.std.specs.Prelude.{◌≡◌, map, string_bytes};
 ghost use Rattle.pfl_run.specs.Modes.{words_status, IsExitStatus};
 
 use pfl_base::Std;
-use pfl_run::{LabFault, Mode, WordsFault, mode_of, run_lab, tell};
+use pfl_run::{LabFault, Mode, WordsFault, check_lab, mode_of, run_lab, tell};
 use pfl_script::LineReader;
 use std::env;
 use std::io::{self, ErrorKind};
@@ -47,6 +47,12 @@ fn obey(rt: &HostRuntime, words: &[String]) -> u8
 {
     match mode_of(rt.alloc(), words) {
         Ok(Mode::Run) => run_lab(
+            rt.alloc(),
+            &mut LineReader::new(Std::new(rt.stdin())),
+            &mut Std::new(rt.stdout()),
+            &mut Std::new(rt.stderr()),
+        ),
+        Ok(Mode::Check) => check_lab(
             rt.alloc(),
             &mut LineReader::new(Std::new(rt.stdin())),
             &mut Std::new(rt.stdout()),

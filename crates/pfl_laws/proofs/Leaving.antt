@@ -29,8 +29,8 @@ use Rattle.pfl_queue.specs.Taking.{next_frame, left_by}
 use Rattle.pfl_defer.specs.declared.Held.{Held}
 use Rattle.pfl_defer.specs.Deferring.{Deferrals, held_of, pushed_out}
 use Rattle.pfl_node.specs.declared.fate.Fate.TheVariants as fate
-use Rattle.pfl_node.specs.Nodes.{Node, IsNode, IsGiven}
-use Rattle.pfl_node.specs.Changes.{put_state, mark, freed, changed, deleted, released}
+use Rattle.pfl_parts.specs.Nodes.{Node, IsNode, IsGiven}
+use Rattle.pfl_parts.specs.Changes.{put_state, mark, freed, changed, deleted, released}
 use Rattle.pfl_node.specs.Events.{purged, expired_states}
 use Rattle.pfl_node.specs.Flushing.{flushed, update_count_cleared}
 use Rattle.pfl_node.specs.Packets.{handled, handled_by, followed, accepted, before_rules, on_the_way}

@@ -10,7 +10,7 @@ use Rattle.pfl_track.specs.declared.state.State.{State}
 use Rattle.pfl_track.specs.Laws.{Rises}
 use Rattle.pfl_track.specs.States.{IsState}
 use Rattle.pfl_table.specs.Tables.{AreStates}
-use Rattle.pfl_node.specs.Nodes.{Node, IsNode, IsGiven}
+use Rattle.pfl_parts.specs.Nodes.{Node, IsNode, IsGiven}
 use Rattle.pfl_world.specs.declared.event.Event.{Event}
 use Rattle.pfl_world.specs.Events.{step}
 use Rattle.pfl_world.specs.Runs.{run, after}

@@ -15,8 +15,8 @@ use Rattle.pfl_link.specs.Links.{Link, InFlight, is_full, is_counted_out, sent, 
 use Rattle.pfl_track.specs.declared.state.State.{State}
 use Rattle.pfl_table.specs.Tables.{AreStates}
 use Rattle.pfl_table.proofs.Apart.{AreStates-without}
-use Rattle.pfl_node.specs.Nodes.{Node, IsGiven, refused_by, full_tests, last_millisecond}
-use Rattle.pfl_node.specs.Changes.{deleted}
+use Rattle.pfl_parts.specs.Nodes.{Node, IsGiven, refused_by, full_tests, last_millisecond}
+use Rattle.pfl_parts.specs.Changes.{deleted}
 use Rattle.pfl_node.specs.Flushing.{flushed}
 use Rattle.pfl_node.specs.Events.{ticked, purged, purge_points, expired_states}
 use Rattle.pfl_node.specs.Packets.{handled, packet_points}

@@ -37,8 +37,8 @@ use Rattle.pfl_queue.specs.Queues.{kind_of}
 use Rattle.pfl_bulk.specs.Bulk.{no_name}
 use Rattle.pfl_queue.specs.Taking.{next_frame, left_by}
 use Rattle.pfl_defer.specs.Deferring.{pushed_out}
-use Rattle.pfl_node.specs.Nodes.{Node, IsGiven}
-use Rattle.pfl_node.specs.Changes.{put_state, mark, push_if, count_bad, count_passed, count_blocked, is_held, freed, lost, changed, deleted, forgotten, released, count_stale, ask}
+use Rattle.pfl_parts.specs.Nodes.{Node, IsGiven}
+use Rattle.pfl_parts.specs.Changes.{put_state, mark, push_if, count_bad, count_passed, count_blocked, is_held, freed, lost, changed, deleted, forgotten, released, count_stale, ask}
 use Rattle.pfl_node.specs.Events.{ticked, purged, expired_states}
 use Rattle.pfl_node.specs.Flushing.{flushed, update_count_cleared}
 use Rattle.pfl_node.specs.Packets.{handled, handled_by, followed, accepted}

@@ -16,9 +16,9 @@ use Rattle.pfl_wire.specs.declared.message.Message.{Message}
 use Rattle.pfl_defer.specs.declared.Held.{Held}
 use Rattle.pfl_defer.specs.Deferring.{held_of, pushed_out}
 use Rattle.pfl_node.specs.declared.fate.Fate.TheVariants as fate
-use Rattle.pfl_node.specs.declared.limits.Limits.{Limits}
-use Rattle.pfl_node.specs.Nodes.{Node}
-use Rattle.pfl_node.specs.Changes.{is_held}
+use Rattle.pfl_parts.specs.declared.limits.Limits.{Limits}
+use Rattle.pfl_parts.specs.Nodes.{Node}
+use Rattle.pfl_parts.specs.Changes.{is_held}
 use Rattle.pfl_node.specs.Events.{ticked, purge_points}
 use Rattle.pfl_node.specs.Flushing.{flushed}
 use Rattle.pfl_node.specs.Packets.{handled, packet_points, before_rules}

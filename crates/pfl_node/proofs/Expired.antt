@@ -20,7 +20,7 @@ use Rattle.pfl_table.specs.declared.row.Row.{Row}
 use Rattle.pfl_table.specs.Expiries.{state_before, ExpireBy, row_of, first_expiring-states}
 use Rattle.pfl_table.specs.Tables.{Table, States, AreStates, states_of, first_expiring}
 use Rattle.pfl_table.proofs.Expiring.{IsInOrder, NoneBefore, IsInOrder-in_order, rest_in_order, in_order-filter, state_before-asymmetric, state_before-passed_on}
-use Rattle.pfl_node.specs.Nodes.{Node, AreParts, expiry_at}
+use Rattle.pfl_parts.specs.Nodes.{Node, AreParts, expiry_at}
 use Rattle.pfl_node.specs.Events.{expires_before, expired_states}
 
 -- ---- lists

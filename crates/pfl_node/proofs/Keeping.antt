@@ -16,10 +16,10 @@ use Rattle.pfl_wire.specs.declared.message.Message.TheVariants as message
 use Rattle.pfl_queue.specs.Queues.{kind_of}
 use Rattle.pfl_merge.specs.declared.received.Received.{Received}
 use Rattle.pfl_merge.specs.declared.merged.Merged.{Merged}
-use Rattle.pfl_node.specs.declared.limits.Limits.{Limits}
+use Rattle.pfl_parts.specs.declared.limits.Limits.{Limits}
 use Rattle.pfl_node.specs.Laws.{RecordsLeaveTheRest}
-use Rattle.pfl_node.specs.Nodes.{Node}
-use Rattle.pfl_node.specs.Changes.{is_held, lost, freed, released, is_untold, changed, forgotten}
+use Rattle.pfl_parts.specs.Nodes.{Node}
+use Rattle.pfl_parts.specs.Changes.{is_held, lost, freed, released, is_untold, changed, forgotten}
 use Rattle.pfl_node.specs.Receiving.{taken, insert_taken, can_import, merge_taken, merged_into, bulk_taken, answered, request_taken, ack_taken, is_known, cleared_names, status_taken}
 
 -- what stays: as one value

@@ -6,15 +6,15 @@ use Rattle.pfl_base.specs.Lists.{folds}
 use Rattle.pfl_edits.specs.Changes.{Edits}
 use Rattle.pfl_edits.specs.Maps as maps
 use Rattle.pfl_track.specs.declared.state.State.{State}
-use Rattle.pfl_node.specs.declared.edit.NodeEdit.{NodeEdit}
-use Rattle.pfl_node.specs.declared.parts.judge.Overfull.{Overfull}
-use Rattle.pfl_node.specs.Edits.{NodeExtends}
-use Rattle.pfl_node.specs.Nodes.{Node, AreParts, is_overfull, is_overcounted}
-use Rattle.pfl_node.specs.Changes.{deleted}
+use Rattle.pfl_parts.specs.declared.edit.NodeEdit.{NodeEdit}
+use Rattle.pfl_parts.specs.declared.parts.judge.Overfull.{Overfull}
+use Rattle.pfl_parts.specs.Edits.{NodeExtends}
+use Rattle.pfl_parts.specs.Nodes.{Node, AreParts, is_overfull, is_overcounted}
+use Rattle.pfl_parts.specs.Changes.{deleted}
 use Rattle.pfl_node.specs.Events.{purged, purge_points, expired_states}
-use Rattle.pfl_node.proofs.Deletions.{Rest, deleted-rest}
+use Rattle.pfl_parts.proofs.Deletions.{Rest, deleted-rest}
 use Rattle.pfl_node.proofs.Expired.{expired-without, expired-few, first-stands}
-use Rattle.pfl_node.proofs.Recording.{extends-none, extends-then, extends-more}
+use Rattle.pfl_parts.proofs.Recording.{extends-none, extends-then, extends-more}
 
 -- ---- one deletion after another
 

@@ -20,8 +20,8 @@ use Rattle.pfl_bulk.specs.declared.BulkServer.{BulkServer}
 use Rattle.pfl_bulk.specs.declared.BulkServer.TheVariants as server
 use Rattle.pfl_node.specs.declared.retried.Retried.{Retried}
 use Rattle.pfl_node.specs.declared.retried.Retried.TheVariants.{Asked, Served}
-use Rattle.pfl_node.specs.Nodes.{Node, new_node, timeout_of, expiry_at, last_millisecond}
-use Rattle.pfl_node.specs.Changes.{mark, ask, tell_status, tell_clear, released, deleted, forgotten}
+use Rattle.pfl_parts.specs.Nodes.{Node, new_node, timeout_of, expiry_at, last_millisecond}
+use Rattle.pfl_parts.specs.Changes.{mark, ask, tell_status, tell_clear, released, deleted, forgotten}
 
 -- the clock goes on
 abbrev pub ticked : Node → ℕ → Node

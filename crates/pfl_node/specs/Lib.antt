@@ -1,14 +1,9 @@
-pub mod Limits
-pub mod Nodes
-pub mod Codes
-pub mod Edits
-pub mod Kept
-pub mod Changes
 pub mod Starting
 pub mod Packets
-pub mod Judging
+pub mod Carried
 pub mod Receiving
 pub mod Flushing
 pub mod Sending
 pub mod Events
+pub mod Killing
 pub mod Laws

@@ -9,8 +9,8 @@ use Rattle.pfl_track.specs.declared.tracked.Tracked.TheVariants.{Moved, OutOfWin
 use Rattle.pfl_track.specs.Tracking.{tracked}
 use Rattle.pfl_table.specs.Tables.{found}
 use Rattle.pfl_node.specs.declared.fate.Reason.TheVariants as reason
-use Rattle.pfl_node.specs.Nodes.{Node}
-use Rattle.pfl_node.specs.Changes.{freed, changed, deleted}
+use Rattle.pfl_parts.specs.Nodes.{Node}
+use Rattle.pfl_parts.specs.Changes.{freed, changed, deleted}
 use Rattle.pfl_node.specs.Starting.{Handled, pass, drop, judged}
 
 -- a packet that was accepted on the state: it lets a held one go, and changes the state

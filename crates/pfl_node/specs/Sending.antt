@@ -1,5 +1,5 @@
 -- The parts of a flush. No contract of a public call cites this.
-use Rattle.std.specs.Prelude.{ℕ, List, map, IsSome}
+use Rattle.std.specs.Prelude.{ℕ, List, IsSome}
 use Rattle.std.specs.List.{flat_map, prefix_len}
 use Rattle.pfl_base.specs.Lists.{neighbours}
 use Rattle.pfl_base.specs.declared.state_name.StateName.{StateName}
@@ -11,12 +11,9 @@ use Rattle.pfl_queue.specs.declared.Entry.{Entry}
 use Rattle.pfl_queue.specs.declared.Entry.TheVariants.{Marked}
 use Rattle.pfl_queue.specs.declared.Kind.{Kind}
 use Rattle.pfl_queue.specs.declared.Kind.TheVariants.{Delete}
-use Rattle.pfl_queue.specs.Taking.{entry_action, one_action, next_frame, left_by}
-use Rattle.pfl_queue.specs.declared.edits.QueueEdit.{QueueEdit}
-use Rattle.pfl_node.specs.declared.edit.NodeEdit.{NodeEdit}
-use Rattle.pfl_node.specs.declared.edit.NodeEdit.TheVariants.{OfQueue}
+use Rattle.pfl_queue.specs.Taking.{entry_action, one_action}
 use Rattle.pfl_node.specs.Flushing.{messages_of}
-use Rattle.pfl_node.specs.Nodes.{Node}
+use Rattle.pfl_parts.specs.Nodes.{Node}
 
 -- what is told of a name by the kind is there: its state, except of a deletion
 abbrev pub HasState : Node → Kind → StateName → Type 0
@@ -39,11 +36,3 @@ groups_of n es = neighbours (λ a b. one_action (action_of a) (action_of b)) (fl
 -- the frame of these entries
 abbrev pub frame_with : Node → List Entry → Frame
 frame_with n es = record { print = n.rules.print; groups = groups_of n es }
-
--- the node without the entries of its next frame
-abbrev pub taken_from : Node → Node
-taken_from n = record n { queue = left_by n.queue (next_frame n.queue n.limits.mtu) }
-
--- the edits of what is pending, as edits of the node
-abbrev pub of_queue : List QueueEdit → List NodeEdit
-of_queue edits = map OfQueue edits

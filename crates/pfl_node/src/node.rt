@@ -3,14 +3,12 @@
 mod readers;
 
 ghost use Rattle.std.specs.Prelude.{◌≡◌, IfOk};
-ghost use Rattle.pfl_node.specs.Kept.{most_edits as most};
-ghost use Rattle.pfl_node.specs.Limits.{AreLimits};
-ghost use Rattle.pfl_node.specs.Nodes.{Node as Whole, IsNode, new_node};
+ghost use Rattle.pfl_parts.specs.Kept.{most_edits as most};
+ghost use Rattle.pfl_parts.specs.Limits.{AreLimits};
+ghost use Rattle.pfl_parts.specs.Nodes.{Node as Whole, IsNode, new_node};
 
-use crate::edit::NodeEdit;
-use crate::limits::Limits;
-use crate::parts::Parts;
 use pfl_edits::{Change, NoMemory, Reversible};
+use pfl_parts::{Limits, NodeEdit, Parts};
 use pfl_rules::RuleSet;
 use std::alloc::Allocator;
 use std::marker::Model;
@@ -25,9 +23,9 @@ pub struct Node<A: Allocator> {
 }
 
 impl<A: Allocator> Model for Node<A> {
-    ghost use Rattle.pfl_node.specs.Nodes.{Node, IsNode};
-    ghost use Rattle.pfl_node.specs.Codes.{coded_node};
-    ghost use Rattle.pfl_node.specs.Kept.{IsReady};
+    ghost use Rattle.pfl_parts.specs.Nodes.{Node, IsNode};
+    ghost use Rattle.pfl_parts.specs.Codes.{coded_node};
+    ghost use Rattle.pfl_parts.specs.Kept.{IsReady};
 
     ghost Value = { Node };
 
@@ -59,7 +57,7 @@ impl<A: Allocator + Copy> Node<A> {
         ensures same { IfOk result (λ copied. copied ≡ self.now) }
     {
         let parts = self.parts.copy()?;
-        let edits = Change::with_room(self.alloc, most_edits(&parts.limits))?;
+        let edits = Change::with_room(self.alloc, most_edits(&parts.limits()))?;
         Ok(Node {
             alloc: self.alloc,
             parts,
@@ -85,8 +83,8 @@ fn most_edits(limits: &Limits) -> usize
 }
 
 impl<A: Allocator> Reversible for Node<A> {
-    ghost use Rattle.pfl_node.specs.Nodes.{IsNode};
-    ghost use Rattle.pfl_node.specs.Edits.{Finds, FindsFormer, put_back, redone, edit-both_ways};
+    ghost use Rattle.pfl_parts.specs.Nodes.{IsNode};
+    ghost use Rattle.pfl_parts.specs.Edits.{Finds, FindsFormer, put_back, redone, edit-both_ways};
 
     type Edit = NodeEdit;
 

@@ -6,24 +6,23 @@ mod start;
 ghost use Rattle.std.specs.Prelude.{◌≡◌, ◌≤◌, ◌+◌, ◌∷◌, [], None, Some, IfOk, IfErr, OnOk, OnErr, length, ◌<◌, false};
 ghost use Rattle.pfl_base.specs.Keys.{key as flow_of};
 ghost use Rattle.pfl_edits.specs.Maps as maps;
-ghost use Rattle.pfl_node.specs.Changes as to;
-ghost use Rattle.pfl_node.specs.Edits.{NodeLeadsBack, total};
-ghost use Rattle.pfl_node.specs.Judging.{Handles, Tried};
-ghost use Rattle.pfl_node.specs.Kept.{MayReplace};
-ghost use Rattle.pfl_node.specs.Nodes.{Node as Whole, IsRefusal, points_refusal};
+ghost use Rattle.pfl_parts.specs.Changes as to;
+ghost use Rattle.pfl_parts.specs.Edits.{NodeLeadsBack, total};
+ghost use Rattle.pfl_node.specs.Carried.{Handles, Tried};
+ghost use Rattle.pfl_parts.specs.Kept.{MayReplace};
+ghost use Rattle.pfl_parts.specs.Nodes.{Node as Whole, IsRefusal, points_refusal};
 ghost use Rattle.pfl_node.specs.Packets.{handled, packet_points, followed, on_the_way, accepted};
 ghost use Rattle.pfl_node.specs.Starting.{judged, pass};
 ghost use Rattle.pfl_queue.specs.Queues.{most_numbers};
 ghost use Rattle.pfl_table.specs.Tables.{found};
 ghost use Rattle.pfl_track.specs.Tracking.{tracked};
 
-use crate::edit::NodeEdit;
 use crate::fate::{Fate, Reason};
 use crate::node::Node;
-use crate::parts::Parts;
-use crate::parts::judge::{Overfull, any, settle};
+use crate::packet::start::{drop_packet, judge, pass};
 use pfl_base::{Dir, Packet, Refusal, key};
 use pfl_edits::Change;
+use pfl_parts::{NodeEdit, Overfull, Parts, any, settle};
 use pfl_track::{State, Tracked, track};
 use std::alloc::Allocator;
 
@@ -41,91 +40,89 @@ impl<A: Allocator + Copy> Node<A> {
         ensures leads_back { IfOk result (λ r. NodeLeadsBack r.1.list self.old self.new) }
         ensures weight { IfOk result (λ r. length r.1.list ≤ 24) }
     {
-        let tried = self.parts.handle(dir, packet, &mut self.edits);
+        let tried = handle(&mut self.parts, dir, packet, &mut self.edits);
         settle(self.alloc, &mut self.parts, &mut self.edits, tried)
     }
 }
 
-impl<A: Allocator> Parts<A> {
-    /// What becomes of a packet, and whether at one of its points a number was too high.
-    pub(crate) fn handle(
-        &mut self,
-        dir: Dir,
-        packet: &Packet,
-        change: &mut Change<NodeEdit, A>,
-    ) -> Result<(Fate, bool), Overfull>
-        requires room { 14 ≤ change.old.spare }
-        requires countable { total self.old + change.old.spare ≤ most_numbers }
-        ensures done { Handles result change.old change.new self.old self.new (handled self.old dir packet.now) (packet_points self.old dir packet.now) }
-    {
-        let Some(state) = self.table.found(&key(packet, dir), dir).copied() else {
-            let fate = self.judge(dir, packet, change)?;
-            return Ok((fate, self.is_overcounted()));
-        };
-        self.follow(&state, dir, packet, change)
-    }
+/// What becomes of a packet, and whether at one of its points a number was too high.
+fn handle<A: Allocator>(
+    parts: &mut Parts<A>,
+    dir: Dir,
+    packet: &Packet,
+    change: &mut Change<NodeEdit, A>,
+) -> Result<(Fate, bool), Overfull>
+    requires room { 14 ≤ change.old.spare }
+    requires countable { total parts.old + change.old.spare ≤ most_numbers }
+    ensures done { Handles result change.old change.new parts.old parts.new (handled parts.old dir packet.now) (packet_points parts.old dir packet.now) }
+{
+    let Some(state) = parts.states().found(&key(packet, dir), dir).copied() else {
+        let fate = judge(parts, dir, packet, change)?;
+        return Ok((fate, parts.is_overcounted()));
+    };
+    follow(parts, &state, dir, packet, change)
+}
 
-    /// A packet of a state.
-    fn follow(
-        &mut self,
-        state: &State,
-        dir: Dir,
-        packet: &Packet,
-        change: &mut Change<NodeEdit, A>,
-    ) -> Result<(Fate, bool), Overfull>
-        requires found { found self.old.states (flow_of packet.now dir) dir ≡ Some state.now }
-        requires room { 14 ≤ change.old.spare }
-        requires countable { total self.old + change.old.spare ≤ most_numbers }
-        ensures done { Handles result change.old change.new self.old self.new (followed self.old dir packet.now state.now (tracked state.now packet.now dir self.old.clock)) ((followed self.old dir packet.now state.now (tracked state.now packet.now dir self.old.clock)).node ∷ on_the_way self.old state.now (tracked state.now packet.now dir self.old.clock)) }
-    {
-        self.known();
-        packet.known();
-        match track(state, packet, dir, self.clock) {
-            Tracked::Moved(state) => {
-                let fate = self.accept(state, change)?;
-                Ok((fate, self.is_overcounted()))
-            }
-            Tracked::OutOfWindow => {
-                let fate = self.drop_packet(Reason::Window, change);
-                Ok((fate, self.is_overcounted()))
-            }
-            Tracked::Reused => self.reuse(state, dir, packet, change),
+/// A packet of a state.
+fn follow<A: Allocator>(
+    parts: &mut Parts<A>,
+    state: &State,
+    dir: Dir,
+    packet: &Packet,
+    change: &mut Change<NodeEdit, A>,
+) -> Result<(Fate, bool), Overfull>
+    requires found { found parts.old.states (flow_of packet.now dir) dir ≡ Some state.now }
+    requires room { 14 ≤ change.old.spare }
+    requires countable { total parts.old + change.old.spare ≤ most_numbers }
+    ensures done { Handles result change.old change.new parts.old parts.new (followed parts.old dir packet.now state.now (tracked state.now packet.now dir parts.old.clock)) ((followed parts.old dir packet.now state.now (tracked state.now packet.now dir parts.old.clock)).node ∷ on_the_way parts.old state.now (tracked state.now packet.now dir parts.old.clock)) }
+{
+    parts.known();
+    packet.known();
+    match track(state, packet, dir, parts.clock()) {
+        Tracked::Moved(state) => {
+            let fate = accept(parts, state, change)?;
+            Ok((fate, parts.is_overcounted()))
         }
+        Tracked::OutOfWindow => {
+            let fate = drop_packet(parts, Reason::Window, change);
+            Ok((fate, parts.is_overcounted()))
+        }
+        Tracked::Reused => reuse(parts, state, dir, packet, change),
     }
+}
 
-    /// A packet was accepted on a state, which then is this one.
-    pub(crate) fn accept(
-        &mut self,
-        state: State,
-        change: &mut Change<NodeEdit, A>,
-    ) -> Result<Fate, Overfull>
-        requires room { 6 ≤ change.old.spare }
-        requires countable { total self.old + change.old.spare ≤ most_numbers }
-        requires known { MayReplace self.old state }
-        ensures done { Tried 6 result change.old change.new self.old self.new (accepted self.old state) }
-    {
-        let name = state.name();
-        self.free(name, change);
-        self.change_state(state.with_ack_wanted(false), change)?;
-        Ok(self.pass(Some(name), change))
-    }
+/// A packet was accepted on a state, which then is this one.
+fn accept<A: Allocator>(
+    parts: &mut Parts<A>,
+    state: State,
+    change: &mut Change<NodeEdit, A>,
+) -> Result<Fate, Overfull>
+    requires room { 6 ≤ change.old.spare }
+    requires countable { total parts.old + change.old.spare ≤ most_numbers }
+    requires known { MayReplace parts.old state }
+    ensures done { Tried 6 result change.old change.new parts.old parts.new (accepted parts.old state) }
+{
+    let name = state.name();
+    parts.free(name, change);
+    parts.change_state(state.with_ack_wanted(false), change)?;
+    Ok(pass(parts, Some(name), change))
+}
 
-    /// A new connection over a closed one: the state of that is deleted, and the packet is one that no state takes.
-    fn reuse(
-        &mut self,
-        closed: &State,
-        dir: Dir,
-        packet: &Packet,
-        change: &mut Change<NodeEdit, A>,
-    ) -> Result<(Fate, bool), Overfull>
-        requires stands { maps.get self.old.states closed.now.name ≡ Some closed.now }
-        requires room { 14 ≤ change.old.spare }
-        requires countable { total self.old + change.old.spare ≤ most_numbers }
-        ensures done { Handles result change.old change.new self.old self.new (judged (to.deleted self.old closed.now) dir packet.now) ((judged (to.deleted self.old closed.now) dir packet.now).node ∷ to.deleted self.old closed.now ∷ []) }
-    {
-        self.delete(closed, change)?;
-        let before = self.is_overcounted();
-        let fate = self.judge(dir, packet, change)?;
-        Ok((fate, any(self.is_overcounted(), before)))
-    }
+/// A new connection over a closed one: the state of that is deleted, and the packet is one that no state takes.
+fn reuse<A: Allocator>(
+    parts: &mut Parts<A>,
+    closed: &State,
+    dir: Dir,
+    packet: &Packet,
+    change: &mut Change<NodeEdit, A>,
+) -> Result<(Fate, bool), Overfull>
+    requires stands { maps.get parts.old.states closed.now.name ≡ Some closed.now }
+    requires room { 14 ≤ change.old.spare }
+    requires countable { total parts.old + change.old.spare ≤ most_numbers }
+    ensures done { Handles result change.old change.new parts.old parts.new (judged (to.deleted parts.old closed.now) dir packet.now) ((judged (to.deleted parts.old closed.now) dir packet.now).node ∷ to.deleted parts.old closed.now ∷ []) }
+{
+    parts.delete(closed, change)?;
+    let before = parts.is_overcounted();
+    let fate = judge(parts, dir, packet, change)?;
+    Ok((fate, any(parts.is_overcounted(), before)))
 }

@@ -2,18 +2,16 @@
 
 ghost use Rattle.std.specs.List.{slice_get};
 ghost use Rattle.std.specs.Prelude.{◌≡◌, ◌≤◌, ◌+◌, ◌*◌, None, IfOk, IfErr, OnOk, OnErr, length};
-ghost use Rattle.pfl_node.specs.Edits.{NodeExtends, NodeLeadsBack, total};
+ghost use Rattle.pfl_parts.specs.Edits.{NodeExtends, NodeLeadsBack, total};
 ghost use Rattle.pfl_node.specs.Events as event;
-ghost use Rattle.pfl_node.specs.Judging.{Went};
-ghost use Rattle.pfl_node.specs.Nodes.{Node as Whole, IsRefusal, points_refusal};
+ghost use Rattle.pfl_parts.specs.Judging.{Went};
+ghost use Rattle.pfl_parts.specs.Nodes.{Node as Whole, IsRefusal, points_refusal};
 ghost use Rattle.pfl_queue.specs.Queues.{most_numbers};
 
-use crate::edit::NodeEdit;
 use crate::node::Node;
-use crate::parts::Parts;
-use crate::parts::judge::{Overfull, any, settle};
 use pfl_base::Refusal;
 use pfl_edits::Change;
+use pfl_parts::{NodeEdit, Overfull, Parts, any, settle};
 use pfl_track::State;
 use std::alloc::Allocator;
 
@@ -29,42 +27,43 @@ impl<A: Allocator + Copy> Node<A> {
         ensures leads_back { IfOk result (λ r. NodeLeadsBack r.1.list self.old self.new) }
         ensures weight { IfOk result (λ r. length r.1.list ≤ 5 * length (event.expired_states self.old)) }
     {
-        let tried = self.parts.purge(&mut self.edits);
+        let tried = purge(&mut self.parts, &mut self.edits);
         settle(self.alloc, &mut self.parts, &mut self.edits, tried)
     }
 }
 
-impl<A: Allocator> Parts<A> {
-    /// Deletes all states that have expired, and tells how many, and whether after one of them a number was too high.
-    fn purge(&mut self, change: &mut Change<NodeEdit, A>) -> Result<(usize, bool), Overfull>
-        requires room { 5 * length (event.expired_states self.old) ≤ change.old.spare }
-        requires countable { total self.old + change.old.spare ≤ most_numbers }
-        ensures went { Went result (event.purge_points self.old) }
-        ensures node { OnOk result (self.new ≡ event.purged self.old) }
-        ensures count { IfOk result (λ r. r.0 ≡ length (event.expired_states self.old)) }
-        ensures extends { NodeExtends (5 * length (event.expired_states self.old)) change.old change.new self.old self.new }
-    {
-        self.known();
-        let mut count = 0;
-        let mut overcounted = false;
-        while let Some(state) = self.first_expired() {
-            self.known();
-            self.delete(&state, change)?;
-            overcounted = any(overcounted, self.is_overcounted());
-            count += 1;
-        }
-        Ok((count, overcounted))
+/// Deletes all states that have expired, and tells how many, and whether after one of them a number was too high.
+fn purge<A: Allocator>(
+    parts: &mut Parts<A>,
+    change: &mut Change<NodeEdit, A>,
+) -> Result<(usize, bool), Overfull>
+    requires room { 5 * length (event.expired_states parts.old) ≤ change.old.spare }
+    requires countable { total parts.old + change.old.spare ≤ most_numbers }
+    ensures went { Went result (event.purge_points parts.old) }
+    ensures node { OnOk result (parts.new ≡ event.purged parts.old) }
+    ensures count { IfOk result (λ r. r.0 ≡ length (event.expired_states parts.old)) }
+    ensures extends { NodeExtends (5 * length (event.expired_states parts.old)) change.old change.new parts.old parts.new }
+{
+    parts.known();
+    let mut count = 0;
+    let mut overcounted = false;
+    while let Some(state) = first_expired(parts) {
+        parts.known();
+        parts.delete(&state, change)?;
+        overcounted = any(overcounted, parts.is_overcounted());
+        count += 1;
     }
+    Ok((count, overcounted))
+}
 
-    /// Of the states that have expired, the first to expire.
-    fn first_expired(&self) -> Option<State>
-        ensures first { result ≡ slice_get (event.expired_states self.now) 0 }
-    {
-        let row = self.table.first_expiring()?;
-        if row.expires <= self.clock {
-            Some(row.state)
-        } else {
-            None
-        }
+/// Of the states that have expired, the first to expire.
+fn first_expired<A: Allocator>(parts: &Parts<A>) -> Option<State>
+    ensures first { result ≡ slice_get (event.expired_states parts.now) 0 }
+{
+    let row = parts.states().first_expiring()?;
+    if row.expires <= parts.clock() {
+        Some(row.state)
+    } else {
+        None
     }
 }

@@ -1,15 +1,14 @@
 //! The clock goes on.
 
 ghost use Rattle.std.specs.Prelude.{◌≡◌, ◌≤◌, None, IfOk, IfErr, OnOk, OnErr, length};
-ghost use Rattle.pfl_node.specs.Edits.{NodeLeadsBack};
+ghost use Rattle.pfl_parts.specs.Edits.{NodeLeadsBack};
 ghost use Rattle.pfl_node.specs.Events as event;
-ghost use Rattle.pfl_node.specs.Nodes.{IsRefusal};
+ghost use Rattle.pfl_parts.specs.Nodes.{IsRefusal};
 
-use crate::edit::NodeEdit;
 use crate::node::Node;
-use crate::parts::judge::settle;
 use pfl_base::{Millis, Refusal};
 use pfl_edits::Change;
+use pfl_parts::{NodeEdit, settle};
 use std::alloc::Allocator;
 
 /// The last millisecond that a clock shows.

@@ -2,8 +2,6 @@
 use Rattle.std.specs.Prelude.{ℕ, List, ◌++◌, codes}
 use Rattle.std.specs.Fmt.{decimal}
 use Rattle.pfl_rules.specs.Faults.{fault_number as rule_number}
-use Rattle.pfl_world.specs.declared.fault.WorldFault.{WorldFault}
-use Rattle.pfl_world.specs.declared.fault.WorldFault.TheVariants as world
 use Rattle.pfl_world.specs.Faults.{fault_number as world_number}
 use Rattle.pfl_lines.specs.Faults.{fault_number as line_number}
 use Rattle.pfl_script.specs.declared.fault.EngineFault.{EngineFault}
@@ -48,9 +46,3 @@ of_engine engine.Read = lab.Read
 of_engine engine.Write = lab.Write
 of_engine engine.TooManyTurns = lab.TooManyTurns
 of_engine engine.NoMemory = lab.NoMemory
-
--- a fault of limits, which the line `open` with this number ends, as one of the run
-abbrev pub of_world : ℕ → WorldFault → LabFault
-of_world n world.TooSmall = lab.World n world.TooSmall
-of_world n world.TooLarge = lab.World n world.TooLarge
-of_world n world.NoMemory = lab.NoMemory

@@ -1,5 +1,5 @@
 -- What the program's words ask for (this project's profile).
-use Rattle.std.specs.Prelude.{◌≡◌, ℕ, true, List, [], Option, option_map, codes, ◌⊎◌}
+use Rattle.std.specs.Prelude.{◌≡◌, ◌≢◌, ℕ, true, List, [], Option, Some, option_map, codes, ◌⊎◌}
 use Rattle.clap.specs.Simple.{App, on_top, new_app, new_shape, with_subcommand, subcommand_of}
 use Rattle.clap.specs.Kinds.{Kinds, IsAmong}
 use Rattle.clap.specs.Faults.{fault_of}
@@ -7,7 +7,7 @@ use Rattle.clap.specs.Values.{kind_of}
 use Rattle.clap.specs.declared.error.kind.ErrorKind.{ErrorKind}
 use Rattle.clap.specs.declared.error.kind.ErrorKind.TheVariants.{DisplayHelp, DisplayVersion}
 use Rattle.pfl_run.specs.declared.mode.Mode.{Mode}
-use Rattle.pfl_run.specs.declared.mode.Mode.TheVariants.{Run}
+use Rattle.pfl_run.specs.declared.mode.Mode.TheVariants.{Run, Check}
 use Rattle.pfl_run.specs.declared.mode.WordsFault.{WordsFault}
 use Rattle.pfl_run.specs.declared.mode.WordsFault.TheVariants as fault
 use Rattle.pfl_run.specs.Runs.{IsRunStatus}
@@ -15,12 +15,20 @@ use Rattle.pfl_run.specs.Runs.{IsRunStatus}
 -- the program's command line: one of its subcommands is wanted
 abbrev pub lab_app : App
 lab_app =
-    with_subcommand (on_top (λ s. record s { disable_help_subcommand = true; subcommand_required = true }) (new_app (codes "pfl_lab")))
-    (new_shape (codes "run"))
+    with_subcommand
+    (with_subcommand (on_top (λ s. record s { disable_help_subcommand = true; subcommand_required = true }) (new_app (codes "pfl_lab")))
+    (new_shape (codes "run")))
+    (new_shape (codes "check"))
 
 -- the word of a mode
 abbrev pub mode_word : Mode → List ℕ
 mode_word Run = codes "run"
+mode_word Check = codes "check"
+
+-- this is the mode of the subcommand with this name, which is one of the program's
+abbrev pub IsModeOf : Option (List ℕ) → Mode → Type 0
+IsModeOf name Run = name ≢ Some (codes "check")
+IsModeOf name Check = name ≡ Some (codes "check")
 
 -- the subcommand that words name
 abbrev pub subcommand_name : List (List ℕ) → Option (List ℕ)

@@ -3,7 +3,7 @@ use Rattle.std.specs.Prelude.{◌≡◌, ℕ, ◌==◌, Bool, true, false, List,
 use Rattle.std.specs.Io.KnownBytes.{Appends, Keeps}
 use Rattle.pfl_rules.specs.declared.fault.RuleFault.{RuleFault}
 use Rattle.pfl_rules.specs.Rules.{Rules}
-use Rattle.pfl_node.specs.declared.limits.Limits.{Limits}
+use Rattle.pfl_parts.specs.declared.limits.Limits.{Limits}
 use Rattle.pfl_world.specs.declared.fault.WorldFault.{WorldFault}
 use Rattle.pfl_world.specs.Worlds.{new_world, world_fault}
 use Rattle.pfl_timeline.specs.Timelines.{Timeline, new_timeline}
@@ -14,13 +14,16 @@ use Rattle.pfl_run.specs.declared.fault.LabFault.{LabFault}
 use Rattle.pfl_run.specs.declared.fault.LabFault.TheVariants as fault
 use Rattle.pfl_run.specs.Faults.{fault_text, fault_status}
 
+-- the lines up to number n are a setup whose limits have no fault
+abbrev pub IsSetup : Option (List ℕ) → Option (List ℕ) → ℕ → Limits → Rules → Rules → Type 0
+IsSetup old new n limits rules_a rules_b = ReadsSetupTo old new n limits rules_a rules_b × (world_fault limits ≡ None)
+
 -- the lines up to number n set a pair up, and its branch `main` is empty
 pub record SetsUp (old new : Option (List ℕ)) (n : ℕ) (t : Timeline) : Type 0 where
   pub limits : Limits
   pub rules_a : Rules
   pub rules_b : Rules
-  pub setup : ReadsSetupTo old new n limits rules_a rules_b
-  pub faultless : world_fault limits ≡ None
+  pub setup : IsSetup old new n limits rules_a rules_b
   pub opening : t ≡ new_timeline (new_world limits rules_a rules_b)
 
 -- all lines were executed, and so many of those behind the setup are faulty
@@ -55,12 +58,10 @@ pub record HasWorldFault (old : Option (List ℕ)) (n : ℕ) (why : WorldFault) 
 abbrev pub HasRuleFaultAt : Option (List ℕ) → ℕ → RuleFault → Type 0
 HasRuleFaultAt old n why = (mid : Option (List ℕ)) × HasRuleFault old mid n why
 
--- why no pair opens over limits of a setup whose line `open` has this number: their first fault; where they have none,
--- want of memory
-abbrev pub IsOpeningStop : LabFault → ℕ → Option WorldFault → Type 0
-IsOpeningStop (fault.World m why) n first = (m ≡ n) × (first ≡ Some why)
-IsOpeningStop fault.NoMemory n first = first ≡ None
-IsOpeningStop _ n first = ⊥
+-- why limits of a setup, whose line `open` has this number, are none: their first fault
+abbrev pub IsLimitsStop : LabFault → ℕ → Option WorldFault → Type 0
+IsLimitsStop (fault.World m why) n first = (m ≡ n) × (first ≡ Some why)
+IsLimitsStop _ n first = ⊥
 
 -- why no pair was set up
 abbrev pub IsSetupStop : LabFault → Option (List ℕ) → Type 0
@@ -100,19 +101,19 @@ pub record IsTold (text : List ℕ) (w v : Option (List ℕ)) (failed : Bool) : 
   pub whole : failed ≡ false → Appends w v text
   pub part : (n : ℕ) × Appends w v (take n text)
 
--- all lines were executed, and no fault is told
-pub record Ends (old new w v f g : Option (List ℕ)) (status : ℕ) : Type 0 where
+-- all lines were read, so many of them faulty, and no fault is told
+pub record Ends (Reads : ℕ → Type 0) (f g : Option (List ℕ)) (status : ℕ) : Type 0 where
   pub bad : ℕ
-  pub runs : RunsToEnd old new w v bad
+  pub reads : Reads bad
   pub quiet : Keeps f g
   pub exit : status ≡ ended_status bad
 
--- the run stopped, and its fault is told; `broken` says of the writer, and `failed` of what the fault is told to, that it
--- has failed
-pub record Stops (old : Option (List ℕ)) (reader : Source) (w v : Option (List ℕ)) (broken : Bool)
+-- it stopped for this reason, and its fault is told; `broken` says of the writer, and `failed` of what the fault is told to,
+-- that it has failed
+pub record Stops (IsWhy : LabFault → Type 0) (reader : Source) (broken : Bool)
     (f g : Option (List ℕ)) (failed : Bool) (status : ℕ) : Type 0 where
   pub fault : LabFault
-  pub stop : IsStop fault old w v
+  pub why : IsWhy fault
   pub device : IsDeviceFault fault reader broken
   pub told : IsTold (fault_text fault) f g failed
   pub exit : status ≡ fault_status fault

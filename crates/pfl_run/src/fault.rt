@@ -3,17 +3,12 @@
 ghost use Rattle.std.specs.Prelude.{◌≡◌, ◌+◌, ◌≤◌, ◌++◌, length, codes};
 ghost use Rattle.std.specs.Fmt.{decimal};
 ghost use Rattle.arrayvec.specs.ArrayString.{array_string_len};
-ghost use Rattle.pfl_run.specs.Faults.{at_line, fault_text, fault_status, of_world};
+ghost use Rattle.pfl_run.specs.Faults.{at_line, fault_text, fault_status};
 
-use arrayvec::ArrayString;
-use itoa::Buffer;
 use pfl_lines::LineFault;
 use pfl_rules::RuleFault;
-use pfl_script::{EngineFault, SetupFault};
+use pfl_script::{EngineFault, SetupFault, ShortLine, plain_line, push_number};
 use pfl_world::WorldFault;
-
-/// A line that tells a fault.
-pub type FaultLine = ArrayString<80>;
 
 /// Why a run of the laboratory stopped. Lines count from 1.
 #[derive(Clone, Copy, Debug, PartialEq, Eq)]
@@ -37,18 +32,8 @@ pub enum LabFault {
 }
 
 impl LabFault {
-    /// A fault of limits, which the line `open` with this number ends.
-    pub fn of_world(line: u64, fault: WorldFault) -> LabFault
-        ensures { result ≡ of_world line fault }
-    {
-        match fault {
-            WorldFault::TooSmall | WorldFault::TooLarge => LabFault::World(line, fault),
-            WorldFault::NoMemory => LabFault::NoMemory,
-        }
-    }
-
     /// The line that tells the fault; it takes no memory.
-    pub fn line(self) -> FaultLine
+    pub fn line(self) -> ShortLine
         ensures { result.bytes ≡ fault_text self }
     {
         match self {
@@ -74,29 +59,8 @@ impl LabFault {
     }
 }
 
-/// Appends a number.
-fn push_number(line: &mut FaultLine, number: u64)
-    requires room { array_string_len line.old ≤ 60 }
-    ensures bytes { line.new.bytes ≡ line.old.bytes ++ decimal number }
-    ensures few { array_string_len line.new ≤ array_string_len line.old + 20 }
-{
-    let mut digits = Buffer::new();
-    line.push_str(digits.format(number));
-}
-
-/// A line with this text.
-fn plain_line(text: &str) -> FaultLine
-    requires room { length text.now ≤ 80 }
-    ensures bytes { result.bytes ≡ text.now }
-    ensures len { array_string_len result ≡ length text.now }
-{
-    let mut line = ArrayString::new();
-    line.push_str(text);
-    line
-}
-
 /// The first words of the line for a fault of the setup, which is at the line with the number.
-fn setup_line(number: u64) -> FaultLine
+fn setup_line(number: u64) -> ShortLine
     ensures bytes { result.bytes ≡ codes "pfl_lab: setup line " ++ decimal number ++ codes ": " }
     ensures few { array_string_len result ≤ 42 }
 {
@@ -107,7 +71,7 @@ fn setup_line(number: u64) -> FaultLine
 }
 
 /// The line for a fault of the setup that has a number of its own, behind the word that says what it is of.
-fn numbered_line(number: u64, what: &str, fault: u8) -> FaultLine
+fn numbered_line(number: u64, what: &str, fault: u8) -> ShortLine
     requires short { length what.now ≤ 6 }
     ensures { result.bytes ≡ at_line number (what.now ++ decimal fault ++ codes "\n") }
 {
@@ -119,7 +83,7 @@ fn numbered_line(number: u64, what: &str, fault: u8) -> FaultLine
 }
 
 /// The line for lines that end, after so many, before `open`.
-fn unopened_line(number: u64) -> FaultLine
+fn unopened_line(number: u64) -> ShortLine
     ensures { result.bytes ≡ at_line number (codes "no open\n") }
 {
     let mut line = setup_line(number);

@@ -1,10 +1,13 @@
 //! What the words of the laboratory's program ask for, and runs of its lines.
 #![tactic(auto)]
 
+mod check;
 mod fault;
 mod mode;
+mod opening;
 mod run;
 
-pub use fault::{FaultLine, LabFault};
+pub use check::{check_lab, check_whole};
+pub use fault::LabFault;
 pub use mode::{Mode, WordsFault, mode_of};
 pub use run::{run_lab, run_whole, tell};

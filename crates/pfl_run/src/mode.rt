@@ -3,11 +3,11 @@
 ghost use Rattle.std.specs.Prelude.{◌≡◌, [], Some, map, IfOk, IfErr};
 ghost use Rattle.clap.specs.Faults.{fault_of};
 ghost use Rattle.clap.specs.Kinds.{HasKind, Kinds};
-ghost use Rattle.clap.specs.Words.{app_of};
-ghost use Rattle.pfl_run.specs.Modes.{kind_status, lab_app, mode_word, subcommand_name, words_status, IsWordsFault};
+ghost use Rattle.clap.specs.Words.{app_of, subcommand_name_of};
+ghost use Rattle.pfl_run.specs.Modes.{kind_status, lab_app, mode_word, subcommand_name, words_status, IsModeOf, IsWordsFault};
 
 use clap::error::ErrorKind;
-use clap::{Command, Error};
+use clap::{ArgMatches, Command, Error};
 use std::alloc::{AllocError, Global};
 use std::convert::AsStr;
 
@@ -16,6 +16,8 @@ use std::convert::AsStr;
 pub enum Mode {
     /// It sets a pair up and executes commands, all of them lines of standard input.
     Run,
+    /// It reads the same lines, executes none, and tells the faulty ones.
+    Check,
 }
 
 /// Why words ask for no mode.
@@ -56,11 +58,15 @@ fn command_line<'a>(alloc: Global) -> Result<Command<'a>, AllocError>
     let run = Command::new(alloc, "run").about(
         "Executes the lines of standard input: a setup, and then commands",
     );
+    let check = Command::new(alloc, "check").about(
+        "Reads the same lines, executes none behind the setup, and tells those that are faulty",
+    );
     Command::new(alloc, "pfl_lab")
         .about("A laboratory for a pair of pf firewalls that share states by pfsync")
         .disable_help_subcommand(true)
         .subcommand_required(true)
-        .subcommand(run)
+        .subcommand(run)?
+        .subcommand(check)
 }
 
 /// Why words ask for no mode, from `clap`'s error.
@@ -73,6 +79,17 @@ fn words_fault(error: Error) -> WordsFault
     WordsFault::Words(error)
 }
 
+/// The mode of the subcommand that was met.
+fn mode_met(matches: &ArgMatches) -> Mode
+    ensures { IsModeOf (subcommand_name_of matches.now) result }
+{
+    if matches.subcommand_matches("check").is_some() {
+        Mode::Check
+    } else {
+        Mode::Run
+    }
+}
+
 /// The mode that the words ask for, of which the first is the program's name.
 pub fn mode_of<'a, S: AsStr>(alloc: Global, words: &'a [S]) -> Result<Mode, WordsFault>
     ensures mode { IfOk result (λ mode. subcommand_name (map S.text words.now) ≡ Some (mode_word mode)) }
@@ -81,7 +98,7 @@ pub fn mode_of<'a, S: AsStr>(alloc: Global, words: &'a [S]) -> Result<Mode, Word
 {
     match command_line(alloc) {
         Ok(command) => match command.try_get_matches_from(words) {
-            Ok(_matches) => Ok(Mode::Run),
+            Ok(matches) => Ok(mode_met(&matches)),
             Err(error) => Err(words_fault(error)),
         },
         Err(_) => Err(WordsFault::NoMemory),

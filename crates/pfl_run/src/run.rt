@@ -1,28 +1,24 @@
 //! Runs of the laboratory.
 
-ghost use Rattle.std.specs.Prelude.{◌≡◌, ◌⊎◌, None, false, IfOk, IfErr, OnOk};
+ghost use Rattle.std.specs.Prelude.{◌≡◌, ◌⊎◌, None, false, IfOk, IfErr};
 ghost use Rattle.pfl_world.specs.Worlds.{new_world, world_fault};
 ghost use Rattle.pfl_timeline.specs.Timelines.{new_timeline};
 ghost use Rattle.pfl_run.specs.Faults.{fault_status, fault_text};
-ghost use Rattle.pfl_run.specs.Runs.{Ends, IsDeviceFault, IsOpeningStop, IsSetupStop, IsStop, IsTold, RunsToEnd, SetsUp, Stops, ended_status};
+ghost use Rattle.pfl_run.specs.Runs.{Ends, IsDeviceFault, IsSetupStop, IsStop, IsTold, RunsToEnd, SetsUp, Stops, ended_status};
 
 use crate::fault::LabFault;
+use crate::opening::read_opening;
 use pfl_base::{Input, Output};
 use pfl_edits::NoMemory;
-use pfl_script::{Ended, LineReader, Setup, read_setup, run_lines, write_text};
+use pfl_script::{Ended, LineReader, Setup, run_lines, write_text};
 use pfl_timeline::Timeline;
-use pfl_world::World;
+use pfl_world::{World, WorldFault};
 use std::alloc::Allocator;
 
-/// The pair of a setup, with an empty branch `main`. The setup's line `open` has the number.
-fn open_timeline<A: Allocator + Copy>(
-    alloc: A,
-    setup: Setup<A>,
-    number: u64,
-) -> Result<Timeline<A>, LabFault>
-    ensures faultless { OnOk result (world_fault setup.limits ≡ None) }
-    ensures opening { IfOk result (λ timeline. timeline ≡ new_timeline (new_world setup.limits setup.rules_a setup.rules_b)) }
-    ensures fault { IfErr result (λ fault. IsOpeningStop fault number (world_fault setup.limits)) }
+/// The pair of a setup, with an empty branch `main`.
+fn open_timeline<A: Allocator + Copy>(alloc: A, setup: Setup<A>) -> Result<Timeline<A>, NoMemory>
+    requires faultless { world_fault setup.limits ≡ None }
+    ensures { IfOk result (λ timeline. timeline ≡ new_timeline (new_world setup.limits setup.rules_a setup.rules_b)) }
 {
     let Setup {
         limits,
@@ -30,11 +26,9 @@ fn open_timeline<A: Allocator + Copy>(
         rules_b,
     } = setup;
     match World::new(alloc, limits, rules_a, rules_b) {
-        Ok(world) => match Timeline::new(alloc, world) {
-            Ok(timeline) => Ok(timeline),
-            Err(NoMemory) => Err(LabFault::NoMemory),
-        },
-        Err(fault) => Err(LabFault::of_world(number, fault)),
+        Ok(world) => Timeline::new(alloc, world),
+        Err(WorldFault::NoMemory) => Err(NoMemory),
+        Err(WorldFault::TooSmall | WorldFault::TooLarge) => unreachable!(),
     }
 }
 
@@ -48,9 +42,12 @@ fn set_up<A: Allocator + Copy, R: Input>(
     ensures stop { IfErr result (λ fault. IsSetupStop fault reader.old.left) }
     ensures device { IfErr result (λ fault. IsDeviceFault fault reader.new false) }
 {
-    match read_setup(alloc, reader) {
-        Ok(setup) => open_timeline(alloc, setup, reader.lines()),
-        Err(fault) => Err(LabFault::from(fault)),
+    match read_opening(alloc, reader) {
+        Ok(setup) => match open_timeline(alloc, setup) {
+            Ok(timeline) => Ok(timeline),
+            Err(NoMemory) => Err(LabFault::NoMemory),
+        },
+        Err(fault) => Err(fault),
     }
 }
 
@@ -92,7 +89,7 @@ pub fn tell<F: Output>(fault: LabFault, faults: &mut F) -> u8
 }
 
 /// The exit status after so many faulty lines.
-fn ended_status(bad: u64) -> u8
+pub(crate) fn ended_status(bad: u64) -> u8
     ensures { result ≡ ended_status bad }
 {
     if bad == 0 { 0 } else { 1 }
@@ -108,10 +105,10 @@ pub fn run_lab<A: Allocator + Copy, R: Input, W: Output, F: Output>(
     faults: &mut F,
 ) -> u8
     requires fresh { reader.old.lines ≡ 0 }
-    ensures { Ends reader.old.left reader.new.left (W.written writer.old) (W.written writer.new)
+    ensures { Ends (RunsToEnd reader.old.left reader.new.left (W.written writer.old) (W.written writer.new))
         (F.written faults.old) (F.written faults.new) result
-        ⊎ Stops reader.old.left reader.new (W.written writer.old) (W.written writer.new) (W.has_failed writer.new)
-        (F.written faults.old) (F.written faults.new) (F.has_failed faults.new) result }
+        ⊎ Stops (λ fault. IsStop fault reader.old.left (W.written writer.old) (W.written writer.new)) reader.new
+        (W.has_failed writer.new) (F.written faults.old) (F.written faults.new) (F.has_failed faults.new) result }
 {
     match run_whole(alloc, reader, writer) {
         Ok(ended) => ended_status(ended.bad),

@@ -23,7 +23,7 @@ pub record Ran (old new : Option (List ℕ)) (t u : Timeline) (w v : Option (Lis
   pub faulty : bad ≡ bad_lines lines
 
 -- what is kept of a line says what the line says
-said-kept : (k : Kept) (body : List ℕ) → Keeps k body → kept_said k ≡ parsed body
+pub said-kept : (k : Kept) (body : List ℕ) → Keeps k body → kept_said k ≡ parsed body
 unfolding parsed
 said-kept k body h = elim (cases_lt 512 (length body)) [
   | inl long ↦ rw (h.long, lt-ltb 512 (length body) long) refl
@@ -36,12 +36,12 @@ unfolding kept_answer line_answer
 answer-kept k body t h = rw (h.head, said-kept k body h) refl
 
 -- what is kept of a line is faulty where the line is
-bad-kept : (k : Kept) (body : List ℕ) → Keeps k body → kept_bad k ≡ is_bad body
+pub bad-kept : (k : Kept) (body : List ℕ) → Keeps k body → kept_bad k ≡ is_bad body
 unfolding kept_bad is_bad
 bad-kept k body h = rw (h.head, said-kept k body h) refl
 
 -- what is kept of a line is a command where the line is
-command-kept : (k : Kept) (body : List ℕ) → Keeps k body → kept_command k ≡ is_command body
+pub command-kept : (k : Kept) (body : List ℕ) → Keeps k body → kept_command k ≡ is_command body
 unfolding kept_command is_command
 command-kept k body h = rw (h.head, said-kept k body h) refl
 
@@ -59,7 +59,7 @@ text-push (x ∷ lines) line t =
     ∙ sym (append_assoc (line_answer x t).text (text lines (line_answer x t).timeline) _)
 
 -- the faulty ones of one line more
-bad_lines-push : (lines : List (List ℕ)) (line : List ℕ) → bad_lines (lines ++ line ∷ []) ≡ bad_lines lines + one_if (is_bad line)
+pub bad_lines-push : (lines : List (List ℕ)) (line : List ℕ) → bad_lines (lines ++ line ∷ []) ≡ bad_lines lines + one_if (is_bad line)
 bad_lines-push [] line = omega arith
 bad_lines-push (x ∷ lines) line = omega (arith, bad_lines-push lines line)
 

@@ -5,4 +5,5 @@ pub mod Texts
 pub mod Shows
 pub mod Replies
 pub mod Answers
+pub mod Checks
 pub mod Setups

@@ -2,6 +2,7 @@
 #![tactic(auto)]
 
 mod answering;
+mod checking;
 mod engine;
 mod fault;
 mod head;
@@ -16,10 +17,12 @@ mod refusals;
 mod replies;
 mod setup;
 mod setup_fault;
+mod short_line;
 mod shown;
 mod state_lines;
 mod writing;
 
+pub use checking::{Checked, check_lines};
 pub use engine::{Ended, run_lines};
 pub use fault::EngineFault;
 pub use head::Head;
@@ -31,5 +34,6 @@ pub use node_lines::{
 };
 pub use setup::{Setup, read_setup};
 pub use setup_fault::SetupFault;
+pub use short_line::{ShortLine, plain_line, push_number};
 pub use state_lines::StateLine;
 pub use writing::{write_reply, write_text};

@@ -6,7 +6,7 @@ ghost use Rattle.pfl_script.specs.Shows.{bit_text, server_text, client_text, num
 use pfl_base::{Millis, NodeId, StateName};
 use pfl_bulk::{BulkClient, BulkServer};
 use pfl_defer::Held;
-use pfl_node::Counters;
+use pfl_parts::Counters;
 use pfl_queue::{Cleared, Kind, Mark};
 use pfl_wire::BulkStatus;
 use std::fmt;

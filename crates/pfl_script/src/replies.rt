@@ -3,7 +3,7 @@
 ghost use Rattle.std.specs.Prelude.{◌≡◌, ◌++◌, codes, IfOk};
 ghost use Rattle.std.specs.Fmt.{decimal};
 ghost use Rattle.pfl_world.specs.Outcomes.{told};
-ghost use Rattle.pfl_timeline.specs.Replies.{Stepped, At, Refused as Refusing};
+ghost use Rattle.pfl_timeline.specs.Replies.{Stepped, At, Refused as Refusing, reply_of};
 ghost use Rattle.pfl_script.specs.Texts.{bad_text};
 ghost use Rattle.pfl_script.specs.Replies.{reply_text};
 
@@ -12,7 +12,7 @@ use crate::refusals::RefusedWords;
 use crate::shown::shown_text;
 use pfl_edits::NoMemory;
 use pfl_lines::LineFault;
-use pfl_timeline::{Answer, Refused, Reply};
+use pfl_timeline::{Refused, Reply};
 use pfl_world::Outcome;
 use std::alloc::Allocator;
 
@@ -63,17 +63,17 @@ pub fn reply_text<A: Allocator, B: Allocator + Copy>(
     alloc: A,
     reply: &Reply<B>,
 ) -> Result<Vec<u8, A>, NoMemory>
-    ensures { IfOk result (λ text. text.items ≡ reply_text reply.now) }
+    ensures { IfOk result (λ text. text.items ≡ reply_text (reply_of reply.now)) }
 {
-    match reply.answer() {
-        Answer::Stepped { outcome, dropped } => stepped_line(alloc, *outcome, *dropped),
-        Answer::At(cursor) => cursor_line(alloc, *cursor),
-        Answer::Shown {
+    match reply {
+        Reply::Stepped { outcome, dropped } => stepped_line(alloc, *outcome, *dropped),
+        Reply::At(cursor) => cursor_line(alloc, *cursor),
+        Reply::Shown {
             name,
             events,
             cursor,
             world,
         } => shown_text(alloc, name.bytes(), *events, *cursor, world),
-        Answer::Refused(why) => refused_line(alloc, *why),
+        Reply::Refused(why) => refused_line(alloc, *why),
     }
 }

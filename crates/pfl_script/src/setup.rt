@@ -1,6 +1,6 @@
 //! Setups of pairs.
 
-ghost use Rattle.std.specs.Prelude.{◌≡◌, ◌<◌, ◌≤◌, [], true, IfOk, IfErr, IfSome, OnOk, OnErr, Ok, None, Some};
+ghost use Rattle.std.specs.Prelude.{◌≡◌, ◌+◌, ◌<◌, ◌≤◌, ◌^◌, [], true, IfOk, IfErr, IfSome, OnOk, OnErr, Ok, None, Some};
 ghost use Rattle.pfl_base.specs.Counts.{Counts};
 ghost use Rattle.pfl_rules.specs.Rules.{rule_fault, rule_set};
 ghost use Rattle.pfl_script.specs.Readers.{lines_after, room, CountsTurns};
@@ -13,7 +13,7 @@ use crate::line_reader::LineReader;
 use crate::setup_fault::SetupFault;
 use pfl_base::{Input, NodeId};
 use pfl_lines::SetupLine;
-use pfl_node::Limits;
+use pfl_parts::Limits;
 use pfl_rules::{Rule, RuleFault, RuleSet};
 use std::alloc::{AllocError, Allocator};
 use std::marker::Model;
@@ -164,6 +164,7 @@ pub fn read_setup<A: Allocator + Copy, R: Input>(
 ) -> Result<Setup<A>, SetupFault>
     ensures setup { IfOk result (λ s. ReadsSetup reader.old.left reader.new.left s.limits s.rules_a s.rules_b) }
     ensures counted { IfOk result (λ s. reader.old.lines ≡ 0 → ReadsSetupTo reader.old.left reader.new.left reader.new.lines s.limits s.rules_a s.rules_b) }
+    ensures few_lines { OnOk result (reader.new.lines ≤ reader.old.lines + 2 ^ 40) }
     ensures fault { IfErr result (λ e. IsSetupFault e reader.old.left reader.new) }
     ensures lines { IfErr result (λ e. CountsLines e reader.old reader.new) }
     ensures reads { Counts reader.old.reads reader.new.reads reader.new.turns }

@@ -2,6 +2,7 @@
 
 ghost use Rattle.std.specs.Prelude.{◌≡◌, ◌≤◌, ℕ, true, length, take, OnOk, OnErr, IfErr};
 ghost use Rattle.std.specs.Io.KnownBytes.{Appends};
+ghost use Rattle.pfl_timeline.specs.Replies.{reply_of};
 ghost use Rattle.pfl_script.specs.Readers.{IsWriteFault};
 ghost use Rattle.pfl_script.specs.Replies.{reply_text};
 
@@ -35,10 +36,10 @@ pub fn write_reply<A: Allocator, B: Allocator + Copy, W: Output>(
     reply: &Reply<B>,
     writer: &mut W,
 ) -> Result<(), EngineFault>
-    ensures whole { OnOk result (Appends (W.written writer.old) (W.written writer.new) (reply_text reply.now)) }
+    ensures whole { OnOk result (Appends (W.written writer.old) (W.written writer.new) (reply_text (reply_of reply.now))) }
     ensures stays { OnOk result (W.has_failed writer.new ≡ W.has_failed writer.old) }
     ensures untouched { IfErr result (λ e. e ≡ EngineFault.NoMemory → writer.new ≡ writer.old) }
-    ensures part { OnErr result ((n : ℕ) × Appends (W.written writer.old) (W.written writer.new) (take n (reply_text reply.now))) }
+    ensures part { OnErr result ((n : ℕ) × Appends (W.written writer.old) (W.written writer.new) (take n (reply_text (reply_of reply.now)))) }
     ensures fault { IfErr result (λ e. IsWriteFault e (W.has_failed writer.new)) }
 {
     match reply_text(alloc, reply) {

@@ -1,11 +1,10 @@
 -- What a branch answers, and which command asks for it.
-use Rattle.std.specs.Prelude.{◌≡◌, ◌≢◌, ◌-◌, ◌<◌, ◌≤◌, ℕ, List, [], ◌∷◌, length, Option, Some, Result, Ok, Err, OnErr, refl}
+use Rattle.std.specs.Prelude.{◌≡◌, ◌≢◌, ◌-◌, ℕ, true, false, nat_lt, List, [], ◌∷◌, length, Option, Some, None, Result, Ok, Err, IfOk, OnErr, refl, if◌then◌else◌}
 use Rattle.std.specs.Option.{option_map_or}
 use Rattle.std.proofs.Common.{sym, ◌∙◌, ap, subst}
-use Rattle.std.proofs.lemmas.Bool.{lt-ltb, le-ltb}
 use Rattle.pfl_base.specs.declared.refusal.Refusal.{Refusal}
 use Rattle.pfl_base.specs.declared.refusal.Refusal.TheVariants.{NoMemory}
-use Rattle.pfl_node.specs.Nodes.{refused_by}
+use Rattle.pfl_parts.specs.Nodes.{refused_by}
 use Rattle.pfl_world.specs.declared.event.Event.{Event}
 use Rattle.pfl_world.specs.Events.{step, IsRefusalOf}
 use Rattle.pfl_world.specs.Outcomes.{Outcome, Stepped}
@@ -16,7 +15,7 @@ use Rattle.pfl_timeline.specs.declared.command.Command.TheVariants as command
 use Rattle.pfl_timeline.specs.declared.refused.Refused.TheVariants as refused
 use Rattle.pfl_timeline.specs.Commands.{replied, answered, with_branch, with_changed, extended, undone, at_cursor, step_answered, step_reply, back_reply, show_reply, step_command, back_command, show_command, command_step}
 use Rattle.pfl_timeline.specs.Replies.{Reply, Replied, Stepped as StepReply, At, Shown, Refused as Refusing}
-use Rattle.pfl_timeline.specs.Rooted.{Rooted, shown, StandsIn, IsReplyOf}
+use Rattle.pfl_timeline.specs.Rooted.{Rooted, shown, with_cursor, StandsIn, IsReplyOf}
 use Rattle.pfl_timeline.specs.Timelines.{Branch, Timeline, standing, world_of}
 
 -- ---- a branch
@@ -39,6 +38,11 @@ asked_of done r w t here stands = ap (λ (o : Option World). option_map_or done 
 refusal_is : (at : Result Stepped Refusal) (why : Refusal) → IsRefusalOf at why → why ≢ NoMemory → at ≡ Err why
 refusal_is (Ok s) why is other = absurd (other is)
 refusal_is (Err first) why is other = ap Err (sym is)
+
+-- the same of equal ones
+pub replied_as : (asked : Timeline → Branch → Replied) (r s s' : Rooted) (reply reply' : Reply) → s' ≡ s → reply' ≡ reply → IsReplyOf asked r s reply → IsReplyOf asked r s' reply'
+replied_as asked r s s' reply reply' same_new same_reply told =
+    subst (λ (x : Rooted). IsReplyOf asked r x reply') (sym same_new) (subst (λ (y : Reply). IsReplyOf asked r s y) (sym same_reply) told)
 
 -- the event happened
 pub told-stepped : (r : Rooted) (e : Event) (w new : World) (out : Outcome) (cut : ℕ) → shown r ≡ Some w → step w e ≡ Ok (record { world = new; outcome = out }) → cut ≡ undone r.branch
@@ -64,24 +68,38 @@ told-refused r e w why here is other = record {
       ∙ same_branch r t (Refusing (refused.Event why)) stands;
 }
 
+-- so many events stand after a way back, unless there were not so many
+abbrev pub backed : Option ℕ → Reply
+backed None = Refusing refused.TooFarBack
+backed (Some cursor) = At cursor
+
 -- fewer events stand
-pub told-far : (r : Rooted) (n : ℕ) → r.branch.cursor < n → IsReplyOf (λ t b. back_reply t n b) r r (Refusing refused.TooFarBack)
-told-far r n far = record {
+told_far : (r : Rooted) (n : ℕ) → nat_lt r.branch.cursor n ≡ true → IsReplyOf (λ t b. back_reply t n b) r r (Refusing refused.TooFarBack)
+told_far r n far = record {
   opening = refl;
   name = refl;
   told = λ t stands.
-      ap (λ b. answered t (refused_by ((b, refused.TooFarBack) ∷ [])) (at_cursor t r.branch (r.branch.cursor - n))) (lt-ltb r.branch.cursor n far)
+      ap (λ b. answered t (refused_by ((b, refused.TooFarBack) ∷ [])) (at_cursor t r.branch (r.branch.cursor - n))) far
       ∙ same_branch r t (Refusing refused.TooFarBack) stands;
 }
 
 -- so many stand
-pub told-near : (r : Rooted) (n : ℕ) → n ≤ r.branch.cursor
-    → IsReplyOf (λ t b. back_reply t n b) r (record r { branch = record r.branch { cursor = r.branch.cursor - n } }) (At (r.branch.cursor - n))
-told-near r n near = record {
+told_near : (r : Rooted) (n : ℕ) → nat_lt r.branch.cursor n ≡ false → IsReplyOf (λ t b. back_reply t n b) r (with_cursor r (r.branch.cursor - n)) (At (r.branch.cursor - n))
+told_near r n near = record {
   opening = refl;
   name = refl;
-  told = λ t stands. ap (λ b. answered t (refused_by ((b, refused.TooFarBack) ∷ [])) (at_cursor t r.branch (r.branch.cursor - n))) (le-ltb r.branch.cursor n near);
+  told = λ t stands. ap (λ b. answered t (refused_by ((b, refused.TooFarBack) ∷ [])) (at_cursor t r.branch (r.branch.cursor - n))) near;
 }
+
+pub told-back : (r s : Rooted) (n : ℕ) (cursor : Option ℕ) → cursor ≡ (if nat_lt r.branch.cursor n then None else Some (r.branch.cursor - n))
+    → s ≡ (if nat_lt r.branch.cursor n then r else with_cursor r (r.branch.cursor - n)) → IsReplyOf (λ t b. back_reply t n b) r s (backed cursor)
+told-back r s n cursor is moved =
+    replied_as _ _ _ _ _ _ moved (ap backed is)
+    (elim (nat_lt r.branch.cursor n) as (λ far. nat_lt r.branch.cursor n ≡ far
+    → IsReplyOf (λ t b. back_reply t n b) r (if far then r else with_cursor r (r.branch.cursor - n)) (backed (if far then None else Some (r.branch.cursor - n)))) [
+      | true ↦ told_far r n
+      | false ↦ told_near r n
+    ] refl)
 
 -- the branch is shown
 pub told-shown : (r : Rooted) (w : World) → shown r ≡ Some w → IsReplyOf show_reply r r (Shown r.branch.name (length r.branch.events) r.branch.cursor w)
@@ -93,11 +111,6 @@ told-shown r w here = record {
       ∙ same_branch r t (Shown r.branch.name (length r.branch.events) r.branch.cursor w) stands;
 }
 
--- the same of equal ones
-pub replied_as : (asked : Timeline → Branch → Replied) (r s s' : Rooted) (reply reply' : Reply) → s' ≡ s → reply' ≡ reply → IsReplyOf asked r s reply → IsReplyOf asked r s' reply'
-replied_as asked r s s' reply reply' same_new same_reply told =
-    subst (λ (x : Rooted). IsReplyOf asked r x reply') (sym same_new) (subst (λ (y : Reply). IsReplyOf asked r s y) (sym same_reply) told)
-
 pub shown_as : (name name' : List ℕ) (events events' cursor cursor' : ℕ) (w w' : World) → name ≡ name' → events ≡ events' → cursor ≡ cursor' → w ≡ w' → Shown name events cursor w ≡ Shown name' events' cursor' w'
 shown_as name name' events events' cursor cursor' w w' a b c d =
     ap (λ (x : List ℕ). Shown x events cursor w) a ∙ ap (λ n. Shown name' n cursor w) b ∙ ap (λ n. Shown name' events' n w) c ∙ ap (Shown name' events' cursor') d
@@ -106,6 +119,19 @@ shown_as name name' events events' cursor cursor' w w' a b c d =
 pub anyway : {X Y P : Type 0} (r : Result X Y) → P → OnErr r P
 anyway (Ok x) p = tt
 anyway (Err y) p = p
+
+-- what holds of the value holds where that is the value, and where there is none
+pub if_ok : {X Y : Type 0} (r : Result X Y) (x : X) (P : X → Type 0) → r ≡ Ok x → P x → IfOk r P
+if_ok r x P is p = subst (λ (q : Result _ _). IfOk q P) (sym is) p
+
+pub as_ok : {X Y : Type 0} (r q : Result X Y) (P : X → Type 0) → r ≡ q → IfOk q P → IfOk r P
+as_ok r q P is p = subst (λ (x : Result _ _). IfOk x P) (sym is) p
+
+pub as_err : {X Y : Type 0} (r q : Result X Y) (P : Type 0) → r ≡ q → OnErr q P → OnErr r P
+as_err r q P is p = subst (λ (x : Result _ _). OnErr x P) (sym is) p
+
+pub no_err : {X Y : Type 0} (r : Result X Y) (x : X) (P : Type 0) → r ≡ Ok x → OnErr r P
+no_err r x P is = subst (λ (q : Result _ _). OnErr q P) (sym is) tt
 
 -- ---- which command asks
 

@@ -9,7 +9,7 @@ use Rattle.pfl_edits.specs.Maps as maps
 use Rattle.pfl_link.specs.Links.{InFlight, is_full, is_counted_out}
 use Rattle.pfl_queue.specs.Queues.{pending}
 use Rattle.pfl_node.specs.Events.{purge_points}
-use Rattle.pfl_node.specs.Nodes.{Node, refused_by, points_refusal, is_overfull, is_overcounted, last_millisecond}
+use Rattle.pfl_parts.specs.Nodes.{Node, refused_by, points_refusal, is_overfull, is_overcounted, last_millisecond}
 use Rattle.pfl_node.specs.Packets.{packet_points}
 use Rattle.pfl_world.specs.declared.event.Event.{Event}
 use Rattle.pfl_world.specs.declared.event.Event.TheVariants as event

@@ -4,7 +4,7 @@ use Rattle.std.specs.List.{fold}
 use Rattle.std.specs.Option.{option_map_or}
 use Rattle.pfl_base.specs.declared.refusal.Refusal.{Refusal}
 use Rattle.pfl_world.specs.declared.event.Event.{Event}
-use Rattle.pfl_node.specs.Nodes.{refused_by}
+use Rattle.pfl_parts.specs.Nodes.{refused_by}
 use Rattle.pfl_world.specs.Outcomes.{Stepped}
 use Rattle.pfl_world.specs.Events.{step}
 use Rattle.pfl_timeline.specs.declared.command.Command.{Command}

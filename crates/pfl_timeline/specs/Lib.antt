@@ -3,7 +3,6 @@ pub mod Timelines
 pub mod Replies
 pub mod Commands
 pub mod Memory
-pub mod Answers
 pub mod Rooted
 pub mod Kept
 pub mod Codes

@@ -1,11 +1,13 @@
 -- What a timeline answers (this project's profile).
 use Rattle.std.specs.Prelude.{ℕ, List}
-use Rattle.pfl_world.specs.Outcomes.{Outcome}
+use Rattle.pfl_world.specs.Outcomes.{Outcome, told}
 use Rattle.pfl_world.specs.Worlds.{World}
 use Rattle.pfl_timeline.specs.declared.refused.Refused.{Refused as Refusal}
+use Rattle.pfl_timeline.specs.declared.reply.Reply.{Reply as GivenReply}
+use Rattle.pfl_timeline.specs.declared.reply.Reply.TheVariants as given
 use Rattle.pfl_timeline.specs.Timelines.{Timeline}
 
--- a reply; the code's enum has those of the commands that it has
+-- a reply
 pub data Reply : Type 0 where
   Stepped : Outcome → ℕ → Reply
   At : ℕ → Reply
@@ -14,6 +16,13 @@ pub data Reply : Type 0 where
   Shown : List ℕ → ℕ → ℕ → World → Reply
   Names : List (List ℕ) → Reply
   Refused : Refusal → Reply
+
+-- what a reply of the code tells
+abbrev pub reply_of : {M : Type 0} → GivenReply M → Reply
+reply_of (given.Stepped outcome dropped) = Stepped (told outcome) dropped
+reply_of (given.At cursor) = At cursor
+reply_of (given.Shown name events cursor world) = Shown name events cursor world
+reply_of (given.Refused why) = Refused why
 
 -- the timeline after a command, and its reply
 pub record Replied : Type 0 where

@@ -1,5 +1,5 @@
 -- A branch beside the opening of its timeline, and what it answers for the timeline (this project's profile).
-use Rattle.std.specs.Prelude.{◌≡◌, Option}
+use Rattle.std.specs.Prelude.{◌≡◌, ℕ, Option}
 use Rattle.pfl_world.specs.Worlds.{World}
 use Rattle.pfl_world.specs.Runs.{run}
 use Rattle.pfl_timeline.specs.Commands.{replied, with_changed}
@@ -15,6 +15,10 @@ pub record Rooted : Type 0 where
 -- the world that it shows
 abbrev pub shown : Rooted → Option World
 shown r = run r.opening (standing r.branch)
+
+-- the branch with so many events standing
+abbrev pub with_cursor : Rooted → ℕ → Rooted
+with_cursor r cursor = record r { branch = record r.branch { cursor = cursor } }
 
 -- a branch of this timeline
 pub record StandsIn (t : Timeline) (r : Rooted) : Type 0 where

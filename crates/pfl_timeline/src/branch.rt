@@ -1,17 +1,13 @@
 //! Branches.
 
-ghost use Rattle.std.specs.Prelude.{◌≡◌, ◌≢◌, ◌-◌, ◌<◌, ◌≤◌, [], ◌∷◌, ◌++◌, length, take, Ok, Some, IfErr, IfOk, OnErr, OnOk, IsTrue, vec_len, vec_capacity};
+ghost use Rattle.std.specs.Prelude.{◌≡◌, ◌-◌, ◌<◌, ◌≤◌, nat_lt, [], ◌∷◌, ◌++◌, length, take, Ok, Some, None, IfErr, IfOk, OnErr, OnOk, IsTrue, if◌then◌else◌, vec_len, vec_capacity};
 ghost use Rattle.pfl_world.specs.Events.{step, IsRefusalOf};
 ghost use Rattle.pfl_world.specs.Outcomes.{told};
 ghost use Rattle.pfl_world.specs.Worlds.{World as Pair};
-ghost use Rattle.pfl_timeline.specs.Commands.{step_reply, back_reply, show_reply, extended, undone};
-ghost use Rattle.pfl_timeline.specs.Replies.{Refused as Refusing};
-ghost use Rattle.pfl_timeline.specs.Rooted.{shown, Accepts, IsReplyOf};
+ghost use Rattle.pfl_timeline.specs.Commands.{extended, undone};
+ghost use Rattle.pfl_timeline.specs.Rooted.{shown, with_cursor};
 ghost use Rattle.pfl_timeline.specs.Timelines.{IsBranch, is_branch_name, same_name};
 
-use crate::answer::Answer;
-use crate::refused::Refused;
-use crate::reply::Reply;
 use crate::word::BranchWord;
 use pfl_base::Refusal;
 use pfl_edits::NoMemory;
@@ -83,17 +79,6 @@ fn put<A: Allocator>(
     dropped
 }
 
-/// The reply to an event that did not happen, unless it wanted memory.
-fn refused<A: Allocator>(refusal: Refusal) -> Result<Reply<A>, NoMemory>
-    ensures reply { IfOk result (λ reply. (refusal ≢ Refusal.NoMemory) × (reply ≡ Refusing (Refused.Event refusal))) }
-    ensures memory { OnErr result (refusal ≡ Refusal.NoMemory) }
-{
-    match refusal {
-        Refusal::NoMemory => Err(NoMemory),
-        refusal => Ok(Reply::from(Answer::Refused(Refused::Event(refusal)))),
-    }
-}
-
 impl<A: Allocator> Branch<A> {
     /// Its name.
     pub fn name(&self) -> &BranchWord
@@ -140,7 +125,7 @@ impl<A: Allocator> Branch<A> {
     /// Takes the newest of the events that stand back.
     fn take_back_one(&mut self)
         requires within { 0 < self.old.branch.cursor }
-        ensures branch { self.new ≡ record self.old { branch = record self.old.branch { cursor = self.old.branch.cursor - 1 } } }
+        ensures branch { self.new ≡ with_cursor self.old (self.old.branch.cursor - 1) }
     {
         if let Some(change) = self.changes.pop() {
             self.world.revert(change);
@@ -150,24 +135,28 @@ impl<A: Allocator> Branch<A> {
     /// Takes the newest `n` of the events that stand back.
     fn take_back(&mut self, n: usize)
         requires within { n ≤ self.old.branch.cursor }
-        ensures branch { self.new ≡ record self.old { branch = record self.old.branch { cursor = self.old.branch.cursor - n } } }
+        ensures branch { self.new ≡ with_cursor self.old (self.old.branch.cursor - n) }
     {
         for _ in 0..n {
             self.take_back_one();
         }
     }
 
-    /// Undoes the last `n` events before the cursor; they stay in the branch. It takes no memory.
-    pub(crate) fn back(&mut self, n: u32) -> Reply<A>
-        ensures reply { IsReplyOf (λ t b. back_reply t n b) self.old self.new result }
+    /// Undoes the last `n` events before the cursor, where there are so many, and gives how many stand then. They stay in
+    /// the branch. It takes no memory.
+    pub(crate) fn back(&mut self, n: u32) -> Option<usize>
+        ensures far { result ≡ if nat_lt self.old.branch.cursor n then None else Some (self.old.branch.cursor - n) }
+        ensures branch { self.new ≡ if nat_lt self.old.branch.cursor n then self.old else with_cursor self.old (self.old.branch.cursor - n) }
+        ensures opening { self.new.opening ≡ self.old.opening }
+        ensures name { self.new.branch.name ≡ self.old.branch.name }
     {
         let n = n as usize;
         let cursor = self.cursor();
         if cursor < n {
-            return Reply::from(Answer::Refused(Refused::TooFarBack));
+            return None;
         }
         self.take_back(n);
-        Reply::from(Answer::At(cursor - n))
+        Some(cursor - n)
     }
 }
 
@@ -186,13 +175,16 @@ impl<A: Allocator + Copy> Branch<A> {
         }
     }
 
-    /// Lets an event happen behind those that stand. Gives its outcome, and how many events that had been undone were cut.
-    fn extend(&mut self, event: &Event) -> Result<(Outcome, usize), Refusal>
+    /// Puts an event behind those that stand, in place of those that had been undone. Gives its outcome, and how many were
+    /// cut. Where it is refused, or there is no memory, nothing changes.
+    pub(crate) fn extend(&mut self, event: &Event) -> Result<(Outcome, usize), Refusal>
         ensures refused { IfErr result (λ why. (w : Pair) × (shown self.old ≡ Some w) × IsRefusalOf (step w event.now) why) }
         ensures unchanged { OnErr result (self.new ≡ self.old) }
         ensures stepped { IfOk result (λ r. (w new : Pair) × (shown self.old ≡ Some w) × (step w event.now ≡ Ok (record { world = new; outcome = told r.0 }))) }
         ensures extended { OnOk result (self.new ≡ record self.old { branch = extended self.old.branch event.now }) }
         ensures dropped { IfOk result (λ r. r.1 ≡ undone self.old.branch) }
+        ensures opening { self.new.opening ≡ self.old.opening }
+        ensures name { self.new.branch.name ≡ self.old.branch.name }
     {
         match self.world.apply(event) {
             Err(refusal) => Err(refusal),
@@ -205,34 +197,5 @@ impl<A: Allocator + Copy> Branch<A> {
                 Ok((outcome, dropped))
             }
         }
-    }
-
-    /// Puts an event behind those that stand, in place of those that had been undone. Where it is refused, or there is no
-    /// memory, nothing changes.
-    pub(crate) fn step(&mut self, event: &Event) -> Result<Reply<A>, NoMemory>
-        ensures reply { IfOk result (IsReplyOf (λ t b. step_reply t event.now b) self.old self.new) }
-        ensures memory { OnErr result (Accepts (λ t b. step_reply t event.now b) self.old) }
-        ensures unchanged { OnErr result (self.new ≡ self.old) }
-        ensures opening { self.new.opening ≡ self.old.opening }
-        ensures name { self.new.branch.name ≡ self.old.branch.name }
-    {
-        match self.extend(event) {
-            Ok((outcome, dropped)) => Ok(Reply::from(Answer::Stepped { outcome, dropped })),
-            Err(refusal) => refused(refusal),
-        }
-    }
-
-    /// The branch, with a copy of the world that it shows.
-    pub(crate) fn show(&self) -> Result<Reply<A>, NoMemory>
-        ensures reply { IfOk result (IsReplyOf show_reply self.now self.now) }
-        ensures memory { OnErr result (Accepts show_reply self.now) }
-    {
-        let world = self.world().copy()?;
-        Ok(Reply::from(Answer::Shown {
-            name: *self.name(),
-            events: self.events().len(),
-            cursor: self.cursor(),
-            world,
-        }))
     }
 }

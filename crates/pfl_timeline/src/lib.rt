@@ -1,7 +1,6 @@
 //! Branches of events.
 #![tactic(auto)]
 
-mod answer;
 mod branch;
 mod command;
 mod laws;
@@ -10,7 +9,6 @@ mod reply;
 mod timeline;
 mod word;
 
-pub use answer::Answer;
 pub use branch::Branch;
 pub use command::Command;
 pub use laws::{

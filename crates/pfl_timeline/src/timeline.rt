@@ -1,17 +1,18 @@
 //! Timelines.
 
-ghost use Rattle.std.specs.Prelude.{◌≡◌, map, position, IfOk, OnErr};
+ghost use Rattle.std.specs.Prelude.{◌≡◌, ◌≢◌, map, position, IfOk, OnErr};
 ghost use Rattle.std.specs.List.{AllByRecursion};
 ghost use Rattle.pfl_timeline.specs.Commands.{replied, step_command, back_command, show_command, command_step};
 ghost use Rattle.pfl_timeline.specs.Memory.{IsAccepted, MayWantMemory};
+ghost use Rattle.pfl_timeline.specs.Replies.{reply_of, Refused as Refusing};
 ghost use Rattle.pfl_timeline.specs.Timelines.{IsTimeline, new_timeline, same_name};
 
-use crate::answer::Answer;
 use crate::branch::Branch;
 use crate::command::Command;
 use crate::refused::Refused;
 use crate::reply::Reply;
 use crate::word::BranchWord;
+use pfl_base::Refusal;
 use pfl_edits::NoMemory;
 use pfl_world::{Event, World};
 use std::alloc::Allocator;
@@ -50,6 +51,17 @@ fn place_of<A: Allocator>(branches: &[Branch<A>], name: &BranchWord) -> Option<u
     None
 }
 
+/// The reply to an event that did not happen, unless it wanted memory.
+fn refused<A: Allocator>(refusal: Refusal) -> Result<Reply<A>, NoMemory>
+    ensures reply { IfOk result (λ reply. (refusal ≢ Refusal.NoMemory) × (reply_of reply ≡ Refusing (Refused.Event refusal))) }
+    ensures memory { OnErr result (refusal ≡ Refusal.NoMemory) }
+{
+    match refusal {
+        Refusal::NoMemory => Err(NoMemory),
+        refusal => Ok(Reply::Refused(Refused::Event(refusal))),
+    }
+}
+
 impl<A: Allocator> Timeline<A> {
     /// The branches, in the order of their making. Each begins from the timeline's opening.
     pub fn branches(&self) -> &[Branch<A>]
@@ -69,16 +81,17 @@ impl<A: Allocator> Timeline<A> {
     /// Undoes the last `n` events before the branch's cursor; they stay in the branch. A refusal changes nothing, and it
     /// takes no memory.
     pub fn back(&mut self, name: BranchWord, n: u32) -> Reply<A>
-        ensures step { back_command self.old name n ≡ replied self.new result }
+        ensures step { back_command self.old name n ≡ replied self.new (reply_of result) }
     {
-        match place_of(&self.branches, &name) {
-            None => Reply::from(Answer::Refused(Refused::NoBranch)),
-            Some(place) => {
-                let branch = &mut self.branches[place];
-                let reply = branch.back(n);
-                branch.known();
-                reply
-            }
+        let Some(place) = place_of(&self.branches, &name) else {
+            return Reply::Refused(Refused::NoBranch);
+        };
+        let branch = &mut self.branches[place];
+        let cursor = branch.back(n);
+        branch.known();
+        match cursor {
+            None => Reply::Refused(Refused::TooFarBack),
+            Some(cursor) => Reply::At(cursor),
         }
     }
 }
@@ -97,36 +110,44 @@ impl<A: Allocator + Copy> Timeline<A> {
 
     /// Puts an event behind those before the branch's cursor.
     fn step(&mut self, name: &BranchWord, event: &Event) -> Result<Reply<A>, NoMemory>
-        ensures step { IfOk result (λ reply. step_command self.old name.now event.now ≡ replied self.new reply) }
+        ensures step { IfOk result (λ reply. step_command self.old name.now event.now ≡ replied self.new (reply_of reply)) }
         ensures memory { OnErr result (IsAccepted (step_command self.old name.now event.now)) }
         ensures unchanged { OnErr result (self.new ≡ self.old) }
     {
-        match place_of(&self.branches, name) {
-            None => Ok(Reply::from(Answer::Refused(Refused::NoBranch))),
-            Some(place) => {
-                let branch = &mut self.branches[place];
-                let reply = branch.step(event);
-                branch.known();
-                reply
-            }
+        let Some(place) = place_of(&self.branches, name) else {
+            return Ok(Reply::Refused(Refused::NoBranch));
+        };
+        let branch = &mut self.branches[place];
+        let stepped = branch.extend(event);
+        branch.known();
+        match stepped {
+            Ok((outcome, dropped)) => Ok(Reply::Stepped { outcome, dropped }),
+            Err(refusal) => refused(refusal),
         }
     }
 
     /// The branch, with a copy of its world.
     fn show(&self, name: &BranchWord) -> Result<Reply<A>, NoMemory>
-        ensures step { IfOk result (λ reply. show_command self.now name.now ≡ replied self.now reply) }
+        ensures step { IfOk result (λ reply. show_command self.now name.now ≡ replied self.now (reply_of reply)) }
         ensures memory { OnErr result (IsAccepted (show_command self.now name.now)) }
     {
         let Some(place) = place_of(&self.branches, name) else {
-            return Ok(Reply::from(Answer::Refused(Refused::NoBranch)));
+            return Ok(Reply::Refused(Refused::NoBranch));
         };
-        self.branches[place].show()
+        let branch = &self.branches[place];
+        let world = branch.world().copy()?;
+        Ok(Reply::Shown {
+            name: *branch.name(),
+            events: branch.events().len(),
+            cursor: branch.cursor(),
+            world,
+        })
     }
 
     /// Carries a command out: the reply and the timeline are those of its definition, so a refusal changes nothing. Where
     /// there is no memory, nothing changes either. Memory is wanted last: by no way back, and by no command that is refused.
     pub fn command(&mut self, command: Command) -> Result<Reply<A>, NoMemory>
-        ensures step { IfOk result (λ reply. command_step self.old command ≡ replied self.new reply) }
+        ensures step { IfOk result (λ reply. command_step self.old command ≡ replied self.new (reply_of reply)) }
         ensures memory { OnErr result (MayWantMemory self.old command) }
         ensures unchanged { OnErr result (self.new ≡ self.old) }
     {

@@ -14,7 +14,7 @@ use Rattle.pfl_wire.specs.declared.message.Message.{Message}
 use Rattle.pfl_wire.specs.Frames.{Frame}
 use Rattle.pfl_wire.specs.Spelling.{spelling}
 use Rattle.pfl_wire.specs.Reading.{reading}
-use Rattle.pfl_node.specs.Nodes.{Node, new_node}
+use Rattle.pfl_parts.specs.Nodes.{Node, new_node}
 use Rattle.pfl_node.specs.Flushing.{frame_of, remaining}
 use Rattle.pfl_node.specs.Receiving.{taken as take_record}
 use Rattle.pfl_world.specs.Steps.{records_of}

@@ -22,10 +22,10 @@ use Rattle.pfl_track.specs.declared.state.State.{State}
 use Rattle.pfl_queue.specs.declared.Kind.{Kind}
 use Rattle.pfl_queue.specs.declared.Entry.{Entry}
 use Rattle.pfl_queue.specs.declared.Entry.TheVariants.{Marked}
-use Rattle.pfl_node.specs.declared.counters.Counters.{Counters}
+use Rattle.pfl_parts.specs.declared.counters.Counters.{Counters}
 use Rattle.pfl_queue.specs.Taking.{in_turn}
-use Rattle.pfl_node.specs.declared.limits.Limits.{Limits}
-use Rattle.pfl_node.specs.Nodes.{Node}
+use Rattle.pfl_parts.specs.declared.limits.Limits.{Limits}
+use Rattle.pfl_parts.specs.Nodes.{Node}
 use Rattle.pfl_link.specs.Links.{InFlight}
 use Rattle.pfl_queue.specs.declared.Mark.{Mark}
 use Rattle.pfl_queue.specs.declared.Cleared.{Cleared}
@@ -43,7 +43,7 @@ use Rattle.pfl_world.specs.Steps.{packet_step, flush_step, deliver_step, lose_st
 use Rattle.pfl_wire.specs.Spelling as spelling
 use Rattle.pfl_wire.specs.Reading as reading
 use Rattle.pfl_queue.specs.Taking as taking
-use Rattle.pfl_node.specs.Changes as changes
+use Rattle.pfl_parts.specs.Changes as changes
 use Rattle.pfl_node.specs.Starting as starting
 use Rattle.pfl_node.specs.Packets as packets
 use Rattle.pfl_node.specs.Receiving as receiving

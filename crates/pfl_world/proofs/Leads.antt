@@ -5,12 +5,12 @@ use Rattle.std.proofs.Common.{◌∙◌, ap, sym, subst}
 use Rattle.pfl_base.specs.declared.node_id.NodeId.{NodeId}
 use Rattle.pfl_base.specs.declared.node_id.NodeId.TheVariants.{A, B}
 use Rattle.pfl_edits.specs.Changes.{Edits, back, Fits, LeadsBack, LeadsBack-embedded}
-use Rattle.pfl_node.specs.declared.limits.Limits.{Limits}
-use Rattle.pfl_node.specs.declared.edit.NodeEdit.{NodeEdit}
-use Rattle.pfl_node.specs.declared.edit.NodeEdit.TheVariants.{OfState, OfQueue, OfHeld, Server, Client, Clock, NextId, Push, Count}
-use Rattle.pfl_node.specs.Edits as nodes
-use Rattle.pfl_node.specs.Edits.{NodeLeadsBack}
-use Rattle.pfl_node.specs.Nodes.{Node, IsNode}
+use Rattle.pfl_parts.specs.declared.limits.Limits.{Limits}
+use Rattle.pfl_parts.specs.declared.edit.NodeEdit.{NodeEdit}
+use Rattle.pfl_parts.specs.declared.edit.NodeEdit.TheVariants.{OfState, OfQueue, OfHeld, Server, Client, Clock, NextId, Push, Count}
+use Rattle.pfl_parts.specs.Edits as nodes
+use Rattle.pfl_parts.specs.Edits.{NodeLeadsBack}
+use Rattle.pfl_parts.specs.Nodes.{Node, IsNode}
 use Rattle.pfl_world.specs.declared.edit.WorldEdit.{WorldEdit}
 use Rattle.pfl_world.specs.declared.edit.WorldEdit.TheVariants.{OfNode}
 use Rattle.pfl_world.specs.WorldEdits.{Finds, put_back, WorldLeadsBack, of_node}

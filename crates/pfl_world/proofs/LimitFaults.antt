@@ -2,10 +2,10 @@
 use Rattle.std.specs.Prelude.{◌≡◌, Bool, true, false, nat_lt, Option, Some, None, refl, if◌then◌else◌}
 use Rattle.std.specs.List.{list_any}
 use Rattle.std.proofs.Common.{sym, ◌∙◌}
-use Rattle.pfl_node.specs.declared.limits.Limits.{Limits}
-use Rattle.pfl_node.specs.declared.limits.LimitFault.{LimitFault}
-use Rattle.pfl_node.specs.declared.limits.LimitFault.TheVariants as limit
-use Rattle.pfl_node.specs.Limits.{ranges, limit_fault}
+use Rattle.pfl_parts.specs.declared.limits.Limits.{Limits}
+use Rattle.pfl_parts.specs.declared.limits.LimitFault.{LimitFault}
+use Rattle.pfl_parts.specs.declared.limits.LimitFault.TheVariants as limit
+use Rattle.pfl_parts.specs.Limits.{ranges, limit_fault}
 use Rattle.pfl_world.specs.declared.fault.WorldFault.{WorldFault}
 use Rattle.pfl_world.specs.declared.fault.WorldFault.TheVariants as world
 use Rattle.pfl_world.specs.Worlds.{world_fault}

@@ -4,8 +4,8 @@ use Rattle.std.specs.Ordering.{nat_cmp}
 use Rattle.std.proofs.Common.{◌∙◌, ap, sym, subst, arith}
 use Rattle.pfl_edits.specs.Maps.{get-empty, len-empty}
 use Rattle.pfl_edits.specs.Rows.{some_is_none}
-use Rattle.pfl_node.specs.Nodes.{Node, greatest}
-use Rattle.pfl_node.proofs.NewNodes.{new_node-is}
+use Rattle.pfl_parts.specs.Nodes.{Node, greatest}
+use Rattle.pfl_parts.proofs.NewNodes.{new_node-is}
 use Rattle.pfl_link.specs.Links.{Link, InFlight, IsLink, empty_link}
 use Rattle.pfl_world.specs.Laws.{NewWorldsAreWorlds, LateWorldsAreWorlds}
 use Rattle.pfl_world.specs.Worlds.{World}

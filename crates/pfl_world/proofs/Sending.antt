@@ -9,9 +9,9 @@ use Rattle.pfl_base.specs.declared.node_id.NodeId.TheVariants.{A, B}
 use Rattle.pfl_base.specs.Nodes.{other_node}
 use Rattle.pfl_edits.specs.Changes.{Edits, back, Fits, LeadsBack-push}
 use Rattle.pfl_wire.specs.Spelling.{spelling}
-use Rattle.pfl_node.specs.declared.edit.NodeEdit.{NodeEdit}
+use Rattle.pfl_parts.specs.declared.edit.NodeEdit.{NodeEdit}
 use Rattle.pfl_node.specs.Flushing.{flushed, frame_of}
-use Rattle.pfl_node.specs.Nodes.{Node, IsRefusal, refused_by}
+use Rattle.pfl_parts.specs.Nodes.{Node, IsRefusal, refused_by}
 use Rattle.pfl_link.specs.declared.fault.LinkFault.{LinkFault}
 use Rattle.pfl_link.specs.declared.fault.LinkFault.TheVariants.{LinkFull, CountFull}
 use Rattle.pfl_link.specs.Faults as links

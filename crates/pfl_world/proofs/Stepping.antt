@@ -6,7 +6,7 @@ use Rattle.pfl_base.specs.declared.refusal.Refusal.TheVariants.{ClockFull}
 use Rattle.pfl_base.specs.declared.node_id.NodeId.{NodeId}
 use Rattle.pfl_edits.specs.Changes.{Edits}
 use Rattle.pfl_node.specs.Events.{tick_refusal, ticked, expired_states, purged, purge_points}
-use Rattle.pfl_node.specs.Nodes.{IsRefusal, refused_by, points_refusal, last_millisecond}
+use Rattle.pfl_parts.specs.Nodes.{IsRefusal, refused_by, points_refusal, last_millisecond}
 use Rattle.pfl_node.specs.Packets.{handled, packet_points}
 use Rattle.pfl_base.specs.declared.direction.Dir.{Dir}
 use Rattle.pfl_base.specs.declared.packet.Packet.{Packet}

@@ -9,7 +9,7 @@ use Rattle.pfl_link.specs.declared.fault.LinkFault.{LinkFault}
 use Rattle.pfl_link.specs.declared.fault.LinkFault.TheVariants.{NoSuchFrame, LinkFull, CountFull}
 use Rattle.pfl_link.specs.Faults.{room_fault, missing_fault, copy_fault, or_no_memory, refusal_of}
 use Rattle.pfl_link.specs.Links.{InFlight, is_full, is_counted_out, sent, with_frame, cut_to}
-use Rattle.pfl_node.specs.Nodes.{refused_by}
+use Rattle.pfl_parts.specs.Nodes.{refused_by}
 use Rattle.pfl_world.specs.declared.event.Event.{Event}
 use Rattle.pfl_world.specs.declared.event.Event.TheVariants as event
 use Rattle.pfl_world.specs.Events.{step, IsRefusalOf}

@@ -25,8 +25,8 @@ use Rattle.pfl_node.specs.declared.fate.Fate.{Fate}
 use Rattle.pfl_node.specs.declared.fate.Fate.TheVariants as fate
 use Rattle.pfl_node.specs.declared.retried.Retried.{Retried}
 use Rattle.pfl_node.specs.declared.retried.Retried.TheVariants as retried
-use Rattle.pfl_node.specs.Nodes.{Node, greatest, last_millisecond, full_tests, refused_by, is_overfull, is_overcounted}
-use Rattle.pfl_node.specs.Changes.{count_broken, deleted}
+use Rattle.pfl_parts.specs.Nodes.{Node, greatest, last_millisecond, full_tests, refused_by, is_overfull, is_overcounted}
+use Rattle.pfl_parts.specs.Changes.{count_broken, deleted}
 use Rattle.pfl_node.specs.Packets.{handled, packet_points}
 use Rattle.pfl_node.specs.Receiving.{taken}
 use Rattle.pfl_node.specs.Flushing.{frame_of, flushed}

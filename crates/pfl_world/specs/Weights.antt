@@ -11,7 +11,7 @@ use Rattle.pfl_wire.specs.declared.message.Message.TheVariants as message
 use Rattle.pfl_wire.specs.Frames.{Frame}
 use Rattle.pfl_wire.specs.Reading.{reading}
 use Rattle.pfl_queue.specs.Taking.{next_frame}
-use Rattle.pfl_node.specs.Nodes.{Node}
+use Rattle.pfl_parts.specs.Nodes.{Node}
 use Rattle.pfl_node.specs.Receiving.{taken, cleared_names}
 use Rattle.pfl_node.specs.Events.{expired_states, due_names, turn_of}
 use Rattle.pfl_world.specs.declared.event.Event.{Event}

@@ -5,8 +5,8 @@ use Rattle.pfl_base.specs.declared.node_id.NodeId.{NodeId}
 use Rattle.pfl_base.specs.declared.node_id.NodeId.TheVariants.{A, B}
 use Rattle.pfl_edits.specs.Changes.{LeadsBack, LeadsBothWays}
 use Rattle.pfl_edits.specs.Places.{part-both_ways}
-use Rattle.pfl_node.specs.declared.edit.NodeEdit.{NodeEdit}
-use Rattle.pfl_node.specs.Edits as nodes
+use Rattle.pfl_parts.specs.declared.edit.NodeEdit.{NodeEdit}
+use Rattle.pfl_parts.specs.Edits as nodes
 use Rattle.pfl_link.specs.LinkEdits as links
 use Rattle.pfl_link.specs.LinkEdits.{LinkEdit}
 use Rattle.pfl_world.specs.declared.edit.WorldEdit.{WorldEdit}

@@ -4,9 +4,9 @@ use Rattle.std.specs.List.{list_any}
 use Rattle.pfl_base.specs.declared.node_id.NodeId.{NodeId}
 use Rattle.pfl_base.specs.declared.node_id.NodeId.TheVariants.{A, B}
 use Rattle.pfl_rules.specs.Rules.{Rules}
-use Rattle.pfl_node.specs.declared.limits.Limits.{Limits}
-use Rattle.pfl_node.specs.Limits.{ranges}
-use Rattle.pfl_node.specs.Nodes.{Node, IsNode, new_node}
+use Rattle.pfl_parts.specs.declared.limits.Limits.{Limits}
+use Rattle.pfl_parts.specs.Limits.{ranges}
+use Rattle.pfl_parts.specs.Nodes.{Node, IsNode, new_node}
 use Rattle.pfl_link.specs.Links.{Link, IsLink, empty_link}
 use Rattle.pfl_world.specs.declared.fault.WorldFault.{WorldFault}
 use Rattle.pfl_world.specs.declared.fault.WorldFault.TheVariants.{TooSmall, TooLarge, NoMemory}

@@ -2,9 +2,9 @@
 
 ghost use Rattle.std.specs.Prelude.{◌≡◌, ◌+◌, ◌≤◌, None, Ok, IfOk, IfErr, OnOk, OnErr, length};
 ghost use Rattle.pfl_edits.specs.Changes.{Fits, back};
-ghost use Rattle.pfl_node.specs.Edits.{NodeLeadsBack};
+ghost use Rattle.pfl_parts.specs.Edits.{NodeLeadsBack};
 ghost use Rattle.pfl_node.specs.Events.{tick_refusal, ticked};
-ghost use Rattle.pfl_node.specs.Nodes.{IsRefusal, points_refusal};
+ghost use Rattle.pfl_parts.specs.Nodes.{IsRefusal, points_refusal};
 ghost use Rattle.pfl_node.specs.Packets.{handled, packet_points};
 ghost use Rattle.pfl_world.specs.Events.{step, IsRefusalOf};
 ghost use Rattle.pfl_world.specs.Outcomes.{told};
@@ -19,7 +19,8 @@ use crate::outcome::Outcome;
 use crate::world::World;
 use pfl_base::{Dir, Millis, NodeId, Packet, Refusal};
 use pfl_edits::Change;
-use pfl_node::{Fate, NodeEdit};
+use pfl_node::Fate;
+use pfl_parts::NodeEdit;
 use std::alloc::Allocator;
 
 impl<A: Allocator + Copy> World<A> {

@@ -3,7 +3,7 @@
 use pfl_base::NodeId;
 use pfl_edits::Change;
 use pfl_link::LinkEdit;
-use pfl_node::NodeEdit;
+use pfl_parts::NodeEdit;
 use std::alloc::Allocator;
 
 /// A change of one place of the pair.

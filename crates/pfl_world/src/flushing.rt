@@ -3,9 +3,9 @@
 ghost use Rattle.std.specs.Prelude.{◌≡◌, ◌≤◌, ◌+◌, ◌*◌, None, IfOk, IfErr, OnOk, OnErr, length};
 ghost use Rattle.pfl_edits.specs.Changes.{Fits, back};
 ghost use Rattle.pfl_wire.specs.Spelling.{spelling};
-ghost use Rattle.pfl_node.specs.Edits.{NodeLeadsBack};
+ghost use Rattle.pfl_parts.specs.Edits.{NodeLeadsBack};
 ghost use Rattle.pfl_node.specs.Flushing as flushing;
-ghost use Rattle.pfl_node.specs.Nodes.{IsRefusal};
+ghost use Rattle.pfl_parts.specs.Nodes.{IsRefusal};
 ghost use Rattle.pfl_link.specs.Faults.{room_fault};
 ghost use Rattle.pfl_link.specs.Links.{sent};
 ghost use Rattle.pfl_world.specs.Steps.{flush_refusal, sent_frame};
@@ -19,7 +19,7 @@ use crate::world::World;
 use pfl_base::{NodeId, Refusal};
 use pfl_edits::{Change, NoMemory};
 use pfl_link::Bytes;
-use pfl_node::NodeEdit;
+use pfl_parts::NodeEdit;
 use std::alloc::Allocator;
 
 impl<A: Allocator> World<A> {

@@ -2,8 +2,8 @@
 
 ghost use Rattle.std.specs.Prelude.{◌≡◌, ◌≤◌, [], ◌∷◌, ◌++◌, length, IfOk, IfErr, OnOk, OnErr};
 ghost use Rattle.pfl_edits.specs.Changes.{Fits, back};
-ghost use Rattle.pfl_node.specs.Edits as nodes;
-ghost use Rattle.pfl_node.specs.Nodes.{IsNode};
+ghost use Rattle.pfl_parts.specs.Edits as nodes;
+ghost use Rattle.pfl_parts.specs.Nodes.{IsNode};
 ghost use Rattle.pfl_link.specs.LinkEdits as links;
 ghost use Rattle.pfl_link.specs.Links.{IsLink};
 ghost use Rattle.pfl_world.specs.WorldEdits.{of_node, of_link};
@@ -14,7 +14,7 @@ use crate::world::World;
 use pfl_base::{NodeId, Refusal};
 use pfl_edits::{Change, Reversible, undo_all};
 use pfl_link::LinkEdit;
-use pfl_node::NodeEdit;
+use pfl_parts::NodeEdit;
 use std::alloc::Allocator;
 
 /// Records the edits of a node as edits of the pair.

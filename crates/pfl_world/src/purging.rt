@@ -1,9 +1,9 @@
 //! Purges at the pair.
 
 ghost use Rattle.std.specs.Prelude.{◌≡◌, ◌≤◌, ◌*◌, None, IfOk, IfErr, OnOk, OnErr, length};
-ghost use Rattle.pfl_node.specs.Edits.{NodeLeadsBack};
+ghost use Rattle.pfl_parts.specs.Edits.{NodeLeadsBack};
 ghost use Rattle.pfl_node.specs.Events.{expired_states, purged, purge_points};
-ghost use Rattle.pfl_node.specs.Nodes.{IsRefusal, points_refusal};
+ghost use Rattle.pfl_parts.specs.Nodes.{IsRefusal, points_refusal};
 ghost use Rattle.pfl_world.specs.WorldEdits.{WorldLeadsBack};
 ghost use Rattle.pfl_world.specs.Worlds.{node_at, with_node};
 
@@ -12,7 +12,7 @@ use crate::outcome::Outcome;
 use crate::world::World;
 use pfl_base::{NodeId, Refusal};
 use pfl_edits::Change;
-use pfl_node::NodeEdit;
+use pfl_parts::NodeEdit;
 use std::alloc::Allocator;
 
 impl<A: Allocator + Copy> World<A> {

@@ -1,11 +1,11 @@
-//! Where a run gives other than its case expects.
+//! Where a run or a check gives other than its case expects.
 
 use crate::expected::{Expected, marked, replies};
 use crate::trial::Trial;
 use std::alloc::{AllocError, Global};
 use std::fmt;
 
-/// The first place where a run gives other than its case expects.
+/// The first place where a run or a check gives other than its case expects.
 #[derive(Clone, Copy)]
 pub struct Difference<'a> {
     /// What differs.
@@ -98,11 +98,15 @@ fn first_of<'a>(
     }
 }
 
-/// The difference between the status of a run and the one that is expected: 0 where the script names none.
-fn of_status<'a>(expected: &[Expected<'a>], status: &'a str) -> Option<Difference<'a>> {
+/// The difference between a status and the one that is expected: 0 where the script names none.
+fn of_status<'a>(
+    kind: &'static str,
+    expected: &[Expected<'a>],
+    status: &'a str,
+) -> Option<Difference<'a>> {
     if expected.is_empty() && status != "0" {
         return Some(Difference {
-            kind: "status",
+            kind,
             line: None,
             wanted: Some("0"),
             came: Some(status),
@@ -111,7 +115,26 @@ fn of_status<'a>(expected: &[Expected<'a>], status: &'a str) -> Option<Differenc
     if expected.is_empty() {
         return None;
     }
-    first_of("status", expected, status, &[])
+    first_of(kind, expected, status, &[])
+}
+
+/// The first difference between a check and what its script expects. What the script says of faults and of the status is
+/// meant of its run and of its check alike; what the check writes is compared where the script says anything of it, or
+/// expects a fault.
+fn of_check<'a>(
+    told: &[Expected<'a>],
+    faults: &[Expected<'a>],
+    statuses: &[Expected<'a>],
+    check: &'a Trial,
+) -> Option<Difference<'a>> {
+    let of_told = if told.is_empty() && faults.is_empty() {
+        None
+    } else {
+        first_of("check", told, check.replies.as_str(), &[])
+    };
+    let of_faults = first_of("fault of the check", faults, check.faults.as_str(), &[]);
+    let of_status = of_status("status of the check", statuses, check.status.as_str());
+    of_told.or(of_faults).or(of_status)
 }
 
 impl<'a> Difference<'a> {
@@ -123,22 +146,31 @@ impl<'a> Difference<'a> {
         came: None,
     };
 
-    /// The first difference between a run and what its script expects: of the replies, the faults and the status.
+    /// The first difference between a run and a check and what their script expects: of the replies, the faults and the
+    /// status of the run, and then of the check.
     pub fn first(
         alloc: Global,
         script: &'a str,
-        trial: &'a Trial,
+        run: &'a Trial,
+        check: &'a Trial,
     ) -> Result<Option<Difference<'a>>, AllocError> {
         let answers = replies(alloc, script)?;
         let faults = marked(alloc, script, "#! ")?;
         let statuses = marked(alloc, script, "#= ")?;
+        let told = marked(alloc, script, "#? ")?;
         if answers.is_empty() && faults.is_empty() {
             return Ok(Some(Difference::SILENT));
         }
-        let lines = trial.lines.as_slice();
-        let of_replies = first_of("reply", answers.as_slice(), trial.replies.as_str(), lines);
-        let of_faults = first_of("fault", faults.as_slice(), trial.faults.as_str(), &[]);
-        let of_status = of_status(statuses.as_slice(), trial.status.as_str());
-        Ok(of_replies.or(of_faults).or(of_status))
+        let lines = run.lines.as_slice();
+        let of_replies = first_of("reply", answers.as_slice(), run.replies.as_str(), lines);
+        let of_faults = first_of("fault", faults.as_slice(), run.faults.as_str(), &[]);
+        let of_status = of_status("status", statuses.as_slice(), run.status.as_str());
+        let of_check = of_check(
+            told.as_slice(),
+            faults.as_slice(),
+            statuses.as_slice(),
+            check,
+        );
+        Ok(of_replies.or(of_faults).or(of_status).or(of_check))
     }
 }

@@ -1,5 +1,5 @@
-//! Runs worked cases: scripts of the laboratory, below whose lines stand the replies that are expected. The words of the
-//! command line name folders; each of their files `*.pfl` is a case.
+//! Runs and checks worked cases: scripts of the laboratory, below whose lines stand the replies that are expected. The words of
+//! the command line name folders; each of their files `*.pfl` is a case.
 #![tactic(auto)]
 
 mod difference;
@@ -8,6 +8,7 @@ mod trial;
 
 use anyhow::{Context, Result};
 use difference::Difference;
+use pfl_run::Mode;
 use std::process::ExitCode;
 use std::{env, fs};
 use trial::Trial;
@@ -15,8 +16,9 @@ use trial::Trial;
 /// Tells the first difference of a case, and answers whether there is none.
 fn passes(rt: &HostRuntime, path: &str) -> Result<bool> {
     let script = fs::read_to_string(rt, path).context(format_args!("reading {path}"))?;
-    let trial = Trial::of(rt.alloc(), script.as_str())?;
-    match Difference::first(rt.alloc(), script.as_str(), &trial)? {
+    let run = Trial::of(rt.alloc(), Mode::Run, script.as_str())?;
+    let check = Trial::of(rt.alloc(), Mode::Check, script.as_str())?;
+    match Difference::first(rt.alloc(), script.as_str(), &run, &check)? {
         None => Ok(true),
         Some(difference) => {
             eprintln!(rt; "{path}{difference}")?;

@@ -1,7 +1,7 @@
-//! A run of a script over memory.
+//! A run or a check of a script over memory.
 
 use pfl_base::Std;
-use pfl_run::run_lab;
+use pfl_run::{Mode, check_lab, run_lab};
 use pfl_script::LineReader;
 use std::alloc::{AllocError, Global};
 use std::cell::Cell;
@@ -57,12 +57,12 @@ impl io::Write for Replies<'_> {
     }
 }
 
-/// What a run of a script gave.
+/// What a run or a check of a script gave.
 #[derive(Drop)]
 pub struct Trial {
-    /// The text of its replies.
+    /// The text that it wrote.
     pub replies: String,
-    /// For each line of that text the number of the script's line that it answers.
+    /// For each line of that text the number of the script's line that was read last.
     pub lines: Vec<usize>,
     /// The faults that it told.
     pub faults: String,
@@ -79,8 +79,8 @@ fn text_of(alloc: Global, bytes: &[u8]) -> Result<String, AllocError> {
 }
 
 impl Trial {
-    /// Runs a script.
-    pub fn of(alloc: Global, script: &str) -> Result<Trial, AllocError> {
+    /// Runs or checks a script.
+    pub fn of(alloc: Global, mode: Mode, script: &str) -> Result<Trial, AllocError> {
         let begun = Cell::new(0);
         let mut reader = LineReader::new(Std::new(Script {
             left: script.as_bytes(),
@@ -93,7 +93,10 @@ impl Trial {
             begun: &begun,
         });
         let mut faults = Std::new(Vec::new(alloc));
-        let status = run_lab(alloc, &mut reader, &mut writer, &mut faults);
+        let status = match mode {
+            Mode::Run => run_lab(alloc, &mut reader, &mut writer, &mut faults),
+            Mode::Check => check_lab(alloc, &mut reader, &mut writer, &mut faults),
+        };
         let Replies { bytes, lines, .. } = writer.into_inner();
         Ok(Trial {
             replies: text_of(alloc, bytes.as_slice())?,

@@ -1,7 +1,9 @@
-//! Worked lines and setups, rules as they are printed, and runs over devices that fail and without memory, through the
-//! public calls of the crates from pfl_lines up.
+//! Worked lines and setups, rules as they are printed, and runs and checks over devices that fail and without memory, through
+//! the public calls of the crates from pfl_lines up.
 #![tactic(auto)]
 
+#[cfg(test)]
+mod checks;
 #[cfg(test)]
 mod lines;
 #[cfg(test)]

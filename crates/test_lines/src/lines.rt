@@ -2,7 +2,7 @@
 
 use pfl_base::{Addr, BadPacket, Class, Dir, End, NodeId, Packet, PacketFields, Proto, TcpFlags};
 use pfl_lines::{LineFault, SetupLine, parse_line, parse_setup};
-use pfl_node::Limit;
+use pfl_parts::Limit;
 use pfl_rules::{Action, Rule, RuleDir};
 use pfl_timeline::Command;
 use pfl_world::Event;

@@ -2,26 +2,26 @@
 
 use pfl_base::{NodeId, Refusal, Std};
 use pfl_script::{FrameLine, LinkLine, write_reply};
-use pfl_timeline::{Answer, Refused, Reply};
+use pfl_timeline::{Refused, Reply};
 use pfl_world::Outcome;
 use std::alloc::Global;
 use std::test::Fail;
 
-/// The answer is written so.
-fn is_told(alloc: Global, answer: Answer<Global>, text: &[u8]) -> bool {
+/// The reply is written so.
+fn is_told(alloc: Global, reply: Reply<Global>, text: &[u8]) -> bool {
     let mut writer = Std::new(Vec::new(alloc));
-    let written = write_reply(alloc, &Reply::from(answer), &mut writer);
+    let written = write_reply(alloc, &reply, &mut writer);
     written.is_ok() && writer.into_inner().as_slice() == text
 }
 
 /// What came of an event that cut so many others is written so.
 fn is_step(alloc: Global, outcome: Outcome, dropped: usize, text: &[u8]) -> bool {
-    is_told(alloc, Answer::Stepped { outcome, dropped }, text)
+    is_told(alloc, Reply::Stepped { outcome, dropped }, text)
 }
 
 /// The event's refusal is written so.
 fn is_refused(alloc: Global, refusal: Refusal, text: &[u8]) -> bool {
-    is_told(alloc, Answer::Refused(Refused::Event(refusal)), text)
+    is_told(alloc, Reply::Refused(Refused::Event(refusal)), text)
 }
 
 #[test]

@@ -63,20 +63,25 @@ fn a_fault_is_told_without_memory(rt: HostRuntime) {
     assert!(rt; faults.into_inner().as_slice() == b"pfl_lab: setup line 1: line 5\n".as_slice());
 }
 
-/// Why the words ask for no mode: the exit status, if they do not.
-fn words_status(alloc: Global, words: &[&str]) -> Option<u8> {
+/// The mode that the words ask for, or the exit status.
+fn mode_or_status(alloc: Global, words: &[&str]) -> Result<Mode, u8> {
     match mode_of(alloc, words) {
-        Ok(Mode::Run) => None,
-        Err(fault) => Some(fault.status()),
+        Ok(mode) => Ok(mode),
+        Err(fault) => Err(fault.status()),
     }
 }
 
 #[test]
 fn words(rt: HostRuntime) {
     let alloc = rt.alloc();
-    assert_eq!(rt; words_status(alloc, &["pfl_lab", "run"]), None);
-    assert_eq!(rt; words_status(alloc, &["pfl_lab"]), Some(2));
-    assert_eq!(rt; words_status(alloc, &["pfl_lab", "fly"]), Some(2));
-    assert_eq!(rt; words_status(alloc, &["pfl_lab", "run", "now"]), Some(2));
-    assert_eq!(rt; words_status(alloc, &["pfl_lab", "--help"]), Some(0));
+    assert_eq!(rt; mode_or_status(alloc, &["pfl_lab", "run"]), Ok(Mode::Run));
+    assert_eq!(rt;
+        mode_or_status(alloc, &["pfl_lab", "check"]),
+        Ok(Mode::Check)
+    );
+    assert_eq!(rt; mode_or_status(alloc, &["pfl_lab"]), Err(2));
+    assert_eq!(rt; mode_or_status(alloc, &["pfl_lab", "fly"]), Err(2));
+    assert_eq!(rt; mode_or_status(alloc, &["pfl_lab", "run", "now"]), Err(2));
+    assert_eq!(rt; mode_or_status(alloc, &["pfl_lab", "check", "now"]), Err(2));
+    assert_eq!(rt; mode_or_status(alloc, &["pfl_lab", "--help"]), Err(0));
 }

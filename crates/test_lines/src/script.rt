@@ -2,7 +2,7 @@
 
 use pfl_base::{Output, Std};
 use pfl_lines::LineFault;
-use pfl_node::Limits;
+use pfl_parts::Limits;
 use pfl_rules::{Action, RuleFault, RuleSet};
 use pfl_script::{EngineFault, LineReader, Setup, SetupFault, read_setup, write_text};
 use std::alloc::{Allocator, Global};

@@ -2,9 +2,9 @@
 
 use super::world::limits;
 use pfl_base::{Millis, NodeId, Refusal};
-use pfl_laws::{all_there_and_back, there_and_back};
+use pfl_laws::all_there_and_back;
 use pfl_rules::RuleSet;
-use pfl_world::{Event, Outcome, World};
+use pfl_world::{Event, World};
 use std::alloc::Global;
 use std::test::Fail;
 
@@ -26,17 +26,6 @@ fn tick(ms: Millis) -> Event {
 /// What node B's clock shows.
 fn clock(world: &World<Global>) -> Millis {
     world.node(NodeId::B).clock()
-}
-
-#[test]
-fn a_tick_is_answered_and_taken_back(rt: HostRuntime) -> Result<(), Fail> {
-    let mut world = opening(rt.alloc())?;
-    assert_eq!(rt;
-        there_and_back(&mut world, &tick(20)),
-        Ok(Outcome::Clock(20))
-    );
-    assert_eq!(rt; clock(&world), 0);
-    Ok(())
 }
 
 #[test]

@@ -1,11 +1,9 @@
-//! Worked events of a node and of the pair, and worked commands, through the public calls of the crates from pfl_node to
-//! pfl_timeline.
+//! What only a call shows of the pair and of timelines over it: copies, ranges of limits, and want of memory. Runs of events are
+//! cases of test_cases.
 #![tactic(auto)]
 
 #[cfg(test)]
 mod laws;
-#[cfg(test)]
-mod node;
 #[cfg(test)]
 mod timeline;
 #[cfg(test)]

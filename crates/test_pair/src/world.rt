@@ -1,10 +1,9 @@
-//! The pair before any event, its clocks, what takes them back, an empty link, and want of memory.
-ghost use Rattle.std.specs.Prelude.{◌≡◌};
+//! Copies of a pair, the ranges of its limits, and want of memory.
 
 use linked_list_allocator::LocalHeap;
-use pfl_base::{Addr, Dir, End, Millis, NodeId, Packet, PacketFields, Proto, Refusal, TcpFlags};
+use pfl_base::{Millis, NodeId, Refusal};
 use pfl_edits::NoMemory;
-use pfl_node::Limits;
+use pfl_parts::Limits;
 use pfl_rules::RuleSet;
 use pfl_world::{Event, Outcome, World, WorldFault};
 use std::alloc::{Allocator, Global};
@@ -54,132 +53,9 @@ fn tick<A: Allocator + Copy>(
     }
 }
 
-/// A node's clock goes on, and that is taken back.
-fn tick_and_revert(world: &mut World<Global>, node: NodeId, ms: Millis) -> Result<Outcome, Refusal>
-    ensures reverted { world.new ≡ world.old }
-{
-    match world.apply(&Event::Tick { node, ms }) {
-        Ok((outcome, change)) => {
-            world.revert(change);
-            Ok(outcome)
-        }
-        Err(refusal) => Err(refusal),
-    }
-}
-
 /// What both clocks show.
 fn clocks<A: Allocator>(world: &World<A>) -> (Millis, Millis) {
     (world.node(NodeId::A).clock(), world.node(NodeId::B).clock())
-}
-
-#[test]
-fn clocks_go_on(rt: HostRuntime) -> Result<(), Fail> {
-    let mut world = opening(rt.alloc(), limits())?;
-    assert_eq!(rt; tick(&mut world, NodeId::A, 20), Ok(Outcome::Clock(20)));
-    assert_eq!(rt; tick(&mut world, NodeId::B, 500), Ok(Outcome::Clock(500)));
-    assert_eq!(rt; tick(&mut world, NodeId::A, 20), Ok(Outcome::Clock(40)));
-    assert_eq!(rt; (clocks(&world), world.next_boot()), ((40, 500), 3));
-    Ok(())
-}
-
-#[test]
-fn clocks_go_back(rt: HostRuntime) -> Result<(), Fail> {
-    let mut world = opening(rt.alloc(), limits())?;
-    assert_eq!(rt;
-        tick_and_revert(&mut world, NodeId::B, 500),
-        Ok(Outcome::Clock(500))
-    );
-    assert_eq!(rt; clocks(&world), (0, 0));
-    Ok(())
-}
-
-#[test]
-fn a_clock_comes_to_an_end(rt: HostRuntime) -> Result<(), Fail> {
-    let mut world = opening(rt.alloc(), limits())?;
-    assert_eq!(rt;
-        tick(&mut world, NodeId::A, 1_000_000_000_001),
-        Err(Refusal::ClockFull)
-    );
-    assert_eq!(rt;
-        tick(&mut world, NodeId::A, 1_000_000_000_000),
-        Ok(Outcome::Clock(1_000_000_000_000))
-    );
-    assert_eq!(rt; tick(&mut world, NodeId::A, 1), Err(Refusal::ClockFull));
-    Ok(())
-}
-
-/// A packet of UDP comes to node B.
-fn packet(world: &mut World<Global>) -> Result<Result<Outcome, Refusal>, Fail> {
-    let packet = Packet::of(PacketFields {
-        seq: 0,
-        ack: 0,
-        window: 0,
-        len: 80,
-        proto: Proto::Udp,
-        src: End {
-            addr: Addr::V4(0xc000_0209),
-            port: 53,
-        },
-        dst: End {
-            addr: Addr::V4(0x0a00_0001),
-            port: 1000,
-        },
-        flags: TcpFlags::NONE,
-        scale: None,
-    })?;
-    let event = Event::Packet {
-        node: NodeId::B,
-        dir: Dir::Inbound,
-        packet,
-    };
-    Ok(match world.apply(&event) {
-        Ok((outcome, _change)) => Ok(outcome),
-        Err(refusal) => Err(refusal),
-    })
-}
-
-/// How many packets a node passed.
-fn passed_at(world: &World<Global>, node: NodeId) -> u64 {
-    world.node(node).counters().passed
-}
-
-/// How many packets each node passed.
-fn passed(world: &World<Global>) -> (u64, u64) {
-    (passed_at(world, NodeId::A), passed_at(world, NodeId::B))
-}
-
-#[test]
-fn packets_pass_without_rules(rt: HostRuntime) -> Result<(), Fail> {
-    let mut world = opening(rt.alloc(), limits())?;
-    assert_eq!(rt; packet(&mut world)?, Ok(Outcome::Pass(None)));
-    assert_eq!(rt; (passed(&world), world.link().len()), ((0, 1), 0));
-    Ok(())
-}
-
-/// Why an event is refused.
-fn refused(world: &mut World<Global>, event: &Event) -> Option<Refusal> {
-    match world.apply(event) {
-        Ok((_outcome, _change)) => None,
-        Err(refusal) => Some(refusal),
-    }
-}
-
-#[test]
-fn nothing_is_in_flight(rt: HostRuntime) -> Result<(), Fail> {
-    let mut world = opening(rt.alloc(), limits())?;
-    let events = [
-        Event::Lose { ticket: 9 },
-        Event::Repeat { ticket: 9 },
-        Event::Cut {
-            ticket: 9,
-            len: 9999,
-        },
-    ];
-    for event in &events {
-        assert_eq!(rt; refused(&mut world, event), Some(Refusal::NoSuchFrame));
-    }
-    assert_eq!(rt; (world.link().len(), world.link().next()), (0, 1));
-    Ok(())
 }
 
 /// What a clock shows after a tick of a copy.

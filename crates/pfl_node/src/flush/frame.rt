@@ -4,147 +4,155 @@ ghost use Rattle.std.specs.List.{AllByRecursion, flat_map};
 ghost use Rattle.std.specs.Prelude.{◌≡◌, ◌<◌, ◌^◌, [], ◌∷◌, Some, IsSome, IfOk};
 ghost use Rattle.pfl_edits.specs.Maps as maps;
 ghost use Rattle.pfl_node.specs.Flushing as flushing;
-ghost use Rattle.pfl_node.specs.Nodes.{IsPast};
+ghost use Rattle.pfl_parts.specs.Nodes.{IsPast};
 ghost use Rattle.pfl_node.specs.Sending as sending;
 ghost use Rattle.pfl_queue.specs.Fitting.{entry_bytes};
 ghost use Rattle.pfl_wire.specs.Frames.{lists};
 ghost use Rattle.pfl_wire.specs.Spelling.{spelling};
 
-use crate::parts::Parts;
 use pfl_base::StateName;
 use pfl_edits::NoMemory;
+use pfl_parts::Parts;
 use pfl_queue::{Entry, Kind};
 use pfl_track::{KeyPair, State};
 use pfl_wire::{Action, Frame, Message, StateRecord, UpdateRecord, encode};
 use std::alloc::{AllocError, Allocator};
 
-impl<A: Allocator + Copy> Parts<A> {
-    /// The bytes of a frame of the entries.
-    pub(crate) fn bytes_of(&self, alloc: A, entries: &[Entry]) -> Result<Vec<u8, A>, NoMemory>
-        requires told { AllByRecursion (sending.IsTold self.now) entries.now }
-        requires short { entry_bytes entries.now < 2 ^ 16 }
-        ensures bytes { IfOk result (λ v. v.items ≡ spelling (sending.frame_with self.now entries.now)) }
-    {
-        self.known();
-        let groups = self.groups_of(alloc, entries)?;
-        let frame = Frame::new(self.rules.print(), groups);
-        encode(alloc, &frame)
-    }
+/// The bytes of a frame of the entries.
+pub(crate) fn bytes_of<A: Allocator + Copy>(
+    parts: &Parts<A>,
+    alloc: A,
+    entries: &[Entry],
+) -> Result<Vec<u8, A>, NoMemory>
+    requires told { AllByRecursion (sending.IsTold parts.now) entries.now }
+    requires short { entry_bytes entries.now < 2 ^ 16 }
+    ensures bytes { IfOk result (λ v. v.items ≡ spelling (sending.frame_with parts.now entries.now)) }
+{
+    parts.known();
+    let groups = groups_of(parts, alloc, entries)?;
+    let frame = Frame::new(parts.rules().print(), groups);
+    encode(alloc, &frame)
+}
 
-    /// The groups of a frame of the entries: neighbours that are told by one action form one.
-    fn groups_of(&self, alloc: A, entries: &[Entry]) -> Result<Vec<Vec<Message, A>, A>, AllocError>
-        requires told { AllByRecursion (sending.IsTold self.now) entries.now }
-        ensures groups { IfOk result (λ v. lists v.items ≡ sending.groups_of self.now entries.now) }
-    {
-        self.known();
-        let mut groups = Vec::new(alloc);
-        let mut left = entries;
-        while let Some(first) = left.first() {
-            let (group, rest) = left.split_at(run_of(first.action(), left));
-            groups.push(self.messages_of(alloc, group)?)?;
-            left = rest;
-        }
-        Ok(groups)
+/// The groups of a frame of the entries: neighbours that are told by one action form one.
+fn groups_of<A: Allocator + Copy>(
+    parts: &Parts<A>,
+    alloc: A,
+    entries: &[Entry],
+) -> Result<Vec<Vec<Message, A>, A>, AllocError>
+    requires told { AllByRecursion (sending.IsTold parts.now) entries.now }
+    ensures groups { IfOk result (λ v. lists v.items ≡ sending.groups_of parts.now entries.now) }
+{
+    parts.known();
+    let mut groups = Vec::new(alloc);
+    let mut left = entries;
+    while let Some(first) = left.first() {
+        let (group, rest) = left.split_at(run_of(first.action(), left));
+        groups.push(messages_of(parts, alloc, group)?)?;
+        left = rest;
     }
+    Ok(groups)
+}
 
-    /// The messages of entries.
-    fn messages_of(&self, alloc: A, entries: &[Entry]) -> Result<Vec<Message, A>, AllocError>
-        requires told { AllByRecursion (sending.IsTold self.now) entries.now }
-        ensures messages { IfOk result (λ v. v.items ≡ flat_map (flushing.messages_of self.now) entries.now) }
-    {
-        let mut messages = Vec::with_capacity(alloc, entries.len())?;
-        for entry in entries {
-            messages.push(self.message_of(entry))?;
-        }
-        Ok(messages)
+/// The messages of entries.
+fn messages_of<A: Allocator + Copy>(
+    parts: &Parts<A>,
+    alloc: A,
+    entries: &[Entry],
+) -> Result<Vec<Message, A>, AllocError>
+    requires told { AllByRecursion (sending.IsTold parts.now) entries.now }
+    ensures messages { IfOk result (λ v. v.items ≡ flat_map (flushing.messages_of parts.now) entries.now) }
+{
+    let mut messages = Vec::with_capacity(alloc, entries.len())?;
+    for entry in entries {
+        messages.push(message_of(parts, entry))?;
+    }
+    Ok(messages)
+}
+
+/// The message of an entry.
+fn message_of<A: Allocator>(parts: &Parts<A>, entry: &Entry) -> Message
+    requires told { sending.IsTold parts.now entry.now }
+    ensures message { flushing.messages_of parts.now entry.now ≡ result ∷ [] }
+{
+    match *entry {
+        Entry::Marked { kind, name, .. } => told_of(parts, kind, name),
+        Entry::Request(name) => Message::UpdateRequest(name),
+        Entry::Status(status) => Message::Bulk {
+            creator: parts.creator(),
+            status,
+        },
+        Entry::Clear { creator, bound } => Message::Clear { creator, bound },
     }
 }
 
-impl<A: Allocator> Parts<A> {
-    /// The message of an entry.
-    fn message_of(&self, entry: &Entry) -> Message
-        requires told { sending.IsTold self.now entry.now }
-        ensures message { flushing.messages_of self.now entry.now ≡ result ∷ [] }
-    {
-        match *entry {
-            Entry::Marked { kind, name, .. } => self.told_of(kind, name),
-            Entry::Request(name) => Message::UpdateRequest(name),
-            Entry::Status(status) => Message::Bulk {
-                creator: self.creator,
-                status,
-            },
-            Entry::Clear { creator, bound } => Message::Clear { creator, bound },
-        }
+/// What is told of a name on a queue.
+fn told_of<A: Allocator>(parts: &Parts<A>, kind: Kind, name: StateName) -> Message
+    requires told { sending.HasState parts.now kind name }
+    ensures message { flushing.told parts.now kind name ≡ result ∷ [] }
+{
+    parts.known();
+    match kind {
+        Kind::Insert => Message::Insert(state_record(parts, standing(parts, name))),
+        Kind::InsertAck => Message::InsertAck(name),
+        Kind::Update => Message::Update(state_record(parts, standing(parts, name))),
+        Kind::UpdateShort => Message::UpdateShort(update_record(parts, standing(parts, name))),
+        Kind::Delete => Message::DeleteShort(name),
     }
+}
 
-    /// What is told of a name on a queue.
-    fn told_of(&self, kind: Kind, name: StateName) -> Message
-        requires told { sending.HasState self.now kind name }
-        ensures message { flushing.told self.now kind name ≡ result ∷ [] }
-    {
-        self.known();
-        match kind {
-            Kind::Insert => Message::Insert(self.state_record(self.standing(name))),
-            Kind::InsertAck => Message::InsertAck(name),
-            Kind::Update => Message::Update(self.state_record(self.standing(name))),
-            Kind::UpdateShort => Message::UpdateShort(self.update_record(self.standing(name))),
-            Kind::Delete => Message::DeleteShort(name),
-        }
+/// The state with the name, which there is.
+fn standing<A: Allocator>(parts: &Parts<A>, name: StateName) -> &State
+    requires stands { IsSome (maps.get parts.now.states name) }
+    ensures state { maps.get parts.now.states name ≡ Some result.now }
+{
+    match parts.states().by_name(name) {
+        Some(state) => state,
+        None => unreachable!(),
     }
+}
 
-    /// The state with the name, which there is.
-    fn standing(&self, name: StateName) -> &State
-        requires stands { IsSome (maps.get self.now.states name) }
-        ensures state { maps.get self.now.states name ≡ Some result.now }
-    {
-        match self.table.by_name(name) {
-            Some(state) => state,
-            None => unreachable!(),
-        }
+/// The whole state, as it is told.
+fn state_record<A: Allocator>(parts: &Parts<A>, state: &State) -> StateRecord
+    requires past { IsPast parts.now state.now.last }
+    ensures record_of { result ≡ flushing.state_record parts.now state.now }
+{
+    StateRecord {
+        name: state.name(),
+        keys: keys_of(state),
+        direction: state.direction(),
+        ack_wanted: state.ack_wanted(),
+        src: state.src(),
+        dst: state.dst(),
+        class: state.class(),
+        remaining: remaining(parts, state),
+        rule: state.rule().map(u32::from),
     }
+}
 
-    /// The whole state, as it is told.
-    fn state_record(&self, state: &State) -> StateRecord
-        requires past { IsPast self.now state.now.last }
-        ensures record_of { result ≡ flushing.state_record self.now state.now }
-    {
-        StateRecord {
-            name: state.name(),
-            keys: keys_of(state),
-            direction: state.direction(),
-            ack_wanted: state.ack_wanted(),
-            src: state.src(),
-            dst: state.dst(),
-            class: state.class(),
-            remaining: self.remaining(state),
-            rule: state.rule().map(u32::from),
-        }
+/// What changes of a state, as it is told.
+fn update_record<A: Allocator>(parts: &Parts<A>, state: &State) -> UpdateRecord
+    requires past { IsPast parts.now state.now.last }
+    ensures record_of { result ≡ flushing.update_record parts.now state.now }
+{
+    UpdateRecord {
+        name: state.name(),
+        src: state.src(),
+        dst: state.dst(),
+        class: state.class(),
+        remaining: remaining(parts, state),
     }
+}
 
-    /// What changes of a state, as it is told.
-    fn update_record(&self, state: &State) -> UpdateRecord
-        requires past { IsPast self.now state.now.last }
-        ensures record_of { result ≡ flushing.update_record self.now state.now }
-    {
-        UpdateRecord {
-            name: state.name(),
-            src: state.src(),
-            dst: state.dst(),
-            class: state.class(),
-            remaining: self.remaining(state),
-        }
-    }
-
-    /// The whole seconds that a state has left.
-    fn remaining(&self, state: &State) -> u32
-        requires past { IsPast self.now state.now.last }
-        ensures seconds { result ≡ flushing.remaining self.now state.now }
-    {
-        self.known();
-        let timeout = self.rules.timeout(state.rule(), state.class());
-        let left = state.expiry(timeout).saturating_sub(self.clock);
-        (left / 1000) as u32
-    }
+/// The whole seconds that a state has left.
+fn remaining<A: Allocator>(parts: &Parts<A>, state: &State) -> u32
+    requires past { IsPast parts.now state.now.last }
+    ensures seconds { result ≡ flushing.remaining parts.now state.now }
+{
+    parts.known();
+    let timeout = parts.rules().timeout(state.rule(), state.class());
+    let left = state.expiry(timeout).saturating_sub(parts.clock());
+    (left / 1000) as u32
 }
 
 /// The keys of a state.

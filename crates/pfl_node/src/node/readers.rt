@@ -3,17 +3,15 @@
 ghost use Rattle.std.specs.Prelude.{◌≡◌, Some};
 ghost use Rattle.pfl_base.specs.declared.state_name.StateName.{StateName};
 ghost use Rattle.pfl_edits.specs.Maps as maps;
-ghost use Rattle.pfl_node.specs.Nodes.{expiry_at};
+ghost use Rattle.pfl_parts.specs.Nodes.{expiry_at};
 ghost use Rattle.pfl_table.specs.Tables.{states_of};
 ghost use Rattle.pfl_table.specs.declared.row.Row.{Row};
 
-use crate::counters::Counters;
-use crate::limits::Limits;
 use crate::node::Node;
-use crate::parts::Parts;
 use pfl_base::Millis;
 use pfl_bulk::{BulkClient, BulkServer};
 use pfl_defer::Deferrals;
+use pfl_parts::{Counters, Limits};
 use pfl_queue::Pending;
 use pfl_rules::RuleSet;
 use pfl_table::StateTable;
@@ -24,14 +22,14 @@ impl<A: Allocator> Node<A> {
     pub fn limits(&self) -> Limits
         ensures limits { result ≡ self.now.limits }
     {
-        self.parts.limits
+        self.parts.limits()
     }
 
     /// Its rules.
     pub fn rules(&self) -> &RuleSet<A>
         ensures rules { result.now ≡ self.now.rules }
     {
-        &self.parts.rules
+        self.parts.rules()
     }
 
     /// Its states, each with the time at which it expires, in milliseconds.
@@ -47,73 +45,62 @@ impl<A: Allocator> Node<A> {
     pub fn queue(&self) -> &Pending<A>
         ensures queue { result.now ≡ self.now.queue }
     {
-        &self.parts.queue
+        self.parts.queue()
     }
 
     /// The packets that it holds until its peer knows of their states.
     pub fn held(&self) -> &Deferrals<A>
         ensures held { result.now ≡ self.now.held }
     {
-        &self.parts.held
+        self.parts.held()
     }
 
     /// The bulk update that it serves.
     pub fn server(&self) -> BulkServer
         ensures server { result ≡ self.now.server }
     {
-        self.parts.server
+        self.parts.server()
     }
 
     /// The bulk update that it waits for.
     pub fn client(&self) -> BulkClient
         ensures client { result ≡ self.now.client }
     {
-        self.parts.client
+        self.parts.client()
     }
 
     /// Its clock, in milliseconds.
     pub fn clock(&self) -> Millis
         ensures clock { result ≡ self.now.clock }
     {
-        self.parts.clock
+        self.parts.clock()
     }
 
     /// The number of its boot, by which its states are named.
     pub fn creator(&self) -> u32
         ensures creator { result ≡ self.now.creator }
     {
-        self.parts.creator
+        self.parts.creator()
     }
 
     /// The id of its next state.
     pub fn next_id(&self) -> u64
         ensures next_id { result ≡ self.now.next_id }
     {
-        self.parts.next_id
+        self.parts.next_id()
     }
 
     /// Whether a frame is wanted soon.
     pub fn push(&self) -> bool
         ensures push { result ≡ self.now.push }
     {
-        self.parts.push
+        self.parts.push()
     }
 
     /// What it counted.
     pub fn counters(&self) -> Counters
         ensures counters { result ≡ self.now.counters }
     {
-        self.parts.counters
-    }
-}
-
-impl<A: Allocator> Parts<A> {
-    /// Its states, each with the time at which it expires, in milliseconds.
-    fn states(&self) -> &StateTable<A>
-        ensures states { states_of result.now ≡ self.now.states }
-        ensures limit { result.now.limit ≡ self.now.limits.states }
-        ensures expires { (name : StateName) (row : Row) → maps.get result.now.rows name ≡ Some row → row.expires ≡ expiry_at self.now row.state }
-    {
-        &self.table
+        self.parts.counters()
     }
 }

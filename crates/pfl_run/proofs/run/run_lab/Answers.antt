@@ -6,7 +6,7 @@ use Rattle.pfl_run.proofs.run.run_lab.Goals as goal
 pub returns-in-Ok : goal.returns-in-Ok
 returns-in-Ok g c = inl (record {
   bad = c.in-Ok.ended.bad;
-  runs = c.in-Ok.ensures.ends;
+  reads = c.in-Ok.ensures.ends;
   quiet = keeps_same _;
   exit = c.ended_status.ensures;
 })
@@ -15,7 +15,7 @@ returns-in-Ok g c = inl (record {
 pub returns-in-Err : goal.returns-in-Err
 returns-in-Err g c = inr (record {
   fault = c.in-Err.fault;
-  stop = c.in-Err.ensures.stop;
+  why = c.in-Err.ensures.stop;
   device = c.in-Err.ensures.device;
   told = c.tell.ensures.told;
   exit = c.tell.ensures.status;

@@ -33,3 +33,11 @@ returns-else-is_err-clause-extended g c =
     rooted_as _ _ _ _ _ _ events changes
     ∙ more _ _ _ _ _ c.in-Ok.change c.args.event.now _ c.self.invariant c.in-Ok.ensures.step c.in-Ok.ensures.fits c.in-Ok.ensures.back
     ∙ ap (λ (v : Rooted). record { opening = v.opening; branch = extended v.branch c.args.event.now }) c.self.view_is
+
+pub returns-else-is_err-clause-opening : goal.returns-else-is_err-clause-opening
+returns-else-is_err-clause-opening g c =
+    let events = c.put-dropped.ensures.events ∙ put_as _ _ _ _ c.args.event.now c.make_room.ensures.events c.make_room.ensures.changes in
+    let changes = c.put-dropped.ensures.changes ∙ ap (λ (cs : List (Change _)). cs ++ c.in-Ok.change ∷ []) c.make_room.ensures.changes in
+    ap (λ (v : Rooted). v.opening) (rooted_as _ _ _ _ _ _ events changes
+    ∙ more _ _ _ _ _ c.in-Ok.change c.args.event.now _ c.self.invariant c.in-Ok.ensures.step c.in-Ok.ensures.fits c.in-Ok.ensures.back
+    ∙ ap (λ (v : Rooted). record { opening = v.opening; branch = extended v.branch c.args.event.now }) c.self.view_is)

@@ -1,9 +1,12 @@
-use Rattle.std.specs.Prelude.{length}
-use Rattle.std.proofs.Common.{◌∙◌, ap, arith}
+use Rattle.std.specs.Prelude.{◌≡◌, length, refl}
+use Rattle.std.proofs.Common.{◌∙◌, ap, arith, sym}
+use Rattle.pfl_timeline.specs.declared.refused.Refused.TheVariants as refused
 use Rattle.pfl_timeline.specs.Commands.{back_reply}
-use Rattle.pfl_timeline.proofs.Asked.{back-asks}
+use Rattle.pfl_timeline.specs.Replies.{reply_of, Refused as Refusing}
+use Rattle.pfl_timeline.proofs.Asked.{back-asks, backed, replied_as, told-back}
 use Rattle.pfl_timeline.proofs.Places.{placed, below, kept-here, told-none, told-at}
 use Rattle.pfl_timeline.proofs.timeline.Timeline.back.Goals as goal
+use Rattle.pfl_timeline.proofs.timeline.Timeline.back.Goals.{in-None, in-Some-cursor}
 
 pub index_mut-branch-requires : goal.index_mut-branch-requires
 index_mut-branch-requires g c =
@@ -13,19 +16,24 @@ index_mut-branch-requires g c =
 pub invariant_of-self : goal.invariant_of-self
 invariant_of-self g c =
     let place = placed c.args.name _ _ _ c.in-Some.ensures.place c.deref.ensures.value in
-    let told = c.back-reply.ensures.reply in
-    kept-here c.args.name _ _ _ _ place c.index_mut-branch.ensures.value c.self.invariant told.opening told.name c.known.ensures.branch
+    kept-here c.args.name _ _ _ _ place c.index_mut-branch.ensures.value c.self.invariant c.back-cursor.ensures.opening c.back-cursor.ensures.name c.known.ensures.branch
 
-pub returns-in-None : goal.returns-in-None
-returns-in-None g c = record {
+pub returns-in_default : goal.returns-in_default
+returns-in_default g c = record {
   step = back-asks _ _ _
-      ∙ told-none (λ t b. back_reply t c.args.n b) c.args.name _ _ _ c.self.view_is (placed c.args.name _ _ _ c.in-None.ensures.place c.deref.ensures.value) c.from.ensures;
+      ∙ told-none (λ t b. back_reply t c.args.n b) c.args.name _ _ (Refusing refused.NoBranch) c.self.view_is (placed c.args.name _ _ _ c.in_default.ensures.place c.deref.ensures.value) refl;
 }
 
-pub returns-in-Some : goal.returns-in-Some
-returns-in-Some g c =
+pub returns : goal.returns
+returns g c =
     let place = placed c.args.name _ _ _ c.in-Some.ensures.place c.deref.ensures.value in
+    let told : reply_of c.match-cursor.result ≡ backed c.back-cursor.result =
+    elim c.match-cursor.branch [
+      | in-None w ↦ ap reply_of w.result-is ∙ sym (ap backed w.in-None.is)
+      | in-Some-cursor w ↦ ap reply_of w.result-is ∙ sym (ap backed w.in-Some-cursor.is)
+    ] in
     record {
       step = back-asks _ _ _
-          ∙ told-at (λ t b. back_reply t c.args.n b) c.args.name _ _ _ _ _ _ c.self.view_is place c.index_mut-branch.ensures.value c.self.invariant c.back-reply.ensures.reply;
+          ∙ told-at (λ t b. back_reply t c.args.n b) c.args.name _ _ _ _ _ _ c.self.view_is place c.index_mut-branch.ensures.value c.self.invariant
+          (replied_as _ _ _ _ _ _ refl told (told-back _ _ c.args.n c.back-cursor.result c.back-cursor.ensures.far c.back-cursor.ensures.branch));
     }

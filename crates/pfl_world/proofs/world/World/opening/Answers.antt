@@ -1,5 +1,5 @@
 use Rattle.std.proofs.Common.{sym, subst}
-use Rattle.pfl_node.specs.Nodes.{new_node}
+use Rattle.pfl_parts.specs.Nodes.{new_node}
 use Rattle.pfl_link.specs.Links.{empty_link}
 use Rattle.pfl_world.specs.Worlds.{World, IsWorld}
 use Rattle.pfl_world.proofs.NewWorlds.{same_world, new_world-is}

@@ -1,6 +1,6 @@
 use Rattle.std.proofs.Common.{◌∙◌, ap}
 use Rattle.pfl_base.specs.declared.node_id.NodeId.TheVariants.{A, B}
-use Rattle.pfl_node.specs.Nodes.{Node}
+use Rattle.pfl_parts.specs.Nodes.{Node}
 use Rattle.pfl_world.proofs.Leads.{back_limits, world_with}
 use Rattle.pfl_world.proofs.world.World.undo_at.Goals as goal
 

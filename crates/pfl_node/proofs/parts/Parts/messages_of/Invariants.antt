@@ -1,7 +1,0 @@
-use Rattle.std.proofs.Common.{◌≡◌, take}
-use Rattle.std.specs.List.{flat_map}
-use Rattle.pfl_node.specs.Flushing.{messages_of}
-use Rattle.pfl_node.proofs.parts.Parts.messages_of.Given as goal
-
-abbrev pub invariant-loop-entry : goal.invariant-loop-entry
-invariant-loop-entry g l = l.messages.items ≡ flat_map (messages_of l.self) (take l.entry-index l.entries)

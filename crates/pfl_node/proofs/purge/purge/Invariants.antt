@@ -1,0 +1,10 @@
+use Rattle.pfl_node.proofs.Purged.{IsPurged}
+use Rattle.std.proofs.Common.{length}
+use Rattle.pfl_node.specs.Events.{expired_states}
+use Rattle.pfl_node.proofs.purge.purge.Given as goal
+
+abbrev pub invariant-loop-state : goal.invariant-loop-state
+invariant-loop-state g l = IsPurged l.fn.parts l.parts l.fn.change l.change l.count l.overcounted
+
+abbrev pub decreases-loop-state : goal.decreases-loop-state
+decreases-loop-state g l = length (expired_states l.parts)

@@ -1,0 +1,54 @@
+//! A state is deleted by its name.
+
+ghost use Rattle.std.specs.Prelude.{◌≡◌, ◌≤◌, ◌∷◌, ◌+◌, [], None, Some, IfOk, IfErr, OnOk, OnErr, length};
+ghost use Rattle.pfl_edits.specs.Maps as maps;
+ghost use Rattle.pfl_node.specs.Killing as killing;
+ghost use Rattle.pfl_parts.specs.Changes.{deleted};
+ghost use Rattle.pfl_parts.specs.Edits.{NodeExtends, NodeLeadsBack, total};
+ghost use Rattle.pfl_parts.specs.Judging.{Went};
+ghost use Rattle.pfl_parts.specs.Nodes.{Node as Whole, IsRefusal};
+ghost use Rattle.pfl_queue.specs.Queues.{most_numbers};
+
+use crate::node::Node;
+use pfl_base::{Refusal, StateName};
+use pfl_edits::Change;
+use pfl_parts::{NodeEdit, Overfull, Parts, settle};
+use pfl_track::State;
+use std::alloc::Allocator;
+
+impl<A: Allocator + Copy> Node<A> {
+    /// Deletes the state of a name, which is answered. The peer is told as of each deletion.
+    pub fn kill(&mut self, name: StateName) -> Result<(State, Change<NodeEdit, A>), Refusal>
+        ensures refused { IfErr result (IsRefusal (killing.kill_refusal self.old name)) }
+        ensures unchanged { OnErr result (self.new ≡ self.old) }
+        ensures not_refused { OnOk result (killing.kill_refusal self.old name ≡ None) }
+        ensures node { OnOk result (self.new ≡ killing.killed self.old name) }
+        ensures state { IfOk result (λ r. maps.get self.old.states name ≡ Some r.0) }
+        ensures leads_back { IfOk result (λ r. NodeLeadsBack r.1.list self.old self.new) }
+        ensures weight { IfOk result (λ r. length r.1.list ≤ 5) }
+    {
+        let Some(state) = self.states().by_name(name).copied() else {
+            return Err(Refusal::NoSuchState);
+        };
+        let tried = delete(&mut self.parts, state, &mut self.edits);
+        settle(self.alloc, &mut self.parts, &mut self.edits, tried)
+    }
+}
+
+/// Deletes the state, which is answered, and tells whether after it a number was too high.
+fn delete<A: Allocator>(
+    parts: &mut Parts<A>,
+    state: State,
+    change: &mut Change<NodeEdit, A>,
+) -> Result<(State, bool), Overfull>
+    requires room { 5 ≤ change.old.spare }
+    requires countable { total parts.old + change.old.spare ≤ most_numbers }
+    requires stands { maps.get parts.old.states state.name ≡ Some state }
+    ensures went { Went result (deleted parts.old state ∷ []) }
+    ensures node { OnOk result (parts.new ≡ deleted parts.old state) }
+    ensures state { IfOk result (λ r. r.0 ≡ state) }
+    ensures extends { NodeExtends 5 change.old change.new parts.old parts.new }
+{
+    parts.delete(&state, change)?;
+    Ok((state, parts.is_overcounted()))
+}

@@ -1,0 +1,11 @@
+pub mod Deferred
+pub mod Keeps
+pub mod Stating
+pub mod Listing
+pub mod NewNodes
+pub mod Telling
+pub mod Putting
+pub mod Recording
+pub mod Deletions
+pub mod Settling
+pub mod Taking

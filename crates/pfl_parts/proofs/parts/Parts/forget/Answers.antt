@@ -1,0 +1,13 @@
+use Rattle.std.proofs.Common.{◌∙◌, ap, sym}
+use Rattle.pfl_parts.specs.Changes as to
+use Rattle.pfl_parts.specs.Nodes.{Node}
+use Rattle.pfl_parts.proofs.Deletions.{forgotten-is}
+use Rattle.pfl_parts.proofs.Recording.{extends-then}
+use Rattle.pfl_parts.proofs.parts.Parts.forget.Goals as goal
+
+pub returns-clause-node : goal.returns-clause-node
+returns-clause-node g c =
+    c.take_out.ensures.node ∙ (ap (λ (n : Node). to.unmark (to.without_state n c.args.name) c.args.name) c.lose.ensures.node ∙ sym (forgotten-is c.args.self.now c.args.name))
+
+pub returns-clause-extends : goal.returns-clause-extends
+returns-clause-extends g c = extends-then 2 2 _ _ _ _ _ _ c.lose.ensures.extends c.take_out.ensures.extends

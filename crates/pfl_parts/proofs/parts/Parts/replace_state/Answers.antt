@@ -1,0 +1,45 @@
+use Rattle.std.specs.Prelude.{Some, ◌≡◌}
+use Rattle.std.specs.Option.{option_map}
+use Rattle.std.proofs.Common.{◌∙◌, ap, sym, subst}
+use Rattle.pfl_edits.specs.Maps as maps
+use Rattle.pfl_edits.specs.Maps.{set_at}
+use Rattle.pfl_table.specs.declared.row.Row.{Row}
+use Rattle.pfl_table.specs.Tables.{states_of, row_with, edit_of, get-states_of}
+use Rattle.pfl_parts.specs.declared.edit.NodeEdit.TheVariants.{OfState}
+use Rattle.pfl_parts.specs.Edits.{NodeExtends}
+use Rattle.pfl_parts.specs.Kept.{expires_by, written}
+use Rattle.pfl_parts.specs.Nodes.{Node, AreParts}
+use Rattle.pfl_parts.proofs.Putting.{replaced-node}
+use Rattle.pfl_parts.proofs.Recording.{recorded_as}
+use Rattle.pfl_parts.proofs.Stating.{written-states, written-timely, whole-with}
+use Rattle.pfl_parts.proofs.parts.Parts.replace_state.Goals as goal
+
+pub invariant_of-self : goal.invariant_of-self
+invariant_of-self g c =
+    let n = c.args.self.now in
+    let s = c.args.state in
+    let t = c.self.inside.table in
+    let now = written-states t c.change.new.self s.name (Some s) c.expiry-expires.result c.in-Some.ensures.changed ∙ ap (λ (m : Node). set_at m.states s.name (Some s)) c.self.view_is in (
+      written-timely c.self.inside.limits c.self.inside.rules t c.change.new.self s.name (Some s) c.expiry-expires.result c.self.invariant.0
+          (c.expiry-expires.ensures.expiry ∙ ap (λ (m : Node). expires_by m.rules s) (sym c.self.view_is)) c.in-Some.ensures.changed,
+      subst AreParts (sym (whole-with _ n (states_of c.change.new.self) (set_at n.states s.name (Some s)) c.self.view_is now)) (replaced-node n s c.known.ensures.parts c.requires.may),
+    )
+
+pub returns-clause-node : goal.returns-clause-node
+returns-clause-node g c =
+    let n = c.args.self.now in
+    let s = c.args.state in
+    let now = written-states c.self.inside.table c.change.new.self s.name (Some s) c.expiry-expires.result c.in-Some.ensures.changed ∙ ap (λ (m : Node). set_at m.states s.name (Some s)) c.self.view_is in
+    whole-with _ n (states_of c.change.new.self) (set_at n.states s.name (Some s)) c.self.view_is now
+
+pub returns-clause-extends : goal.returns-clause-extends
+returns-clause-extends g c =
+    let n = c.args.self.now in
+    let s = c.args.state in
+    let t = c.self.inside.table in
+    let now = written-states t c.change.new.self s.name (Some s) c.expiry-expires.result c.in-Some.ensures.changed ∙ ap (λ (m : Node). set_at m.states s.name (Some s)) c.self.view_is in
+    let whole = whole-with _ n (states_of c.change.new.self) (set_at n.states s.name (Some s)) c.self.view_is now in
+    let former : maps.get n.states s.name ≡ option_map (λ (r : Row). r.state) (maps.get t.rows s.name) = ap (λ (m : Node). maps.get m.states s.name) (sym c.self.view_is) ∙ get-states_of t s.name in
+    let wrote = OfState (written (edit_of t s.name (row_with (Some s) c.expiry-expires.result))) in
+    subst (λ (m : Node). NodeExtends 1 c.args.change.now c.push.new.self n m) (sym whole)
+    (recorded_as _ _ n (OfState c.state_edit.result) wrote (ap OfState (c.state_edit.ensures ∙ ap written c.in-Some.ensures.edit)) c.known.ensures.parts former tt c.push.ensures.list c.push.ensures.spare)

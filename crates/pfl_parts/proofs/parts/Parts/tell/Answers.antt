@@ -1,0 +1,22 @@
+use Rattle.pfl_parts.proofs.Recording.{extends-then}
+use Rattle.std.proofs.Common.{Some, arith}
+use Rattle.pfl_base.specs.Names.{names_total, names_exact}
+use Rattle.pfl_edits.specs.Places.{get-set_at_same}
+use Rattle.pfl_queue.specs.declared.Kind.TheVariants.{UpdateShort}
+use Rattle.pfl_parts.specs.Changes as to
+use Rattle.pfl_parts.proofs.Putting.{told-may}
+use Rattle.pfl_parts.proofs.Telling.{updates-may}
+use Rattle.pfl_parts.proofs.parts.Parts.tell.Goals as goal
+
+pub replace_state-requires-clause-may : goal.replace_state-requires-clause-may
+replace_state-requires-clause-may g c = rw c.with_updates.ensures (updates-may c.args.self.now c.args.state 0 (omega arith) c.requires.known)
+
+pub mark-requires-clause-may : goal.mark-requires-clause-may
+mark-requires-clause-may g c =
+    let t = record c.args.state { updates = 0 } in
+    let n = to.put_state c.args.self.now t in
+    let stands = get-set_at_same names_total names_exact c.args.self.now.states t.name (Some t) in
+    rw c.name-name.ensures (rw c.replace_state.ensures.node (rw c.with_updates.ensures (told-may n t.name UpdateShort t stands c.requires.told c.requires.known.is.given (λ e. cc))))
+
+pub returns-then-is_untold-clause-extends : goal.returns-then-is_untold-clause-extends
+returns-then-is_untold-clause-extends g c = extends-then 1 1 _ _ _ _ _ _ c.replace_state.ensures.extends c.mark.ensures.extends

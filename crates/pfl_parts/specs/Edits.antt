@@ -1,0 +1,142 @@
+-- The edits of a node: each names one place, its former value and its new one (this project's profile).
+use Rattle.std.specs.Prelude.{◌≡◌, ◌≤◌, ℕ, ◌+◌, List, length, refl}
+use Rattle.pfl_base.specs.Names.{names_total, names_exact}
+use Rattle.pfl_edits.specs.Changes.{Edits, LeadsBack, LeadsBothWays}
+use Rattle.pfl_edits.specs.Maps as maps
+use Rattle.pfl_edits.specs.Maps.{set_at}
+use Rattle.pfl_edits.specs.Places.{value-both_ways, part-both_ways, key-both_ways}
+use Rattle.pfl_queue.specs.Edits as queues
+use Rattle.pfl_queue.specs.declared.edits.QueueEdit.{QueueEdit}
+use Rattle.pfl_queue.specs.declared.edits.QueueEdit.TheVariants.{OfMark}
+use Rattle.pfl_defer.specs.Edits as deferrals
+use Rattle.pfl_parts.specs.declared.counters.Counters.{Counters}
+use Rattle.pfl_parts.specs.declared.edit.Counter.{Counter}
+use Rattle.pfl_parts.specs.declared.edit.Counter.TheVariants.{Passed, Blocked, Freed, Lost, Bad, Stale, Broken}
+use Rattle.pfl_parts.specs.declared.edit.NodeEdit.{NodeEdit}
+use Rattle.pfl_parts.specs.declared.edit.NodeEdit.TheVariants.{OfState, OfQueue, OfHeld, Server, Client, Clock, NextId, Push, Count}
+use Rattle.pfl_parts.specs.Nodes.{Node, AreParts, IsNode, greatest}
+
+-- a number of the counters
+abbrev pub count_of : Counter → Counters → ℕ
+count_of Passed c = c.passed
+count_of Blocked c = c.blocked
+count_of Freed c = c.freed
+count_of Lost c = c.lost
+count_of Bad c = c.bad
+count_of Stale c = c.stale
+count_of Broken c = c.broken
+
+-- the counters with this number
+abbrev pub with_count : Counter → Counters → ℕ → Counters
+with_count Passed c n = record c { passed = n }
+with_count Blocked c n = record c { blocked = n }
+with_count Freed c n = record c { freed = n }
+with_count Lost c n = record c { lost = n }
+with_count Bad c n = record c { bad = n }
+with_count Stale c n = record c { stale = n }
+with_count Broken c n = record c { broken = n }
+
+-- A number that is put back is past the greatest only where the one in its place is: so what an event counted that was not refused
+-- is undone through nodes alone.
+abbrev pub Stays : ℕ → ℕ → Type 0
+Stays before after = after ≤ greatest → before ≤ greatest
+
+-- the same of the next queueing number
+abbrev pub NextStays : QueueEdit → Type 0
+NextStays (OfMark name before after next_before next_after) = Stays next_before next_after
+NextStays _ = Unit {0}
+
+-- the edit's new value is in its place
+abbrev pub Finds : NodeEdit → Node → Type 0
+Finds (OfState e) n = maps.get n.states e.name ≡ e.after
+Finds (OfQueue e) n = queues.Finds e n.queue × NextStays e
+Finds (OfHeld e) n = deferrals.Finds e n.held
+Finds (Server before after) n = n.server ≡ after
+Finds (Client before after) n = n.client ≡ after
+Finds (Clock before after) n = n.clock ≡ after
+Finds (NextId before after) n = (n.next_id ≡ after) × Stays before after
+Finds (Push before after) n = n.push ≡ after
+Finds (Count counter before after) n = (count_of counter n.counters ≡ after) × Stays before after
+
+-- its former value is
+abbrev pub FindsFormer : NodeEdit → Node → Type 0
+FindsFormer (OfState e) n = maps.get n.states e.name ≡ e.before
+FindsFormer (OfQueue e) n = queues.FindsFormer e n.queue × NextStays e
+FindsFormer (OfHeld e) n = deferrals.FindsFormer e n.held
+FindsFormer (Server before after) n = n.server ≡ before
+FindsFormer (Client before after) n = n.client ≡ before
+FindsFormer (Clock before after) n = n.clock ≡ before
+FindsFormer (NextId before after) n = (n.next_id ≡ before) × Stays before after
+FindsFormer (Push before after) n = n.push ≡ before
+FindsFormer (Count counter before after) n = (count_of counter n.counters ≡ before) × Stays before after
+
+-- the node with the former value in the place
+abbrev pub put_back : NodeEdit → Node → Node
+put_back (OfState e) n = record n { states = set_at n.states e.name e.before }
+put_back (OfQueue e) n = record n { queue = queues.put_back e n.queue }
+put_back (OfHeld e) n = record n { held = deferrals.put_back e n.held }
+put_back (Server before after) n = record n { server = before }
+put_back (Client before after) n = record n { client = before }
+put_back (Clock before after) n = record n { clock = before }
+put_back (NextId before after) n = record n { next_id = before }
+put_back (Push before after) n = record n { push = before }
+put_back (Count counter before after) n = record n { counters = with_count counter n.counters before }
+
+-- the node with the new value in the place
+abbrev pub redone : NodeEdit → Node → Node
+redone (OfState e) n = record n { states = set_at n.states e.name e.after }
+redone (OfQueue e) n = record n { queue = queues.redone e n.queue }
+redone (OfHeld e) n = record n { held = deferrals.redone e n.held }
+redone (Server before after) n = record n { server = after }
+redone (Client before after) n = record n { client = after }
+redone (Clock before after) n = record n { clock = after }
+redone (NextId before after) n = record n { next_id = after }
+redone (Push before after) n = record n { push = after }
+redone (Count counter before after) n = record n { counters = with_count counter n.counters after }
+
+-- the edits, the oldest first, lead from one node to another and back
+abbrev pub NodeLeadsBack : List NodeEdit → Node → Node → Type 0
+NodeLeadsBack = LeadsBack Finds IsNode put_back
+
+-- all that a node counts, added up
+unfoldable pub total : Node → ℕ
+total n = n.next_id + n.queue.next + n.counters.passed + n.counters.blocked + n.counters.freed + n.counters.lost + n.counters.bad + n.counters.stale + n.counters.broken
+
+-- At most k edits more were recorded on the way from a to b: where the edits before led back from a, those after lead back from b. No
+-- more was counted than room was used up, so that no number comes near the last one that the code has.
+pub record NodeExtends (k : ℕ) (x y : Edits NodeEdit) (a b : Node) : Type 0 where
+  pub spare : x.spare ≤ y.spare + k
+  pub room : y.spare + length y.list ≡ x.spare + length x.list
+  pub counted : total b + y.spare ≤ total a + x.spare
+  pub leads_back : (origin : Node) → LeadsBack Finds AreParts put_back x.list origin a → LeadsBack Finds AreParts put_back y.list origin b
+
+-- what stays of an edit, beside how it leads both ways
+both_ways-with : {S P : Type 0} {F G : S → Type 0} {p r : S → S} → LeadsBothWays F G p r → LeadsBothWays (λ s. F s × P) (λ s. G s × P) p r
+both_ways-with l = record {
+  put_back_finds = λ s is. (l.put_back_finds s is.0, is.1);
+  redone_finds = λ s is. (l.redone_finds s is.0, is.1);
+  redone_put_back = λ s is. l.redone_put_back s is.0;
+  put_back_redone = λ s is. l.put_back_redone s is.0;
+}
+
+-- one number of the counters leads both ways
+count-both_ways : (counter : Counter) (former new : ℕ) → LeadsBothWays (λ (c : Counters). count_of counter c ≡ former) (λ c. count_of counter c ≡ new) (λ c. with_count counter c former) (λ c. with_count counter c new)
+count-both_ways Passed former new = part-both_ways (λ (c : Counters). c.passed) (λ c k. record c { passed = k }) (λ c k. refl) (λ c. refl) (λ c k l. refl) _ _ _ _ (value-both_ways former new)
+count-both_ways Blocked former new = part-both_ways (λ (c : Counters). c.blocked) (λ c k. record c { blocked = k }) (λ c k. refl) (λ c. refl) (λ c k l. refl) _ _ _ _ (value-both_ways former new)
+count-both_ways Freed former new = part-both_ways (λ (c : Counters). c.freed) (λ c k. record c { freed = k }) (λ c k. refl) (λ c. refl) (λ c k l. refl) _ _ _ _ (value-both_ways former new)
+count-both_ways Lost former new = part-both_ways (λ (c : Counters). c.lost) (λ c k. record c { lost = k }) (λ c k. refl) (λ c. refl) (λ c k l. refl) _ _ _ _ (value-both_ways former new)
+count-both_ways Bad former new = part-both_ways (λ (c : Counters). c.bad) (λ c k. record c { bad = k }) (λ c k. refl) (λ c. refl) (λ c k l. refl) _ _ _ _ (value-both_ways former new)
+count-both_ways Stale former new = part-both_ways (λ (c : Counters). c.stale) (λ c k. record c { stale = k }) (λ c k. refl) (λ c. refl) (λ c k l. refl) _ _ _ _ (value-both_ways former new)
+count-both_ways Broken former new = part-both_ways (λ (c : Counters). c.broken) (λ c k. record c { broken = k }) (λ c k. refl) (λ c. refl) (λ c k l. refl) _ _ _ _ (value-both_ways former new)
+
+-- each edit leads both ways
+pub edit-both_ways : (e : NodeEdit) → LeadsBothWays (FindsFormer e) (Finds e) (put_back e) (redone e)
+edit-both_ways (OfState e) = part-both_ways (λ (n : Node). n.states) (λ n m. record n { states = m }) (λ n m. refl) (λ n. refl) (λ n m l. refl) _ _ _ _ (key-both_ways names_total names_exact e.name e.before e.after)
+edit-both_ways (OfQueue e) = both_ways-with (part-both_ways (λ (n : Node). n.queue) (λ n q. record n { queue = q }) (λ n q. refl) (λ n. refl) (λ n q r. refl) _ _ _ _ (queues.edit-both_ways e))
+edit-both_ways (OfHeld e) = part-both_ways (λ (n : Node). n.held) (λ n d. record n { held = d }) (λ n d. refl) (λ n. refl) (λ n d k. refl) _ _ _ _ (deferrals.edit-both_ways e)
+edit-both_ways (Server before after) = part-both_ways (λ (n : Node). n.server) (λ n s. record n { server = s }) (λ n s. refl) (λ n. refl) (λ n s t. refl) _ _ _ _ (value-both_ways before after)
+edit-both_ways (Client before after) = part-both_ways (λ (n : Node). n.client) (λ n c. record n { client = c }) (λ n c. refl) (λ n. refl) (λ n c k. refl) _ _ _ _ (value-both_ways before after)
+edit-both_ways (Clock before after) = part-both_ways (λ (n : Node). n.clock) (λ n c. record n { clock = c }) (λ n c. refl) (λ n. refl) (λ n c k. refl) _ _ _ _ (value-both_ways before after)
+edit-both_ways (NextId before after) = both_ways-with (part-both_ways (λ (n : Node). n.next_id) (λ n i. record n { next_id = i }) (λ n i. refl) (λ n. refl) (λ n i k. refl) _ _ _ _ (value-both_ways before after))
+edit-both_ways (Push before after) = part-both_ways (λ (n : Node). n.push) (λ n p. record n { push = p }) (λ n p. refl) (λ n. refl) (λ n p q. refl) _ _ _ _ (value-both_ways before after)
+edit-both_ways (Count counter before after) = both_ways-with (part-both_ways (λ (n : Node). n.counters) (λ n c. record n { counters = c }) (λ n c. refl) (λ n. refl) (λ n c k. refl) _ _ _ _ (count-both_ways counter before after))

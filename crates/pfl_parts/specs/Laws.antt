@@ -1,0 +1,12 @@
+-- Laws of nodes, in their own words (pf(4), pfsync(4)).
+use Rattle.std.specs.Prelude.{◌≡◌, ◌≤◌, ℕ}
+use Rattle.pfl_rules.specs.Rules.{Rules, AreRules}
+use Rattle.pfl_parts.specs.declared.limits.Limits.{Limits}
+use Rattle.pfl_parts.specs.Limits.{AreLimits}
+use Rattle.pfl_parts.specs.Nodes.{IsNode, new_node, greatest, last_millisecond}
+
+-- a node that has seen nothing is a node, if its limits and rules are, and its first number and its clock are not too high
+abbrev pub NewNodesAreNodes : Type 0
+NewNodesAreNodes =
+    (l : Limits) (r : Rules) (creator next clock : ℕ)
+    → AreLimits l → AreRules r → next ≤ greatest → clock ≤ last_millisecond → IsNode (new_node l r creator next clock)

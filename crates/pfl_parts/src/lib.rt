@@ -1,0 +1,15 @@
+//! The parts of one node of the pair, and the small changes that its events are made of, each recorded (pf(4), pfsync(4)).
+#![tactic(auto)]
+
+mod counters;
+mod edit;
+mod laws;
+mod limits;
+mod parts;
+
+pub use counters::Counters;
+pub use edit::{Counter, NodeEdit, StateEdit};
+pub use laws::new_nodes_are_nodes;
+pub use limits::{Limit, LimitFault, Limits};
+pub use parts::Parts;
+pub use parts::judge::{Overfull, any, conclude, settle};

@@ -1,0 +1,53 @@
+//! Checks of scripts.
+
+ghost use Rattle.std.specs.Prelude.{◌≡◌, ◌⊎◌, IfOk, IfErr};
+ghost use Rattle.pfl_run.specs.Checks.{ChecksToEnd, IsCheckStop};
+ghost use Rattle.pfl_run.specs.Runs.{Ends, IsDeviceFault, Stops};
+
+use crate::fault::LabFault;
+use crate::opening::read_opening;
+use crate::run::{ended_status, tell};
+use pfl_base::{Input, Output};
+use pfl_script::{Checked, LineReader, check_lines};
+use std::alloc::Allocator;
+
+/// Reads a setup by the first lines of the reader, and checks the others: what is wrong with them goes to the writer.
+pub fn check_whole<A: Allocator + Copy, R: Input, W: Output>(
+    alloc: A,
+    reader: &mut LineReader<R>,
+    writer: &mut W,
+) -> Result<Checked, LabFault>
+    requires fresh { reader.old.lines ≡ 0 }
+    ensures ends { IfOk result (λ checked. ChecksToEnd reader.old.left reader.new.left (W.written writer.old) (W.written writer.new) checked.bad) }
+    ensures stop { IfErr result (λ fault. IsCheckStop fault reader.old.left (W.written writer.old) (W.written writer.new)) }
+    ensures device { IfErr result (λ fault. IsDeviceFault fault reader.new (W.has_failed writer.new)) }
+{
+    match read_opening(alloc, reader) {
+        Ok(_setup) => match check_lines(reader, writer) {
+            Ok(checked) => Ok(checked),
+            Err(fault) => Err(LabFault::from(fault)),
+        },
+        Err(fault) => Err(fault),
+    }
+}
+
+/// Checks the lines of a reader and executes none: the first are a setup, and of the others each that is faulty is told to
+/// the writer with its number, and at the end how many are commands. Why a check stops is told in one line to `faults`. The
+/// answer is the program's exit status: 0, or 1 after a fault or a faulty line, or 3 for want of memory.
+pub fn check_lab<A: Allocator + Copy, R: Input, W: Output, F: Output>(
+    alloc: A,
+    reader: &mut LineReader<R>,
+    writer: &mut W,
+    faults: &mut F,
+) -> u8
+    requires fresh { reader.old.lines ≡ 0 }
+    ensures { Ends (ChecksToEnd reader.old.left reader.new.left (W.written writer.old) (W.written writer.new))
+        (F.written faults.old) (F.written faults.new) result
+        ⊎ Stops (λ fault. IsCheckStop fault reader.old.left (W.written writer.old) (W.written writer.new)) reader.new
+        (W.has_failed writer.new) (F.written faults.old) (F.written faults.new) (F.has_failed faults.new) result }
+{
+    match check_whole(alloc, reader, writer) {
+        Ok(checked) => ended_status(checked.bad),
+        Err(fault) => tell(fault, faults),
+    }
+}

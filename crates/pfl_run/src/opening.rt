@@ -1,0 +1,45 @@
+//! Setups of scripts, which runs and checks read alike.
+
+ghost use Rattle.std.specs.Prelude.{◌≡◌, ◌≤◌, ◌^◌, None, false, IfOk, IfErr, OnOk};
+ghost use Rattle.pfl_world.specs.Worlds.{world_fault};
+ghost use Rattle.pfl_run.specs.Runs.{IsDeviceFault, IsLimitsStop, IsSetup, IsSetupStop};
+
+use crate::fault::LabFault;
+use pfl_base::Input;
+use pfl_parts::{LimitFault, Limits};
+use pfl_script::{LineReader, Setup, read_setup};
+use pfl_world::WorldFault;
+use std::alloc::Allocator;
+
+/// Tests the limits of a setup, whose line `open` has the number.
+#[tactic(auto, using(pfl_world::proofs::LimitFaults::too_small, pfl_world::proofs::LimitFaults::too_large, pfl_world::proofs::LimitFaults::no_fault))]
+fn judge(limits: &Limits, number: u64) -> Result<(), LabFault>
+    ensures faultless { OnOk result (world_fault limits.now ≡ None) }
+    ensures fault { IfErr result (λ fault. IsLimitsStop fault number (world_fault limits.now)) }
+{
+    match limits.fault() {
+        None => Ok(()),
+        Some(LimitFault::TooSmall) => Err(LabFault::World(number, WorldFault::TooSmall)),
+        Some(LimitFault::TooLarge) => Err(LabFault::World(number, WorldFault::TooLarge)),
+    }
+}
+
+/// Reads the first lines that the reader has, up to `open`, and tests the limits that they set.
+pub fn read_opening<A: Allocator + Copy, R: Input>(
+    alloc: A,
+    reader: &mut LineReader<R>,
+) -> Result<Setup<A>, LabFault>
+    requires fresh { reader.old.lines ≡ 0 }
+    ensures setup { IfOk result (λ s. IsSetup reader.old.left reader.new.left reader.new.lines s.limits s.rules_a s.rules_b) }
+    ensures few_lines { OnOk result (reader.new.lines ≤ 2 ^ 40) }
+    ensures stop { IfErr result (λ fault. IsSetupStop fault reader.old.left) }
+    ensures device { IfErr result (λ fault. IsDeviceFault fault reader.new false) }
+{
+    match read_setup(alloc, reader) {
+        Ok(setup) => match judge(&setup.limits, reader.lines()) {
+            Ok(()) => Ok(setup),
+            Err(fault) => Err(fault),
+        },
+        Err(fault) => Err(LabFault::from(fault)),
+    }
+}
