@@ -1,6 +1,5 @@
 -- What the small changes of a node keep under one name: a state there comes from the state that stood there.
-use Rattle.std.specs.Prelude.{◌≡◌, ◌≢◌, ◌≤◌, ◌+◌, ℕ, Bool, true, false, List, [], ◌∷◌, Option, Some, None, min, refl}
-use Rattle.std.specs.List.{fold}
+use Rattle.std.specs.Prelude.{◌≡◌, ◌≢◌, ◌≤◌, ◌+◌, ℕ, Bool, true, false, Option, Some, None, min, refl}
 use Rattle.std.specs.Option.{option_map_or}
 use Rattle.std.proofs.Common.{◌∙◌, ap, cond, sym, arith}
 use Rattle.pfl_base.specs.declared.state_name.StateName.{StateName}
@@ -127,8 +126,3 @@ deleted-keeps q n s =
       next = omega arith;
       comes = λ t at. comes-removed n.states s.name q t (ap (λ (m : States). maps.get m q) (sym (deleted-states n s)) ∙ at);
     }
-
--- one deletion after the other
-pub deletions-keep : (q : StateName) (xs : List State) (n : Node) → Keeps Alike q n (fold deleted n xs)
-deletions-keep q [] n = keeps-itself Alike q n Alike-itself
-deletions-keep q (x ∷ xs) n = alike-then q n (deleted n x) (fold deleted (deleted n x) xs) (deleted-keeps q n x) (deletions-keep q xs (deleted n x))

@@ -1,5 +1,5 @@
 -- Why a held packet leaves: no event lets one go but those that the law names.
-use Rattle.std.specs.Prelude.{◌≡◌, ◌≢◌, ◌⊎◌, ℕ, Bool, true, false, nat_le, List, [], ◌∷◌, ◌++◌, find, Option, Some, None, IsSomeAnd, refl}
+use Rattle.std.specs.Prelude.{◌≡◌, ◌≤◌, ◌+◌, ◌⊎◌, ℕ, Bool, true, false, nat_le, List, [], ◌∷◌, Option, Some, None, IsSomeAnd, refl}
 use Rattle.std.specs.List.{fold}
 use Rattle.std.specs.Option.{option_map_or}
 use Rattle.std.proofs.Common.{◌∙◌, cond, ap, sym, subst, inl, inr}
@@ -9,10 +9,9 @@ use Rattle.pfl_base.specs.declared.node_id.NodeId.TheVariants.{A, B}
 use Rattle.pfl_base.specs.declared.packet.Packet.{Packet}
 use Rattle.pfl_base.specs.declared.state_name.StateName.{StateName}
 use Rattle.pfl_base.specs.Keys.{key}
-use Rattle.pfl_base.specs.Names.{names_total, names_exact, is_name}
+use Rattle.pfl_base.specs.Names.{names_total, names_exact}
 use Rattle.pfl_edits.specs.Maps as maps
-use Rattle.pfl_edits.specs.Places.{get-set_at_same, key_cases}
-use Rattle.pfl_edits.specs.Rows.{some_is_none}
+use Rattle.pfl_edits.specs.Places.{key_cases}
 use Rattle.pfl_rules.specs.declared.rule.Rule.{Rule}
 use Rattle.pfl_rules.specs.Rules.{verdict, rule_at}
 use Rattle.pfl_track.specs.declared.state.State.{State}
@@ -20,50 +19,42 @@ use Rattle.pfl_track.specs.declared.tracked.Tracked.{Tracked}
 use Rattle.pfl_track.specs.declared.tracked.Tracked.TheVariants.{Moved, OutOfWindow, Reused}
 use Rattle.pfl_track.specs.Keys.{wire_key}
 use Rattle.pfl_track.specs.Tracking.{tracked}
-use Rattle.pfl_table.specs.Tables.{States, found, key_in_use}
+use Rattle.pfl_table.specs.Tables.{found, key_in_use}
 use Rattle.pfl_table.proofs.Apart.{found-stands}
 use Rattle.pfl_queue.specs.declared.Entry.{Entry}
 use Rattle.pfl_queue.specs.declared.Entry.TheVariants.{Marked, Request, Status, Clear}
 use Rattle.pfl_queue.specs.declared.Kind.TheVariants.{Insert}
 use Rattle.pfl_queue.specs.Taking.{next_frame, left_by}
 use Rattle.pfl_defer.specs.declared.Held.{Held}
-use Rattle.pfl_defer.specs.Deferring.{Deferrals, held_of, pushed_out}
+use Rattle.pfl_defer.specs.Deferring.{Deferrals, pushed_out}
 use Rattle.pfl_node.specs.declared.fate.Fate.TheVariants as fate
 use Rattle.pfl_parts.specs.Nodes.{Node, IsNode, IsGiven}
 use Rattle.pfl_parts.specs.Changes.{put_state, mark, freed, changed, deleted, released}
-use Rattle.pfl_node.specs.Events.{purged, expired_states}
+use Rattle.pfl_node.specs.Ticking.{ticked}
+use Rattle.pfl_node.specs.Purging.{purged}
+use Rattle.pfl_node.specs.Releasing.{released_due}
+use Rattle.pfl_node.specs.Killing.{killed}
+use Rattle.pfl_node.specs.Clearing.{cleared}
+use Rattle.pfl_node.specs.Turning as turning
+use Rattle.pfl_node.specs.Retrying.{retried_client}
 use Rattle.pfl_node.specs.Flushing.{flushed, update_count_cleared}
 use Rattle.pfl_node.specs.Packets.{handled, handled_by, followed, accepted, before_rules, on_the_way}
 use Rattle.pfl_node.specs.Starting.{Handled, pass, hold, started, judged, by_rule, announced, with_room, with_new, new_state, is_at_max, is_deferred}
 use Rattle.pfl_world.specs.declared.event.Event.{Event}
 use Rattle.pfl_world.specs.declared.event.Event.TheVariants as event
-use Rattle.pfl_world.specs.Worlds.{World, node_at}
+use Rattle.pfl_world.specs.Worlds.{World, node_at, with_node}
 use Rattle.pfl_laws.specs.Laws.{asked_at, Holds, LetsGo, HeldPacketsLeaveOnlySo}
 use Rattle.pfl_laws.proofs.Following.{Alike, Filed}
-use Rattle.pfl_laws.proofs.Keeping.{Keeps, deleted-states, deleted-keeps, deletions-keep, keeps-given}
+use Rattle.pfl_laws.proofs.Keeping.{deleted-keeps, keeps-given}
 use Rattle.pfl_laws.proofs.Handling.{filed-without, judged-keeps}
+use Rattle.pfl_laws.proofs.Tied.{freed-held, changed-puts, Puts}
+use Rattle.pfl_laws.proofs.Holding.{found-on, same-holds, other-holds, released-held}
+use Rattle.pfl_laws.proofs.Removing.{deleted-removes, removed-none, removed-holds, nothing}
+use Rattle.pfl_laws.proofs.Releasing.{released_due-lets}
+use Rattle.pfl_laws.proofs.Clearing.{purged-lets, killed-lets, cleared-lets}
+use Rattle.pfl_laws.proofs.Asking.{turned-basis, retried-basis, basis-holds}
 use Rattle.pfl_laws.proofs.Stepping.{turned, stepped-node}
 use Rattle.pfl_laws.proofs.Running.{node-is}
-use Rattle.pfl_laws.proofs.Tied.{without, others-stay, freed-held, lost-held, deleted-held, not_waiting-held, changed-puts, Puts}
-
--- ---- one place
-
--- what is held stays held where one more is
-found-on : (hs ks : List Held) (q : StateName) (h : Held) → find (λ k. is_name q k.name) hs ≡ Some h → find (λ k. is_name q k.name) (hs ++ ks) ≡ Some h
-found-on [] ks q h e = absurd (some_is_none h (sym e))
-found-on (x ∷ hs) ks q h e = by (is_name q x.name) (found-on hs ks q h) e
-  where
-    by : (b : Bool) → (find (λ k. is_name q k.name) hs ≡ Some h → find (λ k. is_name q k.name) (hs ++ ks) ≡ Some h) → cond b (Some x) (find (λ k. is_name q k.name) hs) ≡ Some h → cond b (Some x) (find (λ k. is_name q k.name) (hs ++ ks)) ≡ Some h
-    by true rest f = f
-    by false rest f = rest f
-
--- the same packets are held
-same-holds : (h : Held) (n m : Node) → m.held ≡ n.held → Holds n h → Holds m h
-same-holds h n m e holds = ap (λ (d : Deferrals). held_of d h.name) e ∙ holds
-
--- the packet of another name goes
-other-holds : (h : Held) (n m : Node) (name : StateName) → m.held ≡ without n.held name → h.name ≢ name → Holds n h → Holds m h
-other-holds h n m name e other holds = ap (λ (d : Deferrals). held_of d h.name) e ∙ others-stay n.held name h.name other ∙ holds
 
 -- ---- a packet that no state takes
 
@@ -78,9 +69,6 @@ stays_test n h false x y k l = l
 stays_some : {X : Type 0} (n : Node) (h : Held) (o : Option X) (f : X → Handled) (d : Handled) → ((x : X) → Stays n h (f x).node) → Stays n h d.node → Stays n h (option_map_or f o d).node
 stays_some n h None f d k l = l
 stays_some n h (Some x) f d k l = k x
-
-released-held : (n : Node) (name : StateName) → (released n name).held ≡ without n.held name
-released-held n name = not_waiting-held (freed n name) name ∙ freed-held n name
 
 room-stays : (n : Node) (h : Held) → Holds n h → Holds (with_room n) h ⊎ IsSomeAnd (pushed_out n.held) (λ k. k.name ≡ h.name)
 room-stays n h holds = by (pushed_out n.held)
@@ -123,31 +111,6 @@ judged-stays n h dir p holds = stays_test n h (verdict n.rules.list p dir).pass 
     by_number None = inl holds
     by_number (Some number) = stays_some n h (rule_at n.rules.list (Some number)) (started n dir p number) _ (λ r. started-stays n h dir p number r holds) (inl holds)
 
--- ---- deletions
-
--- nothing stands where nothing stood
-nothing : (q : StateName) (n m : Node) → Keeps Alike q n m → maps.get n.states q ≡ None → maps.get m.states q ≡ None
-nothing q n m keeps none = by (maps.get m.states q) refl
-  where
-    by : (o : Option State) → maps.get m.states q ≡ o → o ≡ None
-    by None e = refl
-    by (Some t) e = let from = keeps.comes t e in absurd (some_is_none from.state (sym from.at ∙ none))
-
-gone : (n : Node) (s : State) → maps.get (deleted n s).states s.name ≡ None
-gone n s = ap (λ (m : States). maps.get m s.name) (deleted-states n s) ∙ get-set_at_same names_total names_exact n.states s.name None
-
-deleted-holds : (n : Node) (h : Held) (s : State) → h.name ≢ s.name → Holds n h → Holds (deleted n s) h
-deleted-holds n h s other holds = other-holds h n (deleted n s) s.name (deleted-held n s ∙ lost-held n s.name) other holds
-
-deletions-let : (xs : List State) (n : Node) (h : Held) → Holds n h → Holds (fold deleted n xs) h ⊎ (maps.get (fold deleted n xs).states h.name ≡ None)
-deletions-let [] n h holds = inl holds
-deletions-let (x ∷ xs) n h holds = elim (key_cases names_total names_exact h.name x.name) [
-  | inl same ↦
-      let none : maps.get (deleted n x).states h.name ≡ None = ap (maps.get (deleted n x).states) same ∙ gone n x in
-      inr (nothing h.name (deleted n x) (fold deleted (deleted n x) xs) (deletions-keep h.name xs (deleted n x)) none)
-  | inr other ↦ deletions-let xs (deleted n x) h (deleted-holds n h x other holds)
-]
-
 -- ---- a packet
 
 -- what lets it go at a node
@@ -177,9 +140,9 @@ followed-gone n dir p h s Reused filed given holds =
     elim (key_cases names_total names_exact h.name s.name) [
       | inl same ↦
           let gives = keeps-given Alike s.name n m (deleted-keeps s.name n s) given in
-          let none = nothing s.name m (judged m dir p).node (judged-keeps s.name m dir p (filed-without n s filed) gives) (gone n s) in
+          let none = nothing s.name m (judged m dir p).node (judged-keeps s.name m dir p (filed-without n s filed) gives) (removed-none n m s.name (deleted-removes n s)) in
           inr (inr (inr (ap (maps.get (judged m dir p).node.states) same ∙ none)))
-      | inr other ↦ stays-gone n m dir p h (judged m dir p) (judged-stays m h dir p (deleted-holds n h s other holds))
+      | inr other ↦ stays-gone n m dir p h (judged m dir p) (judged-stays m h dir p (removed-holds n m s.name h (deleted-removes n s) other holds))
     ]
 
 handled-gone : (n : Node) (dir : Dir) (p : Packet) (h : Held) → IsNode n → Holds n h → Holds (handled n dir p).node h ⊎ Gone n dir p h (handled n dir p) (asked_at n dir p)
@@ -213,51 +176,52 @@ flushed-held : (n : Node) → (flushed n).held ≡ n.held
 unfolding flushed
 flushed-held n = entries-held (next_frame n.queue n.limits.mtu) (record n { queue = left_by n.queue (next_frame n.queue n.limits.mtu); push = false })
 
-purged-gone : (n : Node) (h : Held) → Holds n h → Holds (purged n) h ⊎ (maps.get (purged n).states h.name ≡ None)
-unfolding purged
-purged-gone n h holds = deletions-let (expired_states n) n h holds
-
 -- ---- the pair
 
 -- it is at that node
-there : {X Y : Type 0} (id : NodeId) → X ⊎ Y → X ⊎ ((id ≡ id) × Y)
-there id (inl x) = inl x
-there id (inr y) = inr (refl, y)
+there : {X Y : Type 0} {id : NodeId} → X ⊎ Y → X ⊎ ((id ≡ id) × Y)
+there (inl x) = inl x
+there (inr y) = inr (refl, y)
 
-packet-lets : (w : World) (id : NodeId) (dir : Dir) (p : Packet) (at : NodeId) (h : Held) → IsNode (node_at w at) → Holds (node_at w at) h
-    → Holds (turned w (event.Packet id dir p) at) h ⊎ LetsGo at (node_at w at) (turned w (event.Packet id dir p) at) (event.Packet id dir p) h
-packet-lets w A dir p A h is holds = there A (handled-gone w.a dir p h is holds)
-packet-lets w A dir p B h is holds = inl holds
-packet-lets w B dir p A h is holds = inl holds
-packet-lets w B dir p B h is holds = there B (handled-gone w.b dir p h is holds)
+-- an event at one node: there a packet stays or is let go for a reason, and at the other node it stays
+put-lets : (Lets : Node → Node → Type 0) (w : World) (id : NodeId) (m : Node) (at : NodeId) (h : Held) → (IsNode (node_at w id) → Holds (node_at w id) h → Holds m h ⊎ Lets (node_at w id) m)
+    → IsNode (node_at w at) → Holds (node_at w at) h → Holds (node_at (with_node w id m) at) h ⊎ ((id ≡ at) × Lets (node_at w at) (node_at (with_node w id m) at))
+put-lets Lets w A m A h lets is holds = there (lets is holds)
+put-lets Lets w A m B h lets is holds = inl holds
+put-lets Lets w B m A h lets is holds = inl holds
+put-lets Lets w B m B h lets is holds = there (lets is holds)
 
-flush-lets : (w : World) (id at : NodeId) (h : Held) → Holds (node_at w at) h → Holds (turned w (event.Flush id) at) h
-flush-lets w A A h holds = same-holds h w.a (flushed w.a) (flushed-held w.a) holds
-flush-lets w A B h holds = holds
-flush-lets w B A h holds = holds
-flush-lets w B B h holds = same-holds h w.b (flushed w.b) (flushed-held w.b) holds
-
-tick-lets : (w : World) (id : NodeId) (ms : ℕ) (at : NodeId) (h : Held) → Holds (node_at w at) h → Holds (turned w (event.Tick id ms) at) h
-tick-lets w A ms A h holds = holds
-tick-lets w A ms B h holds = holds
-tick-lets w B ms A h holds = holds
-tick-lets w B ms B h holds = holds
-
-purge-lets : (w : World) (id at : NodeId) (h : Held) → Holds (node_at w at) h
-    → Holds (turned w (event.Purge id) at) h ⊎ LetsGo at (node_at w at) (turned w (event.Purge id) at) (event.Purge id) h
-purge-lets w A A h holds = there A (purged-gone w.a h holds)
-purge-lets w A B h holds = inl holds
-purge-lets w B A h holds = inl holds
-purge-lets w B B h holds = there B (purged-gone w.b h holds)
+-- an event that lets none go
+put-stays : (w : World) (id : NodeId) (m : Node) (at : NodeId) (h : Held) → (Holds (node_at w id) h → Holds m h) → Holds (node_at w at) h → Holds (node_at (with_node w id m) at) h
+put-stays w A m A h stays holds = stays holds
+put-stays w A m B h stays holds = holds
+put-stays w B m A h stays holds = holds
+put-stays w B m B h stays holds = stays holds
 
 turned-lets : (w : World) (e : Event) (at : NodeId) (h : Held) → IsNode (node_at w at) → Holds (node_at w at) h → Holds (turned w e at) h ⊎ LetsGo at (node_at w at) (turned w e at) e h
-turned-lets w (event.Packet id dir p) at h is holds = packet-lets w id dir p at h is holds
-turned-lets w (event.Flush id) at h is holds = inl (flush-lets w id at h holds)
+turned-lets w (event.Packet id dir p) at h is holds =
+    put-lets (λ old new. Gone old dir p h (record { fate = (handled old dir p).fate; node = new }) (asked_at old dir p)) w id (handled (node_at w id) dir p).node at h
+    (handled-gone (node_at w id) dir p h) is holds
+turned-lets w (event.Flush id) at h is holds = let n = node_at w id in inl (put-stays w id (flushed n) at h (same-holds h n (flushed n) (flushed-held n)) holds)
 turned-lets w (event.Lose ticket) at h is holds = inl holds
 turned-lets w (event.Repeat ticket) at h is holds = inl holds
 turned-lets w (event.Cut ticket len) at h is holds = inl holds
-turned-lets w (event.Tick id ms) at h is holds = inl (tick-lets w id ms at h holds)
-turned-lets w (event.Purge id) at h is holds = purge-lets w id at h holds
+turned-lets w (event.Tick id ms) at h is holds = inl (put-stays w id (ticked (node_at w id) ms) at h (λ same. same) holds)
+turned-lets w (event.Purge id) at h is holds =
+    put-lets (λ old new. maps.get new.states h.name ≡ None) w id (purged (node_at w id)) at h (λ node. purged-lets (node_at w id) h) is holds
+turned-lets w (event.Release id) at h is holds =
+    put-lets (λ old new. h.held_at + old.limits.defer_ms ≤ old.clock) w id (released_due (node_at w id)) at h (released_due-lets (node_at w id) h) is holds
+turned-lets w (event.Kill id name) at h is holds =
+    put-lets (λ old new. (name ≡ h.name) × (maps.get new.states h.name ≡ None)) w id (killed (node_at w id) name) at h
+    (λ node. killed-lets (node_at w id) name h node.parts.states.filed) is holds
+turned-lets w (event.Clear id) at h is holds =
+    put-lets (λ old new. maps.get new.states h.name ≡ None) w id (cleared (node_at w id)) at h (λ node. cleared-lets (node_at w id) h) is holds
+turned-lets w (event.BulkTurn id) at h is holds =
+    let n = node_at w id in
+    inl (put-stays w id (turning.turned n) at h (basis-holds h n (turning.turned n) (turned-basis n)) holds)
+turned-lets w (event.BulkRetry id) at h is holds =
+    let n = node_at w id in
+    inl (put-stays w id (retried_client n) at h (basis-holds h n (retried_client n) (retried-basis n)) holds)
 
 pub leaves-only : HeldPacketsLeaveOnlySo
 leaves-only w e v is accepted id h holds =

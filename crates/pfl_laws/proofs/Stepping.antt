@@ -1,12 +1,11 @@
 -- What an event of the pair keeps under one name of one of its nodes.
-use Rattle.std.specs.Prelude.{◌≡◌, ◌+◌, nat_lt, List, [], ◌∷◌, length, Option, Some, None, Err, refl}
-use Rattle.std.specs.List.{fold}
+use Rattle.std.specs.Prelude.{◌≡◌, ◌==◌, ◌+◌, not, nat_lt, [], ◌∷◌, length, Option, Some, None, Err, refl}
 use Rattle.std.specs.Option.{option_map_or}
 use Rattle.std.proofs.Common.{◌∙◌, ap, sym, subst}
 use Rattle.pfl_base.specs.declared.node_id.NodeId.{NodeId}
 use Rattle.pfl_base.specs.declared.node_id.NodeId.TheVariants.{A, B}
 use Rattle.pfl_base.specs.declared.refusal.Refusal.{Refusal}
-use Rattle.pfl_base.specs.declared.refusal.Refusal.TheVariants.{NoSuchFrame, LinkFull, ClockFull, CountFull}
+use Rattle.pfl_base.specs.declared.refusal.Refusal.TheVariants.{NoSuchFrame, NoSuchState, NothingPending, LinkFull, QueueFull, ClockFull, CountFull, NotSyncing, TooEarly}
 use Rattle.pfl_base.specs.declared.state_name.StateName.{StateName}
 use Rattle.pfl_base.specs.Packets.{IsPacket}
 use Rattle.pfl_edits.specs.Maps as maps
@@ -14,11 +13,18 @@ use Rattle.pfl_edits.specs.Rows.{some_is_none}
 use Rattle.pfl_link.specs.Links.{Link, InFlight, is_full, is_counted_out, sent, without_frame, with_frame, cut_to}
 use Rattle.pfl_track.specs.declared.state.State.{State}
 use Rattle.pfl_table.specs.Tables.{AreStates}
-use Rattle.pfl_table.proofs.Apart.{AreStates-without}
-use Rattle.pfl_parts.specs.Nodes.{Node, IsGiven, refused_by, full_tests, last_millisecond}
+use Rattle.pfl_bulk.specs.Bulk.{is_serving, is_waiting, is_due}
+use Rattle.pfl_parts.specs.Nodes.{Node, IsGiven, refused_by, full_tests, is_overfull, is_overcounted, last_millisecond}
 use Rattle.pfl_parts.specs.Changes.{deleted}
 use Rattle.pfl_node.specs.Flushing.{flushed}
-use Rattle.pfl_node.specs.Events.{ticked, purged, purge_points, expired_states}
+use Rattle.pfl_node.specs.Ticking.{ticked}
+use Rattle.pfl_node.specs.Purging.{purged, purge_points, expired_states}
+use Rattle.pfl_node.specs.Releasing.{released_due, due_names}
+use Rattle.pfl_node.specs.Killing.{killed}
+use Rattle.pfl_node.specs.Clearing.{cleared}
+use Rattle.pfl_node.specs.Turning as turning
+use Rattle.pfl_node.specs.Turning.{turn_of}
+use Rattle.pfl_node.specs.Retrying.{retried_client, retry_answer}
 use Rattle.pfl_node.specs.Packets.{handled, packet_points}
 use Rattle.pfl_node.proofs.OneState.{handled-apart}
 use Rattle.pfl_world.specs.declared.event.Event.{Event}
@@ -27,27 +33,17 @@ use Rattle.pfl_world.specs.Events.{step}
 use Rattle.pfl_world.specs.Outcomes as outcome
 use Rattle.pfl_world.specs.Outcomes.{Outcome, Stepped}
 use Rattle.pfl_world.specs.Runs.{after}
-use Rattle.pfl_world.specs.Steps.{answered, outcome_of, packet_step, flush_refusal, sent_frame, flush_step, lose_step, repeat_step, cut_step, tick_step, purge_step}
+use Rattle.pfl_world.specs.Steps as steps
+use Rattle.pfl_world.specs.Steps.{answered, outcome_of, retry_outcome, packet_step, flush_refusal, sent_frame, flush_step, lose_step, repeat_step, cut_step, tick_step, purge_step, release_step, kill_step, clear_step, turn_step, retry_step}
 use Rattle.pfl_world.specs.Worlds.{World, node_at, with_node, with_link}
 use Rattle.pfl_laws.specs.Laws.{IsEvent}
 use Rattle.pfl_laws.proofs.Following.{Alike, Follows, alike-follows, inner}
-use Rattle.pfl_laws.proofs.Keeping.{Keeps, keeps-as, keeps-itself, deleted-states, deletions-keep}
+use Rattle.pfl_laws.proofs.Keeping.{Keeps, keeps-as, keeps-itself}
 use Rattle.pfl_laws.proofs.Handling.{handled-keeps}
 use Rattle.pfl_laws.proofs.Flushing.{flushed-keeps, flushed-apart}
-
--- ---- a purge
-
-pub purged-keeps : (q : StateName) (n : Node) → Keeps Alike q n (purged n)
-unfolding purged
-purged-keeps q n = deletions-keep q (expired_states n) n
-
-deletions-apart : (xs : List State) (n : Node) → AreStates n.states → AreStates (fold deleted n xs).states
-deletions-apart [] n are = are
-deletions-apart (x ∷ xs) n are = deletions-apart xs (deleted n x) (subst AreStates (sym (deleted-states n x)) (AreStates-without n.states x.name are))
-
-pub purged-apart : (n : Node) → AreStates n.states → AreStates (purged n).states
-unfolding purged
-purged-apart n are = deletions-apart (expired_states n) n are
+use Rattle.pfl_laws.proofs.Releasing.{released_due-keeps, released_due-apart}
+use Rattle.pfl_laws.proofs.Clearing.{purged-keeps, purged-apart, killed-keeps, killed-apart, cleared-keeps, cleared-apart}
+use Rattle.pfl_laws.proofs.Asking.{turned-basis, retried-basis, basis-keeps, basis-apart}
 
 -- ---- the pair
 
@@ -60,6 +56,11 @@ turned w (event.Repeat ticket) at = node_at w at
 turned w (event.Cut ticket len) at = node_at w at
 turned w (event.Tick id ms) at = node_at (with_node w id (ticked (node_at w id) ms)) at
 turned w (event.Purge id) at = node_at (with_node w id (purged (node_at w id))) at
+turned w (event.Release id) at = node_at (with_node w id (released_due (node_at w id))) at
+turned w (event.Kill id name) at = node_at (with_node w id (killed (node_at w id) name)) at
+turned w (event.Clear id) at = node_at (with_node w id (cleared (node_at w id))) at
+turned w (event.BulkTurn id) at = node_at (with_node w id (turning.turned (node_at w id))) at
+turned w (event.BulkRetry id) at = node_at (with_node w id (retried_client (node_at w id))) at
 
 -- the world after an event that is accepted
 answered-world : (o : Option Refusal) (s : Stepped) (v : World) → after (answered o s) ≡ Some v → s.world ≡ v
@@ -80,8 +81,15 @@ frame-node : (w : World) (frame : Option InFlight) (o : Option Refusal) (l : InF
 frame-node w None o l out v at e = absurd (some_is_none v (sym e))
 frame-node w (Some f) o l out v at e = link-node w (l f) at ∙ answered-node o (record { world = with_link w (l f); outcome = out f }) v at e
 
+-- a state that is there is deleted, at its node
+killed-node : (w : World) (id : NodeId) (o : Option State) (v : World) (at : NodeId)
+    → after (option_map_or (steps.killed w id) o (Err NoSuchState)) ≡ Some v → node_at (with_node w id (option_map_or (deleted (node_at w id)) o (node_at w id))) at ≡ node_at v at
+killed-node w id None v at e = absurd (some_is_none v (sym e))
+killed-node w id (Some s) v at e =
+    answered-node (refused_by (full_tests (deleted (node_at w id) s ∷ []))) (record { world = with_node w id (deleted (node_at w id) s); outcome = outcome.Killed }) v at e
+
 pub stepped-node : (w : World) (e : Event) (v : World) (at : NodeId) → after (step w e) ≡ Some v → turned w e at ≡ node_at v at
-unfolding step packet_step flush_step lose_step repeat_step cut_step tick_step purge_step
+unfolding step packet_step flush_step lose_step repeat_step cut_step tick_step purge_step release_step kill_step clear_step turn_step retry_step
 stepped-node w (event.Packet id dir p) v at e =
     answered-node (refused_by (full_tests (packet_points (node_at w id) dir p)))
     (record { world = with_node w id (handled (node_at w id) dir p).node; outcome = outcome_of (handled (node_at w id) dir p).fate }) v at e
@@ -101,6 +109,22 @@ stepped-node w (event.Tick id ms) v at e =
 stepped-node w (event.Purge id) v at e =
     answered-node (refused_by (full_tests (purge_points (node_at w id))))
     (record { world = with_node w id (purged (node_at w id)); outcome = outcome.Purged (length (expired_states (node_at w id))) }) v at e
+stepped-node w (event.Release id) v at e =
+    let n = node_at w id in
+    answered-node (refused_by ((length n.held.list == 0, NothingPending) ∷ (is_overcounted (released_due n), CountFull) ∷ (length (due_names n) == 0, TooEarly) ∷ []))
+    (record { world = with_node w id (released_due n); outcome = outcome.Released (length (due_names n)) }) v at e
+stepped-node w (event.Kill id name) v at e = killed-node w id (maps.get (node_at w id).states name) v at e
+stepped-node w (event.Clear id) v at e =
+    let n = node_at w id in
+    answered-node (refused_by (full_tests (cleared n ∷ []))) (record { world = with_node w id (cleared n); outcome = outcome.Cleared (maps.len n.states) }) v at e
+stepped-node w (event.BulkTurn id) v at e =
+    let n = node_at w id in
+    answered-node (refused_by ((not (is_serving n.server), NotSyncing) ∷ full_tests (turning.turned n ∷ [])))
+    (record { world = with_node w id (turning.turned n); outcome = outcome.Queued (length (turn_of n)) }) v at e
+stepped-node w (event.BulkRetry id) v at e =
+    let n = node_at w id in
+    answered-node (refused_by ((not (is_waiting n.client), NotSyncing) ∷ (not (is_due n.client n.limits.bulk_ms n.clock), TooEarly) ∷ (is_overfull (retried_client n), QueueFull) ∷ []))
+    (record { world = with_node w id (retried_client n); outcome = retry_outcome (retry_answer n) }) v at e
 
 -- one node of it is another one, and the other node stays
 put-keeps : (R : State → State → Type 0) (q : StateName) (w : World) (id : NodeId) (m : Node) (at : NodeId) → ((s : State) → R s s)
@@ -121,20 +145,31 @@ put-apart w B m B apart are = apart are
 itself : (s : State) → Follows (Unit {0}) s s
 itself s = alike-follows (Unit {0}) s s refl
 
+-- it keeps what is alike
+put-alike : (q : StateName) (w : World) (id : NodeId) (m : Node) (at : NodeId) → (AreStates (node_at w id).states → Keeps Alike q (node_at w id) m)
+    → AreStates (node_at w at).states → IsGiven (node_at w at) q → Keeps (Follows (Unit {0})) q (node_at w at) (node_at (with_node w id m) at)
+put-alike q w id m at keeps =
+    put-keeps (Follows (Unit {0})) q w id m at itself (λ are given. keeps-as Alike (Follows (Unit {0})) q (node_at w id) m (alike-follows (Unit {0})) (keeps are))
+
 turned-keeps : (q : StateName) (w : World) (e : Event) (at : NodeId) → AreStates (node_at w at).states → IsGiven (node_at w at) q → Keeps (Follows (IsEvent e)) q (node_at w at) (turned w e at)
 turned-keeps q w (event.Packet id dir p) at are given =
     put-keeps (Follows (IsPacket p)) q w id (handled (node_at w id) dir p).node at (λ s. alike-follows (IsPacket p) s s refl) (handled-keeps q (node_at w id) dir p) are given
-turned-keeps q w (event.Flush id) at are given =
-    put-keeps (Follows (Unit {0})) q w id (flushed (node_at w id)) at itself
-    (λ a g. keeps-as Alike (Follows (Unit {0})) q (node_at w id) (flushed (node_at w id)) (alike-follows (Unit {0})) (flushed-keeps q (node_at w id) a)) are given
+turned-keeps q w (event.Flush id) at are given = put-alike q w id (flushed (node_at w id)) at (flushed-keeps q (node_at w id)) are given
 turned-keeps q w (event.Lose ticket) at are given = keeps-itself (Follows (Unit {0})) q (node_at w at) itself
 turned-keeps q w (event.Repeat ticket) at are given = keeps-itself (Follows (Unit {0})) q (node_at w at) itself
 turned-keeps q w (event.Cut ticket len) at are given = keeps-itself (Follows (Unit {0})) q (node_at w at) itself
 turned-keeps q w (event.Tick id ms) at are given =
     put-keeps (Follows (Unit {0})) q w id (ticked (node_at w id) ms) at itself (λ a g. keeps-itself (Follows (Unit {0})) q (node_at w id) itself) are given
-turned-keeps q w (event.Purge id) at are given =
-    put-keeps (Follows (Unit {0})) q w id (purged (node_at w id)) at itself
-    (λ a g. keeps-as Alike (Follows (Unit {0})) q (node_at w id) (purged (node_at w id)) (alike-follows (Unit {0})) (purged-keeps q (node_at w id))) are given
+turned-keeps q w (event.Purge id) at are given = put-alike q w id (purged (node_at w id)) at (λ a. purged-keeps q (node_at w id)) are given
+turned-keeps q w (event.Release id) at are given = put-alike q w id (released_due (node_at w id)) at (released_due-keeps q (node_at w id)) are given
+turned-keeps q w (event.Kill id name) at are given = put-alike q w id (killed (node_at w id) name) at (λ a. killed-keeps q (node_at w id) name) are given
+turned-keeps q w (event.Clear id) at are given = put-alike q w id (cleared (node_at w id)) at (λ a. cleared-keeps q (node_at w id)) are given
+turned-keeps q w (event.BulkTurn id) at are given =
+    let n = node_at w id in
+    put-alike q w id (turning.turned n) at (λ a. basis-keeps q n (turning.turned n) (turned-basis n)) are given
+turned-keeps q w (event.BulkRetry id) at are given =
+    let n = node_at w id in
+    put-alike q w id (retried_client n) at (λ a. basis-keeps q n (retried_client n) (retried-basis n)) are given
 
 turned-apart : (w : World) (e : Event) (at : NodeId) → AreStates (node_at w at).states → AreStates (turned w e at).states
 turned-apart w (event.Packet id dir p) at are = put-apart w id (handled (node_at w id) dir p).node at (handled-apart (node_at w id) dir p) are
@@ -144,6 +179,11 @@ turned-apart w (event.Repeat ticket) at are = are
 turned-apart w (event.Cut ticket len) at are = are
 turned-apart w (event.Tick id ms) at are = put-apart w id (ticked (node_at w id) ms) at (λ a. a) are
 turned-apart w (event.Purge id) at are = put-apart w id (purged (node_at w id)) at (purged-apart (node_at w id)) are
+turned-apart w (event.Release id) at are = put-apart w id (released_due (node_at w id)) at (released_due-apart (node_at w id)) are
+turned-apart w (event.Kill id name) at are = put-apart w id (killed (node_at w id) name) at (killed-apart (node_at w id) name) are
+turned-apart w (event.Clear id) at are = put-apart w id (cleared (node_at w id)) at (cleared-apart (node_at w id)) are
+turned-apart w (event.BulkTurn id) at are = let n = node_at w id in put-apart w id (turning.turned n) at (basis-apart n (turning.turned n) (turned-basis n)) are
+turned-apart w (event.BulkRetry id) at are = let n = node_at w id in put-apart w id (retried_client n) at (basis-apart n (retried_client n) (retried-basis n)) are
 
 -- an event that is accepted: what stands under a name that was given comes from what stood there
 pub stepped-keeps : (w : World) (e : Event) (v : World) (at : NodeId) (q : StateName) → after (step w e) ≡ Some v → AreStates (node_at w at).states → IsGiven (node_at w at) q → Keeps (Follows (IsEvent e)) q (node_at w at) (node_at v at)

@@ -243,7 +243,7 @@ deleted-held n s =
 pub tied-deleted : (n : Node) (s : State) → IsTied n → IsTied (deleted n s)
 tied-deleted n s tied = tied-out n (deleted n s) s.name None tied (deleted-states n s) refl (deleted-held n s ∙ lost-held n s.name)
 
-forgotten-held : (n : Node) (name : StateName) → (forgotten n name).held ≡ (lost n name).held
+pub forgotten-held : (n : Node) (name : StateName) → (forgotten n name).held ≡ (lost n name).held
 unfolding forgotten
 forgotten-held n name = refl
 

@@ -1,5 +1,5 @@
 -- What events never do to the states of the pair, in their own words (pf(4), pfsync(4); names are this project's profile).
-use Rattle.std.specs.Prelude.{◌≡◌, ◌≤◌, ◌<◌, ◌⊎◌, Bool, false, List, [], ◌∷◌, All, IsSome, IsSomeAnd, Some, None, map}
+use Rattle.std.specs.Prelude.{◌≡◌, ◌≤◌, ◌<◌, ◌+◌, ◌⊎◌, Bool, false, List, [], ◌∷◌, All, IsSome, IsSomeAnd, Some, None, map}
 use Rattle.std.specs.List.{fold}
 use Rattle.std.specs.Option.{option_map_or}
 use Rattle.pfl_base.specs.declared.direction.Dir.{Dir}
@@ -19,10 +19,16 @@ use Rattle.pfl_node.specs.declared.fate.Fate.TheVariants as fate
 use Rattle.pfl_parts.specs.declared.limits.Limits.{Limits}
 use Rattle.pfl_parts.specs.Nodes.{Node}
 use Rattle.pfl_parts.specs.Changes.{is_held}
-use Rattle.pfl_node.specs.Events.{ticked, purge_points}
+use Rattle.pfl_node.specs.Ticking.{ticked}
+use Rattle.pfl_node.specs.Purging.{purge_points}
 use Rattle.pfl_node.specs.Flushing.{flushed}
+use Rattle.pfl_node.specs.Releasing.{released_due}
+use Rattle.pfl_node.specs.Killing.{killed}
+use Rattle.pfl_node.specs.Clearing.{cleared}
+use Rattle.pfl_node.specs.Turning.{turned}
+use Rattle.pfl_node.specs.Retrying.{retried_client}
 use Rattle.pfl_node.specs.Packets.{handled, packet_points, before_rules}
-use Rattle.pfl_node.specs.Receiving.{taken}
+use Rattle.pfl_receive.specs.Receiving.{taken}
 use Rattle.pfl_world.specs.declared.event.Event.{Event}
 use Rattle.pfl_world.specs.declared.event.Event.TheVariants as event
 use Rattle.pfl_world.specs.Events.{step}
@@ -57,6 +63,11 @@ IsEvent (event.Repeat ticket) = Unit {0}
 IsEvent (event.Cut ticket len) = Unit {0}
 IsEvent (event.Tick node ms) = Unit {0}
 IsEvent (event.Purge node) = Unit {0}
+IsEvent (event.Release node) = Unit {0}
+IsEvent (event.Kill node name) = Unit {0}
+IsEvent (event.Clear node) = Unit {0}
+IsEvent (event.BulkTurn node) = Unit {0}
+IsEvent (event.BulkRetry node) = Unit {0}
 
 -- the points that an event goes through at one of the nodes: where the event is at the other node, that one stays as it was
 abbrev pub points_at : World → Event → NodeId → List Node
@@ -67,6 +78,11 @@ points_at w (event.Repeat ticket) at = []
 points_at w (event.Cut ticket len) at = []
 points_at w (event.Tick id ms) at = node_at (with_node w id (ticked (node_at w id) ms)) at ∷ []
 points_at w (event.Purge id) at = map (λ n. node_at (with_node w id n) at) (purge_points (node_at w id))
+points_at w (event.Release id) at = node_at (with_node w id (released_due (node_at w id))) at ∷ []
+points_at w (event.Kill id name) at = node_at (with_node w id (killed (node_at w id) name)) at ∷ []
+points_at w (event.Clear id) at = node_at (with_node w id (cleared (node_at w id))) at ∷ []
+points_at w (event.BulkTurn id) at = node_at (with_node w id (turned (node_at w id))) at ∷ []
+points_at w (event.BulkRetry id) at = node_at (with_node w id (retried_client (node_at w id))) at ∷ []
 
 -- the name has a state at the node
 abbrev pub HasState : StateName → Node → Type 0
@@ -138,8 +154,8 @@ Holds n h = held_of n.held h.name ≡ Some h
 abbrev pub asked_at : Node → Dir → Packet → Node
 asked_at n dir p = fold (λ m point. point) n (before_rules n dir p (found n.states (key p dir) dir))
 
--- why an event at a node lets a packet go that is held there: a later packet of its state is accepted, a full list lets its oldest go, or its
--- state is deleted; no other event does
+-- why an event at a node lets a packet go that is held there: a later packet of its state is accepted, a full list lets its oldest go, its
+-- time has come at a release, or its state is deleted or cleared; no other event does
 abbrev pub LetsGo : NodeId → Node → Node → Event → Held → Type 0
 LetsGo id old new (event.Packet node dir p) h =
     (node ≡ id) × (((handled old dir p).fate ≡ fate.Pass (Some h.name)) ⊎ (IsSomeAnd (pushed_out (asked_at old dir p).held) (λ k. k.name ≡ h.name) ⊎ (maps.get new.states h.name ≡ None)))
@@ -149,6 +165,11 @@ LetsGo id old new (event.Repeat ticket) h = ⊥
 LetsGo id old new (event.Cut ticket len) h = ⊥
 LetsGo id old new (event.Tick node ms) h = ⊥
 LetsGo id old new (event.Purge node) h = (node ≡ id) × (maps.get new.states h.name ≡ None)
+LetsGo id old new (event.Release node) h = (node ≡ id) × (h.held_at + old.limits.defer_ms ≤ old.clock)
+LetsGo id old new (event.Kill node name) h = (node ≡ id) × ((name ≡ h.name) × (maps.get new.states h.name ≡ None))
+LetsGo id old new (event.Clear node) h = (node ≡ id) × (maps.get new.states h.name ≡ None)
+LetsGo id old new (event.BulkTurn node) h = ⊥
+LetsGo id old new (event.BulkRetry node) h = ⊥
 
 -- whatever event is accepted, a packet that was held is still held, since the same time, or was let go for such a reason
 abbrev pub HeldPacketsLeaveOnlySo : Type 0

@@ -25,8 +25,8 @@ pub fn held_packets_have_waiting_states()
     ensures along { EventsKeepTiedAlong }
 {}
 
-/// A held packet leaves only by a later accepted packet of its state, by a full list that lets its oldest go, or by a deletion
-/// (pfsync(4), `defer`).
+/// A held packet leaves only by a later accepted packet of its state, by a full list that lets its oldest go, by a release at
+/// its time, or by a deletion or a clear of its state (pfsync(4), `defer`).
 pub fn held_packets_leave_only_so()
     ensures { HeldPacketsLeaveOnlySo }
 {}

@@ -19,7 +19,7 @@ use Rattle.pfl_lines.specs.declared.draft.CommandDraft.{CommandDraft}
 use Rattle.pfl_lines.specs.declared.draft.CommandDraft.TheVariants as draft
 use Rattle.pfl_lines.specs.Words.{words}
 use Rattle.pfl_lines.specs.Readings.{◌>>=◌, Reading, word_at}
-use Rattle.pfl_lines.specs.Parts.{number_at, node_at, dir_at, branch_at}
+use Rattle.pfl_lines.specs.Parts.{number_at, node_at, dir_at, name_at, branch_at}
 use Rattle.pfl_lines.specs.Packets.{fields_at}
 
 -- ---- events
@@ -74,6 +74,48 @@ purge_at ws = do
   node ← node_at ws
   Ok (event_draft.Whole (events.Purge node.0), node.1)
 
+-- NODE
+unfoldable pub release_at : List (List ℕ) → Reading EventDraft
+release_at ws = do
+  node ← node_at ws
+  Ok (event_draft.Whole (events.Release node.0), node.1)
+
+-- NODE NAME
+unfoldable pub kill_at : List (List ℕ) → Reading EventDraft
+kill_at ws = do
+  node ← node_at ws
+  name ← name_at node.1
+  Ok (event_draft.Whole (events.Kill node.0 name.0), name.1)
+
+-- NODE
+unfoldable pub clear_at : List (List ℕ) → Reading EventDraft
+clear_at ws = do
+  node ← node_at ws
+  Ok (event_draft.Whole (events.Clear node.0), node.1)
+
+-- NODE
+unfoldable pub turn_at : List (List ℕ) → Reading EventDraft
+turn_at ws = do
+  node ← node_at ws
+  Ok (event_draft.Whole (events.BulkTurn node.0), node.1)
+
+-- NODE
+unfoldable pub retry_at : List (List ℕ) → Reading EventDraft
+retry_at ws = do
+  node ← node_at ws
+  Ok (event_draft.Whole (events.BulkRetry node.0), node.1)
+
+-- what belongs to the word of an event that happens at a node by itself
+abbrev pub own_event_by : List ℕ → List (List ℕ) → Reading EventDraft
+own_event_by word ws =
+    if bytes_eq word (codes "tick") then tick_at ws else
+    if bytes_eq word (codes "purge") then purge_at ws else
+    if bytes_eq word (codes "release") then release_at ws else
+    if bytes_eq word (codes "kill") then kill_at ws else
+    if bytes_eq word (codes "clear") then clear_at ws else
+    if bytes_eq word (codes "turn") then turn_at ws else
+    if bytes_eq word (codes "retry") then retry_at ws else Err faults.Unknown
+
 -- what belongs to an event's word
 abbrev pub event_by : List ℕ → List (List ℕ) → Reading EventDraft
 event_by word ws =
@@ -81,9 +123,7 @@ event_by word ws =
     if bytes_eq word (codes "flush") then flush_at ws else
     if bytes_eq word (codes "lose") then lose_at ws else
     if bytes_eq word (codes "repeat") then repeat_at ws else
-    if bytes_eq word (codes "cut") then cut_at ws else
-    if bytes_eq word (codes "tick") then tick_at ws else
-    if bytes_eq word (codes "purge") then purge_at ws else Err faults.Unknown
+    if bytes_eq word (codes "cut") then cut_at ws else own_event_by word ws
 
 -- an event's word and what belongs to it
 unfoldable pub event_at : List (List ℕ) → Reading EventDraft
@@ -107,18 +147,47 @@ back_at ws = do
   n ← number_at greatest branch.1
   Ok (draft.Whole (commands.Back branch.0 n.0), n.1)
 
+-- BR N
+unfoldable pub forward_at : List (List ℕ) → Reading CommandDraft
+forward_at ws = do
+  branch ← branch_at ws
+  n ← number_at greatest branch.1
+  Ok (draft.Whole (commands.Forward branch.0 n.0), n.1)
+
+-- BR K NEW
+unfoldable pub fork_at : List (List ℕ) → Reading CommandDraft
+fork_at ws = do
+  from ← branch_at ws
+  place ← number_at greatest from.1
+  name ← branch_at place.1
+  Ok (draft.Whole (commands.Fork from.0 place.0 name.0), name.1)
+
+-- BR
+unfoldable pub drop_at : List (List ℕ) → Reading CommandDraft
+drop_at ws = do
+  branch ← branch_at ws
+  Ok (draft.Whole (commands.Drop branch.0), branch.1)
+
 -- BR
 unfoldable pub show_at : List (List ℕ) → Reading CommandDraft
 show_at ws = do
   branch ← branch_at ws
   Ok (draft.Whole (commands.Show branch.0), branch.1)
 
+-- nothing
+abbrev pub names_at : List (List ℕ) → Reading CommandDraft
+names_at ws = Ok (draft.Whole commands.Names, ws)
+
 -- what belongs to a command's word
 abbrev pub command_by : List ℕ → List (List ℕ) → Reading CommandDraft
 command_by word ws =
     if bytes_eq word (codes "step") then step_at ws else
     if bytes_eq word (codes "back") then back_at ws else
-    if bytes_eq word (codes "show") then show_at ws else Err faults.Unknown
+    if bytes_eq word (codes "forward") then forward_at ws else
+    if bytes_eq word (codes "fork") then fork_at ws else
+    if bytes_eq word (codes "drop") then drop_at ws else
+    if bytes_eq word (codes "show") then show_at ws else
+    if bytes_eq word (codes "names") then names_at ws else Err faults.Unknown
 
 -- a command's word and what belongs to it
 unfoldable pub command_at : List (List ℕ) → Reading CommandDraft

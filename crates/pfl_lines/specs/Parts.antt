@@ -6,13 +6,15 @@ use Rattle.pfl_base.specs.declared.addr.End.{End}
 use Rattle.pfl_base.specs.declared.direction.Dir.{Dir}
 use Rattle.pfl_base.specs.declared.node_id.NodeId.{NodeId}
 use Rattle.pfl_base.specs.declared.proto.Proto.{Proto}
+use Rattle.pfl_base.specs.declared.state_name.StateName.{StateName}
 use Rattle.pfl_base.specs.Ends.{proto_of as numbered}
+use Rattle.pfl_base.specs.Numbers.{greatest}
 use Rattle.pfl_base.specs.Words.{dir_at_word, node_at_word, proto_at_word}
 use Rattle.pfl_timeline.specs.Words.{branch_word}
 use Rattle.pfl_lines.specs.declared.fault.LineFault.{LineFault}
 use Rattle.pfl_lines.specs.declared.fault.LineFault.TheVariants.{Number}
 use Rattle.pfl_lines.specs.Readings.{◌>>=◌, Reading, one_word, choice_at}
-use Rattle.pfl_lines.specs.Numbers.{number_of}
+use Rattle.pfl_lines.specs.Numbers.{number_of, cut_at}
 use Rattle.pfl_lines.specs.Addresses.{end_of}
 
 -- a number up to the greatest
@@ -44,6 +46,18 @@ proto_of word = option_map_or Ok (proto_at_word word) (numbered_proto word)
 -- a protocol
 abbrev pub proto_at : List (List ℕ) → Reading Proto
 proto_at ws = one_word proto_of ws
+
+-- the name of a state: the boot that made it and its number there, as CREATOR.ID
+unfoldable pub name_of : List ℕ → Result StateName LineFault
+name_of word = do
+  parts ← cut_at 46 word
+  creator ← number_of greatest parts.0
+  id ← number_of 18446744073709551615 parts.1
+  Ok (record { creator = creator; id = id })
+
+-- a name
+abbrev pub name_at : List (List ℕ) → Reading StateName
+name_at ws = one_word name_of ws
 
 -- the letters of the flags in the order in which they are written, each with its flag: FIN, SYN, RST, PSH, ACK and URG (RFC 9293, 3.1)
 abbrev pub flag_letters : List (ℕ × ℕ)

@@ -4,12 +4,12 @@ ghost use Rattle.std.specs.Prelude.{◌≡◌};
 ghost use Rattle.std.specs.List.{list_all};
 ghost use Rattle.pfl_lines.specs.Words.{words};
 ghost use Rattle.pfl_lines.specs.Readings.{Gives};
-ghost use Rattle.pfl_lines.specs.Commands.{packet_at, flush_at, ticket_at, lose_at, repeat_at, cut_at, tick_at, purge_at, event_by, event_at, step_at, back_at, show_at, command_by, command_at, finished, whole_event, whole_step, whole_command, command_of, is_text, checked, parsed};
+ghost use Rattle.pfl_lines.specs.Commands.{packet_at, flush_at, ticket_at, lose_at, repeat_at, cut_at, tick_at, purge_at, release_at, kill_at, clear_at, turn_at, retry_at, own_event_by, event_by, event_at, step_at, back_at, forward_at, fork_at, drop_at, show_at, names_at, command_by, command_at, finished, whole_event, whole_step, whole_command, command_of, is_text, checked, parsed};
 
 use crate::draft::{CommandDraft, EventDraft};
 use crate::fault::LineFault;
 use crate::packets::fields_at;
-use crate::parts::{branch_at, dir_at, node_at, number_at};
+use crate::parts::{branch_at, dir_at, name_at, node_at, number_at};
 use crate::words::{is_word, try_read, word_at};
 use pfl_base::{GREATEST_NUMBER, Packet};
 use pfl_timeline::{BranchWord, Command};
@@ -94,6 +94,80 @@ fn purge_at(line: &[u8]) -> Result<(EventDraft, &[u8]), LineFault>
     Ok((EventDraft::Whole(Event::Purge { node }), rest))
 }
 
+/// `NODE`.
+#[tactic(auto, unfolding(crate::specs::Commands::release_at))]
+fn release_at(line: &[u8]) -> Result<(EventDraft, &[u8]), LineFault>
+    ensures { Gives (λ x. (x.0, words x.1.now)) result (release_at (words line.now)) }
+{
+    let (node, rest) = node_at(line)?;
+    Ok((EventDraft::Whole(Event::Release { node }), rest))
+}
+
+/// `NODE NAME`.
+#[tactic(auto, unfolding(crate::specs::Commands::kill_at))]
+fn kill_at(line: &[u8]) -> Result<(EventDraft, &[u8]), LineFault>
+    ensures { Gives (λ x. (x.0, words x.1.now)) result (kill_at (words line.now)) }
+{
+    let (node, rest) = node_at(line)?;
+    let (name, rest) = name_at(rest)?;
+    Ok((EventDraft::Whole(Event::Kill { node, name }), rest))
+}
+
+/// `NODE`.
+#[tactic(auto, unfolding(crate::specs::Commands::clear_at))]
+fn clear_at(line: &[u8]) -> Result<(EventDraft, &[u8]), LineFault>
+    ensures { Gives (λ x. (x.0, words x.1.now)) result (clear_at (words line.now)) }
+{
+    let (node, rest) = node_at(line)?;
+    Ok((EventDraft::Whole(Event::Clear { node }), rest))
+}
+
+/// `NODE`.
+#[tactic(auto, unfolding(crate::specs::Commands::turn_at))]
+fn turn_at(line: &[u8]) -> Result<(EventDraft, &[u8]), LineFault>
+    ensures { Gives (λ x. (x.0, words x.1.now)) result (turn_at (words line.now)) }
+{
+    let (node, rest) = node_at(line)?;
+    Ok((EventDraft::Whole(Event::BulkTurn { node }), rest))
+}
+
+/// `NODE`.
+#[tactic(auto, unfolding(crate::specs::Commands::retry_at))]
+fn retry_at(line: &[u8]) -> Result<(EventDraft, &[u8]), LineFault>
+    ensures { Gives (λ x. (x.0, words x.1.now)) result (retry_at (words line.now)) }
+{
+    let (node, rest) = node_at(line)?;
+    Ok((EventDraft::Whole(Event::BulkRetry { node }), rest))
+}
+
+/// What belongs to the word of an event that happens at a node by itself.
+fn own_event_by<'a>(word: &[u8], line: &'a [u8]) -> Result<(EventDraft, &'a [u8]), LineFault>
+    ensures { Gives (λ x. (x.0, words x.1.now)) result (own_event_by word.now (words line.now)) }
+{
+    if is_word(word, "tick") {
+        return tick_at(line);
+    }
+    if is_word(word, "purge") {
+        return purge_at(line);
+    }
+    if is_word(word, "release") {
+        return release_at(line);
+    }
+    if is_word(word, "kill") {
+        return kill_at(line);
+    }
+    if is_word(word, "clear") {
+        return clear_at(line);
+    }
+    if is_word(word, "turn") {
+        return turn_at(line);
+    }
+    if is_word(word, "retry") {
+        return retry_at(line);
+    }
+    Err(LineFault::Unknown)
+}
+
 /// What belongs to an event's word.
 fn event_by<'a>(word: &[u8], line: &'a [u8]) -> Result<(EventDraft, &'a [u8]), LineFault>
     ensures { Gives (λ x. (x.0, words x.1.now)) result (event_by word.now (words line.now)) }
@@ -113,13 +187,7 @@ fn event_by<'a>(word: &[u8], line: &'a [u8]) -> Result<(EventDraft, &'a [u8]), L
     if is_word(word, "cut") {
         return cut_at(line);
     }
-    if is_word(word, "tick") {
-        return tick_at(line);
-    }
-    if is_word(word, "purge") {
-        return purge_at(line);
-    }
-    Err(LineFault::Unknown)
+    own_event_by(word, line)
 }
 
 /// An event's word and what belongs to it.
@@ -152,6 +220,39 @@ fn back_at(line: &[u8]) -> Result<(CommandDraft, &[u8]), LineFault>
     Ok((CommandDraft::Whole(Command::Back { branch, n }), rest))
 }
 
+/// `BR N`.
+#[tactic(auto, unfolding(crate::specs::Commands::forward_at))]
+fn forward_at(line: &[u8]) -> Result<(CommandDraft, &[u8]), LineFault>
+    ensures { Gives (λ x. (x.0, words x.1.now)) result (forward_at (words line.now)) }
+{
+    let (branch, rest) = try_read!(branch_at(line));
+    let (n, rest) = number_at(rest, GREATEST_NUMBER)?;
+    let n = n as u32;
+    Ok((CommandDraft::Whole(Command::Forward { branch, n }), rest))
+}
+
+/// `BR K NEW`.
+#[tactic(auto, unfolding(crate::specs::Commands::fork_at))]
+fn fork_at(line: &[u8]) -> Result<(CommandDraft, &[u8]), LineFault>
+    ensures { Gives (λ x. (x.0, words x.1.now)) result (fork_at (words line.now)) }
+{
+    let (from, rest) = try_read!(branch_at(line));
+    let (place, rest) = number_at(rest, GREATEST_NUMBER)?;
+    let place = place as u32;
+    let (name, rest) = try_read!(branch_at(rest));
+    let fork = Command::Fork { from, place, name };
+    Ok((CommandDraft::Whole(fork), rest))
+}
+
+/// `BR`.
+#[tactic(auto, unfolding(crate::specs::Commands::drop_at))]
+fn drop_at(line: &[u8]) -> Result<(CommandDraft, &[u8]), LineFault>
+    ensures { Gives (λ x. (x.0, words x.1.now)) result (drop_at (words line.now)) }
+{
+    let (branch, rest) = try_read!(branch_at(line));
+    Ok((CommandDraft::Whole(Command::Drop { branch }), rest))
+}
+
 /// `BR`.
 #[tactic(auto, unfolding(crate::specs::Commands::show_at))]
 fn show_at(line: &[u8]) -> Result<(CommandDraft, &[u8]), LineFault>
@@ -159,6 +260,13 @@ fn show_at(line: &[u8]) -> Result<(CommandDraft, &[u8]), LineFault>
 {
     let (branch, rest) = try_read!(branch_at(line));
     Ok((CommandDraft::Whole(Command::Show { branch }), rest))
+}
+
+/// Nothing.
+fn names_at(line: &[u8]) -> Result<(CommandDraft, &[u8]), LineFault>
+    ensures { Gives (λ x. (x.0, words x.1.now)) result (names_at (words line.now)) }
+{
+    Ok((CommandDraft::Whole(Command::Names), line))
 }
 
 /// What belongs to a command's word.
@@ -171,8 +279,20 @@ fn command_by<'a>(word: &[u8], line: &'a [u8]) -> Result<(CommandDraft, &'a [u8]
     if is_word(word, "back") {
         return back_at(line);
     }
+    if is_word(word, "forward") {
+        return forward_at(line);
+    }
+    if is_word(word, "fork") {
+        return fork_at(line);
+    }
+    if is_word(word, "drop") {
+        return drop_at(line);
+    }
     if is_word(word, "show") {
         return show_at(line);
+    }
+    if is_word(word, "names") {
+        return names_at(line);
     }
     Err(LineFault::Unknown)
 }

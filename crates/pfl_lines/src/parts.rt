@@ -3,13 +3,13 @@
 ghost use Rattle.std.specs.Prelude.{◌≡◌, ◌≤◌, IfOk};
 ghost use Rattle.pfl_lines.specs.Words.{words};
 ghost use Rattle.pfl_lines.specs.Readings.{Gives};
-ghost use Rattle.pfl_lines.specs.Parts.{number_at, end_at, node_at, dir_at, numbered_proto, proto_of, proto_at, with_letter, letters_of, flags_at_word, flags_at, branch_at};
+ghost use Rattle.pfl_lines.specs.Parts.{number_at, end_at, node_at, dir_at, numbered_proto, proto_of, proto_at, name_of, name_at, with_letter, letters_of, flags_at_word, flags_at, branch_at};
 
 use crate::addresses::end_of;
 use crate::fault::LineFault;
-use crate::numbers::number_of;
+use crate::numbers::{cut, number_of};
 use crate::words::{is_word, one_word, word_at};
-use pfl_base::{Dir, End, NodeId, Proto, TcpFlags};
+use pfl_base::{Dir, End, GREATEST_NUMBER, NodeId, Proto, StateName, TcpFlags};
 use pfl_timeline::BranchWord;
 
 /// A number up to the greatest.
@@ -65,6 +65,27 @@ pub fn proto_at(line: &[u8]) -> Result<(Proto, &[u8]), LineFault>
     ensures { Gives (λ x. (x.0, words x.1.now)) result (proto_at (words line.now)) }
 {
     one_word!(line, word => proto_of(word))
+}
+
+/// `CREATOR.ID`.
+#[tactic(auto, unfolding(crate::specs::Parts::name_of))]
+fn name_of(word: &[u8]) -> Result<StateName, LineFault>
+    ensures { result ≡ name_of word.now }
+{
+    let (creator, id) = cut(word, b'.')?;
+    let creator = number_of(creator, GREATEST_NUMBER)?;
+    let id = number_of(id, u64::MAX)?;
+    Ok(StateName {
+        creator: creator as u32,
+        id,
+    })
+}
+
+/// The name of a state.
+pub fn name_at(line: &[u8]) -> Result<(StateName, &[u8]), LineFault>
+    ensures { Gives (λ x. (x.0, words x.1.now)) result (name_at (words line.now)) }
+{
+    one_word!(line, word => name_of(word))
 }
 
 /// The letters of the flags, in the order in which they are written.

@@ -1,9 +1,10 @@
 //! What takes an operation of a link back.
-ghost use Rattle.std.specs.Prelude.{◌≡◌, Option};
+ghost use Rattle.std.specs.Prelude.{◌≡◌, IfOk, Option};
 ghost use Rattle.pfl_link.specs.LinkEdits.{frame_before, next_before};
 
 use crate::change::LinkChange;
 use crate::in_flight::InFlight;
+use pfl_edits::NoMemory;
 use std::alloc::Allocator;
 use std::marker::Model;
 
@@ -76,5 +77,19 @@ impl<A: Allocator> LinkEdit<A> {
             LinkChange::Sent => None,
             LinkChange::Taken | LinkChange::Cut(_) => Some(frame),
         }
+    }
+}
+
+impl<A: Allocator + Copy> LinkEdit<A> {
+    /// The same edit, in memory of its own.
+    pub fn copy(&self) -> Result<LinkEdit<A>, NoMemory>
+        ensures same { IfOk result (λ copied. copied ≡ self.now) }
+    {
+        let frame = self.frame.copy()?;
+        Ok(LinkEdit {
+            ticket: self.ticket,
+            frame,
+            change: self.change,
+        })
     }
 }

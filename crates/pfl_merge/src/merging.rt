@@ -52,7 +52,7 @@ fn is_destination_behind(held: &State, received: &Received) -> bool
 }
 
 /// When a state was last used that has `remaining` seconds left of its timeout; not before the clock began.
-fn last_use(remaining: u32, timeout: u32, now: Millis) -> Millis
+pub fn last_use(remaining: u32, timeout: u32, now: Millis) -> Millis
     ensures { result ≡ used_last remaining timeout now }
 {
     let spent = timeout - remaining.min(timeout);

@@ -21,7 +21,7 @@ use Rattle.pfl_table.specs.Expiries.{state_before, ExpireBy, row_of, first_expir
 use Rattle.pfl_table.specs.Tables.{Table, States, AreStates, states_of, first_expiring}
 use Rattle.pfl_table.proofs.Expiring.{IsInOrder, NoneBefore, IsInOrder-in_order, rest_in_order, in_order-filter, state_before-asymmetric, state_before-passed_on}
 use Rattle.pfl_parts.specs.Nodes.{Node, AreParts, expiry_at}
-use Rattle.pfl_node.specs.Events.{expires_before, expired_states}
+use Rattle.pfl_node.specs.Purging.{expires_before, expired_states}
 
 -- ---- lists
 
@@ -112,24 +112,24 @@ apart-in_order before (s ∷ ss) a = apart-put before s (in_order before ss) (al
 
 -- ---- the states of a table
 
-left : (a b : Bool) → T (a && b) → T a
+pub left : (a b : Bool) → T (a && b) → T a
 left true b t = tt
 left false b t = t
 
-right : (a b : Bool) → T (a && b) → T b
+pub right : (a b : Bool) → T (a && b) → T b
 right true b t = t
 right false b t = absurd t
 
-less_is : (r : Ordering) → T (is_lt r) → r ≡ Less
+pub less_is : (r : Ordering) → T (is_lt r) → r ≡ Less
 less_is Less t = refl
 less_is Equal t = absurd t
 less_is Greater t = absurd t
 
-abbrev Entries : Type 0
+abbrev pub Entries : Type 0
 Entries = List (StateName × State)
 
 -- each stands under its name
-abbrev AreFiled : Entries → Type 0
+abbrev pub AreFiled : Entries → Type 0
 AreFiled es = AllByRecursion (λ e. e.1.name ≡ e.0) es
 
 other_name : (a b : StateName) → name_cmp a b ≡ Less → is_name a b ≡ false
@@ -175,7 +175,7 @@ module _ (m : States) (are : AreStates m) where
   entries-filed [] a = tt
   entries-filed (e ∷ es) a = (are.filed e.0 e.1 (get-entries m e.0 ∙ a.0), entries-filed es a.1)
 
-  filed : AreFiled (maps.entries m)
+  pub filed : AreFiled (maps.entries m)
   filed = entries-filed (maps.entries m) (entries-found (maps.entries m) (entries_sorted m))
 
   -- no two states of a table have one name

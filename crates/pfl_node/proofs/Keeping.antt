@@ -20,7 +20,7 @@ use Rattle.pfl_parts.specs.declared.limits.Limits.{Limits}
 use Rattle.pfl_node.specs.Laws.{RecordsLeaveTheRest}
 use Rattle.pfl_parts.specs.Nodes.{Node}
 use Rattle.pfl_parts.specs.Changes.{is_held, lost, freed, released, is_untold, changed, forgotten}
-use Rattle.pfl_node.specs.Receiving.{taken, insert_taken, can_import, merge_taken, merged_into, bulk_taken, answered, request_taken, ack_taken, is_known, cleared_names, status_taken}
+use Rattle.pfl_receive.specs.Receiving.{taken, insert_taken, can_import, merge_taken, merged_into, bulk_taken, answered, request_taken, ack_taken, is_known, cleared_names, status_taken}
 
 -- what stays: as one value
 abbrev pub Still : Type 0

@@ -10,4 +10,10 @@ pub mod Purged
 pub mod Started
 pub mod Grouped
 pub mod Sent
+pub mod Ready
 pub mod OnePoint
+pub mod Cleared
+pub mod Risen
+pub mod Turned
+pub mod Asking
+pub mod Released

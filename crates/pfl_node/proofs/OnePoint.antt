@@ -1,16 +1,11 @@
 -- An event that goes through its end alone.
-use Rattle.std.specs.Prelude.{◌≡◌, ℕ, Bool, true, false, ◌||◌, [], ◌∷◌, Option, None, Result, Ok, Err, IfErr, OnOk}
+use Rattle.std.specs.Prelude.{◌≡◌, Bool, true, false, ◌||◌, [], ◌∷◌, Option, None, Result, Ok, Err, IfErr, OnOk}
 use Rattle.std.specs.List.{list_any}
 use Rattle.std.proofs.Common.{◌∙◌, ap, sym, subst}
 use Rattle.pfl_base.specs.declared.refusal.Refusal.{Refusal}
-use Rattle.pfl_edits.specs.Changes.{Edits, Fits}
-use Rattle.pfl_parts.specs.declared.edit.NodeEdit.{NodeEdit}
-use Rattle.pfl_parts.specs.declared.limits.Limits.{Limits}
 use Rattle.pfl_parts.specs.declared.parts.judge.Overfull.{Overfull}
-use Rattle.pfl_parts.specs.Edits.{Finds, put_back, NodeExtends}
-use Rattle.pfl_parts.specs.Kept.{IsReady}
-use Rattle.pfl_parts.specs.Nodes.{Node, AreParts, IsRefusal, is_overcounted}
-use Rattle.pfl_parts.proofs.Settling.{recorded-back}
+use Rattle.pfl_parts.specs.Judging.{Went}
+use Rattle.pfl_parts.specs.Nodes.{Node, IsRefusal, is_overfull, is_overcounted}
 
 -- where no number is too high there, none is where it ends
 pub point-ends : {T : Type 0} (b meant : Node) (tried : Result (T × Bool) Overfull) → OnOk tried (b ≡ meant)
@@ -23,10 +18,6 @@ point-ends {T} b meant tried node t stands none =
     alone true e = e
     alone false e = λ i. false
 
--- what was recorded from a ready node on can be taken back
-pub recorded-fits : (k : ℕ) (l : Limits) (a b : Node) (x y : Edits NodeEdit) → IsReady l x → NodeExtends k x y a b → Fits Finds AreParts put_back y.list b
-recorded-fits k l a b x y ready extends = (recorded-back k l a b x y ready extends).leads.fits
-
 -- ---- the same refusal, as an event has it
 
 pub refused-as : {U : Type 0} (o p : Option Refusal) (result : Result U Refusal) → p ≡ o → IfErr result (IsRefusal o) → IfErr result (IsRefusal p)
@@ -36,3 +27,20 @@ refused-as o p (Err e) same refused = subst (λ (q : Option Refusal). IsRefusal 
 pub not_refused-as : {U : Type 0} (o p : Option Refusal) (result : Result U Refusal) → p ≡ o → OnOk result (o ≡ None) → OnOk result (p ≡ None)
 not_refused-as o p (Ok r) same free = same ∙ free
 not_refused-as o p (Err e) same free = tt
+
+-- ---- how it went
+
+-- too much is pending there
+pub stops-there : (T : Type 0) (e : Overfull) (meant : Node) → is_overfull meant ≡ true → Went {T = T} (Err e) (meant ∷ [])
+stops-there T e meant full = ap (λ b. b || false) full
+
+or_false : (a : Bool) → a ≡ (a || false)
+or_false true = λ i. true
+or_false false = λ i. false
+
+-- or not
+pub ends-there : {T : Type 0} (t : T) (over : Bool) (meant b : Node) → b ≡ meant → is_overfull b ≡ false → over ≡ is_overcounted b → Went (Ok (t, over)) (meant ∷ [])
+ends-there t over meant b same fits counts = (
+  ap (λ o. o || false) (ap is_overfull (sym same) ∙ fits),
+  counts ∙ (ap is_overcounted same ∙ or_false (is_overcounted meant)),
+)

@@ -36,7 +36,7 @@ use Rattle.pfl_parts.specs.Changes.{put_state, mark, is_untold, is_insert, is_he
 use Rattle.pfl_track.specs.Keys.{wire_key}
 use Rattle.pfl_node.specs.Starting.{Handled, started, judged, by_rule, announced, hold, with_room, with_new, new_state, is_at_max, is_deferred}
 use Rattle.pfl_node.specs.Packets.{handled, handled_by, followed, accepted}
-use Rattle.pfl_node.specs.Receiving.{taken, insert_taken, can_import, imported, merge_taken, merged_into, bulk_taken, answered, request_taken, ack_taken, is_known, cleared_names, status_taken}
+use Rattle.pfl_receive.specs.Receiving.{taken, insert_taken, can_import, imported, merge_taken, merged_into, bulk_taken, answered, request_taken, ack_taken, is_known, cleared_names, status_taken}
 
 -- the states of the node are named and keyed rightly
 abbrev Apart : Node → Type 0

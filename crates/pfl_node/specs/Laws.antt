@@ -6,7 +6,7 @@ use Rattle.pfl_table.specs.Tables.{AreStates}
 use Rattle.pfl_wire.specs.declared.message.Message.{Message}
 use Rattle.pfl_parts.specs.Nodes.{Node}
 use Rattle.pfl_node.specs.Packets.{handled}
-use Rattle.pfl_node.specs.Receiving.{taken}
+use Rattle.pfl_receive.specs.Receiving.{taken}
 
 -- whatever record is taken, no two states have one wire key or one stack key, if none had before
 abbrev pub RecordsKeepKeysApart : Type 0

@@ -1,6 +1,8 @@
 //! One node of the pair, and the events that happen at it (pf(4), pfsync(4)).
 #![tactic(auto)]
 
+mod clear;
+mod event;
 mod fate;
 mod flush;
 mod kill;
@@ -8,9 +10,14 @@ mod laws;
 mod node;
 mod packet;
 mod purge;
+mod release;
 mod retried;
+mod retry;
+mod step;
 mod tick;
+mod turn;
 
+pub use event::{NodeEvent, NodeOutcome};
 pub use fate::{Fate, Reason};
 pub use laws::{one_state_per_key, records_leave_the_rest};
 pub use node::Node;

@@ -3,7 +3,7 @@
 mod readers;
 
 ghost use Rattle.std.specs.Prelude.{◌≡◌, IfOk};
-ghost use Rattle.pfl_parts.specs.Kept.{most_edits as most};
+ghost use Rattle.pfl_node.specs.Room.{most_edits as most};
 ghost use Rattle.pfl_parts.specs.Limits.{AreLimits};
 ghost use Rattle.pfl_parts.specs.Nodes.{Node as Whole, IsNode, new_node};
 
@@ -25,7 +25,7 @@ pub struct Node<A: Allocator> {
 impl<A: Allocator> Model for Node<A> {
     ghost use Rattle.pfl_parts.specs.Nodes.{Node, IsNode};
     ghost use Rattle.pfl_parts.specs.Codes.{coded_node};
-    ghost use Rattle.pfl_parts.specs.Kept.{IsReady};
+    ghost use Rattle.pfl_node.specs.Room.{IsReady};
 
     ghost Value = { Node };
 
@@ -75,11 +75,13 @@ impl<A: Allocator> Node<A> {
     }
 }
 
-/// How many edits an event records at most: five for each state, two for each entry that is pending, and those of a packet.
+/// How many edits an event records at most: five for each state, two for each entry that is pending, and those of a packet; or
+/// three for each held packet that goes out.
 fn most_edits(limits: &Limits) -> usize
     ensures most { result ≡ most limits.now }
 {
-    5 * limits.states as usize + 2 * limits.queue as usize + 24
+    let told = 5 * limits.states as usize + 2 * limits.queue as usize + 24;
+    told.max(3 * limits.held as usize)
 }
 
 impl<A: Allocator> Reversible for Node<A> {

@@ -3,7 +3,7 @@
 ghost use Rattle.std.specs.List.{slice_get};
 ghost use Rattle.std.specs.Prelude.{◌≡◌, ◌≤◌, ◌+◌, ◌*◌, None, IfOk, IfErr, OnOk, OnErr, length};
 ghost use Rattle.pfl_parts.specs.Edits.{NodeExtends, NodeLeadsBack, total};
-ghost use Rattle.pfl_node.specs.Events as event;
+ghost use Rattle.pfl_node.specs.Purging as event;
 ghost use Rattle.pfl_parts.specs.Judging.{Went};
 ghost use Rattle.pfl_parts.specs.Nodes.{Node as Whole, IsRefusal, points_refusal};
 ghost use Rattle.pfl_queue.specs.Queues.{most_numbers};

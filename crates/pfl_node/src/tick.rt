@@ -2,7 +2,7 @@
 
 ghost use Rattle.std.specs.Prelude.{◌≡◌, ◌≤◌, None, IfOk, IfErr, OnOk, OnErr, length};
 ghost use Rattle.pfl_parts.specs.Edits.{NodeLeadsBack};
-ghost use Rattle.pfl_node.specs.Events as event;
+ghost use Rattle.pfl_node.specs.Ticking as event;
 ghost use Rattle.pfl_parts.specs.Nodes.{IsRefusal};
 
 use crate::node::Node;

@@ -1,4 +1,4 @@
--- How an event is judged that was carried out: by the points that it went through. No contract of a public call cites this.
+-- How an event is judged that was carried out: by the points that it went through. No contract of a node's public call cites this.
 use Rattle.std.specs.Prelude.{◌≡◌, ℕ, List, Result, Ok, Err, Bool, true, false, Option, Some, None, if◌then◌else◌}
 use Rattle.std.specs.List.{list_any}
 use Rattle.pfl_base.specs.declared.refusal.Refusal.{Refusal}

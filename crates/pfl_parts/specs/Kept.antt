@@ -1,4 +1,4 @@
--- How the parts of the code stand for a node. No contract of a public call cites this.
+-- How the parts of the code stand for a node, and what some changes of one place ask of it. No contract of a node's public call cites this.
 use Rattle.std.specs.Prelude.{◌≡◌, ◌≤◌, ◌<◌, ℕ, ◌+◌, ◌*◌, Bool, false, [], Some, None, IfSome, length}
 use Rattle.std.specs.Option.{option_map}
 use Rattle.pfl_base.specs.declared.state_name.StateName.{StateName}

@@ -1,4 +1,4 @@
--- The entries of the next frame, taken out. No contract of a public call of a node cites this.
+-- The entries of the next frame, taken out. No contract of a node's public call cites this.
 use Rattle.std.specs.Prelude.{ℕ, List, map}
 use Rattle.pfl_queue.specs.Taking.{next_frame, left_by}
 use Rattle.pfl_queue.specs.declared.edits.QueueEdit.{QueueEdit}

@@ -1,5 +1,6 @@
-//! The parts of a node, which an event changes one by one: each place by itself (places), the small changes that events are made of
-//! (changes), what judges an event and ends it (judge), and what takes an edit back (undo).
+//! The parts of a node, which an event changes one by one: each place by itself (places), what the peer is asked for or told beside
+//! the queues of names (lists), the small changes that events are made of (changes), what a frame takes out (taking), what judges an
+//! event and ends it (judge), and what takes an edit back (undo). What is read of them stands in readers.
 
 mod changes;
 pub(crate) mod judge;

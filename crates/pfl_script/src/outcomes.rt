@@ -58,6 +58,12 @@ impl fmt::Display for OutcomeWords {
             Outcome::CutTo(len) => write!(f, "cut {len}"),
             Outcome::Clock(ms) => write!(f, "clock {ms}"),
             Outcome::Purged(states) => write!(f, "purged {states}"),
+            Outcome::Released(packets) => write!(f, "released {packets}"),
+            Outcome::Killed => f.write_str("killed"),
+            Outcome::Cleared(states) => write!(f, "cleared {states}"),
+            Outcome::Queued(states) => write!(f, "queued {states}"),
+            Outcome::Asked(tries) => write!(f, "asked {tries}"),
+            Outcome::Served => f.write_str("served"),
         }
     }
 }

@@ -1,18 +1,19 @@
 //! The text of replies.
 
-ghost use Rattle.std.specs.Prelude.{◌≡◌, ◌++◌, codes, IfOk};
+ghost use Rattle.std.specs.Prelude.{◌≡◌, ◌++◌, codes, IfOk, OnOk};
+ghost use Rattle.std.specs.List.{flat_map};
 ghost use Rattle.std.specs.Fmt.{decimal};
 ghost use Rattle.pfl_world.specs.Outcomes.{told};
-ghost use Rattle.pfl_timeline.specs.Replies.{Stepped, At, Refused as Refusing, reply_of};
+ghost use Rattle.pfl_timeline.specs.Replies.{Stepped, At, Names, Refused as Refusing, reply_of};
 ghost use Rattle.pfl_script.specs.Texts.{bad_text};
-ghost use Rattle.pfl_script.specs.Replies.{reply_text};
+ghost use Rattle.pfl_script.specs.Replies.{named, reply_text};
 
 use crate::outcomes::OutcomeWords;
 use crate::refusals::RefusedWords;
 use crate::shown::shown_text;
 use pfl_edits::NoMemory;
 use pfl_lines::LineFault;
-use pfl_timeline::{Refused, Reply};
+use pfl_timeline::{BranchWord, Refused, Reply};
 use pfl_world::Outcome;
 use std::alloc::Allocator;
 
@@ -50,6 +51,35 @@ fn cursor_line<A: Allocator>(alloc: A, cursor: usize) -> Result<Vec<u8, A>, NoMe
     Ok(format!(in alloc; "at {cursor}\n")?.into_bytes())
 }
 
+/// A line that tells nothing but its word.
+fn word_line<A: Allocator>(alloc: A, line: &[u8]) -> Result<Vec<u8, A>, NoMemory>
+    ensures { IfOk result (λ text. text.items ≡ line.now) }
+{
+    Ok(Vec::from_slice(alloc, line)?)
+}
+
+/// Puts names behind a text, each behind a space.
+fn push_names<A: Allocator>(text: &mut Vec<u8, A>, names: &[BranchWord]) -> Result<(), NoMemory>
+    ensures { OnOk result (text.new.items ≡ text.old.items ++ flat_map named names.now) }
+{
+    for name in names {
+        text.extend_from_slice(b" ")?;
+        text.extend_from_slice(name.bytes())?;
+    }
+    Ok(())
+}
+
+/// The line of the branches' names.
+fn names_line<A: Allocator>(alloc: A, names: &[BranchWord]) -> Result<Vec<u8, A>, NoMemory>
+    ensures { IfOk result (λ text. text.items ≡ reply_text (Names names.now)) }
+{
+    let mut text = Vec::new(alloc);
+    text.extend_from_slice(b"names")?;
+    push_names(&mut text, names)?;
+    text.extend_from_slice(b"\n")?;
+    Ok(text)
+}
+
 /// The line of a command that is refused.
 fn refused_line<A: Allocator>(alloc: A, why: Refused) -> Result<Vec<u8, A>, NoMemory>
     ensures { IfOk result (λ text. text.items ≡ reply_text (Refusing why)) }
@@ -68,6 +98,9 @@ pub fn reply_text<A: Allocator, B: Allocator + Copy>(
     match reply {
         Reply::Stepped { outcome, dropped } => stepped_line(alloc, *outcome, *dropped),
         Reply::At(cursor) => cursor_line(alloc, *cursor),
+        Reply::Forked => word_line(alloc, b"forked\n"),
+        Reply::Removed => word_line(alloc, b"removed\n"),
+        Reply::Names(names) => names_line(alloc, names.as_slice()),
         Reply::Shown {
             name,
             events,

@@ -1,5 +1,5 @@
 -- What a branch answers, and which command asks for it.
-use Rattle.std.specs.Prelude.{◌≡◌, ◌≢◌, ◌-◌, ℕ, true, false, nat_lt, List, [], ◌∷◌, length, Option, Some, None, Result, Ok, Err, IfOk, OnErr, refl, if◌then◌else◌}
+use Rattle.std.specs.Prelude.{◌≡◌, ◌≢◌, ℕ, Bool, true, false, List, [], ◌∷◌, length, map, Option, Some, None, Result, Ok, Err, IfOk, OnErr, refl, if◌then◌else◌}
 use Rattle.std.specs.Option.{option_map_or}
 use Rattle.std.proofs.Common.{sym, ◌∙◌, ap, subst}
 use Rattle.pfl_base.specs.declared.refusal.Refusal.{Refusal}
@@ -12,9 +12,10 @@ use Rattle.pfl_world.specs.Runs.{run}
 use Rattle.pfl_world.specs.Worlds.{World}
 use Rattle.pfl_timeline.specs.declared.command.Command.{Command}
 use Rattle.pfl_timeline.specs.declared.command.Command.TheVariants as command
+use Rattle.pfl_timeline.specs.declared.refused.Refused.{Refused}
 use Rattle.pfl_timeline.specs.declared.refused.Refused.TheVariants as refused
-use Rattle.pfl_timeline.specs.Commands.{replied, answered, with_branch, with_changed, extended, undone, at_cursor, step_answered, step_reply, back_reply, show_reply, step_command, back_command, show_command, command_step}
-use Rattle.pfl_timeline.specs.Replies.{Reply, Replied, Stepped as StepReply, At, Shown, Refused as Refusing}
+use Rattle.pfl_timeline.specs.Commands.{replied, answered, with_branch, with_changed, extended, undone, at_cursor, step_answered, step_reply, back_reply, forward_reply, fork_reply, drop_reply, show_reply, step_command, back_command, forward_command, fork_command, drop_command, show_command, names_command, command_step}
+use Rattle.pfl_timeline.specs.Replies.{Reply, Replied, Stepped as StepReply, At, Shown, Names, Refused as Refusing, moved}
 use Rattle.pfl_timeline.specs.Rooted.{Rooted, shown, with_cursor, StandsIn, IsReplyOf}
 use Rattle.pfl_timeline.specs.Timelines.{Branch, Timeline, standing, world_of}
 
@@ -68,38 +69,33 @@ told-refused r e w why here is other = record {
       ∙ same_branch r t (Refusing (refused.Event why)) stands;
 }
 
--- so many events stand after a way back, unless there were not so many
-abbrev pub backed : Option ℕ → Reply
-backed None = Refusing refused.TooFarBack
-backed (Some cursor) = At cursor
+-- A way to another cursor, unless it is too far.
+module _ (far : Branch → Bool) (to : Branch → ℕ) (why : Refused) (r : Rooted) where
+  abbrev asked : Timeline → Branch → Replied
+  asked t b = answered t (refused_by ((far b, why) ∷ [])) (at_cursor t b (to b))
 
--- fewer events stand
-told_far : (r : Rooted) (n : ℕ) → nat_lt r.branch.cursor n ≡ true → IsReplyOf (λ t b. back_reply t n b) r r (Refusing refused.TooFarBack)
-told_far r n far = record {
-  opening = refl;
-  name = refl;
-  told = λ t stands.
-      ap (λ b. answered t (refused_by ((b, refused.TooFarBack) ∷ [])) (at_cursor t r.branch (r.branch.cursor - n))) far
-      ∙ same_branch r t (Refusing refused.TooFarBack) stands;
-}
+  told_far : far r.branch ≡ true → IsReplyOf asked r r (Refusing why)
+  told_far is = record {
+    opening = refl;
+    name = refl;
+    told = λ t stands. ap (λ b. answered t (refused_by ((b, why) ∷ [])) (at_cursor t r.branch (to r.branch))) is ∙ same_branch r t (Refusing why) stands;
+  }
 
--- so many stand
-told_near : (r : Rooted) (n : ℕ) → nat_lt r.branch.cursor n ≡ false → IsReplyOf (λ t b. back_reply t n b) r (with_cursor r (r.branch.cursor - n)) (At (r.branch.cursor - n))
-told_near r n near = record {
-  opening = refl;
-  name = refl;
-  told = λ t stands. ap (λ b. answered t (refused_by ((b, refused.TooFarBack) ∷ [])) (at_cursor t r.branch (r.branch.cursor - n))) near;
-}
+  told_near : far r.branch ≡ false → IsReplyOf asked r (with_cursor r (to r.branch)) (At (to r.branch))
+  told_near is = record {
+    opening = refl;
+    name = refl;
+    told = λ t stands. ap (λ b. answered t (refused_by ((b, why) ∷ [])) (at_cursor t r.branch (to r.branch))) is;
+  }
 
-pub told-back : (r s : Rooted) (n : ℕ) (cursor : Option ℕ) → cursor ≡ (if nat_lt r.branch.cursor n then None else Some (r.branch.cursor - n))
-    → s ≡ (if nat_lt r.branch.cursor n then r else with_cursor r (r.branch.cursor - n)) → IsReplyOf (λ t b. back_reply t n b) r s (backed cursor)
-told-back r s n cursor is moved =
-    replied_as _ _ _ _ _ _ moved (ap backed is)
-    (elim (nat_lt r.branch.cursor n) as (λ far. nat_lt r.branch.cursor n ≡ far
-    → IsReplyOf (λ t b. back_reply t n b) r (if far then r else with_cursor r (r.branch.cursor - n)) (backed (if far then None else Some (r.branch.cursor - n)))) [
-      | true ↦ told_far r n
-      | false ↦ told_near r n
-    ] refl)
+  pub told-moved : (s : Rooted) (cursor : Option ℕ) → cursor ≡ (if far r.branch then None else Some (to r.branch)) → s ≡ (if far r.branch then r else with_cursor r (to r.branch))
+      → IsReplyOf asked r s (moved why cursor)
+  told-moved s cursor is new =
+      replied_as _ _ _ _ _ _ new (ap (moved why) is)
+      (elim (far r.branch) as (λ b. far r.branch ≡ b → IsReplyOf asked r (if b then r else with_cursor r (to r.branch)) (moved why (if b then None else Some (to r.branch)))) [
+        | true ↦ told_far
+        | false ↦ told_near
+      ] refl)
 
 -- the branch is shown
 pub told-shown : (r : Rooted) (w : World) → shown r ≡ Some w → IsReplyOf show_reply r r (Shown r.branch.name (length r.branch.events) r.branch.cursor w)
@@ -143,6 +139,22 @@ pub back-asks : (t : Timeline) (name : List ℕ) (n : ℕ) → back_command t na
 unfolding back_command
 back-asks t name n = refl
 
+pub forward-asks : (t : Timeline) (name : List ℕ) (n : ℕ) → forward_command t name n ≡ with_branch t name (λ b. forward_reply t n b)
+unfolding forward_command
+forward-asks t name n = refl
+
+pub fork-asks : (t : Timeline) (from : List ℕ) (k : ℕ) (name : List ℕ) → fork_command t from k name ≡ with_branch t from (λ b. fork_reply t k name b)
+unfolding fork_command
+fork-asks t from k name = refl
+
+pub drop-asks : (t : Timeline) (name : List ℕ) → drop_command t name ≡ with_branch t name (λ b. drop_reply t b)
+unfolding drop_command
+drop-asks t name = refl
+
+pub names-asks : (t : Timeline) → names_command t ≡ replied t (Names (map (λ b. b.name) t.branches))
+unfolding names_command
+names-asks t = refl
+
 pub show-asks : (t : Timeline) (name : List ℕ) → show_command t name ≡ with_branch t name (λ b. show_reply t b)
 unfolding show_command
 show-asks t name = refl
@@ -154,6 +166,22 @@ is-step t c name e is = ap (command_step t) is
 pub is-back : (t : Timeline) (c : Command) (name : List ℕ) (n : ℕ) → c ≡ command.Back name n → command_step t c ≡ back_command t name n
 unfolding command_step
 is-back t c name n is = ap (command_step t) is
+
+pub is-forward : (t : Timeline) (c : Command) (name : List ℕ) (n : ℕ) → c ≡ command.Forward name n → command_step t c ≡ forward_command t name n
+unfolding command_step
+is-forward t c name n is = ap (command_step t) is
+
+pub is-fork : (t : Timeline) (c : Command) (from : List ℕ) (k : ℕ) (name : List ℕ) → c ≡ command.Fork from k name → command_step t c ≡ fork_command t from k name
+unfolding command_step
+is-fork t c from k name is = ap (command_step t) is
+
+pub is-drop : (t : Timeline) (c : Command) (name : List ℕ) → c ≡ command.Drop name → command_step t c ≡ drop_command t name
+unfolding command_step
+is-drop t c name is = ap (command_step t) is
+
+pub is-names : (t : Timeline) (c : Command) → c ≡ command.Names → command_step t c ≡ names_command t
+unfolding command_step
+is-names t c is = ap (command_step t) is
 
 pub is-show : (t : Timeline) (c : Command) (name : List ℕ) → c ≡ command.Show name → command_step t c ≡ show_command t name
 unfolding command_step

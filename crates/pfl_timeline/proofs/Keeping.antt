@@ -1,8 +1,9 @@
 -- Every command leaves a timeline a timeline, and each branch shows a world.
-use Rattle.std.specs.Prelude.{◌≡◌, ℕ, ◌-◌, ◌++◌, Bool, true, false, nat_lt, List, [], ◌∷◌, length, map, find, take, drop, Option, Some, None, is_some, IsTrue, Ok, Err, refl, if◌then◌else◌}
+use Rattle.std.specs.Prelude.{◌≡◌, ◌≤◌, ℕ, ◌+◌, ◌-◌, ◌++◌, Bool, true, false, not, nat_lt, nat_le, List, [], ◌∷◌, length, map, find, take, drop, Option, Some, None, is_some, IsTrue, Ok, Err, refl, if◌then◌else◌}
 use Rattle.std.specs.List.{AllByRecursion, IsDistinct}
 use Rattle.std.specs.Option.{option_and_then, option_map_or}
 use Rattle.std.proofs.Common.{cond, sym, ◌∙◌, ap, subst, arith, length-append, length-take-le}
+use Rattle.std.proofs.lemmas.Bool.{ltb-false, leb-false}
 use Rattle.std.proofs.lemmas.List.{length-map, take-append-drop}
 use Rattle.std.proofs.lemmas.Slice.Eq.{bytes_eq-Decides}
 use Rattle.pfl_edits.specs.Rows.{some_is_none}
@@ -14,11 +15,13 @@ use Rattle.pfl_world.specs.Runs.{run, after}
 use Rattle.pfl_world.specs.Worlds.{World}
 use Rattle.pfl_timeline.specs.declared.command.Command.{Command}
 use Rattle.pfl_timeline.specs.declared.command.Command.TheVariants as command
+use Rattle.pfl_timeline.specs.declared.refused.Refused.{Refused}
 use Rattle.pfl_timeline.specs.declared.refused.Refused.TheVariants as refused
-use Rattle.pfl_timeline.specs.Commands.{replied, answered, with_branch, with_changed, extended, at_cursor, step_answered, step_reply, back_reply, show_reply, step_command, back_command, show_command, command_step, replayed}
+use Rattle.pfl_timeline.specs.Commands.{replied, answered, with_branch, with_changed, extended, undone, at_cursor, step_answered, step_reply, back_reply, forward_reply, first_events, fork_refusal, fork_reply, drop_reply, show_reply, step_command, back_command, forward_command, fork_command, drop_command, show_command, names_command, command_step, replayed}
 use Rattle.pfl_timeline.specs.Laws.{CommandsKeepTimelines, BranchesShowWorlds}
-use Rattle.pfl_timeline.specs.Replies.{Replied, Shown, Refused as Refusing}
-use Rattle.pfl_timeline.specs.Timelines.{Branch, Timeline, IsBranch, IsTimeline, branch_of, same_name, standing, world_of}
+use Rattle.pfl_timeline.specs.Replies.{Replied, Forked, Removed, Shown, Refused as Refusing}
+use Rattle.pfl_timeline.specs.Timelines.{Branch, Timeline, IsBranch, IsTimeline, branch_of, is_branch_name, same_name, standing, world_of}
+use Rattle.pfl_timeline.proofs.Distinct.{all_behind, distinct_behind, no_some, others, all_others, distinct_others, one_less}
 use Rattle.pfl_timeline.proofs.Prefixes.{run-front}
 use Rattle.pfl_timeline.proofs.Runs.{run-last}
 
@@ -100,6 +103,110 @@ back_keeps t n b is branch =
       | false ↦ keeps t (record b { cursor = b.cursor - n }) is (shorter t n b branch)
     ]
 
+-- more events of a branch stand
+forward_keeps : (t : Timeline) (n : ℕ) (b : Branch) → IsTimeline t → IsBranch t.opening b → IsTimeline (forward_reply t n b).timeline
+forward_keeps t n b is branch =
+    elim (nat_lt (undone b) n) as (λ far. nat_lt (undone b) n ≡ far → IsTimeline (answered t (refused_by ((far, refused.NothingForward) ∷ [])) (at_cursor t b (b.cursor + n))).timeline) [
+      | true ↦ λ _. is
+      | false ↦ λ near.
+          keeps t (record b { cursor = b.cursor + n }) is
+          (record { name = branch.name; within = omega (arith, branch.within, ltb-false (undone b) n near); runs = branch.runs })
+    ] refl
+
+-- no test refuses
+pub none_refused : (a b c d : Bool) → refused_by ((a, refused.NameTaken) ∷ (b, refused.BadName) ∷ (c, refused.NothingForward) ∷ (d, refused.BranchesFull) ∷ []) ≡ None → (a ≡ false) × (b ≡ false) × (c ≡ false) × (d ≡ false)
+none_refused true b c d is = absurd cc
+none_refused false true c d is = absurd cc
+none_refused false false true d is = absurd cc
+none_refused false false false true is = absurd cc
+none_refused false false false false is = (refl, refl, refl, refl)
+
+-- the first test that holds tells why
+abbrev first_of : Bool → Bool → Bool → Bool → Option Refused
+first_of a b c d = refused_by ((a, refused.NameTaken) ∷ (b, refused.BadName) ∷ (c, refused.NothingForward) ∷ (d, refused.BranchesFull) ∷ [])
+
+module _ (t : Timeline) (k : ℕ) (name : List ℕ) (b : Branch) where
+  abbrev taken : Bool
+  taken = is_some (branch_of t name)
+
+  abbrev bad : Bool
+  bad = not (is_branch_name name)
+
+  abbrev far : Bool
+  far = nat_lt (length b.events) k
+
+  abbrev full : Bool
+  full = nat_le 16 (length t.branches)
+
+  pub is_taken : taken ≡ true → Some refused.NameTaken ≡ fork_refusal t k name b
+  is_taken one = sym (ap (λ x. first_of x bad far full) one)
+
+  pub is_bad : taken ≡ false → bad ≡ true → Some refused.BadName ≡ fork_refusal t k name b
+  is_bad one two = sym (ap (λ x. first_of x bad far full) one ∙ ap (λ x. first_of false x far full) two)
+
+  pub is_far : taken ≡ false → bad ≡ false → far ≡ true → Some refused.NothingForward ≡ fork_refusal t k name b
+  is_far one two three = sym (ap (λ x. first_of x bad far full) one ∙ ap (λ x. first_of false x far full) two ∙ ap (λ x. first_of false false x full) three)
+
+  pub is_full : taken ≡ false → bad ≡ false → far ≡ false → full ≡ true → Some refused.BranchesFull ≡ fork_refusal t k name b
+  is_full one two three four =
+      sym (ap (λ x. first_of x bad far full) one ∙ ap (λ x. first_of false x far full) two ∙ ap (λ x. first_of false false x full) three ∙ ap (λ x. first_of false false false x) four)
+
+  pub is_free : taken ≡ false → bad ≡ false → far ≡ false → full ≡ false → None ≡ fork_refusal t k name b
+  is_free one two three four =
+      sym (ap (λ x. first_of x bad far full) one ∙ ap (λ x. first_of false x far full) two ∙ ap (λ x. first_of false false x full) three ∙ ap (λ x. first_of false false false x) four)
+
+-- what a fork that is not refused knows
+pub fork_known : (t : Timeline) (k : ℕ) (name : List ℕ) (b : Branch) → fork_refusal t k name b ≡ None
+    → (is_some (branch_of t name) ≡ false) × (not (is_branch_name name) ≡ false) × (nat_lt (length b.events) k ≡ false) × (nat_le 16 (length t.branches) ≡ false)
+fork_known t k name b is = none_refused (is_some (branch_of t name)) (not (is_branch_name name)) (nat_lt (length b.events) k) (nat_le 16 (length t.branches)) is
+
+-- a name that is not none
+pub is_one : (b : Bool) → not b ≡ false → IsTrue b
+is_one true is = refl
+is_one false is = absurd cc
+
+-- the first events of a branch
+first_is : (t : Timeline) (k : ℕ) (name : List ℕ) (b : Branch) → IsBranch t.opening b → IsTrue (is_branch_name name) → k ≤ length b.events → IsBranch t.opening (first_events k name b)
+first_is t k name b branch named within = record {
+  name = named;
+  within = omega (arith, length-take-le k b.events within);
+  runs = run-front t.opening (take k b.events) (drop k b.events) (subst (λ (es : List Event). IsTrue (is_some (run t.opening es))) (sym (take-append-drop k b.events)) branch.runs);
+}
+
+-- a branch more
+fork_keeps : (t : Timeline) (k : ℕ) (name : List ℕ) (b : Branch) → IsTimeline t → IsBranch t.opening b → IsTimeline (fork_reply t k name b).timeline
+fork_keeps t k name b is branch =
+    let new = first_events k name b in
+    elim (fork_refusal t k name b) as (λ o. fork_refusal t k name b ≡ o → IsTimeline (answered t o (replied (record t { branches = t.branches ++ new ∷ [] }) Forked)).timeline) [
+      | Some why ↦ λ _. is
+      | None ↦ λ free.
+          let known = fork_known t k name b free in
+          record {
+            opening = is.opening;
+            some = omega (arith, length-append t.branches (new ∷ []));
+            few = omega (arith, length-append t.branches (new ∷ []), leb-false 16 (length t.branches) known.3);
+            names = distinct_behind new t.branches (no_some (branch_of t name) known.0) is.names;
+            branches = all_behind (IsBranch t.opening) t.branches new is.branches (first_is t k name b branch (is_one (is_branch_name name) known.1) (ltb-false (length b.events) k known.2));
+          }
+    ] refl
+
+-- a branch less
+drop_keeps : (t : Timeline) (name : List ℕ) (b : Branch) → IsTimeline t → branch_of t name ≡ Some b → IsTimeline (drop_reply t b).timeline
+drop_keeps t name b is here =
+    elim (nat_le (length t.branches) 1) as (λ last. nat_le (length t.branches) 1 ≡ last
+    → IsTimeline (answered t (refused_by ((last, refused.LastBranch) ∷ [])) (replied (record t { branches = others b.name t.branches }) Removed)).timeline) [
+      | true ↦ λ _. is
+      | false ↦ λ more.
+          let left = one_less (λ c. same_name c.name name) t.branches b here is.names in
+          record {
+            opening = is.opening;
+            some = omega (arith, left, leb-false (length t.branches) 1 more);
+            few = omega (arith, left, is.few);
+            names = distinct_others b.name t.branches is.names;
+            branches = all_others b.name (IsBranch t.opening) t.branches is.branches;
+          }
+    ] refl
+
 show_keeps : (t : Timeline) (b : Branch) → IsTimeline t → IsTimeline (show_reply t b).timeline
 show_keeps t b is =
     elim (world_of t b) as (λ o. IsTimeline (option_map_or (λ w. replied t (Shown b.name (length b.events) b.cursor w)) o (replied t (Refusing refused.NoBranch))).timeline) [
@@ -109,18 +216,26 @@ show_keeps t b is =
 
 -- ---- commands
 
-named_keeps : (t : Timeline) (name : List ℕ) (done : Branch → Replied) → IsTimeline t → ((b : Branch) → IsBranch t.opening b → IsTimeline (done b).timeline) → IsTimeline (with_branch t name done).timeline
+-- the branch of a name
+abbrev Finds : Timeline → List ℕ → Branch → Type 0
+Finds t name b = branch_of t name ≡ Some b
+
+named_keeps : (t : Timeline) (name : List ℕ) (done : Branch → Replied) → IsTimeline t → ((b : Branch) → Finds t name b → IsBranch t.opening b → IsTimeline (done b).timeline) → IsTimeline (with_branch t name done).timeline
 named_keeps t name done is keep =
     elim (branch_of t name) as (λ o. branch_of t name ≡ o → IsTimeline (option_map_or done o (replied t (Refusing refused.NoBranch))).timeline) [
       | None ↦ λ _. is
-      | Some b ↦ λ here. keep b (found_is (IsBranch t.opening) (λ c. same_name c.name name) t.branches b is.branches here)
+      | Some b ↦ λ here. keep b here (found_is (IsBranch t.opening) (λ c. same_name c.name name) t.branches b is.branches here)
     ] refl
 
-command_keeps : (t : Timeline) (c : Command) → IsTimeline t → IsTimeline (command_step t c).timeline
-unfolding command_step step_command back_command show_command
-command_keeps t (command.Step name e) is = named_keeps t name (step_reply t e) is (λ b branch. step_keeps t e b is branch)
-command_keeps t (command.Back name n) is = named_keeps t name (back_reply t n) is (λ b branch. back_keeps t n b is branch)
-command_keeps t (command.Show name) is = named_keeps t name (show_reply t) is (λ b branch. show_keeps t b is)
+pub command_keeps : (t : Timeline) (c : Command) → IsTimeline t → IsTimeline (command_step t c).timeline
+unfolding command_step step_command back_command forward_command fork_command drop_command show_command names_command
+command_keeps t (command.Step name e) is = named_keeps t name (step_reply t e) is (λ b _ branch. step_keeps t e b is branch)
+command_keeps t (command.Back name n) is = named_keeps t name (back_reply t n) is (λ b _ branch. back_keeps t n b is branch)
+command_keeps t (command.Forward name n) is = named_keeps t name (forward_reply t n) is (λ b _ branch. forward_keeps t n b is branch)
+command_keeps t (command.Fork from k name) is = named_keeps t from (fork_reply t k name) is (λ b _ branch. fork_keeps t k name b is branch)
+command_keeps t (command.Drop name) is = named_keeps t name (drop_reply t) is (λ b here _. drop_keeps t name b is here)
+command_keeps t (command.Show name) is = named_keeps t name (show_reply t) is (λ b _ branch. show_keeps t b is)
+command_keeps t command.Names is = is
 
 pub commands-keep : CommandsKeepTimelines
 unfolding replayed

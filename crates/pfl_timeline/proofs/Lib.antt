@@ -1,12 +1,15 @@
 mod Worked
 mod NewTimelines
 pub mod Runs
+pub mod Copied
+pub mod Distinct
 pub mod Places
 pub mod Searched
 pub mod Asked
 pub mod Wants
 pub mod Prefixes
 pub mod Keeping
+pub mod Forking
 pub mod Stepped
 pub mod Others
 pub mod Shows

@@ -1,5 +1,5 @@
 -- A command leaves every other branch as it was.
-use Rattle.std.specs.Prelude.{◌≡◌, ℕ, ◌-◌, Bool, true, false, nat_lt, List, [], ◌∷◌, length, map, find, Option, Some, None, Ok, Err, refl, if◌then◌else◌}
+use Rattle.std.specs.Prelude.{◌≡◌, ℕ, ◌+◌, ◌-◌, true, false, not, nat_lt, nat_le, List, [], ◌∷◌, ◌++◌, length, map, find, Option, Some, None, Ok, Err, refl, if◌then◌else◌}
 use Rattle.std.specs.Option.{option_map_or}
 use Rattle.std.proofs.Common.{cond, sym, ◌∙◌, ap}
 use Rattle.std.proofs.lemmas.Slice.Eq.{bytes_eq-Decides}
@@ -10,16 +10,13 @@ use Rattle.pfl_world.specs.Events.{step}
 use Rattle.pfl_timeline.specs.declared.command.Command.TheVariants as command
 use Rattle.pfl_timeline.specs.declared.refused.Refused.{Refused}
 use Rattle.pfl_timeline.specs.declared.refused.Refused.TheVariants as refused
-use Rattle.pfl_timeline.specs.Commands.{replied, answered, with_branch, extended, step_answered, step_reply, back_reply, show_reply, step_command, back_command, show_command, command_step}
+use Rattle.pfl_timeline.specs.Commands.{replied, answered, with_branch, extended, undone, step_answered, step_reply, back_reply, forward_reply, first_events, fork_refusal, fork_reply, drop_reply, show_reply, step_command, back_command, forward_command, fork_command, drop_command, show_command, names_command, command_step}
 use Rattle.pfl_timeline.specs.Laws.{CommandsLeaveOthers}
 use Rattle.pfl_timeline.specs.Replies.{Replied, Shown, Refused as Refusing}
 use Rattle.pfl_timeline.specs.Timelines.{Branch, Timeline, branch_of, same_name, world_of}
+use Rattle.pfl_timeline.proofs.Distinct.{called, others}
 
 -- ---- a search for another name
-
--- the branches of the name
-abbrev called : List ℕ → Branch → Bool
-called name c = same_name c.name name
 
 -- a branch in place of the one of its name
 abbrev put : Branch → Branch → Branch
@@ -82,6 +79,9 @@ module _ (t : Timeline) (of name : List ℕ) (apart : same_name of name ≡ fals
   leaves_back : (n : ℕ) (b : Branch) → same_name b.name of ≡ true → Leaves t name (back_reply t n b)
   leaves_back n b has = leaves_answered t name (refused_by ((nat_lt b.cursor n, refused.TooFarBack) ∷ [])) _ (find_put (record b { cursor = b.cursor - n }) name (other b has) t.branches)
 
+  leaves_forward : (n : ℕ) (b : Branch) → same_name b.name of ≡ true → Leaves t name (forward_reply t n b)
+  leaves_forward n b has = leaves_answered t name (refused_by ((nat_lt (undone b) n, refused.NothingForward) ∷ [])) _ (find_put (record b { cursor = b.cursor + n }) name (other b has) t.branches)
+
 leaves_show : (t : Timeline) (name : List ℕ) (b : Branch) → Leaves t name (show_reply t b)
 leaves_show t name b =
     elim (world_of t b) as (λ o. Leaves t name (option_map_or (λ w. replied t (Shown b.name (length b.events) b.cursor w)) o (replied t (Refusing refused.NoBranch)))) [
@@ -89,8 +89,35 @@ leaves_show t name b =
       | Some w ↦ refl
     ]
 
+-- ---- a branch more, or less
+
+-- a branch of another name behind all
+find_before : (b : Branch) (name : List ℕ) → same_name b.name name ≡ false → (bs : List Branch) → find (called name) (bs ++ b ∷ []) ≡ find (called name) bs
+find_before b name apart [] = ap (λ t. cond t (Some b) None) apart
+find_before b name apart (c ∷ bs) = ap (λ (o : Option Branch). cond (same_name c.name name) (Some c) o) (find_before b name apart bs)
+
+leaves_fork : (t : Timeline) (k : ℕ) (new name : List ℕ) → same_name new name ≡ false → (b : Branch) → Leaves t name (fork_reply t k new b)
+leaves_fork t k new name apart b = leaves_answered t name (fork_refusal t k new b) _ (find_before (first_events k new b) name apart t.branches)
+
+-- those of another name stay where one name goes
+find_others : (of name : List ℕ) → same_name of name ≡ false → (bs : List Branch) → find (called name) (others of bs) ≡ find (called name) bs
+find_others of name apart [] = refl
+find_others of name apart (c ∷ bs) =
+    elim (same_name c.name of) as (λ t. same_name c.name of ≡ t → find (called name) (cond (not t) (c ∷ others of bs) (others of bs)) ≡ find (called name) (c ∷ bs)) [
+      | true ↦ λ has. find_others of name apart bs ∙ sym (ap (λ t. cond t (Some c) (find (called name) bs)) (ap (λ n. same_name n name) ((bytes_eq-Decides c.name of).0 has) ∙ apart))
+      | false ↦ λ _. ap (λ (o : Option Branch). cond (same_name c.name name) (Some c) o) (find_others of name apart bs)
+    ] refl
+
+leaves_drop : (t : Timeline) (of name : List ℕ) → same_name of name ≡ false → (b : Branch) → same_name b.name of ≡ true → Leaves t name (drop_reply t b)
+leaves_drop t of name apart b has =
+    leaves_answered t name (refused_by ((nat_le (length t.branches) 1, refused.LastBranch) ∷ [])) _ (find_others b.name name (other t of name apart b has) t.branches)
+
 pub others-stay : CommandsLeaveOthers
-unfolding command_step step_command back_command show_command
+unfolding command_step step_command back_command forward_command fork_command drop_command show_command names_command
 others-stay t (command.Step of e) name apart = leaves_named t of name (step_reply t e) (leaves_step t of name apart e)
 others-stay t (command.Back of n) name apart = leaves_named t of name (back_reply t n) (leaves_back t of name apart n)
+others-stay t (command.Forward of n) name apart = leaves_named t of name (forward_reply t n) (leaves_forward t of name apart n)
+others-stay t (command.Fork from k new) name apart = leaves_named t from name (fork_reply t k new) (λ b _. leaves_fork t k new name apart b)
+others-stay t (command.Drop of) name apart = leaves_named t of name (drop_reply t) (leaves_drop t of name apart)
 others-stay t (command.Show of) name apart = leaves_named t of name (show_reply t) (λ b _. leaves_show t name b)
+others-stay t command.Names name apart = refl

@@ -1,11 +1,11 @@
 -- A branch that is found by its name, and the timeline with another one in its place.
-use Rattle.std.specs.Prelude.{◌≡◌, ℕ, suc, ◌+◌, Bool, true, false, List, [], ◌∷◌, ◌++◌, length, get_or, map, find, position, Option, Some, None, refl, if◌then◌else◌}
-use Rattle.std.specs.List.{AllByRecursion, IsDistinct, position_from}
+use Rattle.std.specs.Prelude.{◌≡◌, ℕ, suc, ◌+◌, ◌-◌, ◌≤◌, Bool, true, false, nat_le, List, [], ◌∷◌, ◌++◌, length, get_or, map, find, position, take, Option, Some, None, is_some, refl, if◌then◌else◌}
+use Rattle.std.specs.List.{AllByRecursion, IsDistinct, position_from, remove}
 use Rattle.std.specs.Option.{option_map_or}
-use Rattle.std.proofs.Common.{◌<◌, cond, set, sym, ◌∙◌, ap, subst, arith, length-append}
-use Rattle.std.proofs.lemmas.Bool.{both_ways}
-use Rattle.std.proofs.lemmas.List.{get_or_at, set_at, set-get_or}
-use Rattle.std.proofs.lemmas.Slice.Eq.{bytes_eq-Decides}
+use Rattle.std.proofs.Common.{◌<◌, cond, set, sym, ◌∙◌, ap, subst, arith, length-append, take_all}
+use Rattle.std.proofs.lemmas.Bool.{leb-false}
+use Rattle.std.proofs.lemmas.List.{get_or_at, set_at, set-get_or, length-map, map-append, take_more}
+use Rattle.std.proofs.lemmas.List.Edits.{remove-append_right}
 use Rattle.std.proofs.lemmas.Iterator.Adapters.{position_from-zero}
 use Rattle.pfl_edits.specs.Rows.{some_is_none}
 use Rattle.pfl_world.specs.Worlds.{World, IsWorld}
@@ -15,22 +15,9 @@ use Rattle.pfl_timeline.specs.Memory.{is_refusal, IsAccepted}
 use Rattle.pfl_timeline.specs.declared.refused.Refused.TheVariants as refused
 use Rattle.pfl_timeline.specs.Replies.{Reply, Replied, Refused as Refusing}
 use Rattle.pfl_timeline.specs.Rooted.{Rooted, StandsIn, Accepts, IsReplyOf}
-use Rattle.pfl_timeline.specs.Timelines.{Branch, Timeline, IsBranch, branch_of, main_name, same_name}
+use Rattle.pfl_timeline.specs.Timelines.{Branch, Timeline, IsBranch, IsTimeline, branch_of, main_name, same_name}
+use Rattle.pfl_timeline.proofs.Distinct.{itself, differ, all_behind, others, one_goes}
 use Rattle.pfl_timeline.proofs.NewTimelines.{new_timeline-is}
-
--- ---- names
-
--- a name is itself
-itself : (a : List ℕ) → same_name a a ≡ true
-itself a = (bytes_eq-Decides a a).1 refl
-
--- names that differ one way differ the other way
-differ : (a b : List ℕ) → same_name a b ≡ false → same_name b a ≡ false
-differ a b apart =
-    elim (same_name b a) as (λ t. same_name b a ≡ t → t ≡ false) [
-      | true ↦ λ is. absurd (both_ways (same_name a b) apart ((bytes_eq-Decides a b).1 (sym ((bytes_eq-Decides b a).0 is))))
-      | false ↦ λ is. refl
-    ] refl
 
 -- ---- the branch of a name
 
@@ -232,9 +219,30 @@ below name rs i place =
     let spot = found name rs i place in
     omega (arith, spot.place, ap length spot.whole, length-append spot.front (spot.here ∷ spot.rest))
 
+-- what stands at the place is one branch
+pub same_place : (name : List ℕ) (rs : List Rooted) (i : ℕ) (a b : Rooted) → position (has_name name) rs ≡ Some i → a ≡ get_or rs i a → b ≡ get_or rs i b → a ≡ b
+same_place name rs i a b place first second =
+    let spot = found name rs i place in
+    let front_is : length spot.front ≡ i = omega (arith, spot.place) in
+    first
+    ∙ ap (λ (xs : List Rooted). get_or xs i a) spot.whole
+    ∙ get_or_at spot.front spot.here spot.rest a i front_is
+    ∙ sym (second ∙ ap (λ (xs : List Rooted). get_or xs i b) spot.whole ∙ get_or_at spot.front spot.here spot.rest b i front_is)
+
 -- the branch that stands there already
 pub same_there : (rs : List Rooted) (i : ℕ) (old new : Rooted) → old ≡ get_or rs i old → new ≡ old → timeline_of (set rs i new) ≡ timeline_of rs
 same_there rs i old new here same = ap timeline_of (ap (set rs i) (same ∙ here) ∙ set-get_or rs i old)
+
+-- ---- what is asked of a branch, whatever it does to the timeline
+
+pub asks-at : (name : List ℕ) (rs : List Rooted) (i : ℕ) (old : Rooted) (t : Timeline) (done : Branch → Replied) → timeline_of rs ≡ t
+    → position (has_name name) rs ≡ Some i → old ≡ get_or rs i old → with_branch t name done ≡ done old.branch
+asks-at name rs i old t done view place here =
+    let spot = found name rs i place in
+    let is_old : spot.here ≡ old = sym (here ∙ ap (λ (xs : List Rooted). get_or xs i old) spot.whole ∙ get_or_at spot.front spot.here spot.rest old i (omega (arith, spot.place))) in
+    ap (λ (u : Timeline). with_branch u name done) (sym view)
+    ∙ ap (λ (b : Option Branch). option_map_or done b (replied (timeline_of rs) (Refusing refused.NoBranch))) spot.found
+    ∙ ap (λ (r : Rooted). done r.branch) is_old
 
 -- ---- of the timeline that the branches stand for
 
@@ -268,3 +276,139 @@ accepted-at asked name rs i old t view place here kept accepts =
 pub kept-first : (w : World) (r : Rooted) (rs : List Rooted) → IsWorld w → r ≡ record { opening = w; branch = record { name = main_name; events = []; cursor = 0 } } → rs ≡ r ∷ [] → AreKept rs
 kept-first w r rs is made whole =
     subst AreKept (sym (whole ∙ ap (λ (x : Rooted). x ∷ []) made)) (record { one_opening = (refl, tt); timeline = new_timeline-is w is })
+
+-- the branch at the place of a name
+module _ (name : List ℕ) (rs : List Rooted) (i : ℕ) (place : position (has_name name) rs ≡ Some i) where
+  the_spot : At name rs 0 i
+  the_spot = found name rs i place
+
+  pub the_branch : Rooted
+  the_branch = the_spot.here
+
+  pub is_there : the_branch ≡ get_or rs i the_branch
+  unfolding the_branch the_spot
+  is_there = sym (ap (λ (xs : List Rooted). get_or xs i the_branch) the_spot.whole ∙ get_or_at the_spot.front the_spot.here the_spot.rest the_branch i (omega (arith, the_spot.place)))
+
+  -- it begins where all begin
+  pub begins-there : (old : Rooted) → old ≡ get_or rs i old → AreKept rs → old.opening ≡ opening_of rs
+  begins-there old here kept =
+      ap (λ (r : Rooted). r.opening)
+      (here ∙ ap (λ (xs : List Rooted). get_or xs i old) the_spot.whole ∙ get_or_at the_spot.front the_spot.here the_spot.rest old i (omega (arith, the_spot.place)))
+      ∙ all_at (λ (r : Rooted). r.opening ≡ opening_of rs) the_spot.front the_spot.here the_spot.rest
+      (subst (AllByRecursion (λ (r : Rooted). r.opening ≡ opening_of rs)) the_spot.whole kept.one_opening)
+
+-- ---- a branch more
+
+-- all begin from one opening, and stand for a timeline that is one
+kept_all : (rs : List Rooted) (o : World) → AllByRecursion (λ r. r.opening ≡ o) rs → opening_of rs ≡ o → IsTimeline (timeline_of rs) → AreKept rs
+kept_all rs o all opening is = record {
+  one_opening = subst (λ (w : World). AllByRecursion (λ (r : Rooted). r.opening ≡ w) rs) (sym opening) all;
+  timeline = is;
+}
+
+-- what some begin from
+pub opening_is : (rs : List Rooted) (o : World) → 1 ≤ length rs → AllByRecursion (λ r. r.opening ≡ o) rs → opening_of rs ≡ o
+opening_is [] o some all = absurd (omega (arith, some))
+opening_is (r ∷ rs) o some all = all.0
+
+module _ (rs : List Rooted) (new : Rooted) (kept : AreKept rs) (begins : new.opening ≡ opening_of rs) where
+  all_begin : AllByRecursion (λ (r : Rooted). r.opening ≡ opening_of rs) (rs ++ new ∷ [])
+  all_begin = all_behind (λ (r : Rooted). r.opening ≡ opening_of rs) rs new kept.one_opening begins
+
+  longer_opening : opening_of (rs ++ new ∷ []) ≡ opening_of rs
+  longer_opening = opening_is (rs ++ new ∷ []) (opening_of rs) (omega (arith, length-append rs (new ∷ []))) all_begin
+
+  pub longer : timeline_of (rs ++ new ∷ []) ≡ record (timeline_of rs) { branches = (timeline_of rs).branches ++ new.branch ∷ [] }
+  longer =
+      ap (λ (o : World). record { opening = o; branches = branches_of (rs ++ new ∷ []) }) longer_opening
+      ∙ ap (λ bs. record { opening = opening_of rs; branches = bs }) (map-append (λ (r : Rooted). r.branch) rs (new ∷ []))
+
+  pub kept-longer : IsTimeline (timeline_of (rs ++ new ∷ [])) → AreKept (rs ++ new ∷ [])
+  kept-longer is = kept_all (rs ++ new ∷ []) (opening_of rs) all_begin longer_opening is
+
+-- ---- a branch less
+
+all_without : {X : Type 0} (P : X → Type 0) (xs : List X) (x : X) (ys : List X) → AllByRecursion P (xs ++ x ∷ ys) → AllByRecursion P (xs ++ ys)
+all_without P [] x ys all = all.1
+all_without P (z ∷ xs) x ys all = (all.0, all_without P xs x ys all.1)
+
+remove_at : {X : Type 0} (xs : List X) (x : X) (ys : List X) (i : ℕ) → length xs ≡ i → remove (xs ++ x ∷ ys) i ≡ xs ++ ys
+remove_at xs x ys i here = remove-append_right xs (x ∷ ys) i i here (omega arith) ∙ ap (λ n. xs ++ remove (x ∷ ys) n) (let none : i - i ≡ 0 = omega arith in none)
+
+module _ (name : List ℕ) (rs : List Rooted) (i : ℕ) (old : Rooted) (place : position (has_name name) rs ≡ Some i) (here : old ≡ get_or rs i old) (kept : AreKept rs) (more : nat_le (length (branches_of rs)) 1 ≡ false) where
+  at_spot : At name rs 0 i
+  at_spot = found name rs i place
+
+  there : length at_spot.front ≡ i
+  there = omega (arith, at_spot.place)
+
+  old_there : at_spot.here ≡ old
+  old_there = sym (here ∙ ap (λ (xs : List Rooted). get_or xs i old) at_spot.whole ∙ get_or_at at_spot.front at_spot.here at_spot.rest old i there)
+
+  rest_is : remove rs i ≡ at_spot.front ++ at_spot.rest
+  rest_is = ap (λ (xs : List Rooted). remove xs i) at_spot.whole ∙ remove_at at_spot.front at_spot.here at_spot.rest i there
+
+  kept_there : AreKept (at_spot.front ++ at_spot.here ∷ at_spot.rest)
+  kept_there = subst AreKept at_spot.whole kept
+
+  others_begin : AllByRecursion (λ (r : Rooted). r.opening ≡ opening_of rs) (remove rs i)
+  others_begin =
+      subst (AllByRecursion (λ (r : Rooted). r.opening ≡ opening_of rs)) (sym rest_is)
+      (all_without (λ (r : Rooted). r.opening ≡ opening_of rs) at_spot.front at_spot.here at_spot.rest
+      (subst (AllByRecursion (λ (r : Rooted). r.opening ≡ opening_of rs)) at_spot.whole kept.one_opening))
+
+  shorter_opening : opening_of (remove rs i) ≡ opening_of rs
+  shorter_opening =
+      opening_is (remove rs i) (opening_of rs)
+      (omega (arith, ap length rest_is, ap length at_spot.whole, length-append at_spot.front at_spot.rest, length-append at_spot.front (at_spot.here ∷ at_spot.rest), leb-false (length (branches_of rs)) 1 more, length-map rs (λ (r : Rooted). r.branch)))
+      others_begin
+
+  shorter_branches : branches_of (remove rs i) ≡ others old.branch.name (branches_of rs)
+  shorter_branches =
+      ap branches_of rest_is
+      ∙ map-append (λ (r : Rooted). r.branch) at_spot.front at_spot.rest
+      ∙ sym (one_goes (branches_of at_spot.front) at_spot.here.branch (branches_of at_spot.rest)
+      (subst (λ bs. IsDistinct same_name (map (λ b. b.name) bs)) (map-append (λ (r : Rooted). r.branch) at_spot.front (at_spot.here ∷ at_spot.rest)) kept_there.timeline.names))
+      ∙ ap (others at_spot.here.branch.name) (sym (map-append (λ (r : Rooted). r.branch) at_spot.front (at_spot.here ∷ at_spot.rest)))
+      ∙ ap (λ (xs : List Rooted). others at_spot.here.branch.name (branches_of xs)) (sym at_spot.whole)
+      ∙ ap (λ (r : Rooted). others r.branch.name (branches_of rs)) old_there
+
+  pub shorter : timeline_of (remove rs i) ≡ record (timeline_of rs) { branches = others old.branch.name (timeline_of rs).branches }
+  shorter =
+      ap (λ (o : World). record { opening = o; branches = branches_of (remove rs i) }) shorter_opening
+      ∙ ap (λ bs. record { opening = opening_of rs; branches = bs }) shorter_branches
+
+  pub kept-shorter : IsTimeline (timeline_of (remove rs i)) → AreKept (remove rs i)
+  kept-shorter is = kept_all (remove rs i) (opening_of rs) others_begin shorter_opening is
+
+-- ---- names
+
+-- the name of one branch more
+pub names_more : (rs : List Rooted) (i : ℕ) (r : Rooted) (n : List ℕ) (ns ns' : List (List ℕ)) → r ≡ get_or rs i r → i < length rs → n ≡ r.branch.name
+    → ns ≡ map (λ x. x.branch.name) (take i rs) → ns' ≡ ns ++ n ∷ [] → ns' ≡ map (λ x. x.branch.name) (take (i + 1) rs)
+names_more rs i r n ns ns' here within same so_far now =
+    now
+    ∙ ap (λ ms. ms ++ n ∷ []) so_far
+    ∙ ap (λ m. map (λ (x : Rooted). x.branch.name) (take i rs) ++ m ∷ []) same
+    ∙ sym (map-append (λ (x : Rooted). x.branch.name) (take i rs) (r ∷ []))
+    ∙ ap (map (λ (x : Rooted). x.branch.name)) (ap (λ (x : Rooted). take i rs ++ x ∷ []) here ∙ sym (take_more rs i r within))
+
+of_branches : (rs : List Rooted) → map (λ x. x.branch.name) rs ≡ map (λ b. b.name) (branches_of rs)
+of_branches [] = refl
+of_branches (r ∷ rs) = ap (λ ns. r.branch.name ∷ ns) (of_branches rs)
+
+-- the names of all branches
+pub all_names : (rs : List Rooted) (i : ℕ) (ns : List (List ℕ)) → length rs ≤ i → ns ≡ map (λ x. x.branch.name) (take i rs) → ns ≡ map (λ b. b.name) (branches_of rs)
+all_names rs i ns all is = is ∙ ap (map (λ (x : Rooted). x.branch.name)) (take_all i rs all) ∙ of_branches rs
+
+-- ---- why no branch is made
+
+-- a search says whether a branch has the name
+pub has_branch : (name : List ℕ) (rs xs : List Rooted) (t : Timeline) (o : Option ℕ) → timeline_of rs ≡ t → o ≡ position (has_name name) xs → xs ≡ rs → is_some (branch_of t name) ≡ is_some o
+has_branch name rs xs t o view is same =
+    ap (λ (u : Timeline). is_some (branch_of u name)) (sym view)
+    ∙ (elim (position (has_name name) rs) as (λ p. position (has_name name) rs ≡ p → is_some (branch_of (timeline_of rs) name) ≡ is_some p) [
+      | None ↦ λ none. ap is_some (absent name rs none)
+      | Some i ↦ λ some. ap is_some (let spot = found name rs i some in spot.found)
+    ] refl)
+    ∙ ap is_some (placed name rs xs o is same)

@@ -1,32 +1,40 @@
 -- Where memory is wanted, what is asked is not refused.
-use Rattle.std.specs.Prelude.{◌≡◌, ℕ, ◌+◌, ◌-◌, Bool, true, false, nat_lt, ◌==◌, List, [], ◌∷◌, length, Option, Some, None, Result, Ok, Err, refl}
-use Rattle.std.specs.List.{list_any}
+use Rattle.std.specs.Prelude.{◌≡◌, ℕ, ◌+◌, ◌-◌, Bool, true, false, not, nat_lt, nat_le, ◌==◌, List, [], ◌∷◌, ◌++◌, length, filter, Option, Some, None, is_some, Result, Ok, Err, refl}
+use Rattle.std.specs.List.{AllByRecursion, list_any}
 use Rattle.std.specs.Option.{option_map_or}
 use Rattle.std.proofs.Common.{sym, ◌∙◌, ap, subst}
+use Rattle.pfl_base.specs.declared.node_id.NodeId.{NodeId}
 use Rattle.pfl_base.specs.declared.refusal.Refusal.{Refusal}
-use Rattle.pfl_base.specs.declared.refusal.Refusal.TheVariants.{NoSuchFrame, NothingPending, LinkFull, QueueFull, ClockFull, CountFull, NoMemory}
+use Rattle.pfl_base.specs.declared.refusal.Refusal.TheVariants.{NoSuchFrame, NothingPending, NoSuchState, LinkFull, QueueFull, ClockFull, CountFull, NotSyncing, TooEarly, NoMemory}
 use Rattle.pfl_edits.specs.Maps as maps
+use Rattle.pfl_track.specs.declared.state.State.{State}
 use Rattle.pfl_link.specs.Links.{InFlight, is_full, is_counted_out}
 use Rattle.pfl_queue.specs.Queues.{pending}
-use Rattle.pfl_node.specs.Events.{purge_points}
+use Rattle.pfl_node.specs.Purging.{purge_points}
 use Rattle.pfl_parts.specs.Nodes.{Node, refused_by, points_refusal, is_overfull, is_overcounted, last_millisecond}
+use Rattle.pfl_parts.specs.Changes.{deleted}
 use Rattle.pfl_node.specs.Packets.{packet_points}
+use Rattle.pfl_node.specs.Clearing.{cleared}
+use Rattle.pfl_node.specs.Releasing.{due_names, released_due}
+use Rattle.pfl_node.specs.Retrying.{retried_client}
+use Rattle.pfl_node.specs.Turning.{turned}
+use Rattle.pfl_bulk.specs.Bulk.{is_serving, is_waiting, is_due}
 use Rattle.pfl_world.specs.declared.event.Event.{Event}
 use Rattle.pfl_world.specs.declared.event.Event.TheVariants as event
 use Rattle.pfl_world.specs.Events.{step, IsRefusalOf}
 use Rattle.pfl_world.specs.Outcomes.{Stepped}
-use Rattle.pfl_world.specs.Steps.{answered as step_given, with_ticket, packet_step, flush_refusal, flush_step, lose_step, repeat_step, cut_step, tick_step, purge_step}
+use Rattle.pfl_world.specs.Steps.{answered as step_given, with_ticket, packet_step, flush_refusal, flush_step, lose_step, repeat_step, cut_step, tick_step, purge_step, release_step, killed, kill_step, clear_step, turn_step, retry_step}
 use Rattle.pfl_world.specs.Worlds.{World, node_at}
 use Rattle.pfl_timeline.specs.declared.command.Command.{Command}
 use Rattle.pfl_timeline.specs.declared.command.Command.TheVariants as command
 use Rattle.pfl_timeline.specs.declared.refused.Refused.TheVariants as refused
-use Rattle.pfl_timeline.specs.Commands.{replied, answered, with_branch, at_cursor, step_answered, step_reply, back_reply, show_reply, step_command, back_command, show_command, command_step}
+use Rattle.pfl_timeline.specs.Commands.{replied, answered, with_branch, undone, at_cursor, step_answered, step_reply, back_reply, forward_reply, first_events, fork_reply, drop_reply, show_reply, step_command, back_command, forward_command, fork_command, drop_command, show_command, names_command, command_step}
 use Rattle.pfl_timeline.specs.Laws.{NoReplyTellsWantOfMemory}
 use Rattle.pfl_timeline.specs.Memory.{is_refusal, IsAccepted, makes_something, MayWantMemory}
-use Rattle.pfl_timeline.specs.Replies.{Reply, Replied, Shown, Refused as Refusing}
+use Rattle.pfl_timeline.specs.Replies.{Reply, Replied, Forked, Removed, Shown, Refused as Refusing}
 use Rattle.pfl_timeline.specs.Rooted.{Rooted, shown, Accepts}
-use Rattle.pfl_timeline.specs.Timelines.{Branch, Timeline, branch_of, world_of}
-use Rattle.pfl_timeline.proofs.Asked.{asked_of, is-step, is-show}
+use Rattle.pfl_timeline.specs.Timelines.{Branch, Timeline, branch_of, is_branch_name, same_name, world_of}
+use Rattle.pfl_timeline.proofs.Asked.{asked_of, is-step, is-forward, is-fork, is-show, is-names}
 
 -- ---- no event is refused for want of memory
 
@@ -37,6 +45,12 @@ full_is_other false false is = cc
 
 points_are_other : (points : List Node) → points_refusal points ≡ Some NoMemory → ⊥
 points_are_other points is = full_is_other (list_any is_overfull points) (list_any is_overcounted points) is
+
+-- the first refusal of some that are none of them want of memory
+first_is_other : (tests : List (Bool × Refusal)) → AllByRecursion (λ t. t.1 ≡ NoMemory → ⊥) tests → refused_by tests ≡ Some NoMemory → ⊥
+first_is_other [] others is = cc
+first_is_other ((true, r) ∷ tests) others is = let same : r ≡ NoMemory = cc in others.0 same
+first_is_other ((false, r) ∷ tests) others is = first_is_other tests others.1 is
 
 clock_is_other : (b : Bool) → refused_by ((b, ClockFull) ∷ []) ≡ Some NoMemory → ⊥
 clock_is_other true is = cc
@@ -62,8 +76,14 @@ none_goes_out_is_other : (none full counted : Bool) → refused_by ((none, Nothi
 none_goes_out_is_other true full counted is = cc
 none_goes_out_is_other false full counted is = room_is_other full counted is
 
+kill_is_other : (w : World) (node : NodeId) (found : Option State) → option_map_or (killed w node) found (Err NoSuchState) ≡ Err NoMemory → ⊥
+kill_is_other w node None is = cc
+kill_is_other w node (Some s) is =
+    let points = deleted (node_at w node) s ∷ [] in
+    answered_is_other (points_refusal points) _ (points_are_other points) is
+
 pub step_is_other : (w : World) (e : Event) → step w e ≡ Err NoMemory → ⊥
-unfolding step packet_step flush_step lose_step repeat_step cut_step tick_step purge_step
+unfolding step packet_step flush_step lose_step repeat_step cut_step tick_step purge_step release_step kill_step clear_step turn_step retry_step
 step_is_other w (event.Packet node dir p) is =
     let points = packet_points (node_at w node) dir p in
     answered_is_other (points_refusal points) _ (points_are_other points) is
@@ -78,6 +98,25 @@ step_is_other w (event.Tick node ms) is =
 step_is_other w (event.Purge node) is =
     let points = purge_points (node_at w node) in
     answered_is_other (points_refusal points) _ (points_are_other points) is
+step_is_other w (event.Release node) is =
+    let n = node_at w node in
+    let tests : List (Bool × Refusal) = (length n.held.list == 0, NothingPending) ∷ (is_overcounted (released_due n), CountFull) ∷ (length (due_names n) == 0, TooEarly) ∷ [] in
+    let others : AllByRecursion (λ t. t.1 ≡ NoMemory → ⊥) tests = ((λ e. cc), ((λ e. cc), ((λ e. cc), tt))) in
+    answered_is_other (refused_by tests) _ (first_is_other tests others) is
+step_is_other w (event.Kill node name) is = kill_is_other w node (maps.get (node_at w node).states name) is
+step_is_other w (event.Clear node) is =
+    let points = cleared (node_at w node) ∷ [] in
+    answered_is_other (points_refusal points) _ (points_are_other points) is
+step_is_other w (event.BulkTurn node) is =
+    let n = node_at w node in
+    let tests : List (Bool × Refusal) = (not (is_serving n.server), NotSyncing) ∷ (list_any is_overfull (turned n ∷ []), QueueFull) ∷ (list_any is_overcounted (turned n ∷ []), CountFull) ∷ [] in
+    let others : AllByRecursion (λ t. t.1 ≡ NoMemory → ⊥) tests = ((λ e. cc), ((λ e. cc), ((λ e. cc), tt))) in
+    answered_is_other (refused_by tests) _ (first_is_other tests others) is
+step_is_other w (event.BulkRetry node) is =
+    let n = node_at w node in
+    let tests : List (Bool × Refusal) = (not (is_waiting n.client), NotSyncing) ∷ (not (is_due n.client n.limits.bulk_ms n.clock), TooEarly) ∷ (is_overfull (retried_client n), QueueFull) ∷ [] in
+    let others : AllByRecursion (λ t. t.1 ≡ NoMemory → ⊥) tests = ((λ e. cc), ((λ e. cc), ((λ e. cc), tt))) in
+    answered_is_other (refused_by tests) _ (first_is_other tests others) is
 
 -- ---- a branch
 
@@ -96,12 +135,36 @@ pub show_accepts : (r : Rooted) (w : World) → shown r ≡ Some w → Accepts (
 show_accepts r w here = λ t stands.
     ap (λ (done : Replied). is_refusal done.reply) (asked_of (λ v. replied t (Shown r.branch.name (length r.branch.events) r.branch.cursor v)) r w t here stands)
 
+-- a way forward that is not too far
+pub forward_accepts : (r : Rooted) (n : ℕ) → nat_lt (undone r.branch) n ≡ false → Accepts (λ t b. forward_reply t n b) r
+forward_accepts r n near = λ t stands.
+    ap (λ far. is_refusal (answered t (refused_by ((far, refused.NothingForward) ∷ [])) (at_cursor t r.branch (r.branch.cursor + n))).reply) near
+
 -- ---- a command
 
 pub step_wants : (t : Timeline) (c : Command) (name : List ℕ) (e : Event) → c ≡ command.Step name e → IsAccepted (step_command t name e) → MayWantMemory t c
 step_wants t c name e is accepted = record {
   makes = ap makes_something is;
   accepted = subst IsAccepted (sym (is-step t c name e is)) accepted;
+}
+
+pub forward_wants : (t : Timeline) (c : Command) (name : List ℕ) (n : ℕ) → c ≡ command.Forward name n → IsAccepted (forward_command t name n) → MayWantMemory t c
+forward_wants t c name n is accepted = record {
+  makes = ap makes_something is;
+  accepted = subst IsAccepted (sym (is-forward t c name n is)) accepted;
+}
+
+pub fork_wants : (t : Timeline) (c : Command) (from : List ℕ) (k : ℕ) (name : List ℕ) → c ≡ command.Fork from k name → IsAccepted (fork_command t from k name) → MayWantMemory t c
+fork_wants t c from k name is accepted = record {
+  makes = ap makes_something is;
+  accepted = subst IsAccepted (sym (is-fork t c from k name is)) accepted;
+}
+
+pub names_wants : (t : Timeline) (c : Command) → c ≡ command.Names → MayWantMemory t c
+unfolding names_command
+names_wants t c is = record {
+  makes = ap makes_something is;
+  accepted = subst IsAccepted (sym (is-names t c is)) refl;
 }
 
 pub show_wants : (t : Timeline) (c : Command) (name : List ℕ) → c ≡ command.Show name → IsAccepted (show_command t name) → MayWantMemory t c
@@ -133,6 +196,34 @@ back_tells t n b =
       | false ↦ λ is. cc
     ]
 
+forward_tells : (t : Timeline) (n : ℕ) (b : Branch) → (forward_reply t n b).reply ≡ wanted → ⊥
+forward_tells t n b =
+    elim (nat_lt (undone b) n) as (λ far. (answered t (refused_by ((far, refused.NothingForward) ∷ [])) (at_cursor t b (b.cursor + n))).reply ≡ wanted → ⊥) [
+      | true ↦ λ is. cc
+      | false ↦ λ is. cc
+    ]
+
+-- why a fork is refused
+fork_refused : (taken bad far full : Bool) (done : Replied) (t : Timeline) → (done.reply ≡ wanted → ⊥)
+    → (answered t (refused_by ((taken, refused.NameTaken) ∷ (bad, refused.BadName) ∷ (far, refused.NothingForward) ∷ (full, refused.BranchesFull) ∷ [])) done).reply ≡ wanted → ⊥
+fork_refused true bad far full done t other is = cc
+fork_refused false true far full done t other is = cc
+fork_refused false false true full done t other is = cc
+fork_refused false false false true done t other is = cc
+fork_refused false false false false done t other is = other is
+
+fork_tells : (t : Timeline) (k : ℕ) (name : List ℕ) (b : Branch) → (fork_reply t k name b).reply ≡ wanted → ⊥
+fork_tells t k name b is =
+    fork_refused (is_some (branch_of t name)) (not (is_branch_name name)) (nat_lt (length b.events) k) (nat_le 16 (length t.branches))
+    (replied (record t { branches = t.branches ++ first_events k name b ∷ [] }) Forked) t (λ forked. cc) is
+
+drop_tells : (t : Timeline) (b : Branch) → (drop_reply t b).reply ≡ wanted → ⊥
+drop_tells t b =
+    elim (nat_le (length t.branches) 1) as (λ last. (answered t (refused_by ((last, refused.LastBranch) ∷ [])) (replied (record t { branches = filter (λ c. not (same_name c.name b.name)) t.branches }) Removed)).reply ≡ wanted → ⊥) [
+      | true ↦ λ is. cc
+      | false ↦ λ is. cc
+    ]
+
 show_tells : (t : Timeline) (b : Branch) → (show_reply t b).reply ≡ wanted → ⊥
 show_tells t b =
     elim (world_of t b) as (λ o. (option_map_or (λ w. replied t (Shown b.name (length b.events) b.cursor w)) o (replied t (Refusing refused.NoBranch))).reply ≡ wanted → ⊥) [
@@ -148,7 +239,11 @@ named_tells t name done tells =
     ]
 
 pub no_reply-tells : NoReplyTellsWantOfMemory
-unfolding command_step step_command back_command show_command
+unfolding command_step step_command back_command forward_command fork_command drop_command show_command names_command
 no_reply-tells t (command.Step name e) = named_tells t name (step_reply t e) (step_tells t e)
 no_reply-tells t (command.Back name n) = named_tells t name (back_reply t n) (back_tells t n)
+no_reply-tells t (command.Forward name n) = named_tells t name (forward_reply t n) (forward_tells t n)
+no_reply-tells t (command.Fork from k name) = named_tells t from (fork_reply t k name) (fork_tells t k name)
+no_reply-tells t (command.Drop name) = named_tells t name (drop_reply t) (drop_tells t)
 no_reply-tells t (command.Show name) = named_tells t name (show_reply t) (show_tells t)
+no_reply-tells t command.Names = λ is. cc

@@ -64,13 +64,20 @@ back_reply t n b = unless t ((nat_lt b.cursor n, refused.TooFarBack) ∷ []) (at
 abbrev pub forward_reply : Timeline → ℕ → Branch → Replied
 forward_reply t n b = unless t ((nat_lt (undone b) n, refused.NothingForward) ∷ []) (at_cursor t b (b.cursor + n))
 
--- the first k events under a new name, behind all branches
-abbrev pub fork_reply : Timeline → ℕ → List ℕ → Branch → Replied
-fork_reply t k name b =
-    unless t (
+-- the first k events under a new name
+abbrev pub first_events : ℕ → List ℕ → Branch → Branch
+first_events k name b = record { name = name; events = take k b.events; cursor = k }
+
+-- why no branch of the first k events is made under this name, if there is a reason: the first one
+abbrev pub fork_refusal : Timeline → ℕ → List ℕ → Branch → Option Refused
+fork_refusal t k name b =
+    refused_by (
     (is_some (branch_of t name), refused.NameTaken) ∷ (not (is_branch_name name), refused.BadName)
     ∷ (nat_lt (length b.events) k, refused.NothingForward) ∷ (nat_le 16 (length t.branches), refused.BranchesFull) ∷ [])
-    (replied (record t { branches = t.branches ++ record { name = name; events = take k b.events; cursor = k } ∷ [] }) Forked)
+
+-- the branch of the first k events, behind all branches
+abbrev pub fork_reply : Timeline → ℕ → List ℕ → Branch → Replied
+fork_reply t k name b = answered t (fork_refusal t k name b) (replied (record t { branches = t.branches ++ first_events k name b ∷ [] }) Forked)
 
 -- the branch removed
 abbrev pub drop_reply : Timeline → Branch → Replied
@@ -112,13 +119,15 @@ show_command t name = with_branch t name (show_reply t)
 unfoldable pub names_command : Timeline → Replied
 names_command t = replied t (Names (map (λ b. b.name) t.branches))
 
--- ---- over the commands that the code has
-
 -- a command over the timeline
 unfoldable pub command_step : Timeline → Command → Replied
 command_step t (command.Step name e) = step_command t name e
 command_step t (command.Back name n) = back_command t name n
+command_step t (command.Forward name n) = forward_command t name n
+command_step t (command.Fork from k name) = fork_command t from k name
+command_step t (command.Drop name) = drop_command t name
 command_step t (command.Show name) = show_command t name
+command_step t command.Names = names_command t
 
 -- the timeline after commands
 unfoldable pub replayed : Timeline → List Command → Timeline

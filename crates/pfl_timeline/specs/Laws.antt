@@ -45,11 +45,15 @@ pub record StepsShow (opening : World) (es : List Event) (w : World) : Type 0 wh
 abbrev pub StepsAreRuns : Type 0
 StepsAreRuns = (opening : World) (es : List Event) (w : World) → run opening es ≡ Some w → StepsShow opening es w
 
--- the command changes the branch of this name
+-- the command changes, makes or removes the branch of this name
 abbrev pub touches : Command → List ℕ → Bool
 touches (command.Step of e) name = same_name of name
 touches (command.Back of n) name = same_name of name
+touches (command.Forward of n) name = same_name of name
+touches (command.Fork from k new) name = same_name new name
+touches (command.Drop of) name = same_name of name
 touches (command.Show of) name = false
+touches command.Names name = false
 
 -- a command leaves every other branch as it was
 abbrev pub CommandsLeaveOthers : Type 0

@@ -15,11 +15,16 @@ is_refusal _ = false
 abbrev pub IsAccepted : Replied → Type 0
 IsAccepted done = IsFalse (is_refusal done.reply)
 
--- a step makes an event more, and a show a copy of a world; a way back makes nothing
+-- a step and a way forward make changes, a fork a branch, a show a copy of a world, and the names a list; a way back and a
+-- drop make nothing
 abbrev pub makes_something : Command → Bool
 makes_something (command.Step name e) = true
 makes_something (command.Back name n) = false
+makes_something (command.Forward name n) = true
+makes_something (command.Fork from k name) = true
+makes_something (command.Drop name) = false
 makes_something (command.Show name) = true
+makes_something command.Names = true
 
 -- the command makes something, and nothing refuses it
 pub record MayWantMemory (t : Timeline) (c : Command) : Type 0 where

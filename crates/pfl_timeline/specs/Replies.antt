@@ -1,5 +1,5 @@
 -- What a timeline answers (this project's profile).
-use Rattle.std.specs.Prelude.{ℕ, List}
+use Rattle.std.specs.Prelude.{ℕ, List, Option, Some, None}
 use Rattle.pfl_world.specs.Outcomes.{Outcome, told}
 use Rattle.pfl_world.specs.Worlds.{World}
 use Rattle.pfl_timeline.specs.declared.refused.Refused.{Refused as Refusal}
@@ -17,11 +17,19 @@ pub data Reply : Type 0 where
   Names : List (List ℕ) → Reply
   Refused : Refusal → Reply
 
+-- so many events stand after a way to another cursor, unless there is none
+abbrev pub moved : Refusal → Option ℕ → Reply
+moved why None = Refused why
+moved why (Some cursor) = At cursor
+
 -- what a reply of the code tells
 abbrev pub reply_of : {M : Type 0} → GivenReply M → Reply
 reply_of (given.Stepped outcome dropped) = Stepped (told outcome) dropped
 reply_of (given.At cursor) = At cursor
+reply_of given.Forked = Forked
+reply_of given.Removed = Removed
 reply_of (given.Shown name events cursor world) = Shown name events cursor world
+reply_of (given.Names names) = Names names.items
 reply_of (given.Refused why) = Refused why
 
 -- the timeline after a command, and its reply

@@ -1,13 +1,14 @@
 //! Branches.
 
-ghost use Rattle.std.specs.Prelude.{◌≡◌, ◌-◌, ◌<◌, ◌≤◌, nat_lt, [], ◌∷◌, ◌++◌, length, take, Ok, Some, None, IfErr, IfOk, OnErr, OnOk, IsTrue, if◌then◌else◌, vec_len, vec_capacity};
+ghost use Rattle.std.specs.Prelude.{◌≡◌, ◌+◌, ◌-◌, ◌<◌, ◌≤◌, false, nat_lt, [], ◌∷◌, ◌++◌, length, take, Ok, Some, None, IfErr, IfOk, OnErr, OnOk, IsTrue, if◌then◌else◌, vec_len, vec_capacity};
 ghost use Rattle.pfl_world.specs.Events.{step, IsRefusalOf};
 ghost use Rattle.pfl_world.specs.Outcomes.{told};
 ghost use Rattle.pfl_world.specs.Worlds.{World as Pair};
-ghost use Rattle.pfl_timeline.specs.Commands.{extended, undone};
+ghost use Rattle.pfl_timeline.specs.Commands.{extended, undone, first_events};
 ghost use Rattle.pfl_timeline.specs.Rooted.{shown, with_cursor};
 ghost use Rattle.pfl_timeline.specs.Timelines.{IsBranch, is_branch_name, same_name};
 
+use crate::copying::copy_changes;
 use crate::word::BranchWord;
 use pfl_base::Refusal;
 use pfl_edits::NoMemory;
@@ -197,5 +198,101 @@ impl<A: Allocator + Copy> Branch<A> {
                 Ok((outcome, dropped))
             }
         }
+    }
+
+    /// Lets the first of the events that had been undone happen again. Where there is no memory, nothing changes.
+    fn redo_one(&mut self) -> Result<(), NoMemory>
+        requires within { self.old.branch.cursor < length self.old.branch.events }
+        ensures branch { OnOk result (self.new ≡ with_cursor self.old (self.old.branch.cursor + 1)) }
+        ensures unchanged { OnErr result (self.new ≡ self.old) }
+    {
+        let event = self.events[self.cursor()];
+        self.changes.reserve(1)?;
+        match self.world.apply(&event) {
+            Ok((_, change)) => {
+                self.changes.push(change).unwrap();
+                Ok(())
+            }
+            // The events of a branch were accepted where they stand, so only memory can be wanting.
+            Err(_) => Err(NoMemory),
+        }
+    }
+
+    /// Lets the first `n` of the events that had been undone happen again. Where there is no memory, those that happened
+    /// are taken back, and nothing changes.
+    fn redo(&mut self, n: usize) -> Result<(), NoMemory>
+        requires within { self.old.branch.cursor + n ≤ length self.old.branch.events }
+        ensures branch { OnOk result (self.new ≡ with_cursor self.old (self.old.branch.cursor + n)) }
+        ensures unchanged { OnErr result (self.new ≡ self.old) }
+    {
+        for done in 0..n {
+            if self.redo_one().is_err() {
+                self.take_back(done);
+                return Err(NoMemory);
+            }
+        }
+        Ok(())
+    }
+
+    /// Lets the next `n` events behind the cursor happen again, where there are so many, and gives how many stand then.
+    /// Where there is no memory, nothing changes.
+    pub(crate) fn forward(&mut self, n: u32) -> Result<Option<usize>, NoMemory>
+        ensures far { IfOk result (λ cursor. cursor ≡ if nat_lt (undone self.old.branch) n then None else Some (self.old.branch.cursor + n)) }
+        ensures branch { OnOk result (self.new ≡ if nat_lt (undone self.old.branch) n then self.old else with_cursor self.old (self.old.branch.cursor + n)) }
+        ensures memory { OnErr result (nat_lt (undone self.old.branch) n ≡ false) }
+        ensures unchanged { OnErr result (self.new ≡ self.old) }
+        ensures opening { self.new.opening ≡ self.old.opening }
+        ensures name { self.new.branch.name ≡ self.old.branch.name }
+    {
+        let n = n as usize;
+        let cursor = self.cursor();
+        if self.events.len() - cursor < n {
+            return Ok(None);
+        }
+        self.redo(n)?;
+        Ok(Some(cursor + n))
+    }
+
+    /// Lets events happen again, or takes them back, until so many stand.
+    fn move_to(&mut self, place: usize) -> Result<(), NoMemory>
+        requires within { place ≤ length self.old.branch.events }
+        ensures branch { OnOk result (self.new ≡ with_cursor self.old place) }
+    {
+        let cursor = self.cursor();
+        if place < cursor {
+            self.take_back(cursor - place);
+            Ok(())
+        } else {
+            self.redo(place - cursor)
+        }
+    }
+
+    /// An equal branch, in memory of its own. It copies one world, and the changes that lead back from it.
+    fn copy(&self) -> Result<Branch<A>, NoMemory>
+        ensures same { IfOk result (λ copied. copied ≡ self.now) }
+    {
+        let alloc = *self.events.allocator();
+        let events = Vec::from_slice(alloc, &self.events)?;
+        let changes = copy_changes(alloc, &self.changes)?;
+        let world = self.world.copy()?;
+        Ok(Branch {
+            name: self.name,
+            world,
+            events,
+            changes,
+        })
+    }
+
+    /// A branch of the first events, all of which stand, in memory of its own. It can be taken back to the opening.
+    pub(crate) fn forked(&self, place: usize, name: BranchWord) -> Result<Branch<A>, NoMemory>
+        requires within { place ≤ length self.now.branch.events }
+        requires named { IsTrue (is_branch_name name) }
+        ensures branch { IfOk result (λ forked. forked ≡ record { opening = self.now.opening; branch = first_events place name self.now.branch }) }
+    {
+        let mut branch = self.copy()?;
+        branch.move_to(place)?;
+        branch.events.truncate(place);
+        branch.name = name;
+        Ok(branch)
     }
 }

@@ -7,9 +7,34 @@ use pfl_world::Event;
 #[derive(Clone, Copy, Debug)]
 pub enum Command {
     /// Puts an event behind those before the branch's cursor.
-    Step { branch: BranchWord, event: Event },
+    Step {
+        branch: BranchWord,
+        event: Event,
+    },
     /// Undoes the last `n` events before the cursor; they stay in the branch.
-    Back { branch: BranchWord, n: u32 },
+    Back {
+        branch: BranchWord,
+        n: u32,
+    },
+    /// Lets the next `n` events behind the cursor happen again.
+    Forward {
+        branch: BranchWord,
+        n: u32,
+    },
+    /// Makes a branch of the first `place` events of another one. All of them stand.
+    Fork {
+        from: BranchWord,
+        place: u32,
+        name: BranchWord,
+    },
+    /// Removes the branch.
+    Drop {
+        branch: BranchWord,
+    },
     /// Asks for the branch's world.
-    Show { branch: BranchWord },
+    Show {
+        branch: BranchWord,
+    },
+    /// Asks for the names of the branches, in the order of their making.
+    Names,
 }

@@ -3,6 +3,7 @@
 
 mod branch;
 mod command;
+mod copying;
 mod laws;
 mod refused;
 mod reply;

@@ -15,6 +15,10 @@ pub enum Reply<A: Allocator> {
     },
     /// So many events of the branch stand.
     At(usize),
+    /// The branch is made.
+    Forked,
+    /// The branch is removed.
+    Removed,
     /// The branch: its name, how many events it has, how many of them stand, and the world that it shows.
     Shown {
         name: BranchWord,
@@ -22,6 +26,8 @@ pub enum Reply<A: Allocator> {
         cursor: usize,
         world: World<A>,
     },
+    /// The names of the branches, in the order of their making.
+    Names(Vec<BranchWord, A>),
     /// The command is refused.
     Refused(Refused),
 }

@@ -2,9 +2,9 @@
 
 ghost use Rattle.std.specs.Prelude.{◌≡◌, ◌≢◌, map, position, IfOk, OnErr};
 ghost use Rattle.std.specs.List.{AllByRecursion};
-ghost use Rattle.pfl_timeline.specs.Commands.{replied, step_command, back_command, show_command, command_step};
+ghost use Rattle.pfl_timeline.specs.Commands.{replied, step_command, back_command, forward_command, fork_refusal, fork_command, drop_command, show_command, names_command, command_step};
 ghost use Rattle.pfl_timeline.specs.Memory.{IsAccepted, MayWantMemory};
-ghost use Rattle.pfl_timeline.specs.Replies.{reply_of, Refused as Refusing};
+ghost use Rattle.pfl_timeline.specs.Replies.{reply_of, moved, Refused as Refusing};
 ghost use Rattle.pfl_timeline.specs.Timelines.{IsTimeline, new_timeline, same_name};
 
 use crate::branch::Branch;
@@ -39,6 +39,9 @@ impl<A: Allocator> Model for Timeline<A> {
     ghost invariant = { λ t. AreKept t.branches.items };
 }
 
+/// The most branches of a timeline.
+const MOST_BRANCHES: usize = 16;
+
 /// Where the branch of the name stands.
 fn place_of<A: Allocator>(branches: &[Branch<A>], name: &BranchWord) -> Option<usize>
     ensures place { result ≡ position (λ r. same_name r.branch.name name.now) branches.now }
@@ -59,6 +62,16 @@ fn refused<A: Allocator>(refusal: Refusal) -> Result<Reply<A>, NoMemory>
     match refusal {
         Refusal::NoMemory => Err(NoMemory),
         refusal => Ok(Reply::Refused(Refused::Event(refusal))),
+    }
+}
+
+/// The reply to a way to another cursor, which is refused where there is none.
+fn moved<A: Allocator>(cursor: Option<usize>, why: Refused) -> Reply<A>
+    ensures { reply_of result ≡ moved why cursor }
+{
+    match cursor {
+        Some(cursor) => Reply::At(cursor),
+        None => Reply::Refused(why),
     }
 }
 
@@ -89,10 +102,21 @@ impl<A: Allocator> Timeline<A> {
         let branch = &mut self.branches[place];
         let cursor = branch.back(n);
         branch.known();
-        match cursor {
-            None => Reply::Refused(Refused::TooFarBack),
-            Some(cursor) => Reply::At(cursor),
+        moved(cursor, Refused::TooFarBack)
+    }
+
+    /// Removes a branch. It takes no memory.
+    fn remove(&mut self, name: &BranchWord) -> Reply<A>
+        ensures step { drop_command self.old name.now ≡ replied self.new (reply_of result) }
+    {
+        let Some(place) = place_of(&self.branches, name) else {
+            return Reply::Refused(Refused::NoBranch);
+        };
+        if self.branches().len() <= 1 {
+            return Reply::Refused(Refused::LastBranch);
         }
+        self.branches.remove(place);
+        Reply::Removed
     }
 }
 
@@ -126,6 +150,76 @@ impl<A: Allocator + Copy> Timeline<A> {
         }
     }
 
+    /// Lets the next `n` events behind the branch's cursor happen again.
+    fn forward(&mut self, name: &BranchWord, n: u32) -> Result<Reply<A>, NoMemory>
+        ensures step { IfOk result (λ reply. forward_command self.old name.now n ≡ replied self.new (reply_of reply)) }
+        ensures memory { OnErr result (IsAccepted (forward_command self.old name.now n)) }
+        ensures unchanged { OnErr result (self.new ≡ self.old) }
+    {
+        let Some(place) = place_of(&self.branches, name) else {
+            return Ok(Reply::Refused(Refused::NoBranch));
+        };
+        let branch = &mut self.branches[place];
+        let cursor = branch.forward(n);
+        branch.known();
+        let cursor = cursor?;
+        Ok(moved(cursor, Refused::NothingForward))
+    }
+
+    /// Why a branch of the first `place` events of another one is not made under this name, if there is a reason.
+    fn fork_refusal(&self, from: &Branch<A>, place: usize, name: &BranchWord) -> Option<Refused>
+        ensures { result ≡ fork_refusal self.now place name.now from.now.branch }
+    {
+        if place_of(&self.branches, name).is_some() {
+            Some(Refused::NameTaken)
+        } else if !name.is_name() {
+            Some(Refused::BadName)
+        } else if from.events().len() < place {
+            Some(Refused::NothingForward)
+        } else if self.branches().len() >= MOST_BRANCHES {
+            Some(Refused::BranchesFull)
+        } else {
+            None
+        }
+    }
+
+    /// Makes a branch of the first `place` events of another one, behind all branches.
+    fn fork(
+        &mut self,
+        from: &BranchWord,
+        place: u32,
+        name: BranchWord,
+    ) -> Result<Reply<A>, NoMemory>
+        ensures step { IfOk result (λ reply. fork_command self.old from.now place name ≡ replied self.new (reply_of reply)) }
+        ensures memory { OnErr result (IsAccepted (fork_command self.old from.now place name)) }
+        ensures unchanged { OnErr result (self.new ≡ self.old) }
+    {
+        let Some(from) = place_of(&self.branches, from) else {
+            return Ok(Reply::Refused(Refused::NoBranch));
+        };
+        let place = place as usize;
+        if let Some(why) = self.fork_refusal(&self.branches[from], place, &name) {
+            return Ok(Reply::Refused(why));
+        }
+        self.branches.reserve(1)?;
+        let branch = self.branches[from].forked(place, name)?;
+        branch.known();
+        self.branches.push(branch).unwrap();
+        Ok(Reply::Forked)
+    }
+
+    /// The names of the branches.
+    fn names(&self) -> Result<Reply<A>, NoMemory>
+        ensures step { IfOk result (λ reply. names_command self.now ≡ replied self.now (reply_of reply)) }
+    {
+        let alloc = *self.branches.allocator();
+        let mut names = Vec::with_capacity(alloc, self.branches.len())?;
+        for branch in &self.branches {
+            names.push(*branch.name()).unwrap();
+        }
+        Ok(Reply::Names(names))
+    }
+
     /// The branch, with a copy of its world.
     fn show(&self, name: &BranchWord) -> Result<Reply<A>, NoMemory>
         ensures step { IfOk result (λ reply. show_command self.now name.now ≡ replied self.now (reply_of reply)) }
@@ -145,7 +239,7 @@ impl<A: Allocator + Copy> Timeline<A> {
     }
 
     /// Carries a command out: the reply and the timeline are those of its definition, so a refusal changes nothing. Where
-    /// there is no memory, nothing changes either. Memory is wanted last: by no way back, and by no command that is refused.
+    /// there is no memory, nothing changes either. Memory is wanted last: by no way back, by no drop, and by no command that is refused.
     pub fn command(&mut self, command: Command) -> Result<Reply<A>, NoMemory>
         ensures step { IfOk result (λ reply. command_step self.old command ≡ replied self.new (reply_of reply)) }
         ensures memory { OnErr result (MayWantMemory self.old command) }
@@ -154,7 +248,11 @@ impl<A: Allocator + Copy> Timeline<A> {
         match command {
             Command::Step { branch, event } => self.step(&branch, &event),
             Command::Back { branch, n } => Ok(self.back(branch, n)),
+            Command::Forward { branch, n } => self.forward(&branch, n),
+            Command::Fork { from, place, name } => self.fork(&from, place, name),
+            Command::Drop { branch } => Ok(self.remove(&branch)),
             Command::Show { branch } => self.show(&branch),
+            Command::Names => self.names(),
         }
     }
 }

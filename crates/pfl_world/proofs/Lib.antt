@@ -10,3 +10,4 @@ pub mod Tickets
 pub mod Sending
 pub mod Ranges
 pub mod LimitFaults
+pub mod Little

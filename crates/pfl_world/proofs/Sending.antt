@@ -1,5 +1,5 @@
 -- A flush in words of what the node and the link answer.
-use Rattle.std.specs.Prelude.{◌≡◌, ◌≤◌, ◌+◌, ◌*◌, length, ℕ, Bool, true, false, ◌==◌, List, [], ◌∷◌, ◌++◌, Option, Some, None, Result, Ok, Err, IfOk, IfErr, OnOk, refl, cond, if◌then◌else◌}
+use Rattle.std.specs.Prelude.{◌≡◌, ◌≤◌, ◌+◌, ◌*◌, length, ℕ, Bool, true, false, List, [], ◌∷◌, ◌++◌, Option, Some, None, Result, Ok, Err, IfOk, IfErr, OnOk, refl, cond, if◌then◌else◌}
 use Rattle.std.proofs.Common.{◌∙◌, ap, sym, subst, arith}
 use Rattle.std.proofs.lemmas.List.{length-map}
 use Rattle.pfl_base.specs.declared.refusal.Refusal.{Refusal}
@@ -15,7 +15,7 @@ use Rattle.pfl_parts.specs.Nodes.{Node, IsRefusal, refused_by}
 use Rattle.pfl_link.specs.declared.fault.LinkFault.{LinkFault}
 use Rattle.pfl_link.specs.declared.fault.LinkFault.TheVariants.{LinkFull, CountFull}
 use Rattle.pfl_link.specs.Faults as links
-use Rattle.pfl_link.specs.Links.{Link, IsLink, sent}
+use Rattle.pfl_link.specs.Links.{Link, sent}
 use Rattle.pfl_link.specs.LinkEdits.{LinkEdit, LinkLeadsBack}
 use Rattle.pfl_world.specs.declared.event.Event.{Event}
 use Rattle.pfl_world.specs.declared.event.Event.TheVariants as event
@@ -131,25 +131,14 @@ outcome_is old mid id n bytes out made spelt is =
     ∙ ap (λ (l : Link). answer.Sent l.next (length bytes)) (ap (λ (w : World). w.link) made ∙ link_kept old id n)
     ∙ ap (λ (bs : List ℕ). answer.Sent old.link.next (length bs)) spelt
 
--- a world with another link of the same limit
-pub world_with_link : (w : World) → IsWorld w → (l : Link) → IsLink l → l.limit ≡ w.link.limit → IsWorld (with_link w l)
-world_with_link w is l at same = record {
-  a = is.a;
-  b = is.b;
-  link = at;
-  one_limits = is.one_limits;
-  link_limit = same ∙ is.link_limit;
-  countable = is.countable;
-}
-
 -- the edits before it, and then the link's
-pub sent_leads_back : {M : Type 0} (now v : World) → v ≡ now → IsWorld v → (es more : List (WorldEdit M)) (e : LinkEdit) (l : Link) → Fits Finds IsWorld put_back es now → LinkLeadsBack (e ∷ []) v.link l
+pub sent_leads_back : {M : Type 0} (now v : World) → v ≡ now → IsWorld now → (es more : List (WorldEdit M)) (e : LinkEdit) (l : Link) → Fits Finds IsWorld put_back es now → LinkLeadsBack (e ∷ []) v.link l
     → more ≡ es ++ OfLink e ∷ [] → WorldLeadsBack more (back put_back es now) (with_link v l)
 sent_leads_back {M = M} now v at is es more e l fits leads list =
     let fitting : Fits (Finds {M = M}) IsWorld (put_back {M = M}) es v = subst (λ (w : World). Fits (Finds {M = M}) IsWorld (put_back {M = M}) es w) (sym at) fits in
     subst (λ (w : World). WorldLeadsBack more (back put_back es w) (with_link v l)) at
     (subst (λ (fs : List (WorldEdit M)). WorldLeadsBack fs (back put_back es v) (with_link v l)) (sym list)
-    (LeadsBack-push Finds IsWorld put_back es (OfLink e) (back put_back es v) v (with_link v l) (record { fits = fitting; back = refl }) leads.fits.1 is (ap (λ (k : Link). with_link v k) leads.back)))
+    (LeadsBack-push Finds IsWorld put_back es (OfLink e) (back put_back es v) v (with_link v l) (record { fits = fitting; back = refl }) leads.fits.1 (subst IsWorld (sym at) is) (ap (λ (k : Link). with_link v k) leads.back)))
 
 -- what is recorded leads back from before the node's part
 pub sent_from : {M : Type 0} (old mid new : World) (es more : List (WorldEdit M)) → WorldLeadsBack es old mid → WorldLeadsBack more (back put_back es mid) new → WorldLeadsBack more old new

@@ -1,118 +1,103 @@
--- The steps in words of what a node answers.
-use Rattle.std.specs.Prelude.{◌≡◌, ◌≤◌, ◌+◌, ◌*◌, length, ℕ, Bool, true, false, nat_lt, [], ◌∷◌, Option, Some, None, Result, Ok, Err, IfOk, IfErr, OnOk, refl, if◌then◌else◌}
-use Rattle.std.proofs.Common.{◌∙◌, ap, sym, subst, arith}
-use Rattle.pfl_base.specs.declared.refusal.Refusal.{Refusal}
-use Rattle.pfl_base.specs.declared.refusal.Refusal.TheVariants.{ClockFull}
-use Rattle.pfl_base.specs.declared.node_id.NodeId.{NodeId}
-use Rattle.pfl_edits.specs.Changes.{Edits}
-use Rattle.pfl_node.specs.Events.{tick_refusal, ticked, expired_states, purged, purge_points}
-use Rattle.pfl_parts.specs.Nodes.{IsRefusal, refused_by, points_refusal, last_millisecond}
-use Rattle.pfl_node.specs.Packets.{handled, packet_points}
+-- The steps of the pair that happen at one node, in words of the node's.
+use Rattle.std.specs.Prelude.{◌≡◌, ℕ, ◌+◌, Bool, true, false, nat_lt, [], ◌∷◌, Option, Some, None, is_none, Result, Ok, Err, IfErr, refl, if◌then◌else◌}
+use Rattle.std.specs.Option.{option_map_or}
+use Rattle.std.proofs.Common.{◌∙◌, ap, sym, subst}
 use Rattle.pfl_base.specs.declared.direction.Dir.{Dir}
 use Rattle.pfl_base.specs.declared.packet.Packet.{Packet}
+use Rattle.pfl_base.specs.declared.refusal.Refusal.{Refusal}
+use Rattle.pfl_base.specs.declared.refusal.Refusal.TheVariants.{ClockFull, NoSuchState}
+use Rattle.pfl_base.specs.declared.node_id.NodeId.{NodeId}
+use Rattle.pfl_base.specs.declared.state_name.StateName.{StateName}
+use Rattle.pfl_edits.specs.Maps as maps
+use Rattle.pfl_track.specs.declared.state.State.{State}
+use Rattle.pfl_parts.specs.Changes.{deleted}
+use Rattle.pfl_parts.specs.Nodes.{Node, IsRefusal, full_tests, refused_by, last_millisecond}
+use Rattle.pfl_node.specs.declared.event.NodeEvent.TheVariants as node
+use Rattle.pfl_node.specs.declared.event.NodeEvent.{NodeEvent}
+use Rattle.pfl_node.specs.Stepping as stepping
+use Rattle.pfl_node.specs.Stepping.{NodeStepped, node_refusal, node_after, node_step}
 use Rattle.pfl_world.specs.declared.event.Event.{Event}
 use Rattle.pfl_world.specs.declared.event.Event.TheVariants as event
+use Rattle.pfl_world.specs.AtNode.{outcome_at, stepped_at, node_stepped}
 use Rattle.pfl_world.specs.Events.{step, IsRefusalOf}
+use Rattle.pfl_world.specs.Outcomes.{Outcome, Stepped}
 use Rattle.pfl_world.specs.Outcomes as outcome
-use Rattle.pfl_world.specs.Outcomes.{Outcome, Stepped, told}
-use Rattle.pfl_world.specs.declared.outcome.Outcome.{Outcome as Answer}
-use Rattle.pfl_world.specs.declared.outcome.Outcome.TheVariants as answer
-use Rattle.pfl_world.specs.declared.edit.WorldEdit.{WorldEdit}
-use Rattle.pfl_world.specs.Steps.{answered, outcome_of, packet_step, tick_step, purge_step}
-use Rattle.pfl_world.specs.Weights.{weight}
+use Rattle.pfl_world.specs.Steps.{answered, packet_step, tick_step, purge_step, release_step, killed, kill_step, clear_step, turn_step, retry_step}
 use Rattle.pfl_world.specs.Worlds.{World, node_at, with_node}
 
--- a refusal of the node is that of the step
-refusal_of : (o : Option Refusal) (s : Stepped) (r : Refusal) → IsRefusal o r → IsRefusalOf (answered o s) r
+-- what is accepted
+abbrev pub accepted : World → Outcome → Result Stepped Refusal
+accepted w o = Ok (record { world = w; outcome = o })
+
+-- a refusal that is told is that of the step
+pub refusal_of : (o : Option Refusal) (s : Stepped) (r : Refusal) → IsRefusal o r → IsRefusalOf (answered o s) r
 refusal_of (Some first) s r is = is
 refusal_of None s r is = is
+
+pub refused_as : {X : Type 0} (o : Option Refusal) (s : Stepped) (at : Result Stepped Refusal) → at ≡ answered o s → (result : Result X Refusal) → IfErr result (IsRefusal o) → IfErr result (IsRefusalOf at)
+refused_as o s at is (Ok x) r = tt
+refused_as o s at is (Err given) r = subst (λ (v : Result Stepped Refusal). IsRefusalOf v given) (sym is) (refusal_of o s given r)
+
+-- ---- what a node answers, at the pair
+
+accepted_at : (w : World) (id : NodeId) (o : Option Refusal) (s t : NodeStepped) → stepping.answered o s ≡ Ok t → answered o (stepped_at w id s) ≡ Ok (stepped_at w id t)
+accepted_at w id None s t is = let same : s ≡ t = cc in ap (λ (v : NodeStepped). Ok (stepped_at w id v)) same
+accepted_at w id (Some r) s t is = absurd (cc)
+
+-- the node was lent, and what the event made of it stands in its place
+pub stepped_from : (w old new : World) (id : NodeId) (e : NodeEvent) (was : Node) (t : NodeStepped) (o : Outcome)
+    → was ≡ node_at w id → w ≡ old → new ≡ with_node w id t.node → o ≡ outcome_at t.outcome → node_step was e ≡ Ok t → node_stepped old id e ≡ accepted new o
+stepped_from w old new id e was t o at view made tells is =
+    subst (λ (v : World). node_stepped v id e ≡ accepted new o) view
+    (accepted_at w id (node_refusal (node_at w id) e) (node_after (node_at w id) e) t (subst (λ (n : Node). node_step n e ≡ Ok t) at is)
+    ∙ rw (made, tells) refl)
+
+-- ---- the events of one node
+
+pub step_packet : (w : World) (e : Event) (id : NodeId) (dir : Dir) (p : Packet) → e ≡ event.Packet id dir p → step w e ≡ node_stepped w id (node.Packet dir p)
+unfolding step packet_step
+step_packet w e id dir p is = ap (step w) is
 
 one_test : (b : Bool) → refused_by ((b, ClockFull) ∷ []) ≡ (if b then Some ClockFull else None)
 one_test true = refl
 one_test false = refl
 
-abbrev ticked_to : World → NodeId → ℕ → Stepped
-ticked_to w id ms = record { world = with_node w id (ticked (node_at w id) ms); outcome = outcome.Clock ((node_at w id).clock + ms) }
+pub step_tick : (w : World) (e : Event) (id : NodeId) (ms : ℕ) → e ≡ event.Tick id ms → step w e ≡ node_stepped w id (node.Tick ms)
+unfolding step tick_step
+step_tick w e id ms is =
+    ap (step w) is
+    ∙ ap (λ (o : Option Refusal). answered o (stepped_at w id (node_after (node_at w id) (node.Tick ms)))) (one_test (nat_lt last_millisecond ((node_at w id).clock + ms)))
 
-tick_step-is : (w : World) (id : NodeId) (ms : ℕ) → tick_step w id ms ≡ answered (tick_refusal (node_at w id) ms) (ticked_to w id ms)
-unfolding tick_step
-tick_step-is w id ms = ap (λ (o : Option Refusal). answered o (ticked_to w id ms)) (one_test (nat_lt last_millisecond ((node_at w id).clock + ms)))
-
--- a step that has a refusal, and one that has none
-pub refused_as : {X : Type 0} (o : Option Refusal) (s : Stepped) (at : Result Stepped Refusal) → at ≡ answered o s → (result : Result X Refusal) → IfErr result (IsRefusal o) → IfErr result (IsRefusalOf at)
-refused_as o s at is (Ok x) r = tt
-refused_as o s at is (Err given) r = subst (λ (v : Result Stepped Refusal). IsRefusalOf v given) (sym is) (refusal_of o s given r)
-
-abbrev pub accepted : World → Outcome → Result Stepped Refusal
-accepted w o = Ok (record { world = w; outcome = o })
-
-step_tick : (w : World) (e : Event) (id : NodeId) (ms : ℕ) → e ≡ event.Tick id ms → step w e ≡ answered (tick_refusal (node_at w id) ms) (ticked_to w id ms)
-unfolding step
-step_tick w e id ms is = ap (step w) is ∙ tick_step-is w id ms
-
-pub tick_refused : {X : Type 0} (w : World) (e : Event) (id : NodeId) (ms : ℕ) → e ≡ event.Tick id ms → (result : Result X Refusal) → IfErr result (IsRefusal (tick_refusal (node_at w id) ms)) → IfErr result (IsRefusalOf (step w e))
-tick_refused w e id ms is result r = refused_as (tick_refusal (node_at w id) ms) (ticked_to w id ms) (step w e) (step_tick w e id ms is) result r
-
-pub tick_accepted : {C : Type 0} (old new : World) (e : Event) (id : NodeId) (ms : ℕ) → e ≡ event.Tick id ms → (result : Result (Answer × C) Refusal)
-    → OnOk result (tick_refusal (node_at old id) ms ≡ None)
-    → OnOk result (new ≡ with_node old id (ticked (node_at old id) ms))
-    → IfOk result (λ r. r.0 ≡ answer.Clock ((node_at old id).clock + ms))
-    → IfOk result (λ r. step old e ≡ Ok (record { world = new; outcome = told r.0 }))
-tick_accepted old new e id ms at (Err r) none made is = tt
-tick_accepted old new e id ms at (Ok r) none made is =
-    step_tick old e id ms at
-    ∙ ap (λ (o : Option Refusal). answered o (ticked_to old id ms)) none
-    ∙ ap (λ (w : World). accepted w (outcome.Clock ((node_at old id).clock + ms))) (sym made)
-    ∙ ap (λ (a : Answer). accepted new (told a)) (sym is)
-
-abbrev handed : World → NodeId → Dir → Packet → Stepped
-handed w id dir p = record { world = with_node w id (handled (node_at w id) dir p).node; outcome = outcome_of (handled (node_at w id) dir p).fate }
-
-step_packet : (w : World) (e : Event) (id : NodeId) (dir : Dir) (p : Packet) → e ≡ event.Packet id dir p → step w e ≡ answered (points_refusal (packet_points (node_at w id) dir p)) (handed w id dir p)
-unfolding step packet_step
-step_packet w e id dir p is = ap (step w) is
-
-pub packet_refused : {X : Type 0} (w : World) (e : Event) (id : NodeId) (dir : Dir) (p : Packet) → e ≡ event.Packet id dir p → (result : Result X Refusal) → IfErr result (IsRefusal (points_refusal (packet_points (node_at w id) dir p))) → IfErr result (IsRefusalOf (step w e))
-packet_refused w e id dir p is result r = refused_as (points_refusal (packet_points (node_at w id) dir p)) (handed w id dir p) (step w e) (step_packet w e id dir p is) result r
-
-pub packet_accepted : {C : Type 0} (old new : World) (e : Event) (id : NodeId) (dir : Dir) (p : Packet) → e ≡ event.Packet id dir p → (result : Result (Answer × C) Refusal)
-    → OnOk result (points_refusal (packet_points (node_at old id) dir p) ≡ None)
-    → OnOk result (new ≡ with_node old id (handled (node_at old id) dir p).node)
-    → IfOk result (λ r. told r.0 ≡ outcome_of (handled (node_at old id) dir p).fate)
-    → IfOk result (λ r. step old e ≡ Ok (record { world = new; outcome = told r.0 }))
-packet_accepted old new e id dir p at (Err r) none made is = tt
-packet_accepted old new e id dir p at (Ok r) none made is =
-    step_packet old e id dir p at
-    ∙ ap (λ (o : Option Refusal). answered o (handed old id dir p)) none
-    ∙ ap (λ (w : World). accepted w (outcome_of (handled (node_at old id) dir p).fate)) (sym made)
-    ∙ ap (λ (o : Outcome). accepted new o) (sym is)
-
-abbrev purged_to : World → NodeId → Stepped
-purged_to w id = record { world = with_node w id (purged (node_at w id)); outcome = outcome.Purged (length (expired_states (node_at w id))) }
-
-step_purge : (w : World) (e : Event) (id : NodeId) → e ≡ event.Purge id → step w e ≡ answered (points_refusal (purge_points (node_at w id))) (purged_to w id)
+pub step_purge : (w : World) (e : Event) (id : NodeId) → e ≡ event.Purge id → step w e ≡ node_stepped w id node.Purge
 unfolding step purge_step
 step_purge w e id is = ap (step w) is
 
-pub purge_refused : {X : Type 0} (w : World) (e : Event) (id : NodeId) → e ≡ event.Purge id → (result : Result X Refusal) → IfErr result (IsRefusal (points_refusal (purge_points (node_at w id)))) → IfErr result (IsRefusalOf (step w e))
-purge_refused w e id is result r = refused_as (points_refusal (purge_points (node_at w id))) (purged_to w id) (step w e) (step_purge w e id is) result r
+pub step_release : (w : World) (e : Event) (id : NodeId) → e ≡ event.Release id → step w e ≡ node_stepped w id node.Release
+unfolding step release_step
+step_release w e id is = ap (step w) is
 
-pub purge_accepted : {C : Type 0} (old new : World) (e : Event) (id : NodeId) → e ≡ event.Purge id → (result : Result (Answer × C) Refusal)
-    → OnOk result (points_refusal (purge_points (node_at old id)) ≡ None)
-    → OnOk result (new ≡ with_node old id (purged (node_at old id)))
-    → IfOk result (λ r. r.0 ≡ answer.Purged (length (expired_states (node_at old id))))
-    → IfOk result (λ r. step old e ≡ Ok (record { world = new; outcome = told r.0 }))
-purge_accepted old new e id at (Err r) none made is = tt
-purge_accepted old new e id at (Ok r) none made is =
-    step_purge old e id at
-    ∙ ap (λ (o : Option Refusal). answered o (purged_to old id)) none
-    ∙ ap (λ (w : World). accepted w (outcome.Purged (length (expired_states (node_at old id))))) (sym made)
-    ∙ ap (λ (a : Answer). accepted new (told a)) (sym is)
+-- the node without the state, if there is one
+abbrev without : Node → Option State → Node
+without n found = option_map_or (deleted n) found n
 
--- a deletion records at most five edits
-pub purge_weight : {M : Type 0} (w : World) (e : Event) (id : NodeId) → e ≡ event.Purge id → (result : Result (Answer × Edits (WorldEdit M)) Refusal)
-    → IfOk result (λ r. length r.1.list ≤ 5 * length (expired_states (node_at w id))) → IfOk result (λ r. length r.1.list ≤ weight w e)
-purge_weight w e id is (Err r) few = tt
-purge_weight w e id is (Ok r) few =
-    let most : length r.1.list ≤ weight w (event.Purge id) = omega (arith, few) in
-    subst (λ (v : Event). length r.1.list ≤ weight w v) (sym is) most
+-- a state that is not there is refused before all else
+killed-found : (w : World) (id : NodeId) (found : Option State)
+    → option_map_or (killed w id) found (Err NoSuchState) ≡ answered (refused_by ((is_none found, NoSuchState) ∷ full_tests (without (node_at w id) found ∷ []))) (record { world = with_node w id (without (node_at w id) found); outcome = outcome.Killed })
+killed-found w id None = refl
+killed-found w id (Some s) = refl
+
+pub step_kill : (w : World) (e : Event) (id : NodeId) (name : StateName) → e ≡ event.Kill id name → step w e ≡ node_stepped w id (node.Kill name)
+unfolding step kill_step
+step_kill w e id name is = ap (step w) is ∙ killed-found w id (maps.get (node_at w id).states name)
+
+pub step_clear : (w : World) (e : Event) (id : NodeId) → e ≡ event.Clear id → step w e ≡ node_stepped w id node.Clear
+unfolding step clear_step
+step_clear w e id is = ap (step w) is
+
+pub step_turn : (w : World) (e : Event) (id : NodeId) → e ≡ event.BulkTurn id → step w e ≡ node_stepped w id node.BulkTurn
+unfolding step turn_step
+step_turn w e id is = ap (step w) is
+
+pub step_retry : (w : World) (e : Event) (id : NodeId) → e ≡ event.BulkRetry id → step w e ≡ node_stepped w id node.BulkRetry
+unfolding step retry_step
+step_retry w e id is = ap (step w) is

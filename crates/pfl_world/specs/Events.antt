@@ -8,7 +8,7 @@ use Rattle.pfl_world.specs.declared.event.Event.{Event}
 use Rattle.pfl_world.specs.declared.event.Event.TheVariants as event
 use Rattle.pfl_world.specs.Outcomes.{Stepped}
 use Rattle.pfl_world.specs.Worlds.{World}
-use Rattle.pfl_world.specs.Steps.{packet_step, flush_step, deliver_step, lose_step, repeat_step, cut_step, tick_step, purge_step}
+use Rattle.pfl_world.specs.Steps.{packet_step, flush_step, deliver_step, lose_step, repeat_step, cut_step, tick_step, purge_step, release_step, kill_step, clear_step, turn_step, retry_step}
 
 -- an event of the pair (this project's profile)
 unfoldable pub step : World → Event → Result Stepped Refusal
@@ -19,6 +19,11 @@ step w (event.Repeat ticket) = repeat_step w ticket
 step w (event.Cut ticket len) = cut_step w ticket len
 step w (event.Tick node ms) = tick_step w node ms
 step w (event.Purge node) = purge_step w node
+step w (event.Release node) = release_step w node
+step w (event.Kill node name) = kill_step w node name
+step w (event.Clear node) = clear_step w node
+step w (event.BulkTurn node) = turn_step w node
+step w (event.BulkRetry node) = retry_step w node
 
 -- an event that is refused tells the refusal of its step; where that has none, it wanted memory
 abbrev pub IsRefusalOf : Result Stepped Refusal → Refusal → Type 0

@@ -1,9 +1,12 @@
 pub mod Worlds
 pub mod Faults
 pub mod Codes
+pub mod Lending
 pub mod WorldEdits
+pub mod Values
 pub mod Outcomes
 pub mod Steps
+pub mod AtNode
 pub mod Events
 pub mod Runs
 pub mod Weights

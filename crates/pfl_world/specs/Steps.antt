@@ -28,9 +28,15 @@ use Rattle.pfl_node.specs.declared.retried.Retried.TheVariants as retried
 use Rattle.pfl_parts.specs.Nodes.{Node, greatest, last_millisecond, full_tests, refused_by, is_overfull, is_overcounted}
 use Rattle.pfl_parts.specs.Changes.{count_broken, deleted}
 use Rattle.pfl_node.specs.Packets.{handled, packet_points}
-use Rattle.pfl_node.specs.Receiving.{taken}
+use Rattle.pfl_receive.specs.Receiving.{taken}
 use Rattle.pfl_node.specs.Flushing.{frame_of, flushed}
-use Rattle.pfl_node.specs.Events.{ticked, purged, purge_points, expired_states, released_due, due_names, cleared, restarted, turn_of, turned, retried_client, retry_answer}
+use Rattle.pfl_node.specs.Ticking.{ticked}
+use Rattle.pfl_node.specs.Purging.{purged, purge_points, expired_states}
+use Rattle.pfl_node.specs.Releasing.{released_due, due_names}
+use Rattle.pfl_node.specs.Clearing.{cleared}
+use Rattle.pfl_node.specs.Events.{restarted}
+use Rattle.pfl_node.specs.Turning.{turn_of, turned}
+use Rattle.pfl_node.specs.Retrying.{retried_client, retry_answer}
 use Rattle.pfl_link.specs.Links.{InFlight, is_full, is_counted_out, sent, without_frame, with_frame, cut_to}
 use Rattle.pfl_world.specs.Outcomes as outcome
 use Rattle.pfl_world.specs.Outcomes.{Outcome, Stepped}

@@ -12,8 +12,10 @@ use Rattle.pfl_wire.specs.Frames.{Frame}
 use Rattle.pfl_wire.specs.Reading.{reading}
 use Rattle.pfl_queue.specs.Taking.{next_frame}
 use Rattle.pfl_parts.specs.Nodes.{Node}
-use Rattle.pfl_node.specs.Receiving.{taken, cleared_names}
-use Rattle.pfl_node.specs.Events.{expired_states, due_names, turn_of}
+use Rattle.pfl_receive.specs.Receiving.{taken, cleared_names}
+use Rattle.pfl_node.specs.Purging.{expired_states}
+use Rattle.pfl_node.specs.Releasing.{due_names}
+use Rattle.pfl_node.specs.Turning.{turn_of}
 use Rattle.pfl_world.specs.declared.event.Event.{Event}
 use Rattle.pfl_world.specs.declared.event.Event.TheVariants as event
 use Rattle.pfl_world.specs.Worlds.{World, node_at}
@@ -76,6 +78,11 @@ work w (event.Repeat ticket) = 0
 work w (event.Cut ticket len) = 0
 work w (event.Tick node ms) = 0
 work w (event.Purge node) = purge_work w node
+work w (event.Release node) = release_work w node
+work w (event.Kill node name) = packet_work
+work w (event.Clear node) = clear_work w node
+work w (event.BulkTurn node) = turn_work w node
+work w (event.BulkRetry node) = 0
 
 -- an event takes at most so many edits
 abbrev pub weight : World → Event → ℕ

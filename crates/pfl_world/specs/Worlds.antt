@@ -11,6 +11,11 @@ use Rattle.pfl_link.specs.Links.{Link, IsLink, empty_link}
 use Rattle.pfl_world.specs.declared.fault.WorldFault.{WorldFault}
 use Rattle.pfl_world.specs.declared.fault.WorldFault.TheVariants.{TooSmall, TooLarge, NoMemory}
 
+-- both nodes
+pub record Nodes : Type 0 where
+  pub a : Node
+  pub b : Node
+
 -- the whole state of the pair
 pub record World : Type 0 where
   pub a : Node
@@ -18,24 +23,35 @@ pub record World : Type 0 where
   pub link : Link
   pub next_boot : ℕ
 
+-- the parts of a world agree: both nodes and the link have the same limits, and the next boot has a number
+pub record PartsAgree (w : World) : Type 0 where
+  pub nodes : w.b.limits ≡ w.a.limits
+  pub link : w.link.limit ≡ w.a.limits.frames
+  pub countable : w.next_boot ≤ 4294967295
+
 -- a world
 pub record IsWorld (w : World) : Type 0 where
   pub a : IsNode w.a
   pub b : IsNode w.b
   pub link : IsLink w.link
-  pub one_limits : w.b.limits ≡ w.a.limits
-  pub link_limit : w.link.limit ≡ w.a.limits.frames
-  pub countable : w.next_boot ≤ 4294967295
+  pub parts : PartsAgree w
+
+-- two nodes and their link, as a world
+abbrev pub joined : Nodes → Link → ℕ → World
+joined ns link next_boot = record { a = ns.a; b = ns.b; link = link; next_boot = next_boot }
+
+-- of a's node and b's, that of the name
+abbrev pub of_name : NodeId → Node → Node → Node
+of_name A a b = a
+of_name B a b = b
 
 -- the node of the name
 abbrev pub node_at : World → NodeId → Node
-node_at w A = w.a
-node_at w B = w.b
+node_at w id = of_name id w.a w.b
 
 -- the world with this node
 abbrev pub with_node : World → NodeId → Node → World
-with_node w A n = record w { a = n }
-with_node w B n = record w { b = n }
+with_node w id n = record w { a = of_name id n w.a; b = of_name id w.b n }
 
 -- the world with this link
 abbrev pub with_link : World → Link → World

@@ -21,9 +21,8 @@ impl<A: Allocator + Copy> World<A> {
         ensures leads_back { IfOk result (λ r. WorldLeadsBack r.1.list self.old self.new) }
         ensures weight { IfOk result (λ r. length r.1.list ≤ 1) }
     {
-        let taken = self.link.take(ticket);
-        self.link.known();
-        let edits = self.lift_link(taken?)?;
+        let taken = self.link.take(ticket)?;
+        let edits = self.lift_link(taken)?;
         Ok((Outcome::Lost, edits))
     }
 
@@ -35,9 +34,7 @@ impl<A: Allocator + Copy> World<A> {
         ensures leads_back { IfOk result (λ r. WorldLeadsBack r.1.list self.old self.new) }
         ensures weight { IfOk result (λ r. length r.1.list ≤ 1) }
     {
-        let copied = self.link.copy(ticket);
-        self.link.known();
-        let (next, edit) = copied?;
+        let (next, edit) = self.link.copy(ticket)?;
         let len = edit.frame().bytes().len();
         let edits = self.lift_link(edit)?;
         Ok((Outcome::Sent { ticket: next, len }, edits))
@@ -55,9 +52,7 @@ impl<A: Allocator + Copy> World<A> {
         ensures leads_back { IfOk result (λ r. WorldLeadsBack r.1.list self.old self.new) }
         ensures weight { IfOk result (λ r. length r.1.list ≤ 1) }
     {
-        let shortened = self.link.cut(ticket, len as usize);
-        self.link.known();
-        let (kept, edit) = shortened?;
+        let (kept, edit) = self.link.cut(ticket, len as usize)?;
         let edits = self.lift_link(edit)?;
         Ok((Outcome::CutTo(kept), edits))
     }

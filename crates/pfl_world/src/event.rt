@@ -1,6 +1,6 @@
 //! What happens to the pair.
 
-use pfl_base::{Dir, Millis, NodeId, Packet};
+use pfl_base::{Dir, Millis, NodeId, Packet, StateName};
 
 /// What happens to the pair.
 #[derive(Clone, Copy, Debug, PartialEq, Eq)]
@@ -35,6 +35,27 @@ pub enum Event {
     },
     /// A node deletes what has expired.
     Purge {
+        node: NodeId,
+    },
+    /// A node lets the held packets go out that are due.
+    Release {
+        node: NodeId,
+    },
+    /// A node deletes a state.
+    Kill {
+        node: NodeId,
+        name: StateName,
+    },
+    /// A node gives up all its states.
+    Clear {
+        node: NodeId,
+    },
+    /// A node queues the next states of a bulk update.
+    BulkTurn {
+        node: NodeId,
+    },
+    /// A node asks for a bulk update again, or gives up.
+    BulkRetry {
         node: NodeId,
     },
 }

@@ -2,8 +2,6 @@
 
 ghost use Rattle.std.specs.Prelude.{◌≡◌, ◌≤◌, ◌+◌, ◌*◌, None, IfOk, IfErr, OnOk, OnErr, length};
 ghost use Rattle.pfl_edits.specs.Changes.{Fits, back};
-ghost use Rattle.pfl_wire.specs.Spelling.{spelling};
-ghost use Rattle.pfl_parts.specs.Edits.{NodeLeadsBack};
 ghost use Rattle.pfl_node.specs.Flushing as flushing;
 ghost use Rattle.pfl_parts.specs.Nodes.{IsRefusal};
 ghost use Rattle.pfl_link.specs.Faults.{room_fault};
@@ -17,9 +15,8 @@ use crate::edit::{WorldChange, WorldEdit};
 use crate::outcome::Outcome;
 use crate::world::World;
 use pfl_base::{NodeId, Refusal};
-use pfl_edits::{Change, NoMemory};
+use pfl_edits::NoMemory;
 use pfl_link::Bytes;
-use pfl_parts::NodeEdit;
 use std::alloc::Allocator;
 
 impl<A: Allocator> World<A> {
@@ -48,38 +45,14 @@ impl<A: Allocator + Copy> World<A> {
         ensures leads_back { IfOk result (λ r. WorldLeadsBack r.1.list self.old self.new) }
         ensures weight { IfOk result (λ r. length r.1.list ≤ 2 + 2 * flush_work self.old node) }
     {
-        self.known();
         if let Some(refusal) = self.flush_refusal(node) {
             return Err(refusal);
         }
-        let (bytes, change) = self.flush_node(node)?;
+        let (bytes, change) = self.nodes.at_mut(node).flush()?;
         let edits = self.lift(node, change)?;
         match self.send(node.other(), Bytes::from(bytes), edits) {
             Ok(sent) => Ok(sent),
             Err(_) => Err(Refusal::NoMemory),
-        }
-    }
-
-    /// A node sends a frame, with the node's own edits.
-    fn flush_node(&mut self, node: NodeId) -> Result<(Vec<u8, A>, Change<NodeEdit, A>), Refusal>
-        ensures refused { IfErr result (IsRefusal (flushing.flush_refusal (node_at self.old node))) }
-        ensures unchanged { OnErr result (self.new ≡ self.old) }
-        ensures world { OnOk result (self.new ≡ with_node self.old node (flushing.flushed (node_at self.old node))) }
-        ensures bytes { IfOk result (λ r. r.0.items ≡ spelling (flushing.frame_of (node_at self.old node))) }
-        ensures leads_back { IfOk result (λ r. NodeLeadsBack r.1.list (node_at self.old node) (node_at self.new node)) }
-        ensures weight { IfOk result (λ r. length r.1.list ≤ 1 + 2 * flush_work self.old node) }
-    {
-        match node {
-            NodeId::A => {
-                let result = self.a.flush();
-                self.a.known();
-                result
-            }
-            NodeId::B => {
-                let result = self.b.flush();
-                self.b.known();
-                result
-            }
         }
     }
 
@@ -98,6 +71,7 @@ impl<A: Allocator + Copy> World<A> {
         ensures leads_back { IfOk result (λ r. WorldLeadsBack r.1.list (back put_back edits.list self.old) self.new) }
         ensures weight { IfOk result (λ r. length r.1.list ≡ length edits.list + 1) }
     {
+        self.known();
         if edits.reserve(1).is_err() {
             self.revert(edits);
             return Err(NoMemory);
@@ -107,7 +81,6 @@ impl<A: Allocator + Copy> World<A> {
             self.revert(edits);
             return Err(NoMemory);
         };
-        self.link.known();
         edits.push(WorldEdit::OfLink(edit));
         Ok((Outcome::Sent { ticket, len }, edits))
     }

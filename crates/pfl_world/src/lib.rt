@@ -2,6 +2,7 @@
 #![tactic(auto)]
 
 mod applying;
+mod at_node;
 mod carrying;
 mod edit;
 mod event;
@@ -9,8 +10,8 @@ mod fault;
 mod flushing;
 mod laws;
 mod lifting;
+mod nodes;
 mod outcome;
-mod purging;
 mod undoing;
 mod world;
 

@@ -6,7 +6,7 @@ ghost use Rattle.pfl_parts.specs.Edits as nodes;
 ghost use Rattle.pfl_parts.specs.Nodes.{IsNode};
 ghost use Rattle.pfl_link.specs.LinkEdits as links;
 ghost use Rattle.pfl_link.specs.Links.{IsLink};
-ghost use Rattle.pfl_world.specs.WorldEdits.{of_node, of_link};
+ghost use Rattle.pfl_world.specs.WorldEdits.{WorldLeadsBack, of_node, of_link};
 ghost use Rattle.pfl_world.specs.Worlds.{node_at, with_node, with_link};
 
 use crate::edit::{WorldChange, WorldEdit};
@@ -27,25 +27,6 @@ fn record_all<A: Allocator>(node: NodeId, change: Change<NodeEdit, A>, edits: &m
     }
 }
 
-impl<A: Allocator> World<A> {
-    /// Takes back what a node changed.
-    fn undo_at(&mut self, node: NodeId, change: Change<NodeEdit, A>)
-        requires fits { Fits nodes.Finds IsNode nodes.put_back change.list (node_at self.old node) }
-        ensures undone { self.new ≡ with_node self.old node (back nodes.put_back change.list (node_at self.old node)) }
-    {
-        match node {
-            NodeId::A => {
-                undo_all(&mut self.a, change);
-                self.a.known();
-            }
-            NodeId::B => {
-                undo_all(&mut self.b, change);
-                self.b.known();
-            }
-        }
-    }
-}
-
 impl<A: Allocator + Copy> World<A> {
     /// What a node changed, as a change of the pair. Where there is no memory for that, the node is as it was.
     pub(crate) fn lift(
@@ -57,11 +38,13 @@ impl<A: Allocator + Copy> World<A> {
         ensures refused { IfErr result (λ refusal. refusal ≡ Refusal.NoMemory) }
         ensures edits { IfOk result (λ edits. edits.list ≡ of_node node change.list) }
         ensures kept { OnOk result (self.new ≡ self.old) }
+        ensures leads_back { IfOk result (λ edits. WorldLeadsBack edits.list (with_node self.old node (back nodes.put_back change.list (node_at self.old node))) self.old) }
         ensures undone { OnErr result (self.new ≡ with_node self.old node (back nodes.put_back change.list (node_at self.old node))) }
     {
+        self.known();
         let mut edits = Change::new(self.alloc);
         if edits.reserve(change.len()).is_err() {
-            self.undo_at(node, change);
+            undo_all(self.nodes.at_mut(node), change);
             return Err(Refusal::NoMemory);
         }
         record_all(node, change, &mut edits);
@@ -74,8 +57,10 @@ impl<A: Allocator + Copy> World<A> {
         ensures refused { IfErr result (λ refusal. refusal ≡ Refusal.NoMemory) }
         ensures edits { IfOk result (λ edits. edits.list ≡ of_link (edit ∷ [])) }
         ensures kept { OnOk result (self.new ≡ self.old) }
+        ensures leads_back { IfOk result (λ edits. WorldLeadsBack edits.list (with_link self.old (back links.put_back (edit ∷ []) self.old.link)) self.old) }
         ensures undone { OnErr result (self.new ≡ with_link self.old (back links.put_back (edit ∷ []) self.old.link)) }
     {
+        self.known();
         let mut edits = Change::new(self.alloc);
         if edits.reserve(1).is_err() {
             self.link.undo(edit);

@@ -7,7 +7,6 @@ ghost use Rattle.pfl_world.specs.Worlds.{IsWorld};
 
 use crate::edit::{WorldChange, WorldEdit};
 use crate::world::World;
-use pfl_base::NodeId;
 use pfl_edits::{Reversible, undo_all};
 use std::alloc::Allocator;
 
@@ -29,8 +28,7 @@ impl<A: Allocator> Reversible for World<A> {
 
     fn undo(&mut self, edit: WorldEdit<A>) {
         match edit {
-            WorldEdit::OfNode(NodeId::A, edit) => self.a.undo(edit),
-            WorldEdit::OfNode(NodeId::B, edit) => self.b.undo(edit),
+            WorldEdit::OfNode(node, edit) => self.nodes.at_mut(node).undo(edit),
             WorldEdit::OfLink(edit) => self.link.undo(edit),
         }
     }

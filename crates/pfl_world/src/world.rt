@@ -5,6 +5,7 @@ ghost use Rattle.pfl_parts.specs.Limits.{AreLimits};
 ghost use Rattle.pfl_world.specs.Worlds.{IsWorld, IsFault, new_world, node_at, world_fault};
 
 use crate::fault::{WorldFault, fault_of};
+use crate::nodes::Nodes;
 use pfl_base::NodeId;
 use pfl_edits::NoMemory;
 use pfl_link::Link;
@@ -18,23 +19,22 @@ use std::marker::Model;
 #[derive(Drop)]
 pub struct World<A: Allocator> {
     pub(crate) alloc: A,
-    pub(crate) a: Node<A>,
-    pub(crate) b: Node<A>,
+    pub(crate) nodes: Nodes<A>,
     pub(crate) link: Link<A>,
     pub(crate) next_boot: u32,
 }
 
 impl<A: Allocator> Model for World<A> {
-    ghost use Rattle.pfl_world.specs.Worlds.{World, IsWorld};
+    ghost use Rattle.pfl_world.specs.Worlds.{World, PartsAgree, joined};
     ghost use Rattle.pfl_world.specs.Codes.{coded_world};
 
     ghost Value = { World };
 
     ghost coded = { coded_world };
 
-    ghost view = { λ w. record { a = w.a; b = w.b; link = w.link; next_boot = w.next_boot } };
+    ghost view = { λ w. joined w.nodes w.link w.next_boot };
 
-    ghost invariant = { λ w. IsWorld (record { a = w.a; b = w.b; link = w.link; next_boot = w.next_boot }) };
+    ghost invariant = { λ w. PartsAgree (joined w.nodes w.link w.next_boot) };
 }
 
 impl<A: Allocator + Copy> World<A> {
@@ -65,15 +65,12 @@ impl<A: Allocator + Copy> World<A> {
         requires limits { AreLimits limits }
         ensures new { IfOk result (λ w. w ≡ new_world limits rules_a rules_b) }
     {
-        rules_a.known();
-        rules_b.known();
         let a = Node::new(alloc, limits, rules_a, 1)?;
         let b = Node::new(alloc, limits, rules_b, 2)?;
         let link = Link::new(alloc, limits.frames as usize)?;
         Ok(World {
             alloc,
-            a,
-            b,
+            nodes: Nodes { a, b },
             link,
             next_boot: 3,
         })
@@ -85,8 +82,7 @@ impl<A: Allocator + Copy> World<A> {
     {
         Ok(World {
             alloc: self.alloc,
-            a: self.a.copy()?,
-            b: self.b.copy()?,
+            nodes: self.nodes.copy()?,
             link: self.link.copy_all()?,
             next_boot: self.next_boot,
         })
@@ -98,17 +94,15 @@ impl<A: Allocator> World<A> {
     pub fn known(&self)
         ensures world { IsWorld self.now }
     {
-        let _next_boot = &self.next_boot;
+        self.nodes.known();
+        self.link.known();
     }
 
     /// The node of the name.
     pub fn node(&self, id: NodeId) -> &Node<A>
         ensures node { result.now ≡ node_at self.now id }
     {
-        match id {
-            NodeId::A => &self.a,
-            NodeId::B => &self.b,
-        }
+        self.nodes.at(id)
     }
 
     /// The link between the nodes.

@@ -13,6 +13,9 @@ use std::test::Fail;
 /// The bytes that the nodes of a pair keep for the edits of an event, where each holds one state.
 const EDITS: usize = 43_648;
 
+/// The bytes that the change of a tick takes.
+const A_TICK: usize = 704;
+
 /// A set without rules.
 fn no_rules<A: Allocator + Copy>(alloc: A) -> Option<RuleSet<A>> {
     RuleSet::new(alloc, Vec::new(alloc)).ok()
@@ -49,6 +52,12 @@ fn step<A: Allocator + Copy>(
 /// The last events of `main` are taken back.
 fn back<A: Allocator>(timeline: &mut Timeline<A>, n: u32) -> Reply<A> {
     timeline.back(BranchWord::main(), n)
+}
+
+/// The next events of `main` happen again.
+fn forward<A: Allocator + Copy>(timeline: &mut Timeline<A>, n: u32) -> Result<Reply<A>, NoMemory> {
+    let branch = BranchWord::main();
+    timeline.command(Command::Forward { branch, n })
 }
 
 /// How many events stand.
@@ -97,5 +106,40 @@ fn a_branch_wants_memory(rt: HostRuntime) -> Result<(), Fail> {
         Some(NoMemory)
     );
     assert_eq!(rt; first(&timeline), Some((0, 0, 0)));
+    Ok(())
+}
+
+#[test]
+fn want_of_memory_in_the_middle_of_a_way_forward_leaves_the_branch(
+    rt: HostRuntime,
+) -> Result<(), Fail> {
+    // Room for the pair and for two ticks, of which one is taken while both are undone.
+    let heap = LocalHeap::new(rt.alloc(), EDITS + 11264)?;
+    let mut timeline = opening(&heap)?;
+    step(&mut timeline, tick(5))?;
+    step(&mut timeline, tick(5))?;
+    assert_eq!(rt; at(back(&mut timeline, 2)), Some(0));
+    let _taken: Vec<u8, _> = Vec::with_capacity(&heap, A_TICK)?;
+    assert_eq!(rt; forward(&mut timeline, 2).err(), Some(NoMemory));
+    assert_eq!(rt; first(&timeline), Some((2, 0, 0)));
+    assert_eq!(rt; at(forward(&mut timeline, 1)?), Some(1));
+    assert_eq!(rt; first(&timeline), Some((2, 1, 5)));
+    Ok(())
+}
+
+#[test]
+fn want_of_memory_makes_no_branch(rt: HostRuntime) -> Result<(), Fail> {
+    // Room for the pair and for two ticks, and not for a copy of the pair.
+    let heap = LocalHeap::new(rt.alloc(), EDITS + 11264)?;
+    let mut timeline = opening(&heap)?;
+    step(&mut timeline, tick(5))?;
+    let Some(name) = BranchWord::of(b"other") else {
+        return Err("a word of five bytes".into());
+    };
+    let (from, place) = (BranchWord::main(), 1);
+    let fork = timeline.command(Command::Fork { from, place, name });
+    assert_eq!(rt; fork.err(), Some(NoMemory));
+    assert_eq!(rt; timeline.branches().len(), 1);
+    assert_eq!(rt; first(&timeline), Some((1, 1, 5)));
     Ok(())
 }

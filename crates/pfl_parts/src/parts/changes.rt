@@ -202,7 +202,7 @@ impl<A: Allocator> Parts<A> {
         self.take_state(name, change);
     }
 
-    /// Takes the state of a name out, if there is one, and all that waits for it, and tells the peer nothing.
+    /// Drops the packet of a name, takes the name off its queue and its state out, and tells the peer nothing.
     pub fn forget(&mut self, name: StateName, change: &mut Change<NodeEdit, A>)
         requires room { 4 ≤ change.old.spare }
         requires countable { total self.old + change.old.spare ≤ most_numbers }

@@ -1,5 +1,5 @@
-//! What the peer is asked for or told outside the queues of names: requests, bulk statuses and clears, each with its edit recorded
-//! (pfsync(4)).
+//! What the peer is asked for or told beside the queues of names: requests, bulk statuses and clears (pfsync(4)). For each that is
+//! new a frame is wanted soon.
 
 ghost use Rattle.std.specs.Prelude.{◌≡◌, ◌≤◌, ◌<◌, true, OnOk, OnErr, IfOk, not};
 ghost use Rattle.pfl_parts.specs.Changes as to;

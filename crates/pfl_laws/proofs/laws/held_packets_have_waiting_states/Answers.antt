@@ -1,4 +1,5 @@
-use Rattle.pfl_laws.proofs.Waiting.{tied-opening, tied-step, tied-record, tied-along}
+use Rattle.pfl_laws.proofs.Waiting.{tied-record}
+use Rattle.pfl_laws.proofs.Sound.{tied-opening, tied-step, tied-along}
 use Rattle.pfl_laws.proofs.laws.held_packets_have_waiting_states.Goals as goal
 
 pub returns-clause-opening : goal.returns-clause-opening

@@ -1,6 +1,6 @@
 use Rattle.pfl_node.proofs.Purged.{IsPurged}
 use Rattle.std.proofs.Common.{length}
-use Rattle.pfl_node.specs.Events.{expired_states}
+use Rattle.pfl_node.specs.Purging.{expired_states}
 use Rattle.pfl_node.proofs.purge.purge.Given as goal
 
 abbrev pub invariant-loop-state : goal.invariant-loop-state

@@ -6,8 +6,7 @@ use Rattle.pfl_node.specs.Flushing.{flush_refusal, frame_of}
 use Rattle.pfl_parts.specs.Nodes.{IsRefusal}
 use Rattle.pfl_parts.proofs.Taking.{frame_entries}
 use Rattle.pfl_node.proofs.Sent.{frame-few, sent-carries, flushed-ends, wants-memory, sent-answer, sent-node, where_ok}
-use Rattle.pfl_parts.proofs.Settling.{begins}
-use Rattle.pfl_parts.proofs.Settling.{concluded}
+use Rattle.pfl_node.proofs.Ready.{begins, concluded}
 use Rattle.pfl_node.proofs.node.Node.flush.Goals as goal
 
 pub send-sent-requires : goal.send-sent-requires

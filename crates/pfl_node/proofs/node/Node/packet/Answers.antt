@@ -6,8 +6,7 @@ use Rattle.pfl_parts.specs.declared.edit.NodeEdit.{NodeEdit}
 use Rattle.pfl_node.specs.declared.fate.Fate.{Fate}
 use Rattle.pfl_node.specs.Packets.{handled, packet_points}
 use Rattle.pfl_node.proofs.Points.{packet-ends}
-use Rattle.pfl_parts.proofs.Settling.{begins, settled-answer}
-use Rattle.pfl_parts.proofs.Settling.{settled}
+use Rattle.pfl_node.proofs.Ready.{begins, settled-answer, settled}
 use Rattle.pfl_node.proofs.node.Node.packet.Goals as goal
 
 few : (result : Result (Fate × Edits NodeEdit) Refusal) → IfOk result (λ r. length r.1.list ≤ 14) → IfOk result (λ r. length r.1.list ≤ 24)

@@ -1,9 +1,8 @@
 use Rattle.std.proofs.Common.{◌≡◌, ◌*◌, length, arith}
-use Rattle.pfl_node.specs.Events.{purged, purge_points, expired_states}
+use Rattle.pfl_node.specs.Purging.{purged, purge_points, expired_states}
 use Rattle.pfl_node.proofs.Expired.{expired-few}
 use Rattle.pfl_node.proofs.Purged.{purged-ends}
-use Rattle.pfl_parts.proofs.Settling.{begins, settled-answer}
-use Rattle.pfl_parts.proofs.Settling.{settled}
+use Rattle.pfl_node.proofs.Ready.{begins, settled-answer, settled}
 use Rattle.pfl_node.proofs.node.Node.purge.Goals as goal
 
 pub purge-tried-requires-clause-room : goal.purge-tried-requires-clause-room

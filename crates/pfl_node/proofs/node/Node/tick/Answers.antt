@@ -5,10 +5,9 @@ use Rattle.pfl_base.specs.declared.refusal.Refusal.{Refusal}
 use Rattle.pfl_edits.specs.Changes.{Edits}
 use Rattle.pfl_parts.specs.declared.edit.NodeEdit.{NodeEdit}
 use Rattle.pfl_parts.specs.declared.parts.judge.Overfull.{Overfull}
-use Rattle.pfl_node.specs.Events.{tick_refusal, ticked}
+use Rattle.pfl_node.specs.Ticking.{tick_refusal, ticked}
 use Rattle.pfl_parts.specs.Nodes.{Node, IsRefusal, is_overcounted}
-use Rattle.pfl_parts.proofs.Settling.{settled}
-use Rattle.pfl_parts.proofs.Settling.{settled-answer}
+use Rattle.pfl_node.proofs.Ready.{settled, settled-answer}
 use Rattle.pfl_node.proofs.node.Node.tick.Goals as goal
 
 -- the clock counts nothing

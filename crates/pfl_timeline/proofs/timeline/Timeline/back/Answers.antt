@@ -1,12 +1,11 @@
-use Rattle.std.specs.Prelude.{◌≡◌, length, refl}
-use Rattle.std.proofs.Common.{◌∙◌, ap, arith, sym}
+use Rattle.std.specs.Prelude.{◌-◌, nat_lt, length, refl}
+use Rattle.std.proofs.Common.{◌∙◌, ap, arith}
 use Rattle.pfl_timeline.specs.declared.refused.Refused.TheVariants as refused
 use Rattle.pfl_timeline.specs.Commands.{back_reply}
-use Rattle.pfl_timeline.specs.Replies.{reply_of, Refused as Refusing}
-use Rattle.pfl_timeline.proofs.Asked.{back-asks, backed, replied_as, told-back}
+use Rattle.pfl_timeline.specs.Replies.{Refused as Refusing}
+use Rattle.pfl_timeline.proofs.Asked.{back-asks, replied_as, told-moved}
 use Rattle.pfl_timeline.proofs.Places.{placed, below, kept-here, told-none, told-at}
 use Rattle.pfl_timeline.proofs.timeline.Timeline.back.Goals as goal
-use Rattle.pfl_timeline.proofs.timeline.Timeline.back.Goals.{in-None, in-Some-cursor}
 
 pub index_mut-branch-requires : goal.index_mut-branch-requires
 index_mut-branch-requires g c =
@@ -27,13 +26,9 @@ returns-in_default g c = record {
 pub returns : goal.returns
 returns g c =
     let place = placed c.args.name _ _ _ c.in-Some.ensures.place c.deref.ensures.value in
-    let told : reply_of c.match-cursor.result ≡ backed c.back-cursor.result =
-    elim c.match-cursor.branch [
-      | in-None w ↦ ap reply_of w.result-is ∙ sym (ap backed w.in-None.is)
-      | in-Some-cursor w ↦ ap reply_of w.result-is ∙ sym (ap backed w.in-Some-cursor.is)
-    ] in
     record {
       step = back-asks _ _ _
           ∙ told-at (λ t b. back_reply t c.args.n b) c.args.name _ _ _ _ _ _ c.self.view_is place c.index_mut-branch.ensures.value c.self.invariant
-          (replied_as _ _ _ _ _ _ refl told (told-back _ _ c.args.n c.back-cursor.result c.back-cursor.ensures.far c.back-cursor.ensures.branch));
+          (replied_as _ _ _ _ _ _ refl c.moved.ensures
+          (told-moved (λ b. nat_lt b.cursor c.args.n) (λ b. b.cursor - c.args.n) refused.TooFarBack _ _ _ c.back-cursor.ensures.far c.back-cursor.ensures.branch));
     }

@@ -1,7 +1,7 @@
 use Rattle.std.proofs.Common.{◌∙◌}
 use Rattle.std.proofs.lemmas.Result.{IfOk-weaker, on_err_weaker}
-use Rattle.pfl_timeline.proofs.Asked.{is-step, is-back, is-show}
-use Rattle.pfl_timeline.proofs.Wants.{step_wants, show_wants}
+use Rattle.pfl_timeline.proofs.Asked.{is-step, is-back, is-forward, is-fork, is-drop, is-show, is-names, anyway}
+use Rattle.pfl_timeline.proofs.Wants.{step_wants, forward_wants, fork_wants, show_wants, names_wants}
 use Rattle.pfl_timeline.proofs.timeline.Timeline.command.Goals as goal
 
 pub returns-in-Step-clause-step : goal.returns-in-Step-clause-step
@@ -10,11 +10,32 @@ returns-in-Step-clause-step g c = IfOk-weaker c.step.result _ _ (λ reply h. is-
 pub returns-in-Back-clause-step : goal.returns-in-Back-clause-step
 returns-in-Back-clause-step g c = is-back _ _ _ _ c.in-Back.is ∙ c.back.ensures.step
 
+pub returns-in-Forward-clause-step : goal.returns-in-Forward-clause-step
+returns-in-Forward-clause-step g c = IfOk-weaker c.forward.result _ _ (λ reply h. is-forward _ _ _ _ c.in-Forward.is ∙ h) c.forward.ensures.step
+
+pub returns-in-Fork-clause-step : goal.returns-in-Fork-clause-step
+returns-in-Fork-clause-step g c = IfOk-weaker c.fork.result _ _ (λ reply h. is-fork _ _ _ _ _ c.in-Fork.is ∙ h) c.fork.ensures.step
+
+pub returns-in-Drop-clause-step : goal.returns-in-Drop-clause-step
+returns-in-Drop-clause-step g c = is-drop _ _ _ c.in-Drop.is ∙ c.remove.ensures.step
+
 pub returns-in-Show-clause-step : goal.returns-in-Show-clause-step
 returns-in-Show-clause-step g c = IfOk-weaker c.show.result _ _ (λ reply h. is-show _ _ _ c.in-Show.is ∙ h) c.show.ensures.step
+
+pub returns-in-Names-clause-step : goal.returns-in-Names-clause-step
+returns-in-Names-clause-step g c = IfOk-weaker c.names.result _ _ (λ reply h. is-names _ _ c.in-Names.is ∙ h) c.names.ensures.step
 
 pub returns-in-Step-clause-memory : goal.returns-in-Step-clause-memory
 returns-in-Step-clause-memory g c = on_err_weaker c.step.result (λ accepted. step_wants _ _ _ _ c.in-Step.is accepted) c.step.ensures.memory
 
+pub returns-in-Forward-clause-memory : goal.returns-in-Forward-clause-memory
+returns-in-Forward-clause-memory g c = on_err_weaker c.forward.result (λ accepted. forward_wants _ _ _ _ c.in-Forward.is accepted) c.forward.ensures.memory
+
+pub returns-in-Fork-clause-memory : goal.returns-in-Fork-clause-memory
+returns-in-Fork-clause-memory g c = on_err_weaker c.fork.result (λ accepted. fork_wants _ _ _ _ _ c.in-Fork.is accepted) c.fork.ensures.memory
+
 pub returns-in-Show-clause-memory : goal.returns-in-Show-clause-memory
 returns-in-Show-clause-memory g c = on_err_weaker c.show.result (λ accepted. show_wants _ _ _ c.in-Show.is accepted) c.show.ensures.memory
+
+pub returns-in-Names-clause-memory : goal.returns-in-Names-clause-memory
+returns-in-Names-clause-memory g c = anyway c.names.result (names_wants _ _ c.in-Names.is)

@@ -1,13 +1,7 @@
-use Rattle.pfl_world.proofs.Stepping.{packet_refused, packet_accepted, tick_refused, tick_accepted, purge_refused, purge_accepted, purge_weight}
+use Rattle.pfl_world.proofs.Stepping.{step_packet, step_tick, step_purge, step_release, step_kill, step_clear, step_turn, step_retry}
 use Rattle.pfl_world.proofs.Sending.{flush_refused, flush_accepted, flush_weight}
 use Rattle.pfl_world.proofs.Tickets.{step_lose, step_repeat, step_cut}
 use Rattle.pfl_world.proofs.world.World.apply.Goals as goal
-
-pub returns-in-Packet-clause-refused : goal.returns-in-Packet-clause-refused
-returns-in-Packet-clause-refused g c = packet_refused c.args.self.now c.args.event.now c.in-Packet.node c.in-Packet.dir c.in-Packet.packet c.in-Packet.is c.packet.result c.packet.ensures.refused
-
-pub returns-in-Packet-clause-step : goal.returns-in-Packet-clause-step
-returns-in-Packet-clause-step g c = packet_accepted c.args.self.now c.packet.new.self c.args.event.now c.in-Packet.node c.in-Packet.dir c.in-Packet.packet c.in-Packet.is c.packet.result c.packet.ensures.not_refused c.packet.ensures.world c.packet.ensures.outcome
 
 pub returns-in-Lose-clause-refused : goal.returns-in-Lose-clause-refused
 returns-in-Lose-clause-refused g c = rw (step_lose c.args.self.now c.args.event.now c.in-Lose.ticket c.in-Lose.is) c.lose.ensures.refused
@@ -27,21 +21,6 @@ returns-in-Cut-clause-refused g c = rw (step_cut c.args.self.now c.args.event.no
 pub returns-in-Cut-clause-step : goal.returns-in-Cut-clause-step
 returns-in-Cut-clause-step g c = rw (step_cut c.args.self.now c.args.event.now c.in-Cut.ticket c.in-Cut.len c.in-Cut.is) c.cut.ensures.step
 
-pub returns-in-Tick-clause-refused : goal.returns-in-Tick-clause-refused
-returns-in-Tick-clause-refused g c = tick_refused c.args.self.now c.args.event.now c.in-Tick.node c.in-Tick.ms c.in-Tick.is c.tick.result c.tick.ensures.refused
-
-pub returns-in-Tick-clause-step : goal.returns-in-Tick-clause-step
-returns-in-Tick-clause-step g c = tick_accepted c.args.self.now c.tick.new.self c.args.event.now c.in-Tick.node c.in-Tick.ms c.in-Tick.is c.tick.result c.tick.ensures.not_refused c.tick.ensures.world c.tick.ensures.outcome
-
-pub returns-in-Purge-clause-refused : goal.returns-in-Purge-clause-refused
-returns-in-Purge-clause-refused g c = purge_refused c.args.self.now c.args.event.now c.in-Purge.node c.in-Purge.is c.purge.result c.purge.ensures.refused
-
-pub returns-in-Purge-clause-step : goal.returns-in-Purge-clause-step
-returns-in-Purge-clause-step g c = purge_accepted c.args.self.now c.purge.new.self c.args.event.now c.in-Purge.node c.in-Purge.is c.purge.result c.purge.ensures.not_refused c.purge.ensures.world c.purge.ensures.outcome
-
-pub returns-in-Purge-clause-weight : goal.returns-in-Purge-clause-weight
-returns-in-Purge-clause-weight g c = purge_weight c.args.self.now c.args.event.now c.in-Purge.node c.in-Purge.is c.purge.result c.purge.ensures.weight
-
 pub returns-in-Flush-clause-refused : goal.returns-in-Flush-clause-refused
 returns-in-Flush-clause-refused g c = flush_refused c.args.self.now c.args.event.now c.in-Flush.node c.in-Flush.is c.flush.result c.flush.ensures.refused
 
@@ -50,3 +29,75 @@ returns-in-Flush-clause-step g c = flush_accepted c.args.self.now c.flush.new.se
 
 pub returns-in-Flush-clause-weight : goal.returns-in-Flush-clause-weight
 returns-in-Flush-clause-weight g c = flush_weight c.args.self.now c.args.event.now c.in-Flush.node c.in-Flush.is c.flush.result c.flush.ensures.weight
+
+pub returns-in-Packet-clause-refused : goal.returns-in-Packet-clause-refused
+returns-in-Packet-clause-refused g c = rw (step_packet c.args.self.now c.args.event.now c.in-Packet.node c.in-Packet.dir c.in-Packet.packet c.in-Packet.is) c.at_node.ensures.refused
+
+pub returns-in-Packet-clause-step : goal.returns-in-Packet-clause-step
+returns-in-Packet-clause-step g c = rw (step_packet c.args.self.now c.args.event.now c.in-Packet.node c.in-Packet.dir c.in-Packet.packet c.in-Packet.is) c.at_node.ensures.step
+
+pub returns-in-Packet-clause-weight : goal.returns-in-Packet-clause-weight
+returns-in-Packet-clause-weight g c = rw c.in-Packet.is c.at_node.ensures.weight
+
+pub returns-in-Tick-clause-refused : goal.returns-in-Tick-clause-refused
+returns-in-Tick-clause-refused g c = rw (step_tick c.args.self.now c.args.event.now c.in-Tick.node c.in-Tick.ms c.in-Tick.is) c.at_node-in-Tick.ensures.refused
+
+pub returns-in-Tick-clause-step : goal.returns-in-Tick-clause-step
+returns-in-Tick-clause-step g c = rw (step_tick c.args.self.now c.args.event.now c.in-Tick.node c.in-Tick.ms c.in-Tick.is) c.at_node-in-Tick.ensures.step
+
+pub returns-in-Tick-clause-weight : goal.returns-in-Tick-clause-weight
+returns-in-Tick-clause-weight g c = rw c.in-Tick.is c.at_node-in-Tick.ensures.weight
+
+pub returns-in-Purge-clause-refused : goal.returns-in-Purge-clause-refused
+returns-in-Purge-clause-refused g c = rw (step_purge c.args.self.now c.args.event.now c.in-Purge.node c.in-Purge.is) c.at_node-in-Purge.ensures.refused
+
+pub returns-in-Purge-clause-step : goal.returns-in-Purge-clause-step
+returns-in-Purge-clause-step g c = rw (step_purge c.args.self.now c.args.event.now c.in-Purge.node c.in-Purge.is) c.at_node-in-Purge.ensures.step
+
+pub returns-in-Purge-clause-weight : goal.returns-in-Purge-clause-weight
+returns-in-Purge-clause-weight g c = rw c.in-Purge.is c.at_node-in-Purge.ensures.weight
+
+pub returns-in-Release-clause-refused : goal.returns-in-Release-clause-refused
+returns-in-Release-clause-refused g c = rw (step_release c.args.self.now c.args.event.now c.in-Release.node c.in-Release.is) c.at_node-in-Release.ensures.refused
+
+pub returns-in-Release-clause-step : goal.returns-in-Release-clause-step
+returns-in-Release-clause-step g c = rw (step_release c.args.self.now c.args.event.now c.in-Release.node c.in-Release.is) c.at_node-in-Release.ensures.step
+
+pub returns-in-Release-clause-weight : goal.returns-in-Release-clause-weight
+returns-in-Release-clause-weight g c = rw c.in-Release.is c.at_node-in-Release.ensures.weight
+
+pub returns-in-Kill-clause-refused : goal.returns-in-Kill-clause-refused
+returns-in-Kill-clause-refused g c = rw (step_kill c.args.self.now c.args.event.now c.in-Kill.node c.in-Kill.name c.in-Kill.is) c.at_node-in-Kill.ensures.refused
+
+pub returns-in-Kill-clause-step : goal.returns-in-Kill-clause-step
+returns-in-Kill-clause-step g c = rw (step_kill c.args.self.now c.args.event.now c.in-Kill.node c.in-Kill.name c.in-Kill.is) c.at_node-in-Kill.ensures.step
+
+pub returns-in-Kill-clause-weight : goal.returns-in-Kill-clause-weight
+returns-in-Kill-clause-weight g c = rw c.in-Kill.is c.at_node-in-Kill.ensures.weight
+
+pub returns-in-Clear-clause-refused : goal.returns-in-Clear-clause-refused
+returns-in-Clear-clause-refused g c = rw (step_clear c.args.self.now c.args.event.now c.in-Clear.node c.in-Clear.is) c.at_node-in-Clear.ensures.refused
+
+pub returns-in-Clear-clause-step : goal.returns-in-Clear-clause-step
+returns-in-Clear-clause-step g c = rw (step_clear c.args.self.now c.args.event.now c.in-Clear.node c.in-Clear.is) c.at_node-in-Clear.ensures.step
+
+pub returns-in-Clear-clause-weight : goal.returns-in-Clear-clause-weight
+returns-in-Clear-clause-weight g c = rw c.in-Clear.is c.at_node-in-Clear.ensures.weight
+
+pub returns-in-BulkTurn-clause-refused : goal.returns-in-BulkTurn-clause-refused
+returns-in-BulkTurn-clause-refused g c = rw (step_turn c.args.self.now c.args.event.now c.in-BulkTurn.node c.in-BulkTurn.is) c.at_node-in-BulkTurn.ensures.refused
+
+pub returns-in-BulkTurn-clause-step : goal.returns-in-BulkTurn-clause-step
+returns-in-BulkTurn-clause-step g c = rw (step_turn c.args.self.now c.args.event.now c.in-BulkTurn.node c.in-BulkTurn.is) c.at_node-in-BulkTurn.ensures.step
+
+pub returns-in-BulkTurn-clause-weight : goal.returns-in-BulkTurn-clause-weight
+returns-in-BulkTurn-clause-weight g c = rw c.in-BulkTurn.is c.at_node-in-BulkTurn.ensures.weight
+
+pub returns-in-BulkRetry-clause-refused : goal.returns-in-BulkRetry-clause-refused
+returns-in-BulkRetry-clause-refused g c = rw (step_retry c.args.self.now c.args.event.now c.in-BulkRetry.node c.in-BulkRetry.is) c.at_node-in-BulkRetry.ensures.refused
+
+pub returns-in-BulkRetry-clause-step : goal.returns-in-BulkRetry-clause-step
+returns-in-BulkRetry-clause-step g c = rw (step_retry c.args.self.now c.args.event.now c.in-BulkRetry.node c.in-BulkRetry.is) c.at_node-in-BulkRetry.ensures.step
+
+pub returns-in-BulkRetry-clause-weight : goal.returns-in-BulkRetry-clause-weight
+returns-in-BulkRetry-clause-weight g c = rw c.in-BulkRetry.is c.at_node-in-BulkRetry.ensures.weight

@@ -3,8 +3,9 @@ use Rattle.std.specs.Prelude.{[], ◌∷◌, ◌++◌, List}
 use Rattle.pfl_link.specs.Links.{Link}
 use Rattle.pfl_world.specs.declared.edit.WorldEdit.{WorldEdit}
 use Rattle.pfl_world.specs.declared.edit.WorldEdit.TheVariants.{OfLink}
+use Rattle.pfl_world.specs.Worlds.{joined}
 use Rattle.pfl_world.proofs.Leads.{where_ok}
-use Rattle.pfl_world.proofs.Sending.{world_with_link, sent_leads_back}
+use Rattle.pfl_world.proofs.Sending.{sent_leads_back}
 use Rattle.pfl_world.proofs.world.World.send.Goals as goal
 
 pub push-requires : goal.push-requires
@@ -12,13 +13,11 @@ push-requires g c =
     let room : 1 ≤ c.reserve.new.self.spare = where_ok c.reserve.result (sym c.is_err.ensures.value ∙ c.if-is_err.false) c.reserve.ensures.room in
     record { room = omega (arith, room) }
 
-pub invariant_of-self-2 : goal.invariant_of-self-2
-invariant_of-self-2 g c =
-    world_with_link (record { a = c.self.inside.a; b = c.self.inside.b; link = c.self.inside.link; next_boot = c.self.inside.next_boot }) c.self.invariant c.send.new.self c.known.ensures.link
-    (ap (λ (l : Link). l.limit) c.in-Ok.ensures.link)
+pub invariant_of-self : goal.invariant_of-self
+invariant_of-self g c = record { nodes = c.self.invariant.nodes; link = ap (λ (l : Link). l.limit) c.in-Ok.ensures.link ∙ c.self.invariant.link; countable = c.self.invariant.countable }
 
 pub returns-clause-leads_back : goal.returns-clause-leads_back
 returns-clause-leads_back g c =
-    sent_leads_back c.args.self.now (record { a = c.self.inside.a; b = c.self.inside.b; link = c.self.inside.link; next_boot = c.self.inside.next_boot }) c.self.view_is c.self.invariant
+    sent_leads_back c.args.self.now (joined c.self.inside.nodes c.self.inside.link c.self.inside.next_boot) c.self.view_is c.known.ensures.world
     c.args.edits.list c.push.new.self.list c.in-Ok.edit c.send.new.self c.requires.fits c.in-Ok.ensures.leads_back
     (c.push.ensures.list ∙ ap (λ (es : List (WorldEdit _)). es ++ OfLink c.in-Ok.edit ∷ []) c.reserve.ensures.list)

@@ -1,0 +1,207 @@
+-- Between events states wait for acknowledgements exactly while their packets are held, and names were given: each event of the
+-- pair keeps that of its nodes, and so do runs of events.
+use Rattle.std.specs.Prelude.{◌≡◌, false, List, [], ◌∷◌, Option, Some, None, IfSome, option_and_then, refl}
+use Rattle.std.specs.List.{fold}
+use Rattle.std.proofs.Common.{◌∙◌, ap, sym, subst}
+use Rattle.pfl_base.specs.declared.direction.Dir.{Dir}
+use Rattle.pfl_base.specs.declared.node_id.NodeId.{NodeId}
+use Rattle.pfl_base.specs.declared.node_id.NodeId.TheVariants.{A, B}
+use Rattle.pfl_base.specs.declared.packet.Packet.{Packet}
+use Rattle.pfl_base.specs.declared.state_name.StateName.{StateName}
+use Rattle.pfl_base.specs.Keys.{key}
+use Rattle.pfl_base.specs.Packets.{IsPacket}
+use Rattle.pfl_base.specs.Names.{name_cmp}
+use Rattle.pfl_edits.specs.Maps as maps
+use Rattle.pfl_edits.specs.Maps.{get-empty}
+use Rattle.pfl_edits.specs.Rows.{some_is_none}
+use Rattle.pfl_track.specs.declared.state.State.{State}
+use Rattle.pfl_track.specs.declared.tracked.Tracked.{Tracked}
+use Rattle.pfl_track.specs.declared.tracked.Tracked.TheVariants.{Moved, OutOfWindow, Reused}
+use Rattle.pfl_track.specs.Tracking.{tracked}
+use Rattle.pfl_track.proofs.Names.{Stays, tracked-stays}
+use Rattle.pfl_table.specs.Tables.{AreStates, found}
+use Rattle.pfl_table.proofs.Apart.{found-stands}
+use Rattle.pfl_queue.specs.declared.Entry.{Entry}
+use Rattle.pfl_queue.specs.declared.Entry.TheVariants.{Marked, Request, Status, Clear}
+use Rattle.pfl_queue.specs.Taking.{next_frame, left_by}
+use Rattle.pfl_parts.specs.Nodes.{Node}
+use Rattle.pfl_parts.specs.Changes.{put_state, count_blocked, is_held, deleted}
+use Rattle.pfl_node.specs.Ticking.{ticked}
+use Rattle.pfl_node.specs.Purging.{purged}
+use Rattle.pfl_node.specs.Releasing.{released_due}
+use Rattle.pfl_node.specs.Killing.{killed}
+use Rattle.pfl_node.specs.Clearing.{cleared}
+use Rattle.pfl_node.specs.Turning as turning
+use Rattle.pfl_node.specs.Retrying.{retried_client}
+use Rattle.pfl_node.specs.Flushing.{flushed, update_count_cleared}
+use Rattle.pfl_node.specs.Packets.{handled, handled_by, followed, accepted}
+use Rattle.pfl_node.proofs.OneState.{handled-apart}
+use Rattle.pfl_world.specs.declared.event.Event.{Event}
+use Rattle.pfl_world.specs.declared.event.Event.TheVariants as event
+use Rattle.pfl_world.specs.Events.{step}
+use Rattle.pfl_world.specs.Runs.{run, after}
+use Rattle.pfl_world.specs.Worlds.{World, IsWorld, node_at, with_node, new_world}
+use Rattle.pfl_laws.specs.Laws.{is_waiting, IsTied, OpeningsAreTied, EventsKeepTied, EventsKeepTiedAlong}
+use Rattle.pfl_laws.proofs.Following.{Alike, Follows, Filed}
+use Rattle.pfl_laws.proofs.Keeping.{deleted-keeps}
+use Rattle.pfl_laws.proofs.Handling.{filed-without, accepted-keeps}
+use Rattle.pfl_laws.proofs.Flushing.{entry-apart, flushed-keeps, flushed-apart}
+use Rattle.pfl_laws.proofs.Releasing.{released_due-keeps, released_due-apart, released_due-tied}
+use Rattle.pfl_laws.proofs.Clearing.{purged-keeps, purged-apart, purged-tied, killed-keeps, killed-apart, killed-tied, cleared-keeps, cleared-apart, cleared-tied}
+use Rattle.pfl_laws.proofs.Asking.{basis, turned-basis, retried-basis, basis-keeps, basis-apart, basis-tied}
+use Rattle.pfl_laws.proofs.Stepping.{turned, stepped-node}
+use Rattle.pfl_laws.proofs.Running.{node-is, given_at}
+use Rattle.pfl_laws.proofs.Tied.{waits, tied-same, tied-put, tied-some, tied-deleted}
+use Rattle.pfl_laws.proofs.Waiting.{AreGiven, given-keeps, judged-given, judged-tied, accepted-tied}
+
+-- what each event keeps of a node
+pub record Sound (n : Node) : Type 0 where
+  pub states : AreStates n.states
+  pub given : AreGiven n
+  pub tied : IsTied n
+
+followed-sound : (n : Node) (dir : Dir) (p : Packet) (s : State) (x : Tracked) → Sound n → maps.get n.states s.name ≡ Some s → Stays s x → tracked s p dir n.clock ≡ x
+    → AreGiven (followed n dir p s x).node × IsTied (followed n dir p s x).node
+followed-sound n dir p s (Moved t) is at stays e =
+    (given-keeps (Follows (IsPacket p)) n (accepted n t).node (λ q. accepted-keeps q n dir p s t at stays.name e) is.given, accepted-tied n t is.tied)
+followed-sound n dir p s OutOfWindow is at stays e = (is.given, tied-same n (count_blocked n) is.tied refl refl)
+followed-sound n dir p s Reused is at stays e =
+    let filed = filed-without n s is.states.filed in
+    let given = given-keeps Alike n (deleted n s) (λ q. deleted-keeps q n s) is.given in
+    let tied = tied-deleted n s is.tied in
+    (judged-given (deleted n s) dir p filed given, judged-tied (deleted n s) dir p filed given tied)
+
+handled-sound : (n : Node) (dir : Dir) (p : Packet) → Sound n → Sound (handled n dir p).node
+unfolding handled
+handled-sound n dir p is =
+    let both = by (found n.states (key p dir) dir) refl in
+    record { states = handled-apart n dir p is.states; given = both.0; tied = both.1 }
+  where
+    by : (o : Option State) → found n.states (key p dir) dir ≡ o → AreGiven (handled_by n dir p o).node × IsTied (handled_by n dir p o).node
+    by None e = (judged-given n dir p is.states.filed is.given, judged-tied n dir p is.states.filed is.given is.tied)
+    by (Some s) e = followed-sound n dir p s (tracked s p dir n.clock) is (found-stands n.states (key p dir) dir s is.states e) (tracked-stays s p dir n.clock) refl
+
+-- an entry that was told clears a count of updates
+entry-tied : (n : Node) (e : Entry) → Filed n.states → IsTied n → IsTied (update_count_cleared n e)
+entry-tied n (Marked kind number name) filed tied =
+    tied-some (maps.get n.states name) (λ s. put_state n (record s { updates = 0 })) n
+    (λ s at. tied-put n (put_state n (record s { updates = 0 })) (record s { updates = 0 }) tied refl refl
+    (ap waits (sym at) ∙ ap (λ (k : StateName). waits (maps.get n.states k)) (sym (filed name s at)) ∙ sym (tied s.name)))
+    tied
+entry-tied n (Request name) filed tied = tied
+entry-tied n (Status status) filed tied = tied
+entry-tied n (Clear creator bound) filed tied = tied
+
+entries-tied : (es : List Entry) (n : Node) → AreStates n.states → IsTied n → IsTied (fold update_count_cleared n es)
+entries-tied [] n are tied = tied
+entries-tied (e ∷ es) n are tied = entries-tied es (update_count_cleared n e) (entry-apart n e are) (entry-tied n e are.filed tied)
+
+flushed-tied : (n : Node) → AreStates n.states → IsTied n → IsTied (flushed n)
+unfolding flushed
+flushed-tied n are tied =
+    let entries = next_frame n.queue n.limits.mtu in
+    let m = record n { queue = left_by n.queue entries; push = false } in
+    entries-tied entries m are (tied-same n m tied refl refl)
+
+flushed-sound : (n : Node) → Sound n → Sound (flushed n)
+flushed-sound n is = record {
+  states = flushed-apart n is.states;
+  given = given-keeps Alike n (flushed n) (λ q. flushed-keeps q n is.states) is.given;
+  tied = flushed-tied n is.states is.tied;
+}
+
+purged-sound : (n : Node) → Sound n → Sound (purged n)
+purged-sound n is = record {
+  states = purged-apart n is.states;
+  given = given-keeps Alike n (purged n) (λ q. purged-keeps q n) is.given;
+  tied = purged-tied n is.tied;
+}
+
+released_due-sound : (n : Node) → Sound n → Sound (released_due n)
+released_due-sound n is = record {
+  states = released_due-apart n is.states;
+  given = given-keeps Alike n (released_due n) (λ q. released_due-keeps q n is.states) is.given;
+  tied = released_due-tied n is.states is.tied;
+}
+
+killed-sound : (n : Node) (name : StateName) → Sound n → Sound (killed n name)
+killed-sound n name is = record {
+  states = killed-apart n name is.states;
+  given = given-keeps Alike n (killed n name) (λ q. killed-keeps q n name) is.given;
+  tied = killed-tied n name is.tied;
+}
+
+cleared-sound : (n : Node) → Sound n → Sound (cleared n)
+cleared-sound n is = record {
+  states = cleared-apart n is.states;
+  given = given-keeps Alike n (cleared n) (λ q. cleared-keeps q n) is.given;
+  tied = cleared-tied n is.tied;
+}
+
+basis-sound : (n m : Node) → basis m ≡ basis n → Sound n → Sound m
+basis-sound n m e is = record {
+  states = basis-apart n m e is.states;
+  given = given-keeps Alike n m (λ q. basis-keeps q n m e) is.given;
+  tied = basis-tied n m e is.tied;
+}
+
+-- ---- the pair
+
+put-sound : (w : World) (id : NodeId) (m : Node) (at : NodeId) → (Sound (node_at w id) → Sound m) → Sound (node_at w at) → Sound (node_at (with_node w id m) at)
+put-sound w A m A sound is = sound is
+put-sound w A m B sound is = is
+put-sound w B m A sound is = is
+put-sound w B m B sound is = sound is
+
+turned-sound : (w : World) (e : Event) (at : NodeId) → Sound (node_at w at) → Sound (turned w e at)
+turned-sound w (event.Packet id dir p) at is = put-sound w id (handled (node_at w id) dir p).node at (handled-sound (node_at w id) dir p) is
+turned-sound w (event.Flush id) at is = put-sound w id (flushed (node_at w id)) at (flushed-sound (node_at w id)) is
+turned-sound w (event.Lose ticket) at is = is
+turned-sound w (event.Repeat ticket) at is = is
+turned-sound w (event.Cut ticket len) at is = is
+turned-sound w (event.Tick id ms) at is =
+    put-sound w id (ticked (node_at w id) ms) at (λ s. record { states = s.states; given = s.given; tied = tied-same (node_at w id) (ticked (node_at w id) ms) s.tied refl refl }) is
+turned-sound w (event.Purge id) at is = put-sound w id (purged (node_at w id)) at (purged-sound (node_at w id)) is
+turned-sound w (event.Release id) at is = put-sound w id (released_due (node_at w id)) at (released_due-sound (node_at w id)) is
+turned-sound w (event.Kill id name) at is = put-sound w id (killed (node_at w id) name) at (killed-sound (node_at w id) name) is
+turned-sound w (event.Clear id) at is = put-sound w id (cleared (node_at w id)) at (cleared-sound (node_at w id)) is
+turned-sound w (event.BulkTurn id) at is = let n = node_at w id in put-sound w id (turning.turned n) at (basis-sound n (turning.turned n) (turned-basis n)) is
+turned-sound w (event.BulkRetry id) at is = let n = node_at w id in put-sound w id (retried_client n) at (basis-sound n (retried_client n) (retried-basis n)) is
+
+stepped-sound : (w : World) (e : Event) (v : World) (at : NodeId) → after (step w e) ≡ Some v → Sound (node_at w at) → Sound (node_at v at)
+stepped-sound w e v at accepted is = subst Sound (stepped-node w e v at accepted) (turned-sound w e at is)
+
+-- a node of a world whose packets and states are tied
+begins : (w : World) (id : NodeId) → IsWorld w → IsTied (node_at w id) → Sound (node_at w id)
+begins w id is tied =
+    let node = node-is w id is in
+    record { states = node.parts.states; given = λ q s at. given_at (node_at w id) q s node at; tied = tied }
+
+pub tied-step : EventsKeepTied
+tied-step w e v is tied accepted id = (stepped-sound w e v id accepted (begins w id is (tied id))).tied
+
+all : (id : NodeId) (at : Option World) (es : List Event) → IfSome at (λ v. Sound (node_at v id)) → IfSome (fold (λ at e. option_and_then (λ v. after (step v e)) at) at es) (λ v. Sound (node_at v id))
+all id at [] sound = sound
+all id None (e ∷ es) sound = all id None es tt
+all id (Some v) (e ∷ es) sound = all id (after (step v e)) es (by (after (step v e)) refl)
+  where
+    by : (o : Option World) → after (step v e) ≡ o → IfSome o (λ u. Sound (node_at u id))
+    by None none = tt
+    by (Some u) is = stepped-sound v e u id is sound
+
+pub tied-along : EventsKeepTiedAlong
+unfolding run
+tied-along w es v is tied ran id =
+    let last : Sound (node_at v id) = subst (λ (at : Option World). IfSome at (λ u. Sound (node_at u id))) ran (all id (Some w) es (begins w id is (tied id))) in
+    last.tied
+
+pub tied-opening : OpeningsAreTied
+tied-opening l a b id name = by id
+  where
+    none : (o : Option State) → o ≡ None → false ≡ waits o
+    none None e = refl
+    none (Some s) e = absurd (some_is_none s e)
+
+    by : (id : NodeId) → is_held (node_at (new_world l a b) id) name ≡ is_waiting (node_at (new_world l a b) id) name
+    by A = none _ (get-empty name_cmp name)
+    by B = none _ (get-empty name_cmp name)

@@ -1,0 +1,202 @@
+-- A release lets the oldest packet go that is due, and then releases.
+use Rattle.std.specs.Prelude.{◌≡◌, ◌≤◌, ◌<◌, ℕ, ◌+◌, ◌*◌, length, map, filter, not, nat_le, Bool, true, false, List, [], ◌∷◌, Option, Some, None, is_some, if◌then◌else◌, Result, Ok, Err, IfOk, OnOk, refl}
+use Rattle.std.specs.List.{AllByRecursion, IsDistinct, fold, slice_get}
+use Rattle.std.specs.Option.{option_map_or}
+use Rattle.std.proofs.Common.{cond, ◌∙◌, ap, sym, subst, arith}
+use Rattle.std.proofs.lemmas.List.{length-map}
+use Rattle.std.proofs.lemmas.Map.Keys.{IsDistinct-head, IsDistinct-tail}
+use Rattle.pfl_base.specs.declared.refusal.Refusal.{Refusal}
+use Rattle.pfl_base.specs.declared.state_name.StateName.{StateName}
+use Rattle.pfl_base.specs.Names.{is_name, is_name-itself}
+use Rattle.pfl_edits.specs.Changes.{Edits}
+use Rattle.pfl_edits.specs.Maps as maps
+use Rattle.pfl_defer.specs.declared.Held.{Held}
+use Rattle.pfl_defer.specs.Deferring.{Deferrals, held_of, let_go, due}
+use Rattle.pfl_defer.specs.Kept.{absent_stays}
+use Rattle.pfl_track.specs.declared.state.State.{State}
+use Rattle.pfl_parts.specs.declared.edit.NodeEdit.{NodeEdit}
+use Rattle.pfl_parts.specs.declared.limits.Limits.{Limits}
+use Rattle.pfl_parts.specs.Changes.{count_freed, without_held, freed, not_waiting, put_state, released}
+use Rattle.pfl_parts.specs.Edits.{NodeExtends}
+use Rattle.pfl_parts.specs.Judging.{judged_as}
+use Rattle.pfl_parts.specs.Nodes.{Node, AreParts, is_overcounted}
+use Rattle.pfl_parts.proofs.Recording.{extends-none, extends-then, extends-more}
+use Rattle.pfl_node.specs.Releasing.{due_names, released_due}
+
+-- ---- the first of the names that are due, and those of the list without it
+
+abbrev names : List Held → List StateName
+names hs = map (λ h. h.name) hs
+
+others_stay : (name : StateName) (hs : List Held) → AllByRecursion (λ n. is_name name n ≡ false) (names hs) → filter (λ h. not (is_name name h.name)) hs ≡ hs
+others_stay name [] a = refl
+others_stay name (h ∷ hs) a =
+    ap (λ b. cond (not b) (h ∷ filter (λ k. not (is_name name k.name)) hs) (filter (λ k. not (is_name name k.name)) hs)) a.0
+    ∙ ap (λ (ks : List Held). h ∷ ks) (others_stay name hs a.1)
+
+-- a packet that is not due is of no matter, here or there
+skipped : (p : Held → Bool) (h : Held) (hs : List Held) → p h ≡ false → (b : Bool) → filter p (cond b (h ∷ hs) hs) ≡ filter p hs
+skipped p h hs late true = ap (λ b. cond b (h ∷ filter p hs) (filter p hs)) late
+skipped p h hs late false = refl
+
+due-first : (p : Held → Bool) (name : StateName) (hs : List Held) → IsDistinct is_name (names hs) → slice_get (names (filter p hs)) 0 ≡ Some name
+    → names (filter p hs) ≡ name ∷ names (filter p (filter (λ h. not (is_name name h.name)) hs))
+due-first p name [] once e = absurd (cc)
+due-first p name (h ∷ hs) once e =
+    elim (p h) as (λ b. p h ≡ b → slice_get (names (cond b (h ∷ filter p hs) (filter p hs))) 0 ≡ Some name → names (cond b (h ∷ filter p hs) (filter p hs)) ≡ name ∷ names (filter p (filter (λ k. not (is_name name k.name)) (h ∷ hs)))) [
+      | true ↦ λ is first.
+          let same : h.name ≡ name = cc in
+          let own : is_name name h.name ≡ true = is_name-itself name h.name (sym same) in
+          let apart : AllByRecursion (λ n. is_name name n ≡ false) (names hs) = subst (λ (n : StateName). AllByRecursion (λ m. is_name n m ≡ false) (names hs)) same (IsDistinct-head is_name h.name (names hs) once) in
+          let rest : filter (λ k. not (is_name name k.name)) (h ∷ hs) ≡ hs = ap (λ b. cond (not b) (h ∷ filter (λ k. not (is_name name k.name)) hs) (filter (λ k. not (is_name name k.name)) hs)) own ∙ others_stay name hs apart in
+          (λ i. same i ∷ names (filter p (sym rest i)))
+      | false ↦ λ late first.
+          due-first p name hs (IsDistinct-tail is_name h.name (names hs) once) first
+          ∙ ap (λ (ks : List Held). name ∷ names ks) (sym (skipped p h (filter (λ k. not (is_name name k.name)) hs) late (not (is_name name h.name))))
+    ] refl e
+
+-- ---- what a packet that goes out leaves
+
+abbrev Waits : Type 0
+Waits = Deferrals × ℕ × Limits
+
+abbrev waits : Node → Waits
+waits n = (n.held, n.clock, n.limits)
+
+freed-waits : (n : Node) (name : StateName) → waits (freed n name) ≡ (let_go n.held name, n.clock, n.limits)
+freed-waits n name = by (held_of n.held name) refl
+  where
+    by : (o : Option Held) → held_of n.held name ≡ o → waits (if is_some o then count_freed (without_held n name) else n) ≡ (let_go n.held name, n.clock, n.limits)
+    by None none = ap (λ (hs : List Held). (record n.held { list = hs }, n.clock, n.limits)) (sym (absent_stays name n.held.list none))
+    by (Some h) is = refl
+
+not_waiting-waits : (n : Node) (name : StateName) → waits (not_waiting n name) ≡ waits n
+not_waiting-waits n name = by (maps.get n.states name)
+  where
+    by : (o : Option State) → waits (option_map_or (λ s. put_state n (record s { ack_wanted = false })) o n) ≡ waits n
+    by None = refl
+    by (Some s) = refl
+
+released-waits : (n : Node) (name : StateName) → waits (released n name) ≡ (let_go n.held name, n.clock, n.limits)
+released-waits n name = not_waiting-waits (freed n name) name ∙ freed-waits n name
+
+-- the first, and those of the node that let it go
+due-next : (n : Node) (name : StateName) → AreParts n → slice_get (due_names n) 0 ≡ Some name → due_names n ≡ name ∷ due_names (released n name)
+due-next n name is e =
+    due-first (λ h. nat_le (h.held_at + n.limits.defer_ms) n.clock) name n.held.list is.deferrals.once e
+    ∙ ap (λ (w : Waits). name ∷ names (due w.0 w.1 w.2.defer_ms)) (sym (released-waits n name))
+
+released-next : (n : Node) (name : StateName) → due_names n ≡ name ∷ due_names (released n name) → released_due n ≡ released_due (released n name)
+unfolding released_due
+released-next n name e = ap (fold released n) e
+
+released-none : (n : Node) → due_names n ≡ [] → released_due n ≡ n
+unfolding released_due
+released-none n e = ap (fold released n) e
+
+few-filter : (p : Held → Bool) (hs : List Held) → length (filter p hs) ≤ length hs
+few-filter p [] = omega arith
+few-filter p (h ∷ hs) =
+    let rest = few-filter p hs in
+    elim (p h) as (λ b. length (cond b (h ∷ filter p hs) (filter p hs)) ≤ length (h ∷ hs)) [
+      | true ↦ omega (arith, rest)
+      | false ↦ omega (arith, rest)
+    ]
+
+-- no more are due than may be held
+pub due-few : (n : Node) → AreParts n → length (due_names n) ≤ n.limits.held
+due-few n is =
+    let few = few-filter (λ h. nat_le (h.held_at + n.limits.defer_ms) n.clock) n.held.list in
+    let names_few = length-map (due n.held n.clock n.limits.defer_ms) (λ (h : Held). h.name) in
+    let held = is.deferrals.few in
+    let limit = is.held_limit in
+    omega (arith, few, names_few, held, limit)
+
+-- ---- name by name
+
+-- m is what n was made to by some of its packets going out, recorded in y
+pub record IsReleased (n m : Node) (x y : Edits NodeEdit) (count : ℕ) : Type 0 where
+  pub room : 3 * length (due_names m) ≤ y.spare
+  pub few : length (due_names n) ≤ 128
+  pub rest : released_due m ≡ released_due n
+  pub all : count + length (due_names m) ≡ length (due_names n)
+  pub extends : NodeExtends (3 * count) x y n m
+
+pub released-first : (n : Node) (x : Edits NodeEdit) → AreParts n → 3 * length (due_names n) ≤ x.spare → IsReleased n n x x 0
+released-first n x is room = record {
+  room = room;
+  few = let most = is.limits.1.1.1.1.0.1 in let few = due-few n is in omega (arith, few, most);
+  rest = refl;
+  all = omega arith;
+  extends = extends-none x n;
+}
+
+-- the next packet that goes out
+pub record IsNextDue (m : Node) (name : StateName) (y : Edits NodeEdit) : Type 0 where
+  pub due : due_names m ≡ name ∷ due_names (released m name)
+  pub rest : released_due m ≡ released_due (released m name)
+  pub room : 3 ≤ y.spare
+
+pub next-due : (n m : Node) (x y : Edits NodeEdit) (count : ℕ) (name : StateName) → AreParts m → IsReleased n m x y count → slice_get (due_names m) 0 ≡ Some name → IsNextDue m name y
+next-due n m x y count name is so first =
+    let next = due-next m name is first in
+    let long = ap (λ (ns : List StateName). length ns) next in
+    let room = so.room in
+    record { due = next; rest = released-next m name next; room = omega (arith, room, long) }
+
+module _ (n m : Node) (x y : Edits NodeEdit) (count : ℕ) (so : IsReleased n m x y count) (name : StateName) (next : IsNextDue m name y) where
+  long : length (due_names m) ≡ length (due_names (released m name)) + 1
+  long = let more = ap (λ (ns : List StateName). length ns) next.due in omega (arith, more)
+
+  -- one is left less
+  pub fewer-due : length (due_names (released m name)) < length (due_names m)
+  fewer-due = omega (arith, long)
+
+  pub counted-few : count ≤ 127
+  counted-few = let few = so.few in let all = so.all in omega (arith, few, all, long)
+
+  pub released-more : (k : Node) (z : Edits NodeEdit) → k ≡ released m name → NodeExtends 3 y z m k → IsReleased n k x z (count + 1)
+  released-more k z same more =
+      let spare = more.spare in
+      let room = so.room in
+      let all = so.all in
+      let left = ap (λ (v : Node). length (due_names v)) same in
+      record {
+        room = omega (arith, room, spare, long, left);
+        few = so.few;
+        rest = ap released_due same ∙ (sym next.rest ∙ so.rest);
+        all = omega (arith, all, long, left);
+        extends = extends-more (3 * count + 3) (3 * (count + 1)) x z n k (omega arith) (extends-then (3 * count) 3 x y z n m k so.extends more);
+      }
+
+-- where none is left, the release is done
+pub record IsDone (n m : Node) (x y : Edits NodeEdit) (count : ℕ) : Type 0 where
+  pub node : m ≡ released_due n
+  pub all : count ≡ length (due_names n)
+  pub extends : NodeExtends (3 * length (due_names n)) x y n m
+
+none_first : (ns : List StateName) → slice_get ns 0 ≡ None → ns ≡ []
+none_first [] e = refl
+none_first (name ∷ ns) e = absurd (cc)
+
+pub released-done : (n m : Node) (x y : Edits NodeEdit) (count : ℕ) → IsReleased n m x y count → slice_get (due_names m) 0 ≡ None → IsDone n m x y count
+released-done n m x y count so none =
+    let empty = none_first (due_names m) none in
+    let long = ap (λ (ns : List StateName). length ns) empty in
+    let all = so.all in
+    record {
+      node = sym (released-none m empty) ∙ so.rest;
+      all = omega (arith, all, long);
+      extends = extends-more (3 * count) (3 * length (due_names n)) x y n m (omega (arith, all, long)) so.extends;
+    }
+
+-- ---- how a release is judged
+
+-- what stands counts nothing too high
+pub judged-low : (m : Node) (judged : Result ℕ Refusal) → OnOk judged (is_overcounted m ≡ false) → (count : ℕ) → judged ≡ Ok count → is_overcounted m ≡ false
+judged-low m judged low count stands = subst (λ (q : Result ℕ Refusal). OnOk q (is_overcounted m ≡ false)) stands low
+
+-- and is not refused
+pub judged-none : (judged : Result ℕ Refusal) (result : Result (ℕ × Edits NodeEdit) Refusal) → IfOk result (λ r. judged ≡ Ok r.0) → OnOk result (judged_as judged ≡ None)
+judged-none judged (Ok r) stands = ap (λ (q : Result ℕ Refusal). judged_as q) stands
+judged-none judged (Err e) stands = tt

@@ -1,0 +1,66 @@
+use Rattle.std.proofs.Common.{◌≡◌, ◌+◌, ◌∷◌, [], length, true, false, Some, Option, ◌∙◌, ap, sym, subst, refl, arith}
+use Rattle.std.specs.Prelude.{not}
+use Rattle.pfl_base.specs.declared.refusal.Refusal.{Refusal}
+use Rattle.pfl_base.specs.declared.refusal.Refusal.TheVariants.{NotSyncing}
+use Rattle.pfl_bulk.specs.Bulk.{is_serving}
+use Rattle.pfl_node.specs.Turning.{turn_of, turned, turn_refusal}
+use Rattle.pfl_parts.specs.Nodes.{Node, IsRefusal, full_tests, refused_by, points_refusal}
+use Rattle.pfl_node.proofs.Ready.{begins, settled, settled-answer, recorded-fits}
+use Rattle.pfl_node.proofs.OnePoint.{point-ends, refused-as, not_refused-as}
+use Rattle.pfl_node.proofs.Turned.{turn-few}
+use Rattle.pfl_node.proofs.node.Node.bulk_turn.Goals as goal
+
+pub returns-then-not-is_serving : goal.returns-then-not-is_serving
+returns-then-not-is_serving g c =
+    let n = c.args.self.now in
+    let idle : is_serving n.server ≡ false = ap is_serving (sym c.server.ensures.server) ∙ (sym c.is_serving.ensures.serving ∙ c.if-not-is_serving.true) in
+    let why : turn_refusal n ≡ Some NotSyncing = ap (λ b. refused_by ((not b, NotSyncing) ∷ full_tests (turned n ∷ []))) idle in
+    record {
+      refused = subst (λ (o : Option Refusal). IsRefusal o NotSyncing) (sym why) refl;
+      unchanged = refl;
+      not_refused = tt;
+      node = tt;
+      count = tt;
+      leads_back = tt;
+      weight = tt;
+    }
+
+pub turn-tried-requires : goal.turn-tried-requires
+turn-tried-requires g c =
+    let n = c.self.inside.parts in
+    let b = begins n c.self.inside.edits c.self.invariant.0 c.self.invariant.1 in
+    let room = b.room in
+    let states = c.self.invariant.0.parts.few in
+    let few = turn-few n in
+    record { room = omega (arith, room, few, states); countable = b.countable }
+
+pub settle-requires : goal.settle-requires
+settle-requires g c = record { fits = recorded-fits (length (turn_of c.self.inside.parts) + 3) _ c.self.inside.parts _ c.self.inside.edits _ c.self.invariant.1 c.turn-tried.ensures.extends }
+
+pub invariant_of-self : goal.invariant_of-self
+invariant_of-self g c =
+    let n = c.self.inside.parts in
+    let d = c.turn-tried.ensures in
+    let e = c.settle.ensures in
+    let s = settled (length (turn_of n) + 3) n c.turn-tried.new.parts c.settle.new.parts c.self.inside.edits c.turn-tried.new.change c.settle.new.change c.turn-tried.result (turned n ∷ []) c.self.invariant.0 c.self.invariant.1 d.extends d.went (point-ends c.turn-tried.new.parts (turned n) c.turn-tried.result d.node) e.none e.room c.settle.result e.refused e.undone e.stands e.kept e.parts e.edits in
+    (s.node, s.ready)
+
+pub returns : goal.returns
+returns g c =
+    let n = c.self.inside.parts in
+    let d = c.turn-tried.ensures in
+    let e = c.settle.ensures in
+    let s = settled (length (turn_of n) + 3) n c.turn-tried.new.parts c.settle.new.parts c.self.inside.edits c.turn-tried.new.change c.settle.new.change c.turn-tried.result (turned n ∷ []) c.self.invariant.0 c.self.invariant.1 d.extends d.went (point-ends c.turn-tried.new.parts (turned n) c.turn-tried.result d.node) e.none e.room c.settle.result e.refused e.undone e.stands e.kept e.parts e.edits in
+    let serves : is_serving n.server ≡ true = ap (λ (m : Node). is_serving m.server) c.self.view_is ∙ (ap is_serving (sym c.server.ensures.server) ∙ (sym c.is_serving.ensures.serving ∙ c.if-not-is_serving.false)) in
+    let why : turn_refusal n ≡ points_refusal (turned n ∷ []) = ap (λ b. refused_by ((not b, NotSyncing) ∷ full_tests (turned n ∷ []))) serves in
+    let node = settled-answer c.turn-tried.new.parts c.settle.new.parts c.turn-tried.result (λ _ m. m ≡ turned n) d.node c.settle.result e.stands e.kept in
+    let count = settled-answer c.turn-tried.new.parts c.settle.new.parts c.turn-tried.result (λ k m. k ≡ length (turn_of n)) d.count c.settle.result e.stands e.kept in
+    rw (← c.self.view_is) (record {
+      refused = refused-as _ _ c.settle.result why s.refused;
+      unchanged = s.unchanged;
+      not_refused = not_refused-as _ _ c.settle.result why s.not_refused;
+      node = node;
+      count = count;
+      leads_back = s.leads_back;
+      weight = s.weight;
+    })

@@ -1,0 +1,15 @@
+-- A node gives up all its states (pfsync(4); that it does so is this project's profile).
+use Rattle.std.specs.Prelude.{◌-◌, [], ◌∷◌, Option}
+use Rattle.std.specs.List.{fold}
+use Rattle.pfl_base.specs.declared.refusal.Refusal.{Refusal}
+use Rattle.pfl_edits.specs.Maps as maps
+use Rattle.pfl_parts.specs.Nodes.{Node, points_refusal}
+use Rattle.pfl_parts.specs.Changes.{tell_clear, forgotten}
+
+-- all states go unannounced, and the peer is told to clear up to the last id
+unfoldable pub cleared : Node → Node
+cleared n = tell_clear (fold forgotten n (maps.keys n.states)) n.creator (n.next_id - 1)
+
+-- the clear can be told
+abbrev pub clear_refusal : Node → Option Refusal
+clear_refusal n = points_refusal (cleared n ∷ [])

@@ -1,0 +1,22 @@
+-- Held packets whose time has come go out (pfsync(4), `defer`).
+use Rattle.std.specs.Prelude.{◌==◌, List, [], ◌∷◌, length, map, Option}
+use Rattle.std.specs.List.{fold}
+use Rattle.pfl_base.specs.declared.refusal.Refusal.{Refusal}
+use Rattle.pfl_base.specs.declared.refusal.Refusal.TheVariants.{NothingPending, CountFull, TooEarly}
+use Rattle.pfl_base.specs.declared.state_name.StateName.{StateName}
+use Rattle.pfl_defer.specs.Deferring.{due}
+use Rattle.pfl_parts.specs.Nodes.{Node, is_overcounted, refused_by}
+use Rattle.pfl_parts.specs.Changes.{released}
+
+-- the names of the packets that are due, the oldest first
+abbrev pub due_names : Node → List StateName
+due_names n = map (λ h. h.name) (due n.held n.clock n.limits.defer_ms)
+
+-- the due packets go out
+unfoldable pub released_due : Node → Node
+released_due n = fold released n (due_names n)
+
+-- none is held, or none is due
+abbrev pub release_refusal : Node → Option Refusal
+release_refusal n = refused_by
+    ((length n.held.list == 0, NothingPending) ∷ (is_overcounted (released_due n), CountFull) ∷ (length (due_names n) == 0, TooEarly) ∷ [])

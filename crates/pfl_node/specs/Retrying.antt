@@ -1,0 +1,22 @@
+-- A client of a bulk update that waited long enough (pfsync(4); tries are this project's profile).
+use Rattle.std.specs.Prelude.{◌+◌, not, [], ◌∷◌, Option, if◌then◌else◌}
+use Rattle.pfl_base.specs.declared.refusal.Refusal.{Refusal}
+use Rattle.pfl_base.specs.declared.refusal.Refusal.TheVariants.{NotSyncing, TooEarly, QueueFull}
+use Rattle.pfl_bulk.specs.Bulk.{no_name, is_waiting, is_due, asks_again, retried, tries_of}
+use Rattle.pfl_node.specs.declared.retried.Retried.{Retried}
+use Rattle.pfl_node.specs.declared.retried.Retried.TheVariants.{Asked, Served}
+use Rattle.pfl_parts.specs.Nodes.{Node, is_overfull, refused_by}
+use Rattle.pfl_parts.specs.Changes.{ask}
+
+-- a client that waited long enough asks again, or goes on as if served
+unfoldable pub retried_client : Node → Node
+retried_client n = record (if asks_again n.client then ask n no_name else n) { client = retried n.client n.clock }
+
+-- what the client did
+abbrev pub retry_answer : Node → Retried
+retry_answer n = if asks_again n.client then Asked (tries_of n.client + 1) else Served
+
+-- a node that waits for none or waited too short asks for nothing
+abbrev pub retry_refusal : Node → Option Refusal
+retry_refusal n = refused_by
+    ((not (is_waiting n.client), NotSyncing) ∷ (not (is_due n.client n.limits.bulk_ms n.clock), TooEarly) ∷ (is_overfull (retried_client n), QueueFull) ∷ [])

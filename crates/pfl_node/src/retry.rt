@@ -1,0 +1,60 @@
+//! A client of a bulk update asks again, or gives up (pfsync(4)).
+
+ghost use Rattle.std.specs.Prelude.{◌≡◌, ◌≤◌, [], ◌∷◌, None, IfOk, IfErr, OnOk, OnErr, length};
+ghost use Rattle.pfl_bulk.specs.Bulk.{asks_again, retried};
+ghost use Rattle.pfl_node.specs.Retrying as retrying;
+ghost use Rattle.pfl_parts.specs.Edits.{NodeExtends, NodeLeadsBack};
+ghost use Rattle.pfl_parts.specs.Judging.{Went};
+ghost use Rattle.pfl_parts.specs.Nodes.{Node as Whole, IsRefusal};
+
+use crate::node::Node;
+use crate::retried::Retried;
+use pfl_base::{Refusal, StateName};
+use pfl_bulk::Retry;
+use pfl_edits::Change;
+use pfl_parts::{NodeEdit, Overfull, Parts, settle};
+use std::alloc::Allocator;
+
+/// As a request, this name asks for all states.
+const ALL_STATES: StateName = StateName { creator: 0, id: 0 };
+
+impl<A: Allocator + Copy> Node<A> {
+    /// Asks for all states again where the last try was long enough ago, or gives up after the twelfth; tells which.
+    pub fn bulk_retry(&mut self) -> Result<(Retried, Change<NodeEdit, A>), Refusal>
+        ensures refused { IfErr result (IsRefusal (retrying.retry_refusal self.old)) }
+        ensures unchanged { OnErr result (self.new ≡ self.old) }
+        ensures not_refused { OnOk result (retrying.retry_refusal self.old ≡ None) }
+        ensures node { OnOk result (self.new ≡ retrying.retried_client self.old) }
+        ensures answer { IfOk result (λ r. r.0 ≡ retrying.retry_answer self.old) }
+        ensures leads_back { IfOk result (λ r. NodeLeadsBack r.1.list self.old self.new) }
+        ensures weight { IfOk result (λ r. length r.1.list ≤ 3) }
+    {
+        let wait = u64::from(self.limits().bulk_ms);
+        let retry = self.client().retry(wait, self.clock())?;
+        let tried = ask_again(&mut self.parts, retry, &mut self.edits);
+        settle(self.alloc, &mut self.parts, &mut self.edits, tried)
+    }
+}
+
+/// Does what a client does whose time has come, and tells whether after it a number was too high.
+fn ask_again<A: Allocator>(
+    parts: &mut Parts<A>,
+    retry: Retry,
+    change: &mut Change<NodeEdit, A>,
+) -> Result<(Retried, bool), Overfull>
+    requires room { 3 ≤ change.old.spare }
+    requires asks { retry.asks ≡ asks_again parts.old.client }
+    requires client { retry.client ≡ retried parts.old.client parts.old.clock }
+    ensures went { Went result (retrying.retried_client parts.old ∷ []) }
+    ensures node { OnOk result (parts.new ≡ retrying.retried_client parts.old) }
+    ensures answer { IfOk result (λ r. r.0 ≡ retrying.retry_answer parts.old) }
+    ensures extends { NodeExtends 3 change.old change.new parts.old parts.new }
+{
+    if !retry.asks {
+        parts.set_client(retry.client, change);
+        return Ok((Retried::Served, parts.is_overcounted()));
+    }
+    parts.ask(ALL_STATES, change)?;
+    parts.set_client(retry.client, change);
+    Ok((Retried::Asked(retry.client.tries()), parts.is_overcounted()))
+}

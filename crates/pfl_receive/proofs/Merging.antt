@@ -1,0 +1,80 @@
+-- What a merge gives may take the state's place.
+use Rattle.std.specs.Prelude.{◌≡◌, ◌≤◌, ◌<◌, ℕ, ◌-◌, ◌&&◌, Bool, true, false, not, length, Option, Some, IfSome, refl}
+use Rattle.std.proofs.Common.{cond, ◌∙◌, ap, sym, subst, arith}
+use Rattle.pfl_base.specs.declared.state_name.StateName.{StateName}
+use Rattle.pfl_edits.specs.Maps as maps
+use Rattle.pfl_track.specs.declared.state.State.{State}
+use Rattle.pfl_track.specs.States.{IsState}
+use Rattle.pfl_table.specs.Tables.{States}
+use Rattle.pfl_merge.specs.declared.received.Received.{Received}
+use Rattle.pfl_merge.specs.declared.merged.Merged.{Merged}
+use Rattle.pfl_merge.specs.Merging.{merged, stale_src, stale_dst}
+use Rattle.pfl_merge.specs.Laws.{Keeps}
+use Rattle.pfl_parts.specs.Changes.{lost, is_held, count_lost, without_held}
+use Rattle.pfl_parts.specs.Kept.{MayReplace}
+use Rattle.pfl_parts.specs.Nodes.{Node, AreParts, IsPast}
+use Rattle.pfl_parts.proofs.Keeps.{state_still}
+
+-- a state that was found by a name stands under its own
+pub stands-found : (n : Node) (m : States) (name : StateName) (o p : Option State) (s : State) → AreParts n → m ≡ n.states → o ≡ maps.get m name → p ≡ o → p ≡ Some s → maps.get n.states s.name ≡ Some s
+stands-found n m name o p s is states found copied at =
+    let there : maps.get n.states name ≡ Some s = ap (λ (k : States). maps.get k name) (sym states) ∙ (sym found ∙ (sym copied ∙ at)) in
+    ap (maps.get n.states) (is.states.filed name s there) ∙ there
+
+-- a state that may take the place of one may do so too where only counts and held packets are others
+lost-may : (n : Node) (name : StateName) (s : State) → MayReplace n s → MayReplace (lost n name) s
+lost-may n name s may = by (is_held n name)
+  where
+    by : (b : Bool) → MayReplace (cond b (count_lost (without_held n name)) n) s
+    by true = record {
+      former = may.former;
+      stands = may.stands;
+      wire = may.wire;
+      stack = may.stack;
+      no_sync = may.no_sync;
+      is = state_still n (count_lost (without_held n name)) s refl refl refl refl may.is;
+    }
+    by false = may
+
+less : (a b : ℕ) → a - b ≤ a
+less a b = omega arith
+
+-- it was last used in the past
+last-past : (held : State) (r : Received) (seconds now : ℕ) → held.last ≤ now → (merged held r seconds now).state.last ≤ now
+last-past held r seconds now past = by (not (stale_src held r && stale_dst held r)) _ _ (less now _) past
+  where
+    by : (b : Bool) (s t : State) → s.last ≤ now → t.last ≤ now → (cond b s t).last ≤ now
+    by true s t h k = h
+    by false s t h k = k
+
+peer-now : (held : State) (r : Received) (seconds now : ℕ) → (merged held r seconds now).state.peer_change ≡ Some now
+peer-now held r seconds now = by (not (stale_src held r && stale_dst held r)) _ _ refl refl
+  where
+    by : (b : Bool) (s t : State) → s.peer_change ≡ Some now → t.peer_change ≡ Some now → (cond b s t).peer_change ≡ Some now
+    by true s t h k = h
+    by false s t h k = k
+
+-- what a merge of a state of the node gives
+merged-may : (n : Node) (s t : State) (r : Received) (seconds : ℕ) → AreParts n → maps.get n.states s.name ≡ Some s → t ≡ (merged s r seconds n.clock).state → Keeps s t → IsState t → MayReplace (lost n s.name) t
+merged-may n s t r seconds is stands same keeps state =
+    let it = is.each s.name s stands in
+    lost-may n s.name t (record {
+      former = s;
+      stands = ap (maps.get n.states) keeps.name ∙ stands;
+      wire = keeps.wire;
+      stack = keeps.stack;
+      no_sync = keeps.no_sync;
+      is = record {
+        is = state;
+        given = subst (λ (k : StateName). k.creator ≡ n.creator → k.id < n.next_id) (sym keeps.name) it.given;
+        rule = subst (λ (o : Option ℕ). IfSome o (λ k. k < length n.rules.list)) (sym keeps.rule) it.rule;
+        last = subst (λ (u : State). u.last ≤ n.clock) (sym same) (last-past s r seconds n.clock it.last);
+        peer_change = subst (λ (o : Option ℕ). IfSome o (IsPast n)) (sym (ap (λ (u : State). u.peer_change) same ∙ peer-now s r seconds n.clock)) (omega arith);
+        updates = subst (λ (k : ℕ). k ≤ 255) (sym keeps.updates) it.updates;
+      };
+    })
+
+-- the same of what a merge gave, at the node's time
+pub merge-may : (n : Node) (s : State) (m : Merged) (r : Received) (seconds now : ℕ) → AreParts n → maps.get n.states s.name ≡ Some s → m ≡ merged s r seconds now → now ≡ n.clock → Keeps s m.state → IsState m.state → MayReplace (lost n s.name) m.state
+merge-may n s m r seconds now is stands gives clock =
+    merged-may n s m.state r seconds is stands (ap (λ (k : Merged). k.state) gives ∙ ap (λ (k : ℕ). (merged s r seconds k).state) clock)

@@ -1,0 +1,68 @@
+use Rattle.std.proofs.Common.{◌∙◌, sym, arith}
+use Rattle.pfl_receive.proofs.ByKind.{taken-clear, taken-insert, taken-ack, taken-update, taken-short, taken-request, taken-delete, taken-gone, taken-status}
+use Rattle.pfl_receive.proofs.Paying.{paid-as, paid-on, few-insert, few-update, few-short, few-ack, few-delete}
+use Rattle.pfl_receive.specs.Receiving.{of_state, of_update}
+use Rattle.pfl_receive.proofs.records.take_record.Goals as goal
+
+pub returns-in-Clear-clause-node : goal.returns-in-Clear-clause-node
+returns-in-Clear-clause-node g c = c.take_clear.ensures.node ∙ sym (taken-clear c.args.parts.now c.args.same_rules c.args.message.now c.in-Clear.creator c.in-Clear.bound c.in-Clear.is)
+
+pub returns-in-Insert-clause-full : goal.returns-in-Insert-clause-full
+returns-in-Insert-clause-full g c = rw (taken-insert c.args.parts.now c.args.same_rules c.args.message.now c.in-Insert.sent c.in-Insert.is) c.take_insertion.ensures.full
+
+pub returns-in-Insert-clause-node : goal.returns-in-Insert-clause-node
+returns-in-Insert-clause-node g c = rw (taken-insert c.args.parts.now c.args.same_rules c.args.message.now c.in-Insert.sent c.in-Insert.is) c.take_insertion.ensures.node
+
+pub returns-in-Insert-clause-paid : goal.returns-in-Insert-clause-paid
+returns-in-Insert-clause-paid g c =
+    let few = few-insert c.args.parts.now c.args.same_rules c.in-Insert.sent c.in-Insert.sent.ack_wanted in
+    paid-on _ 3 _ _ _ _ _ (omega arith) c.take_insertion.ensures.node few c.take_insertion.ensures.extends
+
+pub returns-in-InsertAck-clause-node : goal.returns-in-InsertAck-clause-node
+returns-in-InsertAck-clause-node g c = c.take_ack.ensures.node ∙ sym (taken-ack c.args.parts.now c.args.same_rules c.args.message.now c.in-InsertAck.name c.in-InsertAck.is)
+
+pub returns-in-InsertAck-clause-paid : goal.returns-in-InsertAck-clause-paid
+returns-in-InsertAck-clause-paid g c = paid-as 3 _ _ _ _ _ (omega arith) c.take_ack.ensures.node (few-ack c.args.parts.now c.in-InsertAck.name) c.take_ack.ensures.extends
+
+pub returns-in-Update-clause-full : goal.returns-in-Update-clause-full
+returns-in-Update-clause-full g c = rw (taken-update c.args.parts.now c.args.same_rules c.args.message.now c.in-Update.sent c.in-Update.is) c.take_update.ensures.full
+
+pub returns-in-Update-clause-node : goal.returns-in-Update-clause-node
+returns-in-Update-clause-node g c = rw (taken-update c.args.parts.now c.args.same_rules c.args.message.now c.in-Update.sent c.in-Update.is) c.take_update.ensures.node
+
+pub returns-in-Update-clause-paid : goal.returns-in-Update-clause-paid
+returns-in-Update-clause-paid g c =
+    let few = few-update c.args.parts.now c.args.same_rules c.in-Update.sent (of_state c.in-Update.sent) in
+    paid-on _ 7 _ _ _ _ _ (omega arith) c.take_update.ensures.node few c.take_update.ensures.extends
+
+pub returns-in-UpdateShort-clause-full : goal.returns-in-UpdateShort-clause-full
+returns-in-UpdateShort-clause-full g c = rw (taken-short c.args.parts.now c.args.same_rules c.args.message.now c.in-UpdateShort.sent c.in-UpdateShort.is) c.take_short_update.ensures.full
+
+pub returns-in-UpdateShort-clause-node : goal.returns-in-UpdateShort-clause-node
+returns-in-UpdateShort-clause-node g c = rw (taken-short c.args.parts.now c.args.same_rules c.args.message.now c.in-UpdateShort.sent c.in-UpdateShort.is) c.take_short_update.ensures.node
+
+pub returns-in-UpdateShort-clause-paid : goal.returns-in-UpdateShort-clause-paid
+returns-in-UpdateShort-clause-paid g c =
+    let few = few-short c.args.parts.now c.in-UpdateShort.sent.name (of_update c.in-UpdateShort.sent) in
+    paid-on _ 7 _ _ _ _ _ (omega arith) c.take_short_update.ensures.node few c.take_short_update.ensures.extends
+
+pub returns-in-UpdateRequest-clause-full : goal.returns-in-UpdateRequest-clause-full
+returns-in-UpdateRequest-clause-full g c = rw (taken-request c.args.parts.now c.args.same_rules c.args.message.now c.in-UpdateRequest.name c.in-UpdateRequest.is) c.take_request.ensures.full
+
+pub returns-in-UpdateRequest-clause-node : goal.returns-in-UpdateRequest-clause-node
+returns-in-UpdateRequest-clause-node g c = rw (taken-request c.args.parts.now c.args.same_rules c.args.message.now c.in-UpdateRequest.name c.in-UpdateRequest.is) c.take_request.ensures.node
+
+pub returns-in-Delete-clause-node : goal.returns-in-Delete-clause-node
+returns-in-Delete-clause-node g c = c.take_deletion.ensures.node ∙ sym (taken-delete c.args.parts.now c.args.same_rules c.args.message.now c.in-Delete.sent c.in-Delete.is)
+
+pub returns-in-Delete-clause-paid : goal.returns-in-Delete-clause-paid
+returns-in-Delete-clause-paid g c = paid-as 4 _ _ _ _ _ (omega arith) c.take_deletion.ensures.node (few-delete c.args.parts.now c.in-Delete.sent.name) c.take_deletion.ensures.extends
+
+pub returns-in-DeleteShort-clause-node : goal.returns-in-DeleteShort-clause-node
+returns-in-DeleteShort-clause-node g c = c.take_deletion-in-DeleteShort.ensures.node ∙ sym (taken-gone c.args.parts.now c.args.same_rules c.args.message.now c.in-DeleteShort.name c.in-DeleteShort.is)
+
+pub returns-in-DeleteShort-clause-paid : goal.returns-in-DeleteShort-clause-paid
+returns-in-DeleteShort-clause-paid g c = paid-as 4 _ _ _ _ _ (omega arith) c.take_deletion-in-DeleteShort.ensures.node (few-delete c.args.parts.now c.in-DeleteShort.name) c.take_deletion-in-DeleteShort.ensures.extends
+
+pub returns-in-Bulk-clause-node : goal.returns-in-Bulk-clause-node
+returns-in-Bulk-clause-node g c = c.take_status.ensures.node ∙ sym (taken-status c.args.parts.now c.args.same_rules c.args.message.now c.in-Bulk.creator c.in-Bulk.status c.in-Bulk.is)

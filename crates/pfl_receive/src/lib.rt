@@ -1,0 +1,15 @@
+//! What a record from the peer does at a node, kind by kind, and the records of a frame one after another (pfsync(4)).
+#![tactic(auto)]
+
+mod ack;
+mod bulk;
+mod clear;
+mod deletion;
+mod frame;
+mod insertion;
+mod records;
+mod request;
+mod update;
+
+pub use frame::take_all;
+pub use records::take_record;

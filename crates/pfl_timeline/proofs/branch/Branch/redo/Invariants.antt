@@ -1,0 +1,7 @@
+use Rattle.std.specs.Prelude.{◌≡◌, ◌+◌}
+use Rattle.pfl_timeline.specs.Rooted.{with_cursor}
+use Rattle.pfl_timeline.proofs.branch.Branch.redo.Given as goal
+
+-- as many happened again as were counted
+abbrev pub invariant-loop-done : goal.invariant-loop-done
+invariant-loop-done g l = l.self ≡ with_cursor l.fn.self (l.fn.self.branch.cursor + l.done)

@@ -1,0 +1,76 @@
+//! The two nodes of a pair, told apart by their names.
+
+ghost use Rattle.std.specs.Prelude.{◌≡◌, IfOk};
+ghost use Rattle.std.specs.Borrow.{sem};
+ghost use Rattle.pfl_parts.specs.Nodes.{IsNode};
+ghost use Rattle.pfl_world.specs.Worlds.{of_name};
+
+use pfl_base::NodeId;
+use pfl_edits::NoMemory;
+use pfl_node::Node;
+use std::alloc::Allocator;
+use std::marker::Model;
+
+/// The two nodes of a pair.
+#[derive(Drop)]
+pub(crate) struct Nodes<A: Allocator> {
+    pub(crate) a: Node<A>,
+    pub(crate) b: Node<A>,
+}
+
+impl<A: Allocator> Model for Nodes<A> {
+    ghost use Rattle.pfl_world.specs.Worlds.{Nodes};
+    ghost use Rattle.pfl_world.specs.Codes.{coded_nodes};
+
+    ghost Value = { Nodes };
+
+    ghost coded = { coded_nodes };
+
+    ghost view = { λ ns. record { a = ns.a; b = ns.b } };
+}
+
+impl<A: Allocator + Copy> Nodes<A> {
+    /// Equal nodes, with memory of their own.
+    pub(crate) fn copy(&self) -> Result<Self, NoMemory>
+        ensures same { IfOk result (λ copied. copied ≡ self.now) }
+    {
+        Ok(Nodes {
+            a: self.a.copy()?,
+            b: self.b.copy()?,
+        })
+    }
+}
+
+impl<A: Allocator> Nodes<A> {
+    ghost use Rattle.pfl_world.specs.Lending.{LendsNode};
+
+    /// Tells a proof what is true of each node. It does nothing.
+    pub(crate) fn known(&self)
+        ensures a { IsNode self.now.a }
+        ensures b { IsNode self.now.b }
+    {
+        self.a.known();
+        self.b.known();
+    }
+
+    /// The node of the name.
+    pub(crate) fn at(&self, id: NodeId) -> &Node<A>
+        ensures node { result.now ≡ of_name id self.now.a self.now.b }
+    {
+        match id {
+            NodeId::A => &self.a,
+            NodeId::B => &self.b,
+        }
+    }
+
+    /// The node of the name, to be changed.
+    pub(crate) fn at_mut(&mut self, id: NodeId) -> &mut Node<A>
+        ensures* writes_back { sem 𝓛 (LendsNode A.row A.Allocator self.entry id result) }
+        ensures node { result.now ≡ of_name id self.old.a self.old.b }
+    {
+        match id {
+            NodeId::A => &mut self.a,
+            NodeId::B => &mut self.b,
+        }
+    }
+}
