@@ -36,7 +36,7 @@ pub record Follows (C : Type 0) (s t : State) : Type 0 where
   pub is : C → IsState s → IsState t
 
 -- how it waits, and what it has counted, is no matter
-waiting-is : (s : State) (ack : Bool) (updates : ℕ) → IsState s → IsState (record s { ack_wanted = ack; updates = updates })
+pub waiting-is : (s : State) (ack : Bool) (updates : ℕ) → IsState s → IsState (record s { ack_wanted = ack; updates = updates })
 waiting-is s ack updates is = record {
   src = is.src;
   dst = is.dst;

@@ -1,5 +1,5 @@
 -- Why a held packet leaves: no event lets one go but those that the law names.
-use Rattle.std.specs.Prelude.{◌≡◌, ◌≤◌, ◌+◌, ◌⊎◌, ℕ, Bool, true, false, nat_le, List, [], ◌∷◌, Option, Some, None, IsSomeAnd, refl}
+use Rattle.std.specs.Prelude.{◌≡◌, ◌≤◌, ◌+◌, ◌⊎◌, ℕ, Bool, true, false, nat_le, List, [], ◌∷◌, Option, Some, None, IsSomeAnd, IsOkAnd, Result, refl}
 use Rattle.std.specs.List.{fold}
 use Rattle.std.specs.Option.{option_map_or}
 use Rattle.std.proofs.Common.{◌∙◌, cond, ap, sym, subst, inl, inr}
@@ -21,6 +21,10 @@ use Rattle.pfl_track.specs.Keys.{wire_key}
 use Rattle.pfl_track.specs.Tracking.{tracked}
 use Rattle.pfl_table.specs.Tables.{found, key_in_use}
 use Rattle.pfl_table.proofs.Apart.{found-stands}
+use Rattle.pfl_wire.specs.declared.fault.BadFrame.{BadFrame}
+use Rattle.pfl_wire.specs.Frames.{Frame}
+use Rattle.pfl_wire.specs.Reading.{reading}
+use Rattle.pfl_link.specs.Links.{InFlight}
 use Rattle.pfl_queue.specs.declared.Entry.{Entry}
 use Rattle.pfl_queue.specs.declared.Entry.TheVariants.{Marked, Request, Status, Clear}
 use Rattle.pfl_queue.specs.declared.Kind.TheVariants.{Insert}
@@ -35,6 +39,7 @@ use Rattle.pfl_node.specs.Purging.{purged}
 use Rattle.pfl_node.specs.Releasing.{released_due}
 use Rattle.pfl_node.specs.Killing.{killed}
 use Rattle.pfl_node.specs.Clearing.{cleared}
+use Rattle.pfl_node.specs.Events.{restarted}
 use Rattle.pfl_node.specs.Turning as turning
 use Rattle.pfl_node.specs.Retrying.{retried_client}
 use Rattle.pfl_node.specs.Flushing.{flushed, update_count_cleared}
@@ -42,8 +47,9 @@ use Rattle.pfl_node.specs.Packets.{handled, handled_by, followed, accepted, befo
 use Rattle.pfl_node.specs.Starting.{Handled, pass, hold, started, judged, by_rule, announced, with_room, with_new, new_state, is_at_max, is_deferred}
 use Rattle.pfl_world.specs.declared.event.Event.{Event}
 use Rattle.pfl_world.specs.declared.event.Event.TheVariants as event
+use Rattle.pfl_receive.specs.Delivering.{records_of}
 use Rattle.pfl_world.specs.Worlds.{World, node_at, with_node}
-use Rattle.pfl_laws.specs.Laws.{asked_at, Holds, LetsGo, HeldPacketsLeaveOnlySo}
+use Rattle.pfl_laws.specs.Laws.{asked_at, Holds, OneLetsOut, FrameLetsOut, LetsGo, HeldPacketsLeaveOnlySo}
 use Rattle.pfl_laws.proofs.Following.{Alike, Filed}
 use Rattle.pfl_laws.proofs.Keeping.{deleted-keeps, keeps-given}
 use Rattle.pfl_laws.proofs.Handling.{filed-without, judged-keeps}
@@ -53,7 +59,8 @@ use Rattle.pfl_laws.proofs.Removing.{deleted-removes, removed-none, removed-hold
 use Rattle.pfl_laws.proofs.Releasing.{released_due-lets}
 use Rattle.pfl_laws.proofs.Clearing.{purged-lets, killed-lets, cleared-lets}
 use Rattle.pfl_laws.proofs.Asking.{turned-basis, retried-basis, basis-holds}
-use Rattle.pfl_laws.proofs.Stepping.{turned, stepped-node}
+use Rattle.pfl_laws.proofs.Delivering.{received, received-stays}
+use Rattle.pfl_laws.proofs.Stepping.{turned, arrived, stepped-node}
 use Rattle.pfl_laws.proofs.Running.{node-is}
 
 -- ---- a packet that no state takes
@@ -198,11 +205,32 @@ put-stays w A m B h stays holds = holds
 put-stays w B m A h stays holds = holds
 put-stays w B m B h stays holds = stays holds
 
-turned-lets : (w : World) (e : Event) (at : NodeId) (h : Held) → IsNode (node_at w at) → Holds (node_at w at) h → Holds (turned w e at) h ⊎ LetsGo at (node_at w at) (turned w e at) e h
+-- a frame at its receiver
+came-lets : (w : World) (to : NodeId) (r : Result Frame BadFrame) (at : NodeId) (h : Held) → IsNode (node_at w at) → Holds (node_at w at) h
+    → Holds (node_at (with_node w to (received (node_at w to) r)) at) h ⊎ ((to ≡ at) × IsOkAnd r (λ f. OneLetsOut (records_of f) h.name))
+came-lets w A r A h is holds = there (received-stays w.a r h is.parts.states holds)
+came-lets w A r B h is holds = inl holds
+came-lets w B r A h is holds = inl holds
+came-lets w B r B h is holds = there (received-stays w.b r h is.parts.states holds)
+
+arrived-lets : (w : World) (o : Option InFlight) (at : NodeId) (h : Held) → IsNode (node_at w at) → Holds (node_at w at) h
+    → Holds (arrived w at o) h ⊎ IsSomeAnd o (FrameLetsOut at h.name)
+arrived-lets w None at h is holds = inl holds
+arrived-lets w (Some f) at h is holds = came-lets w f.to (reading f.bytes) at h is holds
+
+-- a node that begins anew holds nothing
+anew-lets : (w : World) (id : NodeId) (m : Node) (at : NodeId) (h : Held) → Holds (node_at w at) h → Holds (node_at (with_node w id m) at) h ⊎ (id ≡ at)
+anew-lets w A m A h holds = inr refl
+anew-lets w A m B h holds = inl holds
+anew-lets w B m A h holds = inl holds
+anew-lets w B m B h holds = inr refl
+
+turned-lets : (w : World) (e : Event) (at : NodeId) (h : Held) → IsNode (node_at w at) → Holds (node_at w at) h → Holds (turned w e at) h ⊎ LetsGo w at (node_at w at) (turned w e at) e h
 turned-lets w (event.Packet id dir p) at h is holds =
     put-lets (λ old new. Gone old dir p h (record { fate = (handled old dir p).fate; node = new }) (asked_at old dir p)) w id (handled (node_at w id) dir p).node at h
     (handled-gone (node_at w id) dir p h) is holds
 turned-lets w (event.Flush id) at h is holds = let n = node_at w id in inl (put-stays w id (flushed n) at h (same-holds h n (flushed n) (flushed-held n)) holds)
+turned-lets w (event.Deliver ticket) at h is holds = arrived-lets w (maps.get w.link.frames ticket) at h is holds
 turned-lets w (event.Lose ticket) at h is holds = inl holds
 turned-lets w (event.Repeat ticket) at h is holds = inl holds
 turned-lets w (event.Cut ticket len) at h is holds = inl holds
@@ -216,6 +244,7 @@ turned-lets w (event.Kill id name) at h is holds =
     (λ node. killed-lets (node_at w id) name h node.parts.states.filed) is holds
 turned-lets w (event.Clear id) at h is holds =
     put-lets (λ old new. maps.get new.states h.name ≡ None) w id (cleared (node_at w id)) at h (λ node. cleared-lets (node_at w id) h) is holds
+turned-lets w (event.Restart id) at h is holds = anew-lets w id (restarted (node_at w id) w.next_boot) at h holds
 turned-lets w (event.BulkTurn id) at h is holds =
     let n = node_at w id in
     inl (put-stays w id (turning.turned n) at h (basis-holds h n (turning.turned n) (turned-basis n)) holds)
@@ -225,4 +254,4 @@ turned-lets w (event.BulkRetry id) at h is holds =
 
 pub leaves-only : HeldPacketsLeaveOnlySo
 leaves-only w e v is accepted id h holds =
-    subst (λ (m : Node). Holds m h ⊎ LetsGo id (node_at w id) m e h) (stepped-node w e v id accepted) (turned-lets w e id h (node-is w id is) holds)
+    subst (λ (m : Node). Holds m h ⊎ LetsGo w id (node_at w id) m e h) (stepped-node w e v id accepted) (turned-lets w e id h (node-is w id is) holds)

@@ -1,131 +1,281 @@
--- What events keep under one name of a node, one after the other; and so levels never fall, and no name is given twice.
-use Rattle.std.specs.Prelude.{◌≡◌, ⊤, List, [], ◌∷◌, All, Option, Some, None, IfSome, fold, option_and_then, refl}
-use Rattle.std.proofs.Common.{◌∙◌, sym, subst, arith}
-use Rattle.std.proofs.lemmas.List.Elements.{All-head, All-tail}
+-- What events keep of what stands under one name of a node, one after the other; and so levels never fall while it stands.
+use Rattle.std.specs.Prelude.{◌≡◌, ◌<◌, ℕ, true, List, [], ◌∷◌, All, Option, Some, None, is_some, IsSomeAnd, Result, fold, map, option_and_then, refl}
+use Rattle.std.specs.Option.{option_map_or}
+use Rattle.std.proofs.Common.{◌∙◌, T, ap, sym, subst, arith}
+use Rattle.std.proofs.lemmas.List.Elements.{All-nil, All-cons, All-head, All-tail}
 use Rattle.pfl_base.specs.declared.node_id.NodeId.{NodeId}
 use Rattle.pfl_base.specs.declared.node_id.NodeId.TheVariants.{A, B}
 use Rattle.pfl_base.specs.declared.state_name.StateName.{StateName}
 use Rattle.pfl_edits.specs.Maps as maps
+use Rattle.pfl_edits.specs.Rows.{some_is_none}
 use Rattle.pfl_track.specs.declared.state.State.{State}
-use Rattle.pfl_track.specs.Laws.{Rises}
-use Rattle.pfl_track.specs.States.{IsState}
 use Rattle.pfl_table.specs.Tables.{AreStates}
+use Rattle.pfl_wire.specs.declared.fault.BadFrame.{BadFrame}
+use Rattle.pfl_wire.specs.Frames.{Frame}
+use Rattle.pfl_wire.specs.Reading.{reading}
+use Rattle.pfl_link.specs.Links.{InFlight}
 use Rattle.pfl_parts.specs.Nodes.{Node, IsNode, IsGiven}
+use Rattle.pfl_node.specs.Events.{restarted}
 use Rattle.pfl_world.specs.declared.event.Event.{Event}
+use Rattle.pfl_world.specs.declared.event.Event.TheVariants as event
 use Rattle.pfl_world.specs.Events.{step}
 use Rattle.pfl_world.specs.Runs.{run, after}
-use Rattle.pfl_world.specs.Worlds.{World, IsWorld, node_at}
-use Rattle.pfl_laws.specs.Laws.{IsEvent, HasRisen, LevelsNeverFall, LevelsNeverFallAlong, NoNameIsGivenTwice}
-use Rattle.pfl_laws.proofs.Following.{Follows, From, inner, stands-rises}
-use Rattle.pfl_laws.proofs.Keeping.{Keeps, keeps-then, keeps-itself, keeps-given}
-use Rattle.pfl_laws.proofs.Stepping.{stepped-keeps, stepped-apart}
+use Rattle.pfl_world.specs.Worlds.{World, IsWorld, node_at, with_node}
+use Rattle.pfl_laws.specs.Laws.{IsEvent, HasRisen, HasState, StandsIn, StandsAlong, frame_points, arrival_points, points_at, LevelsNeverFall, LevelsNeverFallAlong, StatesStayApart, StatesStayApartAlong}
+use Rattle.pfl_laws.proofs.Following.{Follows, inner}
+use Rattle.pfl_laws.proofs.Keeping.{Keeps, keeps-given}
+use Rattle.pfl_laws.proofs.Each.{StandsRightly}
+use Rattle.pfl_laws.proofs.Delivering.{Ids, received, received-apart, received-ids, received-rightly, received-rises}
+use Rattle.pfl_laws.proofs.Restarting.{restarted-none, restarted-has_none}
+use Rattle.pfl_laws.proofs.Stepping.{turned, arrived, IsLocal, turned-keeps, turned-apart, stepped-node, stepped-apart}
 
--- ---- runs
-
--- what is so of a node that was n: each state under its own name, and what stands under q comes from what stood there
-record Ran (R : State → State → Type 0) (n : Node) (q : StateName) (m : Node) : Type 0 where
-  states : AreStates m.states
-  keeps : Keeps R q n m
-
--- a relation of states that each event keeps
-module _ (R : State → State → Type 0) (Q : Event → Type 0) (itself : (s : State) → R s s) (on : (e : Event) → Q e → (s t u : State) → R s t → Follows (IsEvent e) t u → R s u) where
-  one : (n : Node) (q : StateName) (id : NodeId) (v : World) (e : Event) (u : World) → Q e → IsGiven n q → Ran R n q (node_at v id) → after (step v e) ≡ Some u → Ran R n q (node_at u id)
-  one n q id v e u fits given ran accepted = record {
-    states = stepped-apart v e u id accepted ran.states;
-    keeps = keeps-then R (Follows (IsEvent e)) R q n (node_at v id) (node_at u id) (on e fits) ran.keeps
-        (stepped-keeps v e u id q accepted ran.states (keeps-given R q n (node_at v id) ran.keeps given));
-  }
-
-  next : (n : Node) (q : StateName) (id : NodeId) (at : Option World) (e : Event) → Q e → IsGiven n q → IfSome at (λ v. Ran R n q (node_at v id)) → IfSome (option_and_then (λ v. after (step v e)) at) (λ v. Ran R n q (node_at v id))
-  next n q id None e fits given ran = tt
-  next n q id (Some v) e fits given ran = by (after (step v e)) refl
-    where
-      by : (o : Option World) → after (step v e) ≡ o → IfSome o (λ u. Ran R n q (node_at u id))
-      by None is = tt
-      by (Some u) is = one n q id v e u fits given ran is
-
-  all : (n : Node) (q : StateName) (id : NodeId) (at : Option World) (es : List Event) → All Q es → IsGiven n q → IfSome at (λ v. Ran R n q (node_at v id)) → IfSome (fold (λ at e. option_and_then (λ v. after (step v e)) at) at es) (λ v. Ran R n q (node_at v id))
-  all n q id at [] fit given ran = ran
-  all n q id at (e ∷ es) fit given ran = all n q id (option_and_then (λ v. after (step v e)) at) es (All-tail Q e es fit) given (next n q id at e (All-head Q e es fit) given ran)
-
-  -- what stands under a name that was given comes from what stood there
-  pub along : (w : World) (es : List Event) (v : World) (id : NodeId) (q : StateName) → All Q es → AreStates (node_at w id).states → IsGiven (node_at w id) q → run w es ≡ Some v → Keeps R q (node_at w id) (node_at v id)
-  unfolding run
-  along w es v id q fit are given e =
-      let first : Ran R (node_at w id) q (node_at w id) = record { states = are; keeps = keeps-itself R q (node_at w id) itself } in
-      let last : Ran R (node_at w id) q (node_at v id) = subst (λ (at : Option World). IfSome at (λ u. Ran R (node_at w id) q (node_at u id))) e (all (node_at w id) q id (Some w) es fit given first) in
-      last.keeps
-
--- ---- levels
+-- ---- nodes of a world
 
 pub node-is : (w : World) (id : NodeId) → IsWorld w → IsNode (node_at w id)
 node-is w A is = is.a
 node-is w B is = is.b
 
--- a state that is one, and whose levels have risen from those of s
-record Risen (s t : State) : Type 0 where
-  is : IsState t
-  rises : Rises s t
-
-abbrev Grows : State → State → Type 0
-Grows s t = IsState s → Risen s t
-
-grows-itself : (s : State) → Grows s s
-grows-itself s is = record { is = is; rises = stands-rises s is }
-
-grows-on : (e : Event) → IsEvent e → (s t u : State) → Grows s t → Follows (IsEvent e) t u → Grows s u
-grows-on e fits s t u grown follows is =
-    let before = grown is in
-    let first = before.rises in
-    let next = follows.rises before.is in
-    let src = first.src in
-    let dst = first.dst in
-    let src_on = next.src in
-    let dst_on = next.dst in
-    record {
-      is = follows.is fits before.is;
-      rises = record { src = omega arith; dst = omega arith; src_most = next.src_most; dst_most = next.dst_most };
-    }
-
 -- the name of a state was given
 pub given_at : (n : Node) (name : StateName) (s : State) → IsNode n → maps.get n.states name ≡ Some s → IsGiven n name
 given_at n name s is at = subst (IsGiven n) (is.parts.states.filed name s at) (is.parts.each name s at).given
 
--- the state that stood is the one
-from-rises : (n : Node) (name : StateName) (s t : State) (R : State → State → Type 0) → maps.get n.states name ≡ Some s → From R n.states name t → R s t
-from-rises n name s t R at from = subst (λ (u : State). R u t) (inner from.state s (sym from.at ∙ at)) from.so
+-- ---- what stands under a name
 
--- without what is at most
-risen : (s t : State) → Rises s t → HasRisen s t
-risen s t r = record { src = r.src; dst = r.dst }
+-- each state stands under its own name, that under q is one, and q was given
+pub record Stood (q : StateName) (n : Node) : Type 0 where
+  pub states : AreStates n.states
+  pub rightly : StandsRightly q n
+  pub given : IsGiven n q
+
+begins : (q : StateName) (n : Node) (s : State) → IsNode n → maps.get n.states q ≡ Some s → Stood q n
+begins q n s is at = record { states = is.parts.states; rightly = λ k t there same. (is.parts.each k t there).is; given = given_at n q s is at }
+
+itself : (s t : State) → s ≡ t → HasRisen s t
+itself s t e = subst (HasRisen s) e (record { src = omega arith; dst = omega arith })
+
+same_state : (n : Node) (q : StateName) (s t : State) → maps.get n.states q ≡ Some s → maps.get n.states q ≡ Some t → HasRisen s t
+same_state n q s t before later = itself s t (inner s t (sym before ∙ later))
+
+-- ---- what a node does for itself
+
+kept-rises : (C : Type 0) (q : StateName) (n m : Node) → Keeps (Follows C) q n m → Stood q n → (s t : State) → maps.get n.states q ≡ Some s → maps.get m.states q ≡ Some t → HasRisen s t
+kept-rises C q n m keeps stood s t before later =
+    let from = keeps.comes t later in
+    let same : from.state ≡ s = inner from.state s (sym from.at ∙ before) in
+    let rises = from.so.rises (stood.rightly q from.state from.at (stood.states.filed q from.state from.at)) in
+    subst (λ (u : State). HasRisen u t) same (record { src = rises.src; dst = rises.dst })
+
+kept-stood : (C : Type 0) (q : StateName) (n m : Node) → C → Keeps (Follows C) q n m → AreStates m.states → Stood q n → Stood q m
+kept-stood C q n m fits keeps are stood = record {
+  states = are;
+  rightly = λ k t at same.
+      let here : maps.get m.states q ≡ Some t = subst (λ (p : StateName). maps.get m.states p ≡ Some t) (sym (are.filed k t at) ∙ same) at in
+      let from = keeps.comes t here in
+      from.so.is fits (stood.rightly q from.state from.at (stood.states.filed q from.state from.at));
+  given = keeps-given (Follows C) q n m keeps stood.given;
+}
+
+local-rises : (w : World) (e : Event) (at : NodeId) (q : StateName) → IsLocal e → Stood q (node_at w at)
+    → (s t : State) → maps.get (node_at w at).states q ≡ Some s → maps.get (turned w e at).states q ≡ Some t → HasRisen s t
+local-rises w e at q local stood = kept-rises (IsEvent e) q (node_at w at) (turned w e at) (turned-keeps q w e at local stood.states stood.given) stood
+
+local-stood : (w : World) (e : Event) (at : NodeId) (q : StateName) → IsLocal e → IsEvent e → Stood q (node_at w at) → Stood q (turned w e at)
+local-stood w e at q local fits stood =
+    kept-stood (IsEvent e) q (node_at w at) (turned w e at) fits (turned-keeps q w e at local stood.states stood.given) (turned-apart w e at stood.states) stood
+
+-- ---- a delivery
+
+unmapped : (q : StateName) (ns : List Node) → All (HasState q) (map (λ n. n) ns) → All (HasState q) ns
+unmapped q [] all = All-nil (HasState q)
+unmapped q (n ∷ ns) all = All-cons (HasState q) n ns (All-head (HasState q) n (map (λ n. n) ns) all) (unmapped q ns (All-tail (HasState q) n (map (λ n. n) ns) all))
+
+-- at the receiver the points are the node after each record
+arrival-rises : (w : World) (to at : NodeId) (q : StateName) (r : Result Frame BadFrame) → AreStates (node_at w at).states
+    → All (HasState q) (map (λ n. node_at (with_node w to n) at) (frame_points (node_at w to) r))
+    → (s t : State) → maps.get (node_at w at).states q ≡ Some s → maps.get (node_at (with_node w to (received (node_at w to) r)) at).states q ≡ Some t → HasRisen s t
+arrival-rises w A A q r are stand s t before later = received-rises q w.a r are (unmapped q (frame_points w.a r) stand) s t before later
+arrival-rises w A B q r are stand s t before later = same_state w.b q s t before later
+arrival-rises w B A q r are stand s t before later = same_state w.a q s t before later
+arrival-rises w B B q r are stand s t before later = received-rises q w.b r are (unmapped q (frame_points w.b r) stand) s t before later
+
+arrived-rises : (w : World) (o : Option InFlight) (at : NodeId) (q : StateName) → AreStates (node_at w at).states → All (HasState q) (option_map_or (arrival_points w at) o [])
+    → (s t : State) → maps.get (node_at w at).states q ≡ Some s → maps.get (arrived w at o).states q ≡ Some t → HasRisen s t
+arrived-rises w None at q are stand s t before later = same_state (node_at w at) q s t before later
+arrived-rises w (Some f) at q are stand s t before later = arrival-rises w f.to at q (reading f.bytes) are stand s t before later
+
+received-stood : (q : StateName) (n : Node) (f : InFlight) → Stood q n → Stood q (received n (reading f.bytes))
+received-stood q n f stood =
+    let same = received-ids n (reading f.bytes) in
+    record {
+      states = received-apart n (reading f.bytes) stood.states;
+      rightly = received-rightly q n f.bytes (reading f.bytes) refl stood.states stood.rightly;
+      given = subst (λ (i : Ids). q.creator ≡ i.0 → q.id < i.1) (sym same) stood.given;
+    }
+
+put-stood : (q : StateName) (w : World) (id : NodeId) (m : Node) (at : NodeId) → (Stood q (node_at w id) → Stood q m) → Stood q (node_at w at) → Stood q (node_at (with_node w id m) at)
+put-stood q w A m A on stood = on stood
+put-stood q w A m B on stood = stood
+put-stood q w B m A on stood = stood
+put-stood q w B m B on stood = on stood
+
+arrived-stood : (q : StateName) (w : World) (o : Option InFlight) (at : NodeId) → Stood q (node_at w at) → Stood q (arrived w at o)
+arrived-stood q w None at stood = stood
+arrived-stood q w (Some f) at stood = put-stood q w f.to (received (node_at w f.to) (reading f.bytes)) at (received-stood q (node_at w f.to) f) stood
+
+-- ---- a restart
+
+anew-rises : (w : World) (id at : NodeId) (boot : ℕ) (q : StateName)
+    → (s t : State) → maps.get (node_at w at).states q ≡ Some s → maps.get (node_at (with_node w id (restarted (node_at w id) boot)) at).states q ≡ Some t → HasRisen s t
+anew-rises w A A boot q s t before later = absurd (some_is_none t (sym later ∙ restarted-none w.a boot q))
+anew-rises w A B boot q s t before later = same_state w.b q s t before later
+anew-rises w B A boot q s t before later = same_state w.a q s t before later
+anew-rises w B B boot q s t before later = absurd (some_is_none t (sym later ∙ restarted-none w.b boot q))
+
+-- the name stands at the other node alone
+anew-stood : (w : World) (id at : NodeId) (boot : ℕ) (q : StateName) → HasState q (node_at (with_node w id (restarted (node_at w id) boot)) at)
+    → Stood q (node_at w at) → Stood q (node_at (with_node w id (restarted (node_at w id) boot)) at)
+anew-stood w A A boot q has stood = absurd (restarted-has_none w.a boot q has)
+anew-stood w A B boot q has stood = stood
+anew-stood w B A boot q has stood = stood
+anew-stood w B B boot q has stood = absurd (restarted-has_none w.b boot q has)
+
+-- ---- any event
+
+turned-rises : (w : World) (e : Event) (at : NodeId) (q : StateName) → Stood q (node_at w at) → StandsIn w e at q
+    → (s t : State) → maps.get (node_at w at).states q ≡ Some s → maps.get (turned w e at).states q ≡ Some t → HasRisen s t
+turned-rises w (event.Packet id dir p) at q stood stands = local-rises w (event.Packet id dir p) at q tt stood
+turned-rises w (event.Flush id) at q stood stands = local-rises w (event.Flush id) at q tt stood
+turned-rises w (event.Deliver ticket) at q stood stands = arrived-rises w (maps.get w.link.frames ticket) at q stood.states stands
+turned-rises w (event.Lose ticket) at q stood stands = local-rises w (event.Lose ticket) at q tt stood
+turned-rises w (event.Repeat ticket) at q stood stands = local-rises w (event.Repeat ticket) at q tt stood
+turned-rises w (event.Cut ticket len) at q stood stands = local-rises w (event.Cut ticket len) at q tt stood
+turned-rises w (event.Tick id ms) at q stood stands = local-rises w (event.Tick id ms) at q tt stood
+turned-rises w (event.Purge id) at q stood stands = local-rises w (event.Purge id) at q tt stood
+turned-rises w (event.Release id) at q stood stands = local-rises w (event.Release id) at q tt stood
+turned-rises w (event.Kill id name) at q stood stands = local-rises w (event.Kill id name) at q tt stood
+turned-rises w (event.Clear id) at q stood stands = local-rises w (event.Clear id) at q tt stood
+turned-rises w (event.Restart id) at q stood stands = anew-rises w id at w.next_boot q
+turned-rises w (event.BulkTurn id) at q stood stands = local-rises w (event.BulkTurn id) at q tt stood
+turned-rises w (event.BulkRetry id) at q stood stands = local-rises w (event.BulkRetry id) at q tt stood
+
+turned-stood : (w : World) (e : Event) (at : NodeId) (q : StateName) → IsEvent e → HasState q (turned w e at) → Stood q (node_at w at) → Stood q (turned w e at)
+turned-stood w (event.Packet id dir p) at q fits has = local-stood w (event.Packet id dir p) at q tt fits
+turned-stood w (event.Flush id) at q fits has = local-stood w (event.Flush id) at q tt fits
+turned-stood w (event.Deliver ticket) at q fits has = arrived-stood q w (maps.get w.link.frames ticket) at
+turned-stood w (event.Lose ticket) at q fits has = local-stood w (event.Lose ticket) at q tt fits
+turned-stood w (event.Repeat ticket) at q fits has = local-stood w (event.Repeat ticket) at q tt fits
+turned-stood w (event.Cut ticket len) at q fits has = local-stood w (event.Cut ticket len) at q tt fits
+turned-stood w (event.Tick id ms) at q fits has = local-stood w (event.Tick id ms) at q tt fits
+turned-stood w (event.Purge id) at q fits has = local-stood w (event.Purge id) at q tt fits
+turned-stood w (event.Release id) at q fits has = local-stood w (event.Release id) at q tt fits
+turned-stood w (event.Kill id name) at q fits has = local-stood w (event.Kill id name) at q tt fits
+turned-stood w (event.Clear id) at q fits has = local-stood w (event.Clear id) at q tt fits
+turned-stood w (event.Restart id) at q fits has = anew-stood w id at w.next_boot q has
+turned-stood w (event.BulkTurn id) at q fits has = local-stood w (event.BulkTurn id) at q tt fits
+turned-stood w (event.BulkRetry id) at q fits has = local-stood w (event.BulkRetry id) at q tt fits
+
+stepped-rises : (w : World) (e : Event) (v : World) (at : NodeId) (q : StateName) → after (step w e) ≡ Some v → Stood q (node_at w at) → StandsIn w e at q
+    → (s t : State) → maps.get (node_at w at).states q ≡ Some s → maps.get (node_at v at).states q ≡ Some t → HasRisen s t
+stepped-rises w e v at q accepted stood stands s t before later =
+    turned-rises w e at q stood stands s t before (ap (λ (n : Node). maps.get n.states q) (stepped-node w e v at accepted) ∙ later)
+
+stepped-stood : (w : World) (e : Event) (v : World) (at : NodeId) (q : StateName) → after (step w e) ≡ Some v → IsEvent e → HasState q (node_at v at) → Stood q (node_at w at) → Stood q (node_at v at)
+stepped-stood w e v at q accepted fits has stood =
+    let same = stepped-node w e v at accepted in
+    subst (Stood q) same (turned-stood w e at q fits (subst (HasState q) (sym same) has) stood)
 
 pub levels-step : LevelsNeverFall
-levels-step w e v is accepted id name s t before later =
-    let node = node-is w id is in
-    let keeps = stepped-keeps w e v id name accepted node.parts.states (given_at (node_at w id) name s node before) in
-    risen s t ((from-rises (node_at w id) name s t (Follows (IsEvent e)) before (keeps.comes t later)).rises (node.parts.each name s before).is)
+levels-step w e v is accepted id name s t stands before later =
+    stepped-rises w e v id name accepted (begins name (node_at w id) s (node-is w id is) before) stands s t before later
+
+-- ---- runs
+
+-- the rest of a run goes on from where its first event led
+run-on : (w v : World) (e : Event) (es : List Event) → after (step w e) ≡ Some v → run w (e ∷ es) ≡ run v es
+unfolding run
+run-on w v e es is = ap (λ (at : Option World). fold (λ at e. option_and_then (λ u. after (step u e)) at) at es) is
+
+-- nothing follows an event that is refused
+run-off : (w v : World) (e : Event) (es : List Event) → after (step w e) ≡ None → run w (e ∷ es) ≡ Some v → ⊥
+unfolding run
+run-off w v e es is ran = absurd (some_is_none v (sym ran ∙ (ap (λ (at : Option World). fold (λ at e. option_and_then (λ u. after (step u e)) at) at es) is ∙ stays es)))
+  where
+    stays : (es : List Event) → fold (λ at e. option_and_then (λ u. after (step u e)) at) None es ≡ None
+    stays [] = refl
+    stays (x ∷ xs) = stays xs
+
+run-none : (w v : World) → run w [] ≡ Some v → w ≡ v
+unfolding run
+run-none w v e = inner w v e
+
+-- by what its first event did, a run is no run, or goes on
+pub on-run : (P : Type 0) (w v : World) (e : Event) (es : List Event) → run w (e ∷ es) ≡ Some v → ((u : World) → after (step w e) ≡ Some u → run u es ≡ Some v → P) → P
+on-run P w v e es ran next = by (after (step w e)) refl
+  where
+    by : (o : Option World) → after (step w e) ≡ o → P
+    by None is = absurd (run-off w v e es is ran)
+    by (Some u) is = next u is (sym (run-on w u e es is) ∙ ran)
+
+pub at-end : (w v : World) → run w [] ≡ Some v → w ≡ v
+at-end w v e = run-none w v e
+
+first-stands : (w : World) (es : List Event) (id : NodeId) (q : StateName) → StandsAlong w es id q → HasState q (node_at w id)
+first-stands w [] id q stands = stands
+first-stands w (e ∷ es) id q stands = stands.0
+
+-- where a state stands at each record, it does so in a delivery
+stands-in : (w : World) (e : Event) (id : NodeId) (q : StateName) → All (HasState q) (points_at w e id) → StandsIn w e id q
+stands-in w (event.Packet node dir p) id q all = tt
+stands-in w (event.Flush node) id q all = tt
+stands-in w (event.Deliver ticket) id q all = all
+stands-in w (event.Lose ticket) id q all = tt
+stands-in w (event.Repeat ticket) id q all = tt
+stands-in w (event.Cut ticket len) id q all = tt
+stands-in w (event.Tick node ms) id q all = tt
+stands-in w (event.Purge node) id q all = tt
+stands-in w (event.Release node) id q all = tt
+stands-in w (event.Kill node name) id q all = tt
+stands-in w (event.Clear node) id q all = tt
+stands-in w (event.Restart node) id q all = tt
+stands-in w (event.BulkTurn node) id q all = tt
+stands-in w (event.BulkRetry node) id q all = tt
+
+risen-then : (s t u : State) → HasRisen s t → HasRisen t u → HasRisen s u
+risen-then s t u first next =
+    let a = first.src in
+    let b = first.dst in
+    let c = next.src in
+    let d = next.dst in
+    record { src = omega arith; dst = omega arith }
+
+along-rises : (es : List Event) (w v : World) (id : NodeId) (q : StateName) → All IsEvent es → run w es ≡ Some v → Stood q (node_at w id) → StandsAlong w es id q
+    → (s t : State) → maps.get (node_at w id).states q ≡ Some s → maps.get (node_at v id).states q ≡ Some t → HasRisen s t
+along-rises [] w v id q fit ran stood stands s t before later =
+    same_state (node_at w id) q s t before (ap (λ (u : World). maps.get (node_at u id).states q) (at-end w v ran) ∙ later)
+along-rises (e ∷ es) w v id q fit ran stood stands s t before later = on-run (HasRisen s t) w v e es ran (λ u accepted rest.
+    let on : StandsAlong u es id q = subst (λ (o : Option World). IsSomeAnd o (λ x. StandsAlong x es id q)) accepted stands.2 in
+    let has = first-stands u es id q on in
+    let next_stood = stepped-stood w e u id q accepted (All-head IsEvent e es fit) has stood in
+    by u accepted (maps.get (node_at u id).states q) refl has (λ m at. along-rises es u v id q (All-tail IsEvent e es fit) rest next_stood on m t at later))
+  where
+    by : (u : World) → after (step w e) ≡ Some u → (o : Option State) → maps.get (node_at u id).states q ≡ o → is_some o ≡ true
+        → ((m : State) → maps.get (node_at u id).states q ≡ Some m → HasRisen m t) → HasRisen s t
+    by u accepted None at some on = absurd (subst T (sym some) tt)
+    by u accepted (Some m) at some on = risen-then s m t (stepped-rises w e u id q accepted stood (stands-in w e id q stands.1) s m before at) (on m at)
 
 pub levels-along : LevelsNeverFallAlong
 levels-along w es v is fit ran id name s t stands before later =
-    let node = node-is w id is in
-    let keeps = along Grows IsEvent grows-itself grows-on w es v id name fit node.parts.states (given_at (node_at w id) name s node before) ran in
-    risen s t (from-rises (node_at w id) name s t Grows before (keeps.comes t later) (node.parts.each name s before).is).rises
+    along-rises es w v id name fit ran (begins name (node_at w id) s (node-is w id is) before) stands s t before later
 
--- ---- names
+-- ---- keys
 
-abbrev Any : State → State → Type 0
-Any s t = ⊤
+pub apart-step : StatesStayApart
+apart-step w e v is accepted id = stepped-apart w e v id accepted (node-is w id is).parts.states
 
-each-any : (es : List Event) → All (λ e. ⊤) es
-each-any es = λ k d low. tt
+all-apart : (es : List Event) (w v : World) (id : NodeId) → run w es ≡ Some v → AreStates (node_at w id).states → AreStates (node_at v id).states
+all-apart [] w v id ran are = subst (λ (u : World). AreStates (node_at u id).states) (at-end w v ran) are
+all-apart (e ∷ es) w v id ran are =
+    on-run (AreStates (node_at v id).states) w v e es ran (λ u accepted rest. all-apart es u v id rest (stepped-apart w e u id accepted are))
 
--- the name was given at the first event, so that the node is past it at the last
-pub names-once : NoNameIsGivenTwice
-names-once w first v es u last x is accepted ran later id name gives again =
-    let states = stepped-apart w first v id accepted (node-is w id is).parts.states in
-    let given : IsGiven (node_at v id) name = λ own. gives.after in
-    let keeps = along Any (λ e. ⊤) (λ s. tt) (λ e fits s t r before follows. tt) v es u id name (each-any es) states given ran in
-    let past = keeps.next in
-    let low = gives.after in
-    let high = again.before in
-    omega arith
+pub apart-along : StatesStayApartAlong
+apart-along w es v is ran id = all-apart es w v id ran (node-is w id is).parts.states

@@ -1,6 +1,6 @@
 -- Between events states wait for acknowledgements exactly while their packets are held, and names were given: each event of the
 -- pair keeps that of its nodes, and so do runs of events.
-use Rattle.std.specs.Prelude.{◌≡◌, false, List, [], ◌∷◌, Option, Some, None, IfSome, option_and_then, refl}
+use Rattle.std.specs.Prelude.{◌≡◌, ℕ, false, List, [], ◌∷◌, Option, Some, None, IfSome, Result, option_and_then, refl}
 use Rattle.std.specs.List.{fold}
 use Rattle.std.proofs.Common.{◌∙◌, ap, sym, subst}
 use Rattle.pfl_base.specs.declared.direction.Dir.{Dir}
@@ -21,6 +21,10 @@ use Rattle.pfl_track.specs.Tracking.{tracked}
 use Rattle.pfl_track.proofs.Names.{Stays, tracked-stays}
 use Rattle.pfl_table.specs.Tables.{AreStates, found}
 use Rattle.pfl_table.proofs.Apart.{found-stands}
+use Rattle.pfl_wire.specs.declared.fault.BadFrame.{BadFrame}
+use Rattle.pfl_wire.specs.Frames.{Frame}
+use Rattle.pfl_wire.specs.Reading.{reading}
+use Rattle.pfl_link.specs.Links.{InFlight}
 use Rattle.pfl_queue.specs.declared.Entry.{Entry}
 use Rattle.pfl_queue.specs.declared.Entry.TheVariants.{Marked, Request, Status, Clear}
 use Rattle.pfl_queue.specs.Taking.{next_frame, left_by}
@@ -31,6 +35,7 @@ use Rattle.pfl_node.specs.Purging.{purged}
 use Rattle.pfl_node.specs.Releasing.{released_due}
 use Rattle.pfl_node.specs.Killing.{killed}
 use Rattle.pfl_node.specs.Clearing.{cleared}
+use Rattle.pfl_node.specs.Events.{restarted}
 use Rattle.pfl_node.specs.Turning as turning
 use Rattle.pfl_node.specs.Retrying.{retried_client}
 use Rattle.pfl_node.specs.Flushing.{flushed, update_count_cleared}
@@ -49,7 +54,9 @@ use Rattle.pfl_laws.proofs.Flushing.{entry-apart, flushed-keeps, flushed-apart}
 use Rattle.pfl_laws.proofs.Releasing.{released_due-keeps, released_due-apart, released_due-tied}
 use Rattle.pfl_laws.proofs.Clearing.{purged-keeps, purged-apart, purged-tied, killed-keeps, killed-apart, killed-tied, cleared-keeps, cleared-apart, cleared-tied}
 use Rattle.pfl_laws.proofs.Asking.{basis, turned-basis, retried-basis, basis-keeps, basis-apart, basis-tied}
-use Rattle.pfl_laws.proofs.Stepping.{turned, stepped-node}
+use Rattle.pfl_laws.proofs.Delivering.{received, received-apart, received-given, received-tied}
+use Rattle.pfl_laws.proofs.Restarting.{restarted-apart, restarted-given, restarted-tied}
+use Rattle.pfl_laws.proofs.Stepping.{turned, arrived, stepped-node}
 use Rattle.pfl_laws.proofs.Running.{node-is, given_at}
 use Rattle.pfl_laws.proofs.Tied.{waits, tied-same, tied-put, tied-some, tied-deleted}
 use Rattle.pfl_laws.proofs.Waiting.{AreGiven, given-keeps, judged-given, judged-tied, accepted-tied}
@@ -145,6 +152,16 @@ basis-sound n m e is = record {
   tied = basis-tied n m e is.tied;
 }
 
+received-sound : (n : Node) (r : Result Frame BadFrame) → Sound n → Sound (received n r)
+received-sound n r is = record {
+  states = received-apart n r is.states;
+  given = received-given n r is.states is.given;
+  tied = received-tied n r is.states is.tied;
+}
+
+restarted-sound : (n : Node) (boot : ℕ) → Sound (restarted n boot)
+restarted-sound n boot = record { states = restarted-apart n boot; given = restarted-given n boot; tied = restarted-tied n boot }
+
 -- ---- the pair
 
 put-sound : (w : World) (id : NodeId) (m : Node) (at : NodeId) → (Sound (node_at w id) → Sound m) → Sound (node_at w at) → Sound (node_at (with_node w id m) at)
@@ -153,9 +170,14 @@ put-sound w A m B sound is = is
 put-sound w B m A sound is = is
 put-sound w B m B sound is = sound is
 
+arrived-sound : (w : World) (o : Option InFlight) (at : NodeId) → Sound (node_at w at) → Sound (arrived w at o)
+arrived-sound w None at is = is
+arrived-sound w (Some f) at is = put-sound w f.to (received (node_at w f.to) (reading f.bytes)) at (received-sound (node_at w f.to) (reading f.bytes)) is
+
 turned-sound : (w : World) (e : Event) (at : NodeId) → Sound (node_at w at) → Sound (turned w e at)
 turned-sound w (event.Packet id dir p) at is = put-sound w id (handled (node_at w id) dir p).node at (handled-sound (node_at w id) dir p) is
 turned-sound w (event.Flush id) at is = put-sound w id (flushed (node_at w id)) at (flushed-sound (node_at w id)) is
+turned-sound w (event.Deliver ticket) at is = arrived-sound w (maps.get w.link.frames ticket) at is
 turned-sound w (event.Lose ticket) at is = is
 turned-sound w (event.Repeat ticket) at is = is
 turned-sound w (event.Cut ticket len) at is = is
@@ -165,6 +187,7 @@ turned-sound w (event.Purge id) at is = put-sound w id (purged (node_at w id)) a
 turned-sound w (event.Release id) at is = put-sound w id (released_due (node_at w id)) at (released_due-sound (node_at w id)) is
 turned-sound w (event.Kill id name) at is = put-sound w id (killed (node_at w id) name) at (killed-sound (node_at w id) name) is
 turned-sound w (event.Clear id) at is = put-sound w id (cleared (node_at w id)) at (cleared-sound (node_at w id)) is
+turned-sound w (event.Restart id) at is = put-sound w id (restarted (node_at w id) w.next_boot) at (λ s. restarted-sound (node_at w id) w.next_boot) is
 turned-sound w (event.BulkTurn id) at is = let n = node_at w id in put-sound w id (turning.turned n) at (basis-sound n (turning.turned n) (turned-basis n)) is
 turned-sound w (event.BulkRetry id) at is = let n = node_at w id in put-sound w id (retried_client n) at (basis-sound n (retried_client n) (retried-basis n)) is
 

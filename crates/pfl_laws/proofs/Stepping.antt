@@ -1,7 +1,9 @@
 -- What an event of the pair keeps under one name of one of its nodes.
-use Rattle.std.specs.Prelude.{◌≡◌, ◌==◌, ◌+◌, not, nat_lt, [], ◌∷◌, length, Option, Some, None, Err, refl}
+use Rattle.std.specs.Prelude.{◌≡◌, ◌==◌, ◌+◌, ℕ, not, nat_lt, nat_le, [], ◌∷◌, length, Option, Some, None, Result, Ok, Err, refl}
+use Rattle.std.specs.List.{fold}
 use Rattle.std.specs.Option.{option_map_or}
 use Rattle.std.proofs.Common.{◌∙◌, ap, sym, subst}
+use Rattle.pfl_base.specs.Lists.{folds}
 use Rattle.pfl_base.specs.declared.node_id.NodeId.{NodeId}
 use Rattle.pfl_base.specs.declared.node_id.NodeId.TheVariants.{A, B}
 use Rattle.pfl_base.specs.declared.refusal.Refusal.{Refusal}
@@ -10,23 +12,28 @@ use Rattle.pfl_base.specs.declared.state_name.StateName.{StateName}
 use Rattle.pfl_base.specs.Packets.{IsPacket}
 use Rattle.pfl_edits.specs.Maps as maps
 use Rattle.pfl_edits.specs.Rows.{some_is_none}
+use Rattle.pfl_wire.specs.declared.fault.BadFrame.{BadFrame}
+use Rattle.pfl_wire.specs.Frames.{Frame}
+use Rattle.pfl_wire.specs.Reading.{reading}
 use Rattle.pfl_link.specs.Links.{Link, InFlight, is_full, is_counted_out, sent, without_frame, with_frame, cut_to}
 use Rattle.pfl_track.specs.declared.state.State.{State}
 use Rattle.pfl_table.specs.Tables.{AreStates}
 use Rattle.pfl_bulk.specs.Bulk.{is_serving, is_waiting, is_due}
-use Rattle.pfl_parts.specs.Nodes.{Node, IsGiven, refused_by, full_tests, is_overfull, is_overcounted, last_millisecond}
-use Rattle.pfl_parts.specs.Changes.{deleted}
+use Rattle.pfl_parts.specs.Nodes.{Node, IsGiven, refused_by, full_tests, is_overfull, is_overcounted, greatest, last_millisecond}
+use Rattle.pfl_parts.specs.Changes.{deleted, count_broken}
 use Rattle.pfl_node.specs.Flushing.{flushed}
 use Rattle.pfl_node.specs.Ticking.{ticked}
 use Rattle.pfl_node.specs.Purging.{purged, purge_points, expired_states}
 use Rattle.pfl_node.specs.Releasing.{released_due, due_names}
 use Rattle.pfl_node.specs.Killing.{killed}
 use Rattle.pfl_node.specs.Clearing.{cleared}
+use Rattle.pfl_node.specs.Events.{restarted}
 use Rattle.pfl_node.specs.Turning as turning
 use Rattle.pfl_node.specs.Turning.{turn_of}
 use Rattle.pfl_node.specs.Retrying.{retried_client, retry_answer}
 use Rattle.pfl_node.specs.Packets.{handled, packet_points}
 use Rattle.pfl_node.proofs.OneState.{handled-apart}
+use Rattle.pfl_receive.specs.Receiving.{taken}
 use Rattle.pfl_world.specs.declared.event.Event.{Event}
 use Rattle.pfl_world.specs.declared.event.Event.TheVariants as event
 use Rattle.pfl_world.specs.Events.{step}
@@ -34,7 +41,8 @@ use Rattle.pfl_world.specs.Outcomes as outcome
 use Rattle.pfl_world.specs.Outcomes.{Outcome, Stepped}
 use Rattle.pfl_world.specs.Runs.{after}
 use Rattle.pfl_world.specs.Steps as steps
-use Rattle.pfl_world.specs.Steps.{answered, outcome_of, retry_outcome, packet_step, flush_refusal, sent_frame, flush_step, lose_step, repeat_step, cut_step, tick_step, purge_step, release_step, kill_step, clear_step, turn_step, retry_step}
+use Rattle.pfl_receive.specs.Delivering.{records_of, same_rules}
+use Rattle.pfl_world.specs.Steps.{answered, outcome_of, retry_outcome, packet_step, flush_refusal, sent_frame, flush_step, read_taken, deliver_step, lose_step, repeat_step, cut_step, tick_step, purge_step, release_step, kill_step, clear_step, restart_step, turn_step, retry_step}
 use Rattle.pfl_world.specs.Worlds.{World, node_at, with_node, with_link}
 use Rattle.pfl_laws.specs.Laws.{IsEvent}
 use Rattle.pfl_laws.proofs.Following.{Alike, Follows, alike-follows, inner}
@@ -43,14 +51,22 @@ use Rattle.pfl_laws.proofs.Handling.{handled-keeps}
 use Rattle.pfl_laws.proofs.Flushing.{flushed-keeps, flushed-apart}
 use Rattle.pfl_laws.proofs.Releasing.{released_due-keeps, released_due-apart}
 use Rattle.pfl_laws.proofs.Clearing.{purged-keeps, purged-apart, killed-keeps, killed-apart, cleared-keeps, cleared-apart}
+use Rattle.pfl_laws.proofs.Delivering.{received, received-apart}
+use Rattle.pfl_laws.proofs.Restarting.{restarted-apart}
 use Rattle.pfl_laws.proofs.Asking.{turned-basis, retried-basis, basis-keeps, basis-apart}
 
 -- ---- the pair
+
+-- each node after what is there of a frame came to its receiver
+abbrev pub arrived : World → NodeId → Option InFlight → Node
+arrived w at None = node_at w at
+arrived w at (Some f) = node_at (with_node w f.to (received (node_at w f.to) (reading f.bytes))) at
 
 -- each node after the event
 abbrev pub turned : World → Event → NodeId → Node
 turned w (event.Packet id dir p) at = node_at (with_node w id (handled (node_at w id) dir p).node) at
 turned w (event.Flush id) at = node_at (with_node w id (flushed (node_at w id))) at
+turned w (event.Deliver ticket) at = arrived w at (maps.get w.link.frames ticket)
 turned w (event.Lose ticket) at = node_at w at
 turned w (event.Repeat ticket) at = node_at w at
 turned w (event.Cut ticket len) at = node_at w at
@@ -59,11 +75,12 @@ turned w (event.Purge id) at = node_at (with_node w id (purged (node_at w id))) 
 turned w (event.Release id) at = node_at (with_node w id (released_due (node_at w id))) at
 turned w (event.Kill id name) at = node_at (with_node w id (killed (node_at w id) name)) at
 turned w (event.Clear id) at = node_at (with_node w id (cleared (node_at w id))) at
+turned w (event.Restart id) at = node_at (with_node w id (restarted (node_at w id) w.next_boot)) at
 turned w (event.BulkTurn id) at = node_at (with_node w id (turning.turned (node_at w id))) at
 turned w (event.BulkRetry id) at = node_at (with_node w id (retried_client (node_at w id))) at
 
 -- the world after an event that is accepted
-answered-world : (o : Option Refusal) (s : Stepped) (v : World) → after (answered o s) ≡ Some v → s.world ≡ v
+pub answered-world : (o : Option Refusal) (s : Stepped) (v : World) → after (answered o s) ≡ Some v → s.world ≡ v
 answered-world None s v e = inner s.world v e
 answered-world (Some r) s v e = absurd (some_is_none v (sym e))
 
@@ -71,7 +88,7 @@ answered-node : (o : Option Refusal) (s : Stepped) (v : World) (at : NodeId) →
 answered-node o s v at e = ap (λ (u : World). node_at u at) (answered-world o s v e)
 
 -- another link leaves the nodes
-link-node : (w : World) (l : Link) (at : NodeId) → node_at w at ≡ node_at (with_link w l) at
+pub link-node : (w : World) (l : Link) (at : NodeId) → node_at w at ≡ node_at (with_link w l) at
 link-node w l A = refl
 link-node w l B = refl
 
@@ -88,8 +105,38 @@ killed-node w id None v at e = absurd (some_is_none v (sym e))
 killed-node w id (Some s) v at e =
     answered-node (refused_by (full_tests (deleted (node_at w id) s ∷ []))) (record { world = with_node w id (deleted (node_at w id) s); outcome = outcome.Killed }) v at e
 
+-- neither the link nor the next boot is a node's
+other-link : (w : World) (l : Link) (id : NodeId) (n : Node) (at : NodeId) → node_at (with_node w id n) at ≡ node_at (with_node (with_link w l) id n) at
+other-link w l A n A = refl
+other-link w l A n B = refl
+other-link w l B n A = refl
+other-link w l B n B = refl
+
+other-boot : (w : World) (boot : ℕ) (at : NodeId) → node_at w at ≡ node_at (record w { next_boot = boot }) at
+other-boot w boot A = refl
+other-boot w boot B = refl
+
+-- a frame comes to its receiver
+read-node : (w : World) (ticket : ℕ) (to : NodeId) (r : Result Frame BadFrame) (v : World) (at : NodeId)
+    → after (read_taken (steps.without w ticket) to (node_at w to) r) ≡ Some v → node_at (with_node w to (received (node_at w to) r)) at ≡ node_at v at
+read-node w ticket to (Ok f) v at e =
+    let n = node_at w to in
+    let m = fold (λ k r. taken k (same_rules n f) r) n (records_of f) in
+    other-link w (without_frame w.link ticket) to m at
+    ∙ answered-node (refused_by (full_tests (folds (λ k r. taken k (same_rules n f) r) n (records_of f))))
+    (record { world = with_node (steps.without w ticket) to m; outcome = outcome.Taken (length (records_of f)) }) v at e
+read-node w ticket to (Err why) v at e =
+    let m = count_broken (node_at w to) in
+    other-link w (without_frame w.link ticket) to m at
+    ∙ answered-node (refused_by (full_tests (m ∷ []))) (record { world = with_node (steps.without w ticket) to m; outcome = outcome.Broken why }) v at e
+
+arrived-node : (w : World) (ticket : ℕ) (o : Option InFlight) (v : World) (at : NodeId)
+    → after (option_map_or (λ f. read_taken (steps.without w ticket) f.to (node_at w f.to) (reading f.bytes)) o (Err NoSuchFrame)) ≡ Some v → arrived w at o ≡ node_at v at
+arrived-node w ticket None v at e = absurd (some_is_none v (sym e))
+arrived-node w ticket (Some f) v at e = read-node w ticket f.to (reading f.bytes) v at e
+
 pub stepped-node : (w : World) (e : Event) (v : World) (at : NodeId) → after (step w e) ≡ Some v → turned w e at ≡ node_at v at
-unfolding step packet_step flush_step lose_step repeat_step cut_step tick_step purge_step release_step kill_step clear_step turn_step retry_step
+unfolding step packet_step flush_step deliver_step lose_step repeat_step cut_step tick_step purge_step release_step kill_step clear_step restart_step turn_step retry_step
 stepped-node w (event.Packet id dir p) v at e =
     answered-node (refused_by (full_tests (packet_points (node_at w id) dir p)))
     (record { world = with_node w id (handled (node_at w id) dir p).node; outcome = outcome_of (handled (node_at w id) dir p).fate }) v at e
@@ -97,6 +144,7 @@ stepped-node w (event.Flush id) v at e =
     link-node (with_node w id (flushed (node_at w id))) (sent w.link (sent_frame w id)) at
     ∙ answered-node (flush_refusal w id)
     (record { world = with_link (with_node w id (flushed (node_at w id))) (sent w.link (sent_frame w id)); outcome = outcome.Sent w.link.next (length (sent_frame w id).bytes) }) v at e
+stepped-node w (event.Deliver ticket) v at e = arrived-node w ticket (maps.get w.link.frames ticket) v at e
 stepped-node w (event.Lose ticket) v at e = frame-node w (maps.get w.link.frames ticket) None (λ f. without_frame w.link ticket) (λ f. outcome.Lost) v at e
 stepped-node w (event.Repeat ticket) v at e =
     frame-node w (maps.get w.link.frames ticket) (refused_by ((is_full w.link, LinkFull) ∷ (is_counted_out w.link, CountFull) ∷ []))
@@ -117,6 +165,10 @@ stepped-node w (event.Kill id name) v at e = killed-node w id (maps.get (node_at
 stepped-node w (event.Clear id) v at e =
     let n = node_at w id in
     answered-node (refused_by (full_tests (cleared n ∷ []))) (record { world = with_node w id (cleared n); outcome = outcome.Cleared (maps.len n.states) }) v at e
+stepped-node w (event.Restart id) v at e =
+    let anew = with_node w id (restarted (node_at w id) w.next_boot) in
+    other-boot anew (w.next_boot + 1) at
+    ∙ answered-node (refused_by ((nat_le greatest w.next_boot, CountFull) ∷ [])) (record { world = record anew { next_boot = w.next_boot + 1 }; outcome = outcome.Boot w.next_boot }) v at e
 stepped-node w (event.BulkTurn id) v at e =
     let n = node_at w id in
     answered-node (refused_by ((not (is_serving n.server), NotSyncing) ∷ full_tests (turning.turned n ∷ [])))
@@ -151,29 +203,42 @@ put-alike : (q : StateName) (w : World) (id : NodeId) (m : Node) (at : NodeId) �
 put-alike q w id m at keeps =
     put-keeps (Follows (Unit {0})) q w id m at itself (λ are given. keeps-as Alike (Follows (Unit {0})) q (node_at w id) m (alike-follows (Unit {0})) (keeps are))
 
-turned-keeps : (q : StateName) (w : World) (e : Event) (at : NodeId) → AreStates (node_at w at).states → IsGiven (node_at w at) q → Keeps (Follows (IsEvent e)) q (node_at w at) (turned w e at)
-turned-keeps q w (event.Packet id dir p) at are given =
+-- a node does it for itself: no record of the peer's brings a state, and it stays in its boot
+abbrev pub IsLocal : Event → Type 0
+IsLocal (event.Deliver ticket) = ⊥
+IsLocal (event.Restart node) = ⊥
+IsLocal _ = Unit {0}
+
+pub turned-keeps : (q : StateName) (w : World) (e : Event) (at : NodeId) → IsLocal e → AreStates (node_at w at).states → IsGiven (node_at w at) q → Keeps (Follows (IsEvent e)) q (node_at w at) (turned w e at)
+turned-keeps q w (event.Packet id dir p) at local are given =
     put-keeps (Follows (IsPacket p)) q w id (handled (node_at w id) dir p).node at (λ s. alike-follows (IsPacket p) s s refl) (handled-keeps q (node_at w id) dir p) are given
-turned-keeps q w (event.Flush id) at are given = put-alike q w id (flushed (node_at w id)) at (flushed-keeps q (node_at w id)) are given
-turned-keeps q w (event.Lose ticket) at are given = keeps-itself (Follows (Unit {0})) q (node_at w at) itself
-turned-keeps q w (event.Repeat ticket) at are given = keeps-itself (Follows (Unit {0})) q (node_at w at) itself
-turned-keeps q w (event.Cut ticket len) at are given = keeps-itself (Follows (Unit {0})) q (node_at w at) itself
-turned-keeps q w (event.Tick id ms) at are given =
+turned-keeps q w (event.Flush id) at local are given = put-alike q w id (flushed (node_at w id)) at (flushed-keeps q (node_at w id)) are given
+turned-keeps q w (event.Deliver ticket) at local are given = absurd local
+turned-keeps q w (event.Lose ticket) at local are given = keeps-itself (Follows (Unit {0})) q (node_at w at) itself
+turned-keeps q w (event.Repeat ticket) at local are given = keeps-itself (Follows (Unit {0})) q (node_at w at) itself
+turned-keeps q w (event.Cut ticket len) at local are given = keeps-itself (Follows (Unit {0})) q (node_at w at) itself
+turned-keeps q w (event.Tick id ms) at local are given =
     put-keeps (Follows (Unit {0})) q w id (ticked (node_at w id) ms) at itself (λ a g. keeps-itself (Follows (Unit {0})) q (node_at w id) itself) are given
-turned-keeps q w (event.Purge id) at are given = put-alike q w id (purged (node_at w id)) at (λ a. purged-keeps q (node_at w id)) are given
-turned-keeps q w (event.Release id) at are given = put-alike q w id (released_due (node_at w id)) at (released_due-keeps q (node_at w id)) are given
-turned-keeps q w (event.Kill id name) at are given = put-alike q w id (killed (node_at w id) name) at (λ a. killed-keeps q (node_at w id) name) are given
-turned-keeps q w (event.Clear id) at are given = put-alike q w id (cleared (node_at w id)) at (λ a. cleared-keeps q (node_at w id)) are given
-turned-keeps q w (event.BulkTurn id) at are given =
+turned-keeps q w (event.Purge id) at local are given = put-alike q w id (purged (node_at w id)) at (λ a. purged-keeps q (node_at w id)) are given
+turned-keeps q w (event.Release id) at local are given = put-alike q w id (released_due (node_at w id)) at (released_due-keeps q (node_at w id)) are given
+turned-keeps q w (event.Kill id name) at local are given = put-alike q w id (killed (node_at w id) name) at (λ a. killed-keeps q (node_at w id) name) are given
+turned-keeps q w (event.Clear id) at local are given = put-alike q w id (cleared (node_at w id)) at (λ a. cleared-keeps q (node_at w id)) are given
+turned-keeps q w (event.Restart id) at local are given = absurd local
+turned-keeps q w (event.BulkTurn id) at local are given =
     let n = node_at w id in
     put-alike q w id (turning.turned n) at (λ a. basis-keeps q n (turning.turned n) (turned-basis n)) are given
-turned-keeps q w (event.BulkRetry id) at are given =
+turned-keeps q w (event.BulkRetry id) at local are given =
     let n = node_at w id in
     put-alike q w id (retried_client n) at (λ a. basis-keeps q n (retried_client n) (retried-basis n)) are given
 
-turned-apart : (w : World) (e : Event) (at : NodeId) → AreStates (node_at w at).states → AreStates (turned w e at).states
+arrived-apart : (w : World) (at : NodeId) (o : Option InFlight) → AreStates (node_at w at).states → AreStates (arrived w at o).states
+arrived-apart w at None are = are
+arrived-apart w at (Some f) are = put-apart w f.to (received (node_at w f.to) (reading f.bytes)) at (received-apart (node_at w f.to) (reading f.bytes)) are
+
+pub turned-apart : (w : World) (e : Event) (at : NodeId) → AreStates (node_at w at).states → AreStates (turned w e at).states
 turned-apart w (event.Packet id dir p) at are = put-apart w id (handled (node_at w id) dir p).node at (handled-apart (node_at w id) dir p) are
 turned-apart w (event.Flush id) at are = put-apart w id (flushed (node_at w id)) at (flushed-apart (node_at w id)) are
+turned-apart w (event.Deliver ticket) at are = arrived-apart w at (maps.get w.link.frames ticket) are
 turned-apart w (event.Lose ticket) at are = are
 turned-apart w (event.Repeat ticket) at are = are
 turned-apart w (event.Cut ticket len) at are = are
@@ -182,15 +247,11 @@ turned-apart w (event.Purge id) at are = put-apart w id (purged (node_at w id)) 
 turned-apart w (event.Release id) at are = put-apart w id (released_due (node_at w id)) at (released_due-apart (node_at w id)) are
 turned-apart w (event.Kill id name) at are = put-apart w id (killed (node_at w id) name) at (killed-apart (node_at w id) name) are
 turned-apart w (event.Clear id) at are = put-apart w id (cleared (node_at w id)) at (cleared-apart (node_at w id)) are
+turned-apart w (event.Restart id) at are = put-apart w id (restarted (node_at w id) w.next_boot) at (λ a. restarted-apart (node_at w id) w.next_boot) are
 turned-apart w (event.BulkTurn id) at are = let n = node_at w id in put-apart w id (turning.turned n) at (basis-apart n (turning.turned n) (turned-basis n)) are
 turned-apart w (event.BulkRetry id) at are = let n = node_at w id in put-apart w id (retried_client n) at (basis-apart n (retried_client n) (retried-basis n)) are
 
--- an event that is accepted: what stands under a name that was given comes from what stood there
-pub stepped-keeps : (w : World) (e : Event) (v : World) (at : NodeId) (q : StateName) → after (step w e) ≡ Some v → AreStates (node_at w at).states → IsGiven (node_at w at) q → Keeps (Follows (IsEvent e)) q (node_at w at) (node_at v at)
-stepped-keeps w e v at q accepted are given =
-    subst (λ (m : Node). Keeps (Follows (IsEvent e)) q (node_at w at) m) (stepped-node w e v at accepted) (turned-keeps q w e at are given)
-
--- and each state stands under its own name and keys
+-- each state stands under its own name and keys after an event that is accepted
 pub stepped-apart : (w : World) (e : Event) (v : World) (at : NodeId) → after (step w e) ≡ Some v → AreStates (node_at w at).states → AreStates (node_at v at).states
 stepped-apart w e v at accepted are =
     subst (λ (m : Node). AreStates m.states) (stepped-node w e v at accepted) (turned-apart w e at are)

@@ -1,5 +1,5 @@
 -- What events never do to the states of the pair, in their own words (pf(4), pfsync(4); names are this project's profile).
-use Rattle.std.specs.Prelude.{◌≡◌, ◌≤◌, ◌<◌, ◌+◌, ◌⊎◌, Bool, false, List, [], ◌∷◌, All, IsSome, IsSomeAnd, Some, None, map}
+use Rattle.std.specs.Prelude.{◌≡◌, ◌≢◌, ◌≤◌, ◌<◌, ◌+◌, ◌⊎◌, ℕ, Bool, false, List, [], ◌∷◌, ◌++◌, All, IsSome, IsSomeAnd, IsOkAnd, Some, None, Result, Ok, Err, map}
 use Rattle.std.specs.List.{fold}
 use Rattle.std.specs.Option.{option_map_or}
 use Rattle.pfl_base.specs.declared.direction.Dir.{Dir}
@@ -7,24 +7,31 @@ use Rattle.pfl_base.specs.declared.node_id.NodeId.{NodeId}
 use Rattle.pfl_base.specs.declared.packet.Packet.{Packet}
 use Rattle.pfl_base.specs.declared.state_name.StateName.{StateName}
 use Rattle.pfl_base.specs.Keys.{key}
+use Rattle.pfl_base.specs.Lists.{folds}
 use Rattle.pfl_base.specs.Packets.{IsPacket}
 use Rattle.pfl_edits.specs.Maps as maps
 use Rattle.pfl_rules.specs.Rules.{Rules}
 use Rattle.pfl_table.specs.Tables.{AreStates, found}
 use Rattle.pfl_track.specs.declared.state.State.{State}
+use Rattle.pfl_wire.specs.declared.fault.BadFrame.{BadFrame}
 use Rattle.pfl_wire.specs.declared.message.Message.{Message}
+use Rattle.pfl_wire.specs.declared.message.Message.TheVariants as message
+use Rattle.pfl_wire.specs.Frames.{Frame}
+use Rattle.pfl_wire.specs.Reading.{reading}
+use Rattle.pfl_link.specs.Links.{InFlight}
 use Rattle.pfl_defer.specs.declared.Held.{Held}
 use Rattle.pfl_defer.specs.Deferring.{held_of, pushed_out}
 use Rattle.pfl_node.specs.declared.fate.Fate.TheVariants as fate
 use Rattle.pfl_parts.specs.declared.limits.Limits.{Limits}
 use Rattle.pfl_parts.specs.Nodes.{Node}
-use Rattle.pfl_parts.specs.Changes.{is_held}
+use Rattle.pfl_parts.specs.Changes.{is_held, count_broken}
 use Rattle.pfl_node.specs.Ticking.{ticked}
 use Rattle.pfl_node.specs.Purging.{purge_points}
 use Rattle.pfl_node.specs.Flushing.{flushed}
 use Rattle.pfl_node.specs.Releasing.{released_due}
 use Rattle.pfl_node.specs.Killing.{killed}
 use Rattle.pfl_node.specs.Clearing.{cleared}
+use Rattle.pfl_node.specs.Events.{restarted}
 use Rattle.pfl_node.specs.Turning.{turned}
 use Rattle.pfl_node.specs.Retrying.{retried_client}
 use Rattle.pfl_node.specs.Packets.{handled, packet_points, before_rules}
@@ -33,7 +40,9 @@ use Rattle.pfl_world.specs.declared.event.Event.{Event}
 use Rattle.pfl_world.specs.declared.event.Event.TheVariants as event
 use Rattle.pfl_world.specs.Events.{step}
 use Rattle.pfl_world.specs.Runs.{after, run}
-use Rattle.pfl_world.specs.Worlds.{World, IsWorld, node_at, with_node, new_world}
+use Rattle.pfl_receive.specs.Delivering.{records_of, same_rules}
+use Rattle.pfl_world.specs.Steps.{sent_frame}
+use Rattle.pfl_world.specs.Worlds.{World, IsWorld, node_at, with_node, new_world, new_world_at}
 
 -- ---- levels
 
@@ -46,11 +55,7 @@ pub record HasRisen (s t : State) : Type 0 where
 abbrev pub LevelsRise : Node → Node → Type 0
 LevelsRise old new = (name : StateName) (s t : State) → maps.get old.states name ≡ Some s → maps.get new.states name ≡ Some t → HasRisen s t
 
--- an event that is accepted lowers no level at either node
-abbrev pub LevelsNeverFall : Type 0
-LevelsNeverFall = (w : World) (e : Event) (v : World) → IsWorld w → after (step w e) ≡ Some v → (id : NodeId) → LevelsRise (node_at w id) (node_at v id)
-
--- nor does a record of the peer's that a node takes
+-- a record of the peer's that a node takes lowers no level
 abbrev pub RecordsLowerNoLevel : Type 0
 RecordsLowerNoLevel = (n : Node) (same_rules : Bool) (m : Message) → AreStates n.states → LevelsRise n (taken n same_rules m)
 
@@ -58,6 +63,7 @@ RecordsLowerNoLevel = (n : Node) (same_rules : Bool) (m : Message) → AreStates
 abbrev pub IsEvent : Event → Type 0
 IsEvent (event.Packet node dir p) = IsPacket p
 IsEvent (event.Flush node) = Unit {0}
+IsEvent (event.Deliver ticket) = Unit {0}
 IsEvent (event.Lose ticket) = Unit {0}
 IsEvent (event.Repeat ticket) = Unit {0}
 IsEvent (event.Cut ticket len) = Unit {0}
@@ -66,13 +72,24 @@ IsEvent (event.Purge node) = Unit {0}
 IsEvent (event.Release node) = Unit {0}
 IsEvent (event.Kill node name) = Unit {0}
 IsEvent (event.Clear node) = Unit {0}
+IsEvent (event.Restart node) = Unit {0}
 IsEvent (event.BulkTurn node) = Unit {0}
 IsEvent (event.BulkRetry node) = Unit {0}
+
+-- the node after each record of a frame that it can read, or with one more counted that it cannot
+abbrev pub frame_points : Node → Result Frame BadFrame → List Node
+frame_points n (Ok f) = folds (λ m r. taken m (same_rules n f) r) n (records_of f)
+frame_points n (Err why) = count_broken n ∷ []
+
+-- the points of a frame that comes to its receiver, at one of the nodes
+abbrev pub arrival_points : World → NodeId → InFlight → List Node
+arrival_points w at f = map (λ n. node_at (with_node w f.to n) at) (frame_points (node_at w f.to) (reading f.bytes))
 
 -- the points that an event goes through at one of the nodes: where the event is at the other node, that one stays as it was
 abbrev pub points_at : World → Event → NodeId → List Node
 points_at w (event.Packet id dir p) at = map (λ n. node_at (with_node w id n) at) (packet_points (node_at w id) dir p)
 points_at w (event.Flush id) at = node_at (with_node w id (flushed (node_at w id))) at ∷ []
+points_at w (event.Deliver ticket) at = option_map_or (arrival_points w at) (maps.get w.link.frames ticket) []
 points_at w (event.Lose ticket) at = []
 points_at w (event.Repeat ticket) at = []
 points_at w (event.Cut ticket len) at = []
@@ -81,12 +98,26 @@ points_at w (event.Purge id) at = map (λ n. node_at (with_node w id n) at) (pur
 points_at w (event.Release id) at = node_at (with_node w id (released_due (node_at w id))) at ∷ []
 points_at w (event.Kill id name) at = node_at (with_node w id (killed (node_at w id) name)) at ∷ []
 points_at w (event.Clear id) at = node_at (with_node w id (cleared (node_at w id))) at ∷ []
+points_at w (event.Restart id) at = node_at (with_node w id (restarted (node_at w id) w.next_boot)) at ∷ []
 points_at w (event.BulkTurn id) at = node_at (with_node w id (turned (node_at w id))) at ∷ []
 points_at w (event.BulkRetry id) at = node_at (with_node w id (retried_client (node_at w id))) at ∷ []
 
 -- the name has a state at the node
 abbrev pub HasState : StateName → Node → Type 0
 HasState name n = IsSome (maps.get n.states name)
+
+-- the name has a state at the node after each record that a delivery brings; of the other events nothing is asked, since none of
+-- them brings a state back under a name that it took out
+abbrev pub StandsIn : World → Event → NodeId → StateName → Type 0
+StandsIn w (event.Deliver ticket) id name = All (HasState name) (points_at w (event.Deliver ticket) id)
+StandsIn w _ id name = Unit {0}
+
+-- an event that is accepted lowers no level, at either node, of a state that was not removed in it
+abbrev pub LevelsNeverFall : Type 0
+LevelsNeverFall =
+    (w : World) (e : Event) (v : World) → IsWorld w → after (step w e) ≡ Some v
+    → (id : NodeId) (name : StateName) (s t : State) → StandsIn w e id name
+    → maps.get (node_at w id).states name ≡ Some s → maps.get (node_at v id).states name ≡ Some t → HasRisen s t
 
 -- the name has a state at the node all along the events, also at each of their points
 abbrev pub StandsAlong : World → List Event → NodeId → StateName → Type 0
@@ -100,7 +131,18 @@ LevelsNeverFallAlong =
     → (id : NodeId) (name : StateName) (s t : State) → StandsAlong w es id name
     → maps.get (node_at w id).states name ≡ Some s → maps.get (node_at v id).states name ≡ Some t → HasRisen s t
 
--- ---- names
+-- ---- keys (pf(4))
+
+-- after an event each state stands under its own name, and no two states of a node have one wire key or one stack key; a name is on
+-- one queue at most, since what is pending of states is a map from names
+abbrev pub StatesStayApart : Type 0
+StatesStayApart = (w : World) (e : Event) (v : World) → IsWorld w → after (step w e) ≡ Some v → (id : NodeId) → AreStates (node_at v id).states
+
+-- and so it is after events, one after the other
+abbrev pub StatesStayApartAlong : Type 0
+StatesStayApartAlong = (w : World) (es : List Event) (v : World) → IsWorld w → run w es ≡ Some v → (id : NodeId) → AreStates (node_at v id).states
+
+-- ---- names, tickets and boot numbers
 
 -- the node gives the name: it has not given it before, and has after, in one boot
 pub record Gives (old new : Node) (name : StateName) : Type 0 where
@@ -109,12 +151,98 @@ pub record Gives (old new : Node) (name : StateName) : Type 0 where
   pub before : old.next_id ≤ name.id
   pub after : name.id < new.next_id
 
--- a node that gives a name at an event gives it at no later one
+-- the two nodes are of different boots, both below the next one
+pub record AreBoots (w : World) : Type 0 where
+  pub apart : w.a.creator ≢ w.b.creator
+  pub a : w.a.creator < w.next_boot
+  pub b : w.b.creator < w.next_boot
+
+-- the pair before any event is so
+abbrev pub OpeningsAreBoots : Type 0
+OpeningsAreBoots = (l : Limits) (a b : Rules) → AreBoots (new_world l a b)
+
+-- also where its numbers begin later
+abbrev pub LaterOpeningsAreBoots : Type 0
+LaterOpeningsAreBoots = (l : Limits) (a b : Rules) (start : ℕ) → 3 ≤ start → AreBoots (new_world_at l a b start)
+
+-- and stays so by each event
+abbrev pub EventsKeepBoots : Type 0
+EventsKeepBoots = (w : World) (e : Event) (v : World) → IsWorld w → AreBoots w → after (step w e) ≡ Some v → AreBoots v
+
+-- a name that a node gives at an event is given at no later one, neither by it nor by the other node, whatever is restarted in between
 abbrev pub NoNameIsGivenTwice : Type 0
 NoNameIsGivenTwice =
-    (w : World) (first : Event) (v : World) (es : List Event) (u : World) (last : Event) (x : World) → IsWorld w
+    (w : World) (first : Event) (v : World) (es : List Event) (u : World) (last : Event) (x : World) → IsWorld w → AreBoots w
     → after (step w first) ≡ Some v → run v es ≡ Some u → after (step u last) ≡ Some x
-    → (id : NodeId) (name : StateName) → Gives (node_at w id) (node_at v id) name → Gives (node_at u id) (node_at x id) name → ⊥
+    → (id again : NodeId) (name : StateName) → Gives (node_at w id) (node_at v id) name → Gives (node_at u again) (node_at x again) name → ⊥
+
+-- a frame comes
+abbrev pub IsDelivery : Event → Type 0
+IsDelivery (event.Deliver ticket) = Unit {0}
+IsDelivery _ = ⊥
+
+-- where a name has a state that had none, the node gives the name at the event, or a frame brings the state
+abbrev pub NewStatesAreNamed : Type 0
+NewStatesAreNamed =
+    (w : World) (e : Event) (v : World) → IsWorld w → IsWorld v → after (step w e) ≡ Some v
+    → (id : NodeId) (name : StateName) (s : State) → maps.get (node_at w id).states name ≡ None → maps.get (node_at v id).states name ≡ Some s
+    → Gives (node_at w id) (node_at v id) name ⊎ IsDelivery e
+
+-- the number is given on the way from one to the other, of which the first is the next one before and the second after
+pub record IsNew (old new number : ℕ) : Type 0 where
+  pub before : old ≤ number
+  pub after : number < new
+
+-- a ticket that is given at an event is given at no later one
+abbrev pub NoTicketIsGivenTwice : Type 0
+NoTicketIsGivenTwice =
+    (w : World) (first : Event) (v : World) (es : List Event) (u : World) (last : Event) (x : World)
+    → after (step w first) ≡ Some v → run v es ≡ Some u → after (step u last) ≡ Some x
+    → (ticket : ℕ) → IsNew w.link.next v.link.next ticket → IsNew u.link.next x.link.next ticket → ⊥
+
+-- nor is a boot number
+abbrev pub NoBootIsGivenTwice : Type 0
+NoBootIsGivenTwice =
+    (w : World) (first : Event) (v : World) (es : List Event) (u : World) (last : Event) (x : World)
+    → after (step w first) ≡ Some v → run v es ≡ Some u → after (step u last) ≡ Some x
+    → (boot : ℕ) → IsNew w.next_boot v.next_boot boot → IsNew u.next_boot x.next_boot boot → ⊥
+
+-- ---- frames in flight
+
+-- a frame to the same node that is the whole or a beginning of the other
+pub record Begins (f whole : InFlight) : Type 0 where
+  pub to : f.to ≡ whole.to
+  pub rest : List ℕ
+  pub bytes : whole.bytes ≡ f.bytes ++ rest
+
+-- the frame begins one that was in flight already
+pub record WasInFlight (w : World) (f : InFlight) : Type 0 where
+  pub ticket : ℕ
+  pub whole : InFlight
+  pub at : maps.get w.link.frames ticket ≡ Some whole
+  pub begins : Begins f whole
+
+-- the event sends the frame that it begins: the spelling of what is pending at a node
+abbrev pub WasSentBy : World → Event → InFlight → Type 0
+WasSentBy w (event.Flush id) f = Begins f (sent_frame w id)
+WasSentBy w _ f = ⊥
+
+-- one of the events does
+abbrev pub WasSentAlong : World → List Event → InFlight → Type 0
+WasSentAlong w [] f = ⊥
+WasSentAlong w (e ∷ es) f = WasSentBy w e f ⊎ IsSomeAnd (after (step w e)) (λ v. WasSentAlong v es f)
+
+-- what is in flight after an event was sent by it, or was in flight before, or is a beginning of that
+abbrev pub EventsSendOnlySo : Type 0
+EventsSendOnlySo =
+    (w : World) (e : Event) (v : World) → after (step w e) ≡ Some v
+    → (ticket : ℕ) (f : InFlight) → maps.get v.link.frames ticket ≡ Some f → WasInFlight w f ⊎ WasSentBy w e f
+
+-- and so it is after events, one after the other: each frame begins the spelling of one that a node sent on the way
+abbrev pub FramesWereSent : Type 0
+FramesWereSent =
+    (w : World) (es : List Event) (v : World) → run w es ≡ Some v
+    → (ticket : ℕ) (f : InFlight) → maps.get v.link.frames ticket ≡ Some f → WasInFlight w f ⊎ WasSentAlong w es f
 
 -- ---- held packets (pfsync(4), `defer`)
 
@@ -154,25 +282,52 @@ Holds n h = held_of n.held h.name ≡ Some h
 abbrev pub asked_at : Node → Dir → Packet → Node
 asked_at n dir p = fold (λ m point. point) n (before_rules n dir p (found n.states (key p dir) dir))
 
+-- why a record lets a held packet of the name go: it acknowledges the state, tells of it, deletes it, or clears states up to it
+abbrev pub LetsOut : Message → StateName → Type 0
+LetsOut (message.Clear creator bound) name = (name.creator ≡ creator) × (name.id ≤ bound)
+LetsOut (message.Insert r) name = ⊥
+LetsOut (message.InsertAck acknowledged) name = acknowledged ≡ name
+LetsOut (message.Update r) name = r.name ≡ name
+LetsOut (message.UpdateShort u) name = u.name ≡ name
+LetsOut (message.UpdateRequest asked) name = ⊥
+LetsOut (message.Delete r) name = r.name ≡ name
+LetsOut (message.DeleteShort gone) name = gone ≡ name
+LetsOut (message.Bulk creator status) name = ⊥
+
+-- whatever record a node takes, a packet that was held is still held, since the same time, or the record let it go
+abbrev pub RecordsLetGoOnlySo : Type 0
+RecordsLetGoOnlySo = (n : Node) (same_rules : Bool) (m : Message) → AreStates n.states → (h : Held) → Holds n h → Holds (taken n same_rules m) h ⊎ LetsOut m h.name
+
+-- one of the records lets it go
+abbrev pub OneLetsOut : List Message → StateName → Type 0
+OneLetsOut [] name = ⊥
+OneLetsOut (m ∷ ms) name = LetsOut m name ⊎ OneLetsOut ms name
+
+-- the frame goes to the node, can be read there, and one of its records lets a held packet of the name go
+abbrev pub FrameLetsOut : NodeId → StateName → InFlight → Type 0
+FrameLetsOut id name f = (f.to ≡ id) × IsOkAnd (reading f.bytes) (λ frame. OneLetsOut (records_of frame) name)
+
 -- why an event at a node lets a packet go that is held there: a later packet of its state is accepted, a full list lets its oldest go, its
--- time has come at a release, or its state is deleted or cleared; no other event does
-abbrev pub LetsGo : NodeId → Node → Node → Event → Held → Type 0
-LetsGo id old new (event.Packet node dir p) h =
+-- time has come at a release, its state is deleted or cleared, the peer tells of it, or the node begins anew; no other event does
+abbrev pub LetsGo : World → NodeId → Node → Node → Event → Held → Type 0
+LetsGo w id old new (event.Packet node dir p) h =
     (node ≡ id) × (((handled old dir p).fate ≡ fate.Pass (Some h.name)) ⊎ (IsSomeAnd (pushed_out (asked_at old dir p).held) (λ k. k.name ≡ h.name) ⊎ (maps.get new.states h.name ≡ None)))
-LetsGo id old new (event.Flush node) h = ⊥
-LetsGo id old new (event.Lose ticket) h = ⊥
-LetsGo id old new (event.Repeat ticket) h = ⊥
-LetsGo id old new (event.Cut ticket len) h = ⊥
-LetsGo id old new (event.Tick node ms) h = ⊥
-LetsGo id old new (event.Purge node) h = (node ≡ id) × (maps.get new.states h.name ≡ None)
-LetsGo id old new (event.Release node) h = (node ≡ id) × (h.held_at + old.limits.defer_ms ≤ old.clock)
-LetsGo id old new (event.Kill node name) h = (node ≡ id) × ((name ≡ h.name) × (maps.get new.states h.name ≡ None))
-LetsGo id old new (event.Clear node) h = (node ≡ id) × (maps.get new.states h.name ≡ None)
-LetsGo id old new (event.BulkTurn node) h = ⊥
-LetsGo id old new (event.BulkRetry node) h = ⊥
+LetsGo w id old new (event.Flush node) h = ⊥
+LetsGo w id old new (event.Deliver ticket) h = IsSomeAnd (maps.get w.link.frames ticket) (FrameLetsOut id h.name)
+LetsGo w id old new (event.Lose ticket) h = ⊥
+LetsGo w id old new (event.Repeat ticket) h = ⊥
+LetsGo w id old new (event.Cut ticket len) h = ⊥
+LetsGo w id old new (event.Tick node ms) h = ⊥
+LetsGo w id old new (event.Purge node) h = (node ≡ id) × (maps.get new.states h.name ≡ None)
+LetsGo w id old new (event.Release node) h = (node ≡ id) × (h.held_at + old.limits.defer_ms ≤ old.clock)
+LetsGo w id old new (event.Kill node name) h = (node ≡ id) × ((name ≡ h.name) × (maps.get new.states h.name ≡ None))
+LetsGo w id old new (event.Clear node) h = (node ≡ id) × (maps.get new.states h.name ≡ None)
+LetsGo w id old new (event.Restart node) h = node ≡ id
+LetsGo w id old new (event.BulkTurn node) h = ⊥
+LetsGo w id old new (event.BulkRetry node) h = ⊥
 
 -- whatever event is accepted, a packet that was held is still held, since the same time, or was let go for such a reason
 abbrev pub HeldPacketsLeaveOnlySo : Type 0
 HeldPacketsLeaveOnlySo =
     (w : World) (e : Event) (v : World) → IsWorld w → after (step w e) ≡ Some v
-    → (id : NodeId) (h : Held) → Holds (node_at w id) h → Holds (node_at v id) h ⊎ LetsGo id (node_at w id) (node_at v id) e h
+    → (id : NodeId) (h : Held) → Holds (node_at w id) h → Holds (node_at v id) h ⊎ LetsGo w id (node_at w id) (node_at v id) e h

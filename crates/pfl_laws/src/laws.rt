@@ -1,19 +1,45 @@
 //! Laws of runs. They have no code: each is a theorem over the definitions, which a function's contract names.
 
-ghost use Rattle.pfl_laws.specs.Laws.{LevelsNeverFall, RecordsLowerNoLevel, LevelsNeverFallAlong, NoNameIsGivenTwice};
-ghost use Rattle.pfl_laws.specs.Laws.{OpeningsAreTied, EventsKeepTied, RecordsKeepTied, EventsKeepTiedAlong, HeldPacketsLeaveOnlySo};
+ghost use Rattle.pfl_laws.specs.Laws.{LevelsNeverFall, RecordsLowerNoLevel, LevelsNeverFallAlong, StatesStayApart, StatesStayApartAlong};
+ghost use Rattle.pfl_laws.specs.Laws.{OpeningsAreBoots, LaterOpeningsAreBoots, EventsKeepBoots, NewStatesAreNamed, NoNameIsGivenTwice, NoTicketIsGivenTwice, NoBootIsGivenTwice};
+ghost use Rattle.pfl_laws.specs.Laws.{EventsSendOnlySo, FramesWereSent};
+ghost use Rattle.pfl_laws.specs.Laws.{OpeningsAreTied, EventsKeepTied, RecordsKeepTied, EventsKeepTiedAlong, HeldPacketsLeaveOnlySo, RecordsLetGoOnlySo};
 
-/// An event lowers the level of no end of a state at either node (pf(4)), and neither does a record of the peer's; nor do
-/// events, one after the other, where the state was not removed in between.
+/// An event lowers the level of no end of a state at either node (pf(4)) that is not removed in it, and neither does a record of
+/// the peer's; nor do events, one after the other, where the state was not removed in between.
 pub fn levels_never_fall()
     ensures event { LevelsNeverFall }
     ensures taken { RecordsLowerNoLevel }
     ensures along { LevelsNeverFallAlong }
 {}
 
-/// A node never gives a name twice within a boot.
+/// No two states of a node have one wire key or one stack key (pf(4)), after each event and along all events.
+pub fn states_stay_apart()
+    ensures event { StatesStayApart }
+    ensures along { StatesStayApartAlong }
+{}
+
+/// No name is given twice, by neither node, also across restarts: for the two nodes are of different boots, both below the next
+/// boot number, before any event and after each. And a state that no frame brings has a name that its node gives.
 pub fn no_name_is_given_twice()
-    ensures { NoNameIsGivenTwice }
+    ensures opening { OpeningsAreBoots }
+    ensures later_opening { LaterOpeningsAreBoots }
+    ensures event { EventsKeepBoots }
+    ensures named { NewStatesAreNamed }
+    ensures along { NoNameIsGivenTwice }
+{}
+
+/// No ticket and no boot number is given twice.
+pub fn no_number_is_given_twice()
+    ensures ticket { NoTicketIsGivenTwice }
+    ensures boot { NoBootIsGivenTwice }
+{}
+
+/// What is in flight after events was in flight before them, or is the spelling of a frame that a node sent on the way to the
+/// other node; or it is a beginning of such.
+pub fn frames_were_sent()
+    ensures event { EventsSendOnlySo }
+    ensures along { FramesWereSent }
 {}
 
 /// A state waits for an acknowledgement exactly while its packet is held (pfsync(4), `defer`): so it is before any event, and
@@ -26,7 +52,9 @@ pub fn held_packets_have_waiting_states()
 {}
 
 /// A held packet leaves only by a later accepted packet of its state, by a full list that lets its oldest go, by a release at
-/// its time, or by a deletion or a clear of its state (pfsync(4), `defer`).
+/// its time, by a deletion or a clear of its state, by a record of the peer's that acknowledges the state, tells of it, deletes
+/// or clears it, or by a restart (pfsync(4), `defer`).
 pub fn held_packets_leave_only_so()
-    ensures { HeldPacketsLeaveOnlySo }
+    ensures event { HeldPacketsLeaveOnlySo }
+    ensures taken { RecordsLetGoOnlySo }
 {}

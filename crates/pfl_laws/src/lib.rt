@@ -5,7 +5,7 @@ mod laws;
 mod reverting;
 
 pub use laws::{
-    held_packets_have_waiting_states, held_packets_leave_only_so, levels_never_fall,
-    no_name_is_given_twice,
+    frames_were_sent, held_packets_have_waiting_states, held_packets_leave_only_so,
+    levels_never_fall, no_name_is_given_twice, no_number_is_given_twice, states_stay_apart,
 };
 pub use reverting::{all_there_and_back, there_and_back};

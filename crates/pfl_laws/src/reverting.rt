@@ -1,7 +1,7 @@
 //! Events at the pair that are taken back at once. Each function leaves the pair as it was: its contract is the law.
 
 ghost use Rattle.std.specs.Prelude.{◌≡◌, ◌≤◌, ◌++◌, Some, length, IfErr, IfOk, IsOkAnd, IsSome, OnErr, OnOk};
-ghost use Rattle.pfl_world.specs.Events.{step, IsRefusalOf};
+ghost use Rattle.pfl_world.specs.Events.{step, IsEventRefusal};
 ghost use Rattle.pfl_world.specs.Outcomes.{told};
 ghost use Rattle.pfl_world.specs.Runs.{after, run};
 ghost use Rattle.pfl_laws.specs.Reverting.{IsRefusalAlong, LeadsOn};
@@ -17,7 +17,7 @@ pub fn there_and_back<A: Allocator + Copy>(
     event: &Event,
 ) -> Result<Outcome, Refusal>
     ensures same { world.new ≡ world.old }
-    ensures refused { IfErr result (IsRefusalOf (step world.old event.now)) }
+    ensures refused { IfErr result (IsEventRefusal world.old event.now) }
     ensures outcome { IfOk result (λ answer. IsOkAnd (step world.old event.now) (λ s. s.outcome ≡ told answer)) }
 {
     let (outcome, change) = world.apply(event)?;
@@ -53,7 +53,7 @@ fn apply_behind<A: Allocator + Copy>(
     event: &Event,
     changed: &mut WorldChange<A>,
 ) -> Result<(), Refusal>
-    ensures refused { IfErr result (IsRefusalOf (step world.old event.now)) }
+    ensures refused { IfErr result (IsEventRefusal world.old event.now) }
     ensures unchanged { OnErr result (world.new ≡ world.old) }
     ensures kept { OnErr result (changed.new.list ≡ changed.old.list) }
     ensures accepted { OnOk result (after (step world.old event.now) ≡ Some world.new) }

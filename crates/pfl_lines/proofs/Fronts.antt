@@ -1,5 +1,5 @@
 -- The first word of a line.
-use Rattle.std.proofs.Common.{◌≡◌, ℕ, Bool, true, false, List, [], ◌∷◌, refl, sym, ◌∙◌, ap, cond}
+use Rattle.std.proofs.Common.{◌≡◌, ℕ, Bool, true, false, List, [], ◌∷◌, refl, ◌∙◌, ap, cond}
 use Rattle.std.specs.Prelude.{not}
 use Rattle.pfl_lines.specs.Words.{words, front, behind, is_blank, begins_word, with_first}
 

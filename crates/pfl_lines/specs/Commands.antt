@@ -43,6 +43,12 @@ abbrev pub ticket_at : List (List ℕ) → Reading ℕ
 ticket_at ws = number_at greatest ws
 
 -- TICKET
+unfoldable pub deliver_at : List (List ℕ) → Reading EventDraft
+deliver_at ws = do
+  ticket ← ticket_at ws
+  Ok (event_draft.Whole (events.Deliver ticket.0), ticket.1)
+
+-- TICKET
 unfoldable pub lose_at : List (List ℕ) → Reading EventDraft
 lose_at ws = do
   ticket ← ticket_at ws
@@ -94,6 +100,12 @@ clear_at ws = do
   Ok (event_draft.Whole (events.Clear node.0), node.1)
 
 -- NODE
+unfoldable pub restart_at : List (List ℕ) → Reading EventDraft
+restart_at ws = do
+  node ← node_at ws
+  Ok (event_draft.Whole (events.Restart node.0), node.1)
+
+-- NODE
 unfoldable pub turn_at : List (List ℕ) → Reading EventDraft
 turn_at ws = do
   node ← node_at ws
@@ -113,6 +125,7 @@ own_event_by word ws =
     if bytes_eq word (codes "release") then release_at ws else
     if bytes_eq word (codes "kill") then kill_at ws else
     if bytes_eq word (codes "clear") then clear_at ws else
+    if bytes_eq word (codes "restart") then restart_at ws else
     if bytes_eq word (codes "turn") then turn_at ws else
     if bytes_eq word (codes "retry") then retry_at ws else Err faults.Unknown
 
@@ -121,6 +134,7 @@ abbrev pub event_by : List ℕ → List (List ℕ) → Reading EventDraft
 event_by word ws =
     if bytes_eq word (codes "packet") then packet_at ws else
     if bytes_eq word (codes "flush") then flush_at ws else
+    if bytes_eq word (codes "deliver") then deliver_at ws else
     if bytes_eq word (codes "lose") then lose_at ws else
     if bytes_eq word (codes "repeat") then repeat_at ws else
     if bytes_eq word (codes "cut") then cut_at ws else own_event_by word ws

@@ -4,7 +4,7 @@ ghost use Rattle.std.specs.Prelude.{◌≡◌};
 ghost use Rattle.std.specs.List.{list_all};
 ghost use Rattle.pfl_lines.specs.Words.{words};
 ghost use Rattle.pfl_lines.specs.Readings.{Gives};
-ghost use Rattle.pfl_lines.specs.Commands.{packet_at, flush_at, ticket_at, lose_at, repeat_at, cut_at, tick_at, purge_at, release_at, kill_at, clear_at, turn_at, retry_at, own_event_by, event_by, event_at, step_at, back_at, forward_at, fork_at, drop_at, show_at, names_at, command_by, command_at, finished, whole_event, whole_step, whole_command, command_of, is_text, checked, parsed};
+ghost use Rattle.pfl_lines.specs.Commands.{packet_at, flush_at, ticket_at, deliver_at, lose_at, repeat_at, cut_at, tick_at, purge_at, release_at, kill_at, clear_at, restart_at, turn_at, retry_at, own_event_by, event_by, event_at, step_at, back_at, forward_at, fork_at, drop_at, show_at, names_at, command_by, command_at, finished, whole_event, whole_step, whole_command, command_of, is_text, checked, parsed};
 
 use crate::draft::{CommandDraft, EventDraft};
 use crate::fault::LineFault;
@@ -44,6 +44,15 @@ fn ticket_at(line: &[u8]) -> Result<(u32, &[u8]), LineFault>
 {
     let (ticket, rest) = number_at(line, GREATEST_NUMBER)?;
     Ok((ticket as u32, rest))
+}
+
+/// `TICKET`.
+#[tactic(auto, unfolding(crate::specs::Commands::deliver_at))]
+fn deliver_at(line: &[u8]) -> Result<(EventDraft, &[u8]), LineFault>
+    ensures { Gives (λ x. (x.0, words x.1.now)) result (deliver_at (words line.now)) }
+{
+    let (ticket, rest) = ticket_at(line)?;
+    Ok((EventDraft::Whole(Event::Deliver { ticket }), rest))
 }
 
 /// `TICKET`.
@@ -123,6 +132,15 @@ fn clear_at(line: &[u8]) -> Result<(EventDraft, &[u8]), LineFault>
 }
 
 /// `NODE`.
+#[tactic(auto, unfolding(crate::specs::Commands::restart_at))]
+fn restart_at(line: &[u8]) -> Result<(EventDraft, &[u8]), LineFault>
+    ensures { Gives (λ x. (x.0, words x.1.now)) result (restart_at (words line.now)) }
+{
+    let (node, rest) = node_at(line)?;
+    Ok((EventDraft::Whole(Event::Restart { node }), rest))
+}
+
+/// `NODE`.
 #[tactic(auto, unfolding(crate::specs::Commands::turn_at))]
 fn turn_at(line: &[u8]) -> Result<(EventDraft, &[u8]), LineFault>
     ensures { Gives (λ x. (x.0, words x.1.now)) result (turn_at (words line.now)) }
@@ -159,6 +177,9 @@ fn own_event_by<'a>(word: &[u8], line: &'a [u8]) -> Result<(EventDraft, &'a [u8]
     if is_word(word, "clear") {
         return clear_at(line);
     }
+    if is_word(word, "restart") {
+        return restart_at(line);
+    }
     if is_word(word, "turn") {
         return turn_at(line);
     }
@@ -177,6 +198,9 @@ fn event_by<'a>(word: &[u8], line: &'a [u8]) -> Result<(EventDraft, &'a [u8]), L
     }
     if is_word(word, "flush") {
         return flush_at(line);
+    }
+    if is_word(word, "deliver") {
+        return deliver_at(line);
     }
     if is_word(word, "lose") {
         return lose_at(line);

@@ -1,6 +1,5 @@
 -- What a node keeps where it gives a new state its next name.
 use Rattle.std.specs.Prelude.{◌≡◌, ◌≤◌, ◌<◌, ℕ, ◌+◌, Bool, true, false, Option, Some, None, refl}
-use Rattle.std.specs.Option.{option_map}
 use Rattle.std.proofs.Common.{cond, sym, subst, arith}
 use Rattle.pfl_base.specs.declared.state_name.StateName.{StateName}
 use Rattle.pfl_base.specs.Names.{names_total}
@@ -9,7 +8,6 @@ use Rattle.pfl_edits.specs.Maps.{len-insert}
 use Rattle.pfl_track.specs.declared.state.State.{State}
 use Rattle.pfl_table.proofs.Apart.{OwnsKeys-unused}
 use Rattle.pfl_queue.specs.declared.Mark.{Mark}
-use Rattle.pfl_queue.specs.Queues.{kind_of}
 use Rattle.pfl_parts.specs.Kept.{MayStart, MayAdd}
 use Rattle.pfl_parts.specs.Nodes.{Node, AreParts, IsGiven}
 use Rattle.pfl_node.specs.Starting.{with_new}
@@ -19,16 +17,6 @@ use Rattle.pfl_parts.proofs.Putting.{put-node}
 -- its name was on no queue
 pub fresh-name : (n : Node) (name : StateName) → AreParts n → name.creator ≡ n.creator → name.id ≡ n.next_id → (k : Mark) → maps.get n.queue.marks name ≡ Some k → ⊥
 fresh-name n name is creator id k at = let below = (is.marks name k at).0 creator in absurd (omega (arith, id, below))
-
-no_mark : (o : Option Mark) → ((k : Mark) → o ≡ Some k → ⊥) → option_map (λ (m : Mark). m.kind) o ≡ None
-no_mark None h = refl
-no_mark (Some k) h = absurd (h k refl)
-
-pub fresh-at : (n : Node) (name : StateName) → AreParts n → name.creator ≡ n.creator → name.id ≡ n.next_id → kind_of n.queue name ≡ None
-fresh-at n name is creator id = no_mark (maps.get n.queue.marks name) (fresh-name n name is creator id)
-
-pub fresh-kind : (n : Node) (s : State) → AreParts n → MayStart n s → kind_of n.queue s.name ≡ None
-fresh-kind n s is may = fresh-at n s.name is may.creator may.id
 
 within : (b : Bool) (len limit : ℕ) → len < limit → cond b len (len + 1) ≤ limit
 within true len limit h = omega arith

@@ -306,10 +306,6 @@ length-values (e ∷ es) = ap (λ (n : ℕ). suc n) (length-values es)
 
 -- ---- those of a node
 
--- no two states that have expired have one name
-pub expired-apart : (n : Node) → AreParts n → AreApart (expired_states n)
-expired-apart n is = apart-in_order (expires_before n) _ (apart-filter _ (maps.values n.states) (values-apart n.states is.states))
-
 -- each state that has expired stands under its name
 pub expired-stand : (n : Node) → AreParts n → AllByRecursion (λ s. maps.get n.states s.name ≡ Some s) (expired_states n)
 expired-stand n is =

@@ -17,3 +17,5 @@ pub mod Risen
 pub mod Turned
 pub mod Asking
 pub mod Released
+pub mod Anew
+pub mod Received

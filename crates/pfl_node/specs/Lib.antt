@@ -11,6 +11,7 @@ pub mod Killing
 pub mod Clearing
 pub mod Turning
 pub mod Retrying
+pub mod Delivering
 pub mod Stepping
 pub mod Events
 pub mod Laws

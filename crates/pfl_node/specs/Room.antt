@@ -4,8 +4,8 @@ use Rattle.pfl_edits.specs.Changes.{Edits}
 use Rattle.pfl_parts.specs.declared.edit.NodeEdit.{NodeEdit}
 use Rattle.pfl_parts.specs.declared.limits.Limits.{Limits}
 
--- how many edits an event records at most: five for each state, two for each entry that is pending, and those of a packet; or three
--- for each held packet that goes out
+-- How many edits an event records at most: five for each state, two for each entry that is pending, and those of a packet; or three
+-- for each held packet that goes out. A frame of many records may take more, for which room is made when it comes.
 abbrev pub most_edits : Limits → ℕ
 most_edits l = max (5 * l.states + 2 * l.queue + 24) (3 * l.held)
 

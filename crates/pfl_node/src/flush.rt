@@ -10,7 +10,7 @@ ghost use Rattle.pfl_edits.specs.Maps as maps;
 ghost use Rattle.pfl_parts.specs.Changes as to;
 ghost use Rattle.pfl_parts.specs.Edits.{NodeLeadsBack, NodeExtends};
 ghost use Rattle.pfl_node.specs.Flushing as flushing;
-ghost use Rattle.pfl_parts.specs.Nodes.{Node as Whole, IsRefusal};
+ghost use Rattle.pfl_parts.specs.Nodes.{Node as Whole, AreParts, IsRefusal};
 ghost use Rattle.pfl_parts.specs.Taking.{taken_from};
 ghost use Rattle.pfl_queue.specs.Taking.{next_frame};
 ghost use Rattle.pfl_wire.specs.Spelling.{spelling};
@@ -62,6 +62,7 @@ fn send<A: Allocator + Copy>(
     alloc: A,
     change: &mut Change<NodeEdit, A>,
 ) -> Result<Vec<u8, A>, Refusal>
+    requires parts { AreParts parts.old }
     requires room { 2 * length (next_frame parts.old.queue parts.old.limits.mtu) < change.old.spare }
     ensures memory { IfErr result (λ error. error ≡ refusal.NoMemory) }
     ensures node { OnOk result (parts.new ≡ flushing.flushed parts.old) }
@@ -83,13 +84,13 @@ fn frame_taken<A: Allocator + Copy>(
     alloc: A,
     change: &mut Change<NodeEdit, A>,
 ) -> Result<(Vec<u8, A>, Vec<Entry, A>), NoMemory>
+    requires parts { AreParts parts.old }
     requires room { length (next_frame parts.old.queue parts.old.limits.mtu) ≤ change.old.spare }
     ensures bytes { IfOk result (λ r. r.0.items ≡ spelling (flushing.frame_of parts.old)) }
     ensures entries { IfOk result (λ r. r.1.items ≡ next_frame parts.old.queue parts.old.limits.mtu) }
     ensures node { OnOk result (parts.new ≡ taken_from parts.old) }
     ensures extends { NodeExtends (length (next_frame parts.old.queue parts.old.limits.mtu)) change.old change.new parts.old parts.new }
 {
-    parts.known();
     let entries = parts.take_entries(change)?;
     let bytes = bytes_of(parts, alloc, &entries)?;
     Ok((bytes, entries))

@@ -14,7 +14,8 @@ use std::alloc::Allocator;
 use std::marker::Model;
 
 /// One firewall of the pair: its states, what it has to tell its peer, and what it counts. Its limits and rules never
-/// change. All room is made by `new`, also that for the edits of an event while it is carried out and judged.
+/// change. All room is made by `new`, also that for the edits of an event while it is carried out and judged; a frame of many
+/// records may want more for itself.
 #[derive(Drop)]
 pub struct Node<A: Allocator> {
     pub(crate) alloc: A,
@@ -75,9 +76,9 @@ impl<A: Allocator> Node<A> {
     }
 }
 
-/// How many edits an event records at most: five for each state, two for each entry that is pending, and those of a packet; or
-/// three for each held packet that goes out.
-fn most_edits(limits: &Limits) -> usize
+/// How many edits an event records at most, but for a frame of many records: five for each state, two for each entry that is
+/// pending, and those of a packet; or three for each held packet that goes out.
+pub(crate) fn most_edits(limits: &Limits) -> usize
     ensures most { result ≡ most limits.now }
 {
     let told = 5 * limits.states as usize + 2 * limits.queue as usize + 24;

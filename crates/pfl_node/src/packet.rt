@@ -5,12 +5,13 @@ mod start;
 
 ghost use Rattle.std.specs.Prelude.{◌≡◌, ◌≤◌, ◌+◌, ◌∷◌, [], None, Some, IfOk, IfErr, OnOk, OnErr, length, ◌<◌, false};
 ghost use Rattle.pfl_base.specs.Keys.{key as flow_of};
+ghost use Rattle.pfl_base.specs.Packets.{IsPacket};
 ghost use Rattle.pfl_edits.specs.Maps as maps;
 ghost use Rattle.pfl_parts.specs.Changes as to;
 ghost use Rattle.pfl_parts.specs.Edits.{NodeLeadsBack, total};
 ghost use Rattle.pfl_node.specs.Carried.{Handles, Tried};
 ghost use Rattle.pfl_parts.specs.Kept.{MayReplace};
-ghost use Rattle.pfl_parts.specs.Nodes.{Node as Whole, IsRefusal, points_refusal};
+ghost use Rattle.pfl_parts.specs.Nodes.{Node as Whole, AreParts, IsRefusal, points_refusal};
 ghost use Rattle.pfl_node.specs.Packets.{handled, packet_points, followed, on_the_way, accepted};
 ghost use Rattle.pfl_node.specs.Starting.{judged, pass};
 ghost use Rattle.pfl_queue.specs.Queues.{most_numbers};
@@ -52,10 +53,12 @@ fn handle<A: Allocator>(
     packet: &Packet,
     change: &mut Change<NodeEdit, A>,
 ) -> Result<(Fate, bool), Overfull>
+    requires parts { AreParts parts.old }
     requires room { 14 ≤ change.old.spare }
     requires countable { total parts.old + change.old.spare ≤ most_numbers }
     ensures done { Handles result change.old change.new parts.old parts.new (handled parts.old dir packet.now) (packet_points parts.old dir packet.now) }
 {
+    packet.known();
     let Some(state) = parts.states().found(&key(packet, dir), dir).copied() else {
         let fate = judge(parts, dir, packet, change)?;
         return Ok((fate, parts.is_overcounted()));
@@ -71,13 +74,13 @@ fn follow<A: Allocator>(
     packet: &Packet,
     change: &mut Change<NodeEdit, A>,
 ) -> Result<(Fate, bool), Overfull>
+    requires parts { AreParts parts.old }
+    requires packet { IsPacket packet.now }
     requires found { found parts.old.states (flow_of packet.now dir) dir ≡ Some state.now }
     requires room { 14 ≤ change.old.spare }
     requires countable { total parts.old + change.old.spare ≤ most_numbers }
     ensures done { Handles result change.old change.new parts.old parts.new (followed parts.old dir packet.now state.now (tracked state.now packet.now dir parts.old.clock)) ((followed parts.old dir packet.now state.now (tracked state.now packet.now dir parts.old.clock)).node ∷ on_the_way parts.old state.now (tracked state.now packet.now dir parts.old.clock)) }
 {
-    parts.known();
-    packet.known();
     match track(state, packet, dir, parts.clock()) {
         Tracked::Moved(state) => {
             let fate = accept(parts, state, change)?;
@@ -116,6 +119,7 @@ fn reuse<A: Allocator>(
     packet: &Packet,
     change: &mut Change<NodeEdit, A>,
 ) -> Result<(Fate, bool), Overfull>
+    requires packet { IsPacket packet.now }
     requires stands { maps.get parts.old.states closed.now.name ≡ Some closed.now }
     requires room { 14 ≤ change.old.spare }
     requires countable { total parts.old + change.old.spare ≤ most_numbers }

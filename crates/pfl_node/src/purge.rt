@@ -5,7 +5,7 @@ ghost use Rattle.std.specs.Prelude.{◌≡◌, ◌≤◌, ◌+◌, ◌*◌, None
 ghost use Rattle.pfl_parts.specs.Edits.{NodeExtends, NodeLeadsBack, total};
 ghost use Rattle.pfl_node.specs.Purging as event;
 ghost use Rattle.pfl_parts.specs.Judging.{Went};
-ghost use Rattle.pfl_parts.specs.Nodes.{Node as Whole, IsRefusal, points_refusal};
+ghost use Rattle.pfl_parts.specs.Nodes.{Node as Whole, AreParts, IsRefusal, points_refusal};
 ghost use Rattle.pfl_queue.specs.Queues.{most_numbers};
 
 use crate::node::Node;
@@ -37,6 +37,7 @@ fn purge<A: Allocator>(
     parts: &mut Parts<A>,
     change: &mut Change<NodeEdit, A>,
 ) -> Result<(usize, bool), Overfull>
+    requires parts { AreParts parts.old }
     requires room { 5 * length (event.expired_states parts.old) ≤ change.old.spare }
     requires countable { total parts.old + change.old.spare ≤ most_numbers }
     ensures went { Went result (event.purge_points parts.old) }
@@ -44,7 +45,6 @@ fn purge<A: Allocator>(
     ensures count { IfOk result (λ r. r.0 ≡ length (event.expired_states parts.old)) }
     ensures extends { NodeExtends (5 * length (event.expired_states parts.old)) change.old change.new parts.old parts.new }
 {
-    parts.known();
     let mut count = 0;
     let mut overcounted = false;
     while let Some(state) = first_expired(parts) {

@@ -6,7 +6,7 @@ ghost use Rattle.pfl_base.specs.declared.refusal.Refusal.TheVariants as refusal;
 ghost use Rattle.pfl_node.specs.Releasing as releasing;
 ghost use Rattle.pfl_parts.specs.Edits.{NodeExtends, NodeLeadsBack, total};
 ghost use Rattle.pfl_parts.specs.Judging.{judged_as};
-ghost use Rattle.pfl_parts.specs.Nodes.{Node as Whole, IsRefusal, is_overcounted, refused_by};
+ghost use Rattle.pfl_parts.specs.Nodes.{Node as Whole, AreParts, IsRefusal, is_overcounted, refused_by};
 ghost use Rattle.pfl_queue.specs.Queues.{most_numbers};
 
 use crate::node::Node;
@@ -37,13 +37,13 @@ impl<A: Allocator + Copy> Node<A> {
 
 /// Lets the packets go out whose time has come, and tells how many.
 fn release<A: Allocator>(parts: &mut Parts<A>, change: &mut Change<NodeEdit, A>) -> usize
+    requires parts { AreParts parts.old }
     requires room { 3 * length (releasing.due_names parts.old) ≤ change.old.spare }
     requires countable { total parts.old + change.old.spare ≤ most_numbers }
     ensures node { parts.new ≡ releasing.released_due parts.old }
     ensures count { result ≡ length (releasing.due_names parts.old) }
     ensures extends { NodeExtends (3 * length (releasing.due_names parts.old)) change.old change.new parts.old parts.new }
 {
-    parts.known();
     let mut count = 0;
     while let Some(name) = first_due(parts) {
         parts.known();

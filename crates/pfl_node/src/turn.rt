@@ -7,7 +7,7 @@ ghost use Rattle.pfl_node.specs.Turning as turning;
 ghost use Rattle.pfl_parts.specs.Edits.{NodeExtends, NodeLeadsBack, total};
 ghost use Rattle.pfl_parts.specs.Judging.{Went};
 ghost use Rattle.pfl_parts.specs.Kept.{MayMark};
-ghost use Rattle.pfl_parts.specs.Nodes.{Node as Whole, IsRefusal, is_overfull};
+ghost use Rattle.pfl_parts.specs.Nodes.{Node as Whole, AreParts, IsRefusal, is_overfull};
 ghost use Rattle.pfl_queue.specs.Queues.{most_numbers};
 ghost use Rattle.pfl_queue.specs.declared.Kind.TheVariants as kind;
 
@@ -52,6 +52,7 @@ fn turn<A: Allocator>(
     parts: &mut Parts<A>,
     change: &mut Change<NodeEdit, A>,
 ) -> Result<(usize, bool), Overfull>
+    requires parts { AreParts parts.old }
     requires room { length (turning.turn_of parts.old) + 3 ≤ change.old.spare }
     requires countable { total parts.old + change.old.spare ≤ most_numbers }
     ensures went { Went result (turning.turned parts.old ∷ []) }
@@ -59,7 +60,6 @@ fn turn<A: Allocator>(
     ensures count { IfOk result (λ r. r.0 ≡ length (turning.turn_of parts.old)) }
     ensures extends { NodeExtends (length (turning.turn_of parts.old) + 3) change.old change.new parts.old parts.new }
 {
-    parts.known();
     let batch = parts.limits().batch as usize;
     let mut names = [NO_NAME; MOST_NAMES];
     let count = next_names(parts, batch + 1, &mut names);
@@ -73,11 +73,11 @@ fn turn<A: Allocator>(
 /// Of the names that the server may send, the first behind its cursor, at most so many: they are written to the front of `names`,
 /// and counted.
 fn next_names<A: Allocator>(parts: &Parts<A>, most: usize, names: &mut [StateName]) -> usize
+    requires parts { AreParts parts.now }
     requires room { most ≤ length names.old }
     ensures few { result ≤ length names.new }
     ensures names { take result names.new ≡ first_names parts.now.server (turning.eligible_names parts.now parts.now.server) most }
 {
-    parts.known();
     let BulkServer::Serving { cursor, since } = parts.server() else {
         return 0;
     };

@@ -1,5 +1,5 @@
 -- What a record does, by its kind.
-use Rattle.std.specs.Prelude.{◌≡◌, ℕ, Bool, false}
+use Rattle.std.specs.Prelude.{◌≡◌, ℕ, Bool, false, length}
 use Rattle.std.specs.Option.{option_map_or}
 use Rattle.std.proofs.Common.{ap}
 use Rattle.pfl_base.specs.declared.state_name.StateName.{StateName}
@@ -11,7 +11,8 @@ use Rattle.pfl_wire.specs.declared.message.Message.{Message}
 use Rattle.pfl_wire.specs.declared.message.Message.TheVariants as message
 use Rattle.pfl_parts.specs.Changes.{ask}
 use Rattle.pfl_parts.specs.Nodes.{Node}
-use Rattle.pfl_receive.specs.Receiving.{taken, clear_taken, insert_taken, ack_taken, merge_taken, of_state, of_update, request_taken, delete_taken, status_taken}
+use Rattle.pfl_receive.specs.Delivering.{cleared_by}
+use Rattle.pfl_receive.specs.Receiving.{taken, clear_taken, cleared_names, insert_taken, ack_taken, merge_taken, of_state, of_update, request_taken, delete_taken, status_taken}
 
 module _ (n : Node) (same_rules : Bool) (m : Message) where
   pub taken-clear : (creator bound : ℕ) → m ≡ message.Clear creator bound → taken n same_rules m ≡ clear_taken n creator bound
@@ -49,3 +50,8 @@ module _ (n : Node) (same_rules : Bool) (m : Message) where
   pub taken-status : (creator : ℕ) (status : BulkStatus) → m ≡ message.Bulk creator status → taken n same_rules m ≡ status_taken n status
   unfolding taken
   taken-status creator status e = ap (taken n same_rules) e
+
+  -- a clear is about the states that it clears
+  pub cleared-clear : (creator bound : ℕ) → m ≡ message.Clear creator bound → cleared_by n m ≡ length (cleared_names n creator bound)
+  unfolding cleared_by
+  cleared-clear creator bound e = ap (cleared_by n) e

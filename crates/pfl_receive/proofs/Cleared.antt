@@ -6,14 +6,15 @@ use Rattle.std.specs.declared.cmp.Ordering.TheVariants.{Less, Equal, Greater}
 use Rattle.std.specs.Ordering.{eq_by_cmp, is_lt, is_eq}
 use Rattle.std.specs.Cmp.{eq_by_cmp_equiv}
 use Rattle.std.specs.FinMap.Entries.{is_sorted, below_all}
-use Rattle.std.proofs.Common.{cond, T, ◌∙◌, ap, sym, arith}
+use Rattle.std.proofs.Common.{cond, T, ◌∙◌, ap, sym, subst, arith}
 use Rattle.pfl_base.specs.declared.state_name.StateName.{StateName}
 use Rattle.pfl_base.specs.Names.{name_cmp, names_total}
 use Rattle.pfl_edits.specs.Changes.{Edits}
 use Rattle.pfl_edits.specs.Maps as maps
 use Rattle.pfl_edits.specs.Maps.{entries_sorted, len-entries, len-remove, contains_key-keys}
 use Rattle.pfl_track.specs.declared.state.State.{State}
-use Rattle.pfl_table.specs.Tables.{States}
+use Rattle.pfl_table.specs.Tables.{States, AreStates}
+use Rattle.pfl_table.proofs.Apart.{AreStates-without}
 use Rattle.pfl_parts.specs.declared.edit.NodeEdit.{NodeEdit}
 use Rattle.pfl_parts.specs.Changes.{forgotten, is_held, count_lost, without_held}
 use Rattle.pfl_parts.specs.Edits.{NodeExtends}
@@ -118,6 +119,7 @@ forgotten-states n name = by (is_held n name)
 -- the first of the names, and the clear of the node without it
 pub record IsNext (m : Node) (creator bound : ℕ) (name : StateName) : Type 0 where
   pub rest : clear_taken m creator bound ≡ clear_taken (forgotten m name) creator bound
+  pub one : length (cleared_names m creator bound) ≡ length (cleared_names (forgotten m name) creator bound) + 1
   pub fewer : maps.len m.states ≡ maps.len (forgotten m name).states + 1
 
 with-rest : (ns : List StateName) (name : StateName) → slice_get ns 0 ≡ Some name → (rest : List StateName) × (ns ≡ name ∷ rest)
@@ -131,8 +133,11 @@ next-is m creator bound name o first is =
     let states = forgotten-states m name in
     let left : cleared_names (forgotten m name) creator bound ≡ split.0 =
     ap (λ (s : States). filter test (maps.keys s)) states ∙ keys-without m.states test name split.0 split.1 in
+    let long = ap (λ (ns : List StateName). length ns) split.1 in
+    let short = ap (λ (ns : List StateName). length ns) left in
     record {
       rest = ap (fold forgotten m) split.1 ∙ ap (fold forgotten (forgotten m name)) (sym left);
+      one = omega (arith, long, short);
       fewer = one-less m.states test name split.0 split.1 ∙ ap (λ (s : States). maps.len s + 1) (sym states);
     }
 
@@ -147,14 +152,16 @@ cleared-none m creator bound o first none = ap (fold forgotten m) (empty (cleare
 
 -- m is what n was made to by some of its names, recorded in y
 pub record IsCleared (n m : Node) (creator bound : ℕ) (x y : Edits NodeEdit) : Type 0 where
+  pub states : AreStates m.states
   pub rest : clear_taken m creator bound ≡ clear_taken n creator bound
   pub paid : 4 * maps.len m.states + x.spare ≤ 4 * maps.len n.states + y.spare
-  pub extends : NodeExtends (4 * maps.len n.states) x y n m
+  pub due : x.spare + 4 * length (cleared_names m creator bound) ≤ y.spare + 4 * length (cleared_names n creator bound)
+  pub extends : NodeExtends (4 * length (cleared_names n creator bound)) x y n m
 
-pub cleared-first : (n : Node) (creator bound : ℕ) (x : Edits NodeEdit) → IsCleared n n creator bound x x
-cleared-first n creator bound x =
+pub cleared-first : (n : Node) (creator bound : ℕ) (x : Edits NodeEdit) → AreStates n.states → IsCleared n n creator bound x x
+cleared-first n creator bound x are =
     let none = extends-none x n in
-    record { rest = refl; paid = omega arith; extends = record { spare = omega arith; room = none.room; counted = none.counted; leads_back = none.leads_back } }
+    record { states = are; rest = refl; paid = omega arith; due = omega arith; extends = record { spare = omega arith; room = none.room; counted = none.counted; leads_back = none.leads_back } }
 
 module _ (n m : Node) (creator bound : ℕ) (x y : Edits NodeEdit) (so : IsCleared n m creator bound x y) (name : StateName) (next : IsNext m creator bound name) where
   pub cleared-room : 4 * maps.len n.states ≤ x.spare → 4 ≤ y.spare
@@ -162,14 +169,18 @@ module _ (n m : Node) (creator bound : ℕ) (x y : Edits NodeEdit) (so : IsClear
 
   pub cleared-more : (k : Node) (z : Edits NodeEdit) → k ≡ forgotten m name → NodeExtends 4 y z m k → IsCleared n k creator bound x z
   cleared-more k z same more =
-      let all = extends-then (4 * maps.len n.states) 4 x y z n m k so.extends more in
+      let all = extends-then (4 * length (cleared_names n creator bound)) 4 x y z n m k so.extends more in
       let paid = so.paid in
+      let due = so.due in
       let spare = more.spare in
       let fewer = next.fewer ∙ ap (λ (v : Node). maps.len v.states + 1) (sym same) in
-      let now : 4 * maps.len k.states + x.spare ≤ 4 * maps.len n.states + z.spare = omega (arith, paid, spare, fewer) in
+      let one = next.one ∙ ap (λ (v : Node). length (cleared_names v creator bound) + 1) (sym same) in
+      let now : x.spare + 4 * length (cleared_names k creator bound) ≤ z.spare + 4 * length (cleared_names n creator bound) = omega (arith, due, spare, one) in
       record {
+        states = subst (λ (v : Node). AreStates v.states) (sym same) (subst AreStates (sym (forgotten-states m name)) (AreStates-without m.states name so.states));
         rest = ap (λ (v : Node). clear_taken v creator bound) same ∙ (sym next.rest ∙ so.rest);
-        paid = now;
+        paid = omega (arith, paid, spare, fewer);
+        due = now;
         extends = record { spare = omega (arith, now); room = all.room; counted = all.counted; leads_back = all.leads_back };
       }
 

@@ -10,8 +10,9 @@ use Rattle.pfl_parts.specs.declared.edit.NodeEdit.{NodeEdit}
 use Rattle.pfl_parts.specs.Edits.{NodeExtends}
 use Rattle.pfl_parts.specs.Nodes.{Node, is_overfull, is_overcounted}
 use Rattle.pfl_parts.proofs.Recording.{extends-none, extends-then}
-use Rattle.pfl_receive.specs.Delivering.{IsPaid, most_taken, taken_points}
+use Rattle.pfl_receive.specs.Delivering.{ArePaid, IsPaid, cleared_by, most_taken, records_work, taken_points}
 use Rattle.pfl_receive.specs.Receiving.{taken}
+use Rattle.pfl_receive.proofs.Weighing.{work-next}
 
 abbrev step : Bool → Node → Message → Node
 step same_rules = λ n message. taken n same_rules message
@@ -23,7 +24,11 @@ pub record IsDelivered (n m : Node) (same_rules : Bool) (messages : List Message
   pub full : list_any is_overfull (taken_points m same_rules (drop i messages)) ≡ list_any is_overfull (taken_points n same_rules messages)
   pub counted : (over || list_any is_overcounted (taken_points m same_rules (drop i messages))) ≡ list_any is_overcounted (taken_points n same_rules messages)
   pub paid : 4 * maps.len m.states + x.spare ≤ 4 * maps.len n.states + 12 * i + y.spare
-  pub extends : NodeExtends (most_taken (maps.len n.states) (length messages)) x y n m
+  pub due : x.spare + 12 * records_work m same_rules (drop i messages) ≤ y.spare + 12 * records_work n same_rules messages
+  pub extends : NodeExtends (12 * records_work n same_rules messages) x y n m
+
+le_same : (k : ℕ) → k ≤ k
+le_same k = omega arith
 
 pub delivered-first : (n : Node) (same_rules : Bool) (messages : List Message) (x : Edits NodeEdit) → IsDelivered n n same_rules messages 0 x x false
 delivered-first n same_rules messages x =
@@ -34,6 +39,7 @@ delivered-first n same_rules messages x =
       full = refl;
       counted = refl;
       paid = omega arith;
+      due = le_same (x.spare + 12 * records_work n same_rules messages);
       extends = record { spare = omega arith; room = none.room; counted = none.counted; leads_back = none.leads_back };
     }
 
@@ -49,17 +55,24 @@ module _ (n m : Node) (same_rules : Bool) (messages : List Message) (i : ℕ) (x
   next : drop i messages ≡ d ∷ drop (i + 1) messages
   next = rw add-one (drop-cons messages i d below ∙ ap (λ (k : Message). k ∷ drop (suc i) messages) (sym at))
 
+  -- what is left is the next record and the others
+  left : records_work m same_rules (drop i messages) ≡ 1 + cleared_by m d + records_work (taken m same_rules d) same_rules (drop (i + 1) messages)
+  left = ap (records_work m same_rules) next ∙ work-next m same_rules d (drop (i + 1) messages)
+
   -- there is room for the next record
   pub delivered-room : most_taken (maps.len n.states) (length messages) ≤ x.spare → 4 * maps.len m.states + 8 ≤ y.spare
   delivered-room room = let paid = so.paid in omega (arith, paid, room, below)
 
-  pub delivered-more : (k : Node) (z : Edits NodeEdit) (now : Bool) → k ≡ taken m same_rules d → IsPaid y z m k → NodeExtends (4 * maps.len m.states + 8) y z m k → is_overfull k ≡ false → now ≡ is_overcounted k
+  pub delivered-more : (k : Node) (z : Edits NodeEdit) (now : Bool) → k ≡ taken m same_rules d → IsPaid y z m k → NodeExtends (8 + 4 * cleared_by m d) y z m k → is_overfull k ≡ false → now ≡ is_overcounted k
       → IsDelivered n k same_rules messages (i + 1) x z (over || now)
   delivered-more k z now same pays more fits counts =
-      let all = extends-then (most_taken (maps.len n.states) (length messages)) (4 * maps.len m.states + 8) x y z n m k so.extends more in
+      let all = extends-then (12 * records_work n same_rules messages) (8 + 4 * cleared_by m d) x y z n m k so.extends more in
       let paid = so.paid in
-      let due : 4 * maps.len k.states + x.spare ≤ 4 * maps.len n.states + 12 * (i + 1) + z.spare = omega (arith, paid, pays) in
+      let due = so.due in
+      let spare = more.spare in
       let others = drop (i + 1) messages in
+      let work = left ∙ ap (λ (v : Node). 1 + cleared_by m d + records_work v same_rules others) (sym same) in
+      let now_due : x.spare + 12 * records_work k same_rules others ≤ z.spare + 12 * records_work n same_rules messages = omega (arith, due, spare, work) in
       record {
         within = omega (arith, below);
         rest = ap (λ (v : Node). fold (step same_rules) v others) same ∙ (ap (fold (step same_rules) m) (sym next) ∙ so.rest);
@@ -72,8 +85,9 @@ module _ (n m : Node) (same_rules : Bool) (messages : List Message) (i : ℕ) (x
             ∙ (assoc over (is_overcounted k) (list_any is_overcounted (taken_points k same_rules others))
             ∙ (ap (λ (v : Node). over || (is_overcounted v || list_any is_overcounted (taken_points v same_rules others))) same
             ∙ (ap (λ (ms : List Message). over || list_any is_overcounted (taken_points m same_rules ms)) (sym next) ∙ so.counted)));
-        paid = due;
-        extends = record { spare = omega (arith, due, below); room = all.room; counted = all.counted; leads_back = all.leads_back };
+        paid = omega (arith, paid, pays);
+        due = now_due;
+        extends = record { spare = omega (arith, now_due); room = all.room; counted = all.counted; leads_back = all.leads_back };
       }
 
   -- too much is pending after the next record
@@ -84,26 +98,31 @@ module _ (n m : Node) (same_rules : Bool) (messages : List Message) (i : ℕ) (x
       ∙ ap (λ b. b || list_any is_overfull (taken_points (taken m same_rules d) same_rules (drop (i + 1) messages))) e)
 
   -- and what was recorded till then
-  pub delivered-stops : (k : Node) (z : Edits NodeEdit) → NodeExtends (4 * maps.len m.states + 8) y z m k → NodeExtends (most_taken (maps.len n.states) (length messages)) x z n k
+  pub delivered-stops : (k : Node) (z : Edits NodeEdit) → NodeExtends (8 + 4 * cleared_by m d) y z m k → NodeExtends (12 * records_work n same_rules messages) x z n k
   delivered-stops k z more =
-      let all = extends-then (most_taken (maps.len n.states) (length messages)) (4 * maps.len m.states + 8) x y z n m k so.extends more in
-      let paid = so.paid in
+      let all = extends-then (12 * records_work n same_rules messages) (8 + 4 * cleared_by m d) x y z n m k so.extends more in
+      let due = so.due in
       let spare = more.spare in
-      record { spare = omega (arith, paid, spare, below); room = all.room; counted = all.counted; leads_back = all.leads_back }
+      let work = left in
+      record { spare = omega (arith, due, spare, work); room = all.room; counted = all.counted; leads_back = all.leads_back }
 
 -- after the last record
 pub record IsAll (n m : Node) (same_rules : Bool) (messages : List Message) (x y : Edits NodeEdit) (over : Bool) : Type 0 where
   pub node : m ≡ fold (step same_rules) n messages
   pub full : list_any is_overfull (taken_points n same_rules messages) ≡ false
   pub counted : over ≡ list_any is_overcounted (taken_points n same_rules messages)
-  pub extends : NodeExtends (most_taken (maps.len n.states) (length messages)) x y n m
+  pub paid : ArePaid (length messages) x y n m
+  pub extends : NodeExtends (12 * records_work n same_rules messages) x y n m
 
 pub delivered-all : (n m : Node) (same_rules : Bool) (messages : List Message) (i : ℕ) (x y : Edits NodeEdit) (over : Bool) → IsDelivered n m same_rules messages i x y over → length messages ≤ i → IsAll n m same_rules messages x y over
 delivered-all n m same_rules messages i x y over so end =
     let none = drop_all i messages end in
+    let paid = so.paid in
+    let within = so.within in
     record {
       node = ap (fold (step same_rules) m) (sym none) ∙ so.rest;
       full = sym so.full ∙ ap (λ (ms : List Message). list_any is_overfull (taken_points m same_rules ms)) none;
       counted = or_false over ∙ (ap (λ (ms : List Message). over || list_any is_overcounted (taken_points m same_rules ms)) (sym none) ∙ so.counted);
+      paid = omega (arith, paid, within);
       extends = so.extends;
     }

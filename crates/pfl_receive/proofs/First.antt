@@ -16,7 +16,7 @@ use Rattle.pfl_edits.specs.Maps as maps
 use Rattle.pfl_edits.specs.Maps.{entries_sorted, get-entries}
 use Rattle.pfl_track.specs.declared.state.State.{State}
 use Rattle.pfl_table.specs.Tables.{States, AreStates, state_after}
-use Rattle.pfl_parts.specs.Nodes.{Node, AreParts}
+use Rattle.pfl_parts.specs.Nodes.{Node}
 use Rattle.pfl_receive.specs.Receiving.{cleared_names}
 
 left : (a b : Bool) → T (a && b) → T a
@@ -209,15 +209,15 @@ entries-filed m are (e ∷ es) a = (are.filed e.0 e.1 (get-entries m e.0 ∙ a.0
 abbrev pub first_from : States → StateName → Option StateName
 first_from m name = if is_some (maps.get m name) then Some name else option_map (λ s. s.name) (state_after m name)
 
-first-cleared : (n : Node) (creator bound : ℕ) → AreParts n → slice_get (cleared_names n creator bound) 0 ≡ option_and_then (checked creator bound) (first_from n.states (least creator bound))
+first-cleared : (n : Node) (creator bound : ℕ) → AreStates n.states → slice_get (cleared_names n creator bound) 0 ≡ option_and_then (checked creator bound) (first_from n.states (least creator bound))
 first-cleared n creator bound is =
     let es = maps.entries n.states in
     let sorted = entries_sorted n.states in
-    first-passes creator bound es sorted (entries-filed n.states is.states es (entries-found es sorted))
+    first-passes creator bound es sorted (entries-filed n.states is es (entries-found es sorted))
     ∙ ap (λ (o : Option State). option_and_then (checked creator bound) (if is_some o then Some (least creator bound) else option_map (λ (s : State). s.name) (state_after n.states (least creator bound)))) (sym (get-entries n.states (least creator bound)))
 
 -- the same, where that first one is known
-module _ (n : Node) (creator bound : ℕ) (is : AreParts n) (o : Option StateName) (from : o ≡ first_from n.states (least creator bound)) where
+module _ (n : Node) (creator bound : ℕ) (is : AreStates n.states) (o : Option StateName) (from : o ≡ first_from n.states (least creator bound)) where
   begins : slice_get (cleared_names n creator bound) 0 ≡ option_and_then (checked creator bound) o
   begins = first-cleared n creator bound is ∙ ap (option_and_then (checked creator bound)) (sym from)
 

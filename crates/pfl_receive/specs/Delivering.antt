@@ -1,18 +1,67 @@
--- How the records of a frame are taken one after another. No contract of a public call of a node cites this.
-use Rattle.std.specs.Prelude.{◌≡◌, ◌≤◌, ℕ, ◌+◌, ◌*◌, Bool, true, false, List, Result, Ok, Err}
-use Rattle.std.specs.List.{list_any}
+-- What the records of a frame do to a node, one after another, and how many edits they take (pfsync(4); that a frame is taken
+-- whole or not at all is this project's profile).
+use Rattle.std.specs.Prelude.{◌≡◌, ◌≤◌, ℕ, ◌+◌, ◌*◌, ◌==◌, Bool, true, false, List, ◌∷◌, length, Result, Ok, Err}
+use Rattle.std.specs.List.{fold, flat_map, list_any, zip, sum_by}
+use Rattle.std.specs.Cmp.Lexicographic.{pointwise}
 use Rattle.pfl_base.specs.Lists.{folds}
 use Rattle.pfl_edits.specs.Changes.{Edits}
 use Rattle.pfl_edits.specs.Maps as maps
 use Rattle.pfl_wire.specs.declared.message.Message.{Message}
+use Rattle.pfl_wire.specs.declared.message.Message.TheVariants as message
+use Rattle.pfl_wire.specs.Frames.{Frame}
 use Rattle.pfl_parts.specs.declared.edit.NodeEdit.{NodeEdit}
 use Rattle.pfl_parts.specs.declared.parts.judge.Overfull.{Overfull}
 use Rattle.pfl_parts.specs.Nodes.{Node, is_overfull, is_overcounted}
-use Rattle.pfl_receive.specs.Receiving.{taken}
+use Rattle.pfl_receive.specs.Receiving.{taken, cleared_names}
+
+-- ---- records
 
 -- the node after each of the records
 abbrev pub taken_points : Node → Bool → List Message → List Node
-taken_points n same_rules messages = folds (λ m message. taken m same_rules message) n messages
+taken_points n same_rules messages = folds (λ m r. taken m same_rules r) n messages
+
+-- the states that a record removes by its bound
+unfoldable pub cleared_by : Node → Message → ℕ
+cleared_by n (message.Clear creator bound) = length (cleared_names n creator bound)
+cleared_by n _ = 0
+
+-- what records are about: themselves, and the states that they clear
+unfoldable pub records_work : Node → Bool → List Message → ℕ
+records_work n same_rules messages =
+    let nodes = n ∷ taken_points n same_rules messages in
+    length messages + sum_by (λ at. cleared_by at.0 at.1) (zip nodes messages)
+
+-- ---- frames
+
+-- the records of groups, one after another
+abbrev pub all_of : List (List Message) → List Message
+all_of groups = flat_map (λ group. group) groups
+
+-- the records of a frame
+abbrev pub records_of : Frame → List Message
+records_of f = all_of f.groups
+
+-- the sender has the node's own rules
+abbrev pub same_rules : Node → Frame → Bool
+same_rules n f = pointwise ◌==◌ f.print n.rules.print
+
+-- the node after the records of a frame
+abbrev pub received : Node → Frame → Node
+received n f = fold (λ m r. taken m (same_rules n f) r) n (records_of f)
+
+-- the points of a frame: one after each record
+abbrev pub receive_points : Node → Frame → List Node
+receive_points n f = taken_points n (same_rules n f) (records_of f)
+
+-- what a frame is about: its records, and the states that they clear
+abbrev pub frame_work : Node → Frame → ℕ
+frame_work n f = records_work n (same_rules n f) (records_of f)
+
+-- so many records are counted; no frame that was read has as many, since each takes a byte at least
+abbrev pub most_records : ℕ
+most_records = 65536
+
+-- ---- how they are carried out; no contract of a public call of a node cites these
 
 -- the records were taken: it stopped where too much was pending after one, and else tells whether after one a number was too high
 abbrev pub WentAll : Result Bool Overfull → List Node → Type 0
@@ -24,6 +73,10 @@ WentAll (Err _) points = list_any is_overfull points ≡ true
 abbrev pub IsPaid : Edits NodeEdit → Edits NodeEdit → Node → Node → Type 0
 IsPaid x y a b = 4 * maps.len b.states + x.spare ≤ 4 * maps.len a.states + 12 + y.spare
 
--- how many edits the records of a frame make at most, at a node with so many states
+-- the same of so many records
+abbrev pub ArePaid : ℕ → Edits NodeEdit → Edits NodeEdit → Node → Node → Type 0
+ArePaid records x y a b = 4 * maps.len b.states + x.spare ≤ 4 * maps.len a.states + 12 * records + y.spare
+
+-- the room for the records of a frame, at a node with so many states
 abbrev pub most_taken : ℕ → ℕ → ℕ
 most_taken states records = 4 * (states + records) + 8 * records

@@ -2,20 +2,20 @@
 
 ghost use Rattle.std.specs.List.{slice_get};
 ghost use Rattle.std.specs.Option.{option_map};
-ghost use Rattle.std.specs.Prelude.{◌≡◌, ◌≤◌, ◌+◌, ◌*◌, ◌==◌, ◌&&◌, nat_le, Some, is_some, if◌then◌else◌};
+ghost use Rattle.std.specs.Prelude.{◌≡◌, ◌≤◌, ◌+◌, ◌*◌, ◌==◌, ◌&&◌, nat_le, Some, is_some, length, if◌then◌else◌};
 ghost use Rattle.pfl_edits.specs.Maps as maps;
 ghost use Rattle.pfl_parts.specs.Edits.{NodeExtends, total};
 ghost use Rattle.pfl_queue.specs.Queues.{most_numbers};
 ghost use Rattle.pfl_receive.specs.Delivering.{IsPaid};
 ghost use Rattle.pfl_receive.specs.Receiving as receiving;
-ghost use Rattle.pfl_table.specs.Tables.{state_after};
+ghost use Rattle.pfl_table.specs.Tables.{AreStates, state_after};
 
 use pfl_base::StateName;
 use pfl_edits::Change;
 use pfl_parts::{NodeEdit, Parts};
 use std::alloc::Allocator;
 
-/// The states of the creator up to the bound go unannounced.
+/// The states of the creator up to the bound go unannounced, by four edits each at most.
 pub(crate) fn take_clear<A: Allocator>(
     parts: &mut Parts<A>,
     creator: u32,
@@ -24,9 +24,10 @@ pub(crate) fn take_clear<A: Allocator>(
 )
     requires room { 4 * maps.len parts.old.states ≤ change.old.spare }
     requires countable { total parts.old + change.old.spare ≤ most_numbers }
+    requires states { AreStates parts.old.states }
     ensures node { parts.new ≡ receiving.clear_taken parts.old creator bound }
     ensures paid { IsPaid change.old change.new parts.old parts.new }
-    ensures extends { NodeExtends (4 * maps.len parts.old.states) change.old change.new parts.old parts.new }
+    ensures extends { NodeExtends (4 * length (receiving.cleared_names parts.old creator bound)) change.old change.new parts.old parts.new }
 {
     while let Some(name) = first_cleared(parts, creator, bound) {
         parts.forget(name, change);
@@ -35,9 +36,9 @@ pub(crate) fn take_clear<A: Allocator>(
 
 /// The first name of the creator up to the bound.
 fn first_cleared<A: Allocator>(parts: &Parts<A>, creator: u32, bound: u64) -> Option<StateName>
+    requires states { AreStates parts.now.states }
     ensures first { result ≡ slice_get (receiving.cleared_names parts.now creator bound) 0 }
 {
-    parts.known();
     let Some(name) = first_from(parts, StateName { creator, id: 0 }) else {
         return None;
     };

@@ -27,11 +27,11 @@ pub(crate) fn take_insertion<A: Allocator>(
 ) -> Result<(), Overfull>
     requires room { 3 ≤ change.old.spare }
     requires countable { total parts.old + change.old.spare ≤ most_numbers }
+    requires parts { AreParts parts.old }
     ensures full { OnErr result (is_overfull (receiving.insert_taken parts.old same_rules sent.now ack_wanted) ≡ true) }
     ensures node { OnOk result (parts.new ≡ receiving.insert_taken parts.old same_rules sent.now ack_wanted) }
     ensures extends { NodeExtends 3 change.old change.new parts.old parts.new }
 {
-    parts.known();
     if !can_import(parts, sent) {
         parts.count(Counter::Bad, change);
         return Ok(());
@@ -85,6 +85,7 @@ fn key_in_use<A: Allocator>(parts: &Parts<A>, keys: &KeyPair) -> bool
 
 /// The state of a record, as the node keeps it.
 fn imported<A: Allocator>(parts: &Parts<A>, sent: &StateRecord, same_rules: bool) -> State
+    requires parts { AreParts parts.now }
     ensures state { result ≡ receiving.imported parts.now same_rules sent.now }
 {
     sent.keys.known();
@@ -113,9 +114,9 @@ fn imported<A: Allocator>(parts: &Parts<A>, sent: &StateRecord, same_rules: bool
 
 /// The number of a rule, which means one only under the same rules.
 fn kept_rule<A: Allocator>(parts: &Parts<A>, same_rules: bool, rule: Option<u32>) -> Option<u16>
+    requires parts { AreParts parts.now }
     ensures rule { result ≡ receiving.kept_rule parts.now same_rules rule }
 {
-    parts.rules().known();
     let number = rule?;
     let known = same_rules && (number as usize) < parts.rules().rules().len();
     if known { Some(number as u16) } else { None }

@@ -4,6 +4,7 @@
 mod ack;
 mod bulk;
 mod clear;
+mod counting;
 mod deletion;
 mod frame;
 mod insertion;
@@ -11,5 +12,6 @@ mod records;
 mod request;
 mod update;
 
-pub use frame::take_all;
+pub use counting::count_records;
+pub use frame::{take_all, take_frame};
 pub use records::take_record;

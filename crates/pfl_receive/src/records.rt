@@ -5,7 +5,7 @@ ghost use Rattle.pfl_edits.specs.Maps as maps;
 ghost use Rattle.pfl_parts.specs.Edits.{NodeExtends, total};
 ghost use Rattle.pfl_parts.specs.Nodes.{Node as Whole, is_overfull};
 ghost use Rattle.pfl_queue.specs.Queues.{most_numbers};
-ghost use Rattle.pfl_receive.specs.Delivering.{IsPaid};
+ghost use Rattle.pfl_receive.specs.Delivering.{IsPaid, cleared_by};
 ghost use Rattle.pfl_receive.specs.Receiving.{taken};
 
 use crate::ack::take_ack;
@@ -21,7 +21,7 @@ use pfl_wire::Message;
 use std::alloc::Allocator;
 
 /// What a record from the peer does at a node. `same_rules` says that the peer's rules are the node's own. It stops where too much
-/// would be pending; what was done till then is recorded.
+/// would be pending; what was done till then is recorded: at most eight edits, and four for each state that is cleared.
 pub fn take_record<A: Allocator>(
     parts: &mut Parts<A>,
     message: &Message,
@@ -33,8 +33,9 @@ pub fn take_record<A: Allocator>(
     ensures full { OnErr result (is_overfull (taken parts.old same_rules message.now) ≡ true) }
     ensures node { OnOk result (parts.new ≡ taken parts.old same_rules message.now) }
     ensures paid { OnOk result (IsPaid change.old change.new parts.old parts.new) }
-    ensures extends { NodeExtends (4 * maps.len parts.old.states + 8) change.old change.new parts.old parts.new }
+    ensures extends { NodeExtends (8 + 4 * cleared_by parts.old message.now) change.old change.new parts.old parts.new }
 {
+    parts.known();
     match message {
         Message::Clear { creator, bound } => {
             take_clear(parts, *creator, *bound, change);

@@ -3,7 +3,7 @@
 ghost use Rattle.std.specs.Prelude.{◌≡◌, ◌≤◌, ◌+◌, true, OnOk, OnErr, Some, not, ◌&&◌, if◌then◌else◌};
 ghost use Rattle.pfl_edits.specs.Maps as maps;
 ghost use Rattle.pfl_parts.specs.Edits.{NodeExtends, total};
-ghost use Rattle.pfl_parts.specs.Nodes.{Node as Whole, is_overfull};
+ghost use Rattle.pfl_parts.specs.Nodes.{Node as Whole, AreParts, is_overfull};
 ghost use Rattle.pfl_queue.specs.Queues.{most_numbers, kind_of};
 ghost use Rattle.pfl_receive.specs.Receiving as receiving;
 ghost use Rattle.pfl_wire.specs.declared.message.BulkStatus.TheVariants.{Start, End as Finish};
@@ -27,11 +27,11 @@ pub(crate) fn take_request<A: Allocator>(
 ) -> Result<(), Overfull>
     requires room { 3 ≤ change.old.spare }
     requires countable { total parts.old + change.old.spare ≤ most_numbers }
+    requires parts { AreParts parts.old }
     ensures full { OnErr result (is_overfull (receiving.request_taken parts.old name) ≡ true) }
     ensures node { OnOk result (parts.new ≡ receiving.request_taken parts.old name) }
     ensures extends { NodeExtends 3 change.old change.new parts.old parts.new }
 {
-    parts.known();
     if name == NO_NAME {
         return serve(parts, change);
     }
@@ -49,11 +49,11 @@ fn serve<A: Allocator>(
 ) -> Result<(), Overfull>
     requires room { 3 ≤ change.old.spare }
     requires countable { total parts.old + change.old.spare ≤ most_numbers }
+    requires parts { AreParts parts.old }
     ensures full { OnErr result (is_overfull (receiving.bulk_taken parts.old) ≡ true) }
     ensures node { OnOk result (parts.new ≡ receiving.bulk_taken parts.old) }
     ensures extends { NodeExtends 3 change.old change.new parts.old parts.new }
 {
-    parts.known();
     let has_states = parts.states().len() > 0;
     let server = parts.server().start(has_states, parts.clock());
     parts.tell_status(status_of(has_states), change)?;
@@ -80,12 +80,12 @@ fn answer<A: Allocator>(
 ) -> Result<(), Overfull>
     requires room { 2 ≤ change.old.spare }
     requires countable { total parts.old + change.old.spare ≤ most_numbers }
+    requires parts { AreParts parts.old }
     requires stands { maps.get parts.old.states state.now.name ≡ Some state.now }
     ensures full { OnErr result (is_overfull (receiving.answered parts.old state.now) ≡ true) }
     ensures node { OnOk result (parts.new ≡ receiving.answered parts.old state.now) }
     ensures extends { NodeExtends 2 change.old change.new parts.old parts.new }
 {
-    parts.known();
     let name = state.name();
     if !is_answered(parts, state) {
         return Ok(());

@@ -6,7 +6,7 @@ ghost use Rattle.pfl_edits.specs.Maps as maps;
 ghost use Rattle.pfl_parts.specs.Changes as to;
 ghost use Rattle.pfl_parts.specs.Edits.{NodeExtends, total};
 ghost use Rattle.pfl_parts.specs.Kept.{MayReplace};
-ghost use Rattle.pfl_parts.specs.Nodes.{Node as Whole, is_overfull};
+ghost use Rattle.pfl_parts.specs.Nodes.{Node as Whole, AreParts, is_overfull};
 ghost use Rattle.pfl_queue.specs.Queues.{most_numbers};
 ghost use Rattle.pfl_receive.specs.Receiving as receiving;
 
@@ -27,11 +27,11 @@ pub(crate) fn take_update<A: Allocator>(
 ) -> Result<(), Overfull>
     requires room { 7 ≤ change.old.spare }
     requires countable { total parts.old + change.old.spare ≤ most_numbers }
+    requires parts { AreParts parts.old }
     ensures full { OnErr result (is_overfull (option_map_or (λ s. receiving.merge_taken parts.old s (receiving.of_state sent.now)) (maps.get parts.old.states sent.now.name) (receiving.insert_taken parts.old same_rules sent.now false)) ≡ true) }
     ensures node { OnOk result (parts.new ≡ option_map_or (λ s. receiving.merge_taken parts.old s (receiving.of_state sent.now)) (maps.get parts.old.states sent.now.name) (receiving.insert_taken parts.old same_rules sent.now false)) }
     ensures extends { NodeExtends 7 change.old change.new parts.old parts.new }
 {
-    parts.known();
     let Some(state) = parts.states().by_name(sent.name).copied() else {
         return take_insertion(parts, sent, false, same_rules, change);
     };
@@ -46,11 +46,11 @@ pub(crate) fn take_short_update<A: Allocator>(
 ) -> Result<(), Overfull>
     requires room { 7 ≤ change.old.spare }
     requires countable { total parts.old + change.old.spare ≤ most_numbers }
+    requires parts { AreParts parts.old }
     ensures full { OnErr result (is_overfull (option_map_or (λ s. receiving.merge_taken parts.old s (receiving.of_update sent.now)) (maps.get parts.old.states sent.now.name) (to.ask parts.old sent.now.name)) ≡ true) }
     ensures node { OnOk result (parts.new ≡ option_map_or (λ s. receiving.merge_taken parts.old s (receiving.of_update sent.now)) (maps.get parts.old.states sent.now.name) (to.ask parts.old sent.now.name)) }
     ensures extends { NodeExtends 7 change.old change.new parts.old parts.new }
 {
-    parts.known();
     let Some(state) = parts.states().by_name(sent.name).copied() else {
         return parts.ask(sent.name, change);
     };
@@ -66,12 +66,12 @@ fn take_merge<A: Allocator>(
 ) -> Result<(), Overfull>
     requires room { 7 ≤ change.old.spare }
     requires countable { total parts.old + change.old.spare ≤ most_numbers }
+    requires parts { AreParts parts.old }
     requires stands { maps.get parts.old.states state.now.name ≡ Some state.now }
     ensures full { OnErr result (is_overfull (receiving.merge_taken parts.old state.now received.now) ≡ true) }
     ensures node { OnOk result (parts.new ≡ receiving.merge_taken parts.old state.now received.now) }
     ensures extends { NodeExtends 7 change.old change.new parts.old parts.new }
 {
-    parts.known();
     let timeout = parts.rules().timeout(state.rule(), received.class);
     let merged = merge(state, received, timeout, parts.clock());
     merged.state.known();

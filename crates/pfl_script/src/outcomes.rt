@@ -6,6 +6,7 @@ ghost use Rattle.pfl_script.specs.Texts.{reason_text, outcome_text};
 
 use crate::optional::OptionalName;
 use pfl_node::Reason;
+use pfl_wire::FrameFault;
 use pfl_world::Outcome;
 use std::fmt;
 
@@ -54,6 +55,11 @@ impl fmt::Display for OutcomeWords {
                 write!(f, "drop {reason}")
             }
             Outcome::Sent { ticket, len } => write!(f, "sent {ticket} {len}"),
+            Outcome::Taken(records) => write!(f, "taken {records}"),
+            Outcome::Broken(why) => {
+                let number = FrameFault::from(why).number();
+                write!(f, "broken {number}")
+            }
             Outcome::Lost => f.write_str("lost"),
             Outcome::CutTo(len) => write!(f, "cut {len}"),
             Outcome::Clock(ms) => write!(f, "clock {ms}"),
@@ -61,6 +67,7 @@ impl fmt::Display for OutcomeWords {
             Outcome::Released(packets) => write!(f, "released {packets}"),
             Outcome::Killed => f.write_str("killed"),
             Outcome::Cleared(states) => write!(f, "cleared {states}"),
+            Outcome::Boot(number) => write!(f, "boot {number}"),
             Outcome::Queued(states) => write!(f, "queued {states}"),
             Outcome::Asked(tries) => write!(f, "asked {tries}"),
             Outcome::Served => f.write_str("served"),

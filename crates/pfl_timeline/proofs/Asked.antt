@@ -6,8 +6,8 @@ use Rattle.pfl_base.specs.declared.refusal.Refusal.{Refusal}
 use Rattle.pfl_base.specs.declared.refusal.Refusal.TheVariants.{NoMemory}
 use Rattle.pfl_parts.specs.Nodes.{refused_by}
 use Rattle.pfl_world.specs.declared.event.Event.{Event}
-use Rattle.pfl_world.specs.Events.{step, IsRefusalOf}
-use Rattle.pfl_world.specs.Outcomes.{Outcome, Stepped}
+use Rattle.pfl_world.specs.Events.{step, IsEventRefusal}
+use Rattle.pfl_world.specs.Outcomes.{Outcome}
 use Rattle.pfl_world.specs.Runs.{run}
 use Rattle.pfl_world.specs.Worlds.{World}
 use Rattle.pfl_timeline.specs.declared.command.Command.{Command}
@@ -18,6 +18,7 @@ use Rattle.pfl_timeline.specs.Commands.{replied, answered, with_branch, with_cha
 use Rattle.pfl_timeline.specs.Replies.{Reply, Replied, Stepped as StepReply, At, Shown, Names, Refused as Refusing, moved}
 use Rattle.pfl_timeline.specs.Rooted.{Rooted, shown, with_cursor, StandsIn, IsReplyOf}
 use Rattle.pfl_timeline.specs.Timelines.{Branch, Timeline, standing, world_of}
+use Rattle.pfl_timeline.proofs.Refusals.{refusal_is}
 
 -- ---- a branch
 
@@ -34,11 +35,6 @@ shown_there r w t here stands = ap (λ (o : World). run o (standing r.branch)) s
 pub asked_of : (done : World → Replied) (r : Rooted) (w : World) (t : Timeline) → shown r ≡ Some w → StandsIn t r
     → option_map_or done (world_of t r.branch) (replied t (Refusing refused.NoBranch)) ≡ done w
 asked_of done r w t here stands = ap (λ (o : Option World). option_map_or done o (replied t (Refusing refused.NoBranch))) (shown_there r w t here stands)
-
--- a refusal that is no want of memory is the step's
-refusal_is : (at : Result Stepped Refusal) (why : Refusal) → IsRefusalOf at why → why ≢ NoMemory → at ≡ Err why
-refusal_is (Ok s) why is other = absurd (other is)
-refusal_is (Err first) why is other = ap Err (sym is)
 
 -- the same of equal ones
 pub replied_as : (asked : Timeline → Branch → Replied) (r s s' : Rooted) (reply reply' : Reply) → s' ≡ s → reply' ≡ reply → IsReplyOf asked r s reply → IsReplyOf asked r s' reply'
@@ -58,14 +54,14 @@ told-stepped r e w new out cut here stepped is = record {
 }
 
 -- the event is refused
-pub told-refused : (r : Rooted) (e : Event) (w : World) (why : Refusal) → shown r ≡ Some w → IsRefusalOf (step w e) why → why ≢ NoMemory
+pub told-refused : (r : Rooted) (e : Event) (w : World) (why : Refusal) → shown r ≡ Some w → IsEventRefusal w e why → why ≢ NoMemory
     → IsReplyOf (λ t b. step_reply t e b) r r (Refusing (refused.Event why))
 told-refused r e w why here is other = record {
   opening = refl;
   name = refl;
   told = λ t stands.
       asked_of (λ v. step_answered t r.branch e (step v e)) r w t here stands
-      ∙ ap (step_answered t r.branch e) (refusal_is (step w e) why is other)
+      ∙ ap (step_answered t r.branch e) (refusal_is w e why is other)
       ∙ same_branch r t (Refusing (refused.Event why)) stands;
 }
 

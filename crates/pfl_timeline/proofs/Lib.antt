@@ -5,6 +5,7 @@ pub mod Copied
 pub mod Distinct
 pub mod Places
 pub mod Searched
+pub mod Refusals
 pub mod Asked
 pub mod Wants
 pub mod Prefixes

@@ -1,5 +1,5 @@
 -- A branch that is found by its name, and the timeline with another one in its place.
-use Rattle.std.specs.Prelude.{◌≡◌, ℕ, suc, ◌+◌, ◌-◌, ◌≤◌, Bool, true, false, nat_le, List, [], ◌∷◌, ◌++◌, length, get_or, map, find, position, take, Option, Some, None, is_some, refl, if◌then◌else◌}
+use Rattle.std.specs.Prelude.{◌≡◌, ℕ, suc, ◌+◌, ◌-◌, ◌≤◌, Bool, true, false, nat_le, List, [], ◌∷◌, ◌++◌, length, get_or, map, find, position, take, Option, Some, None, is_some, IsSomeAnd, refl, if◌then◌else◌}
 use Rattle.std.specs.List.{AllByRecursion, IsDistinct, position_from, remove}
 use Rattle.std.specs.Option.{option_map_or}
 use Rattle.std.proofs.Common.{◌<◌, cond, set, sym, ◌∙◌, ap, subst, arith, length-append, take_all}
@@ -8,14 +8,15 @@ use Rattle.std.proofs.lemmas.List.{get_or_at, set_at, set-get_or, length-map, ma
 use Rattle.std.proofs.lemmas.List.Edits.{remove-append_right}
 use Rattle.std.proofs.lemmas.Iterator.Adapters.{position_from-zero}
 use Rattle.pfl_edits.specs.Rows.{some_is_none}
+use Rattle.pfl_world.specs.Runs.{run}
 use Rattle.pfl_world.specs.Worlds.{World, IsWorld}
 use Rattle.pfl_timeline.specs.Commands.{replied, with_branch, with_changed}
 use Rattle.pfl_timeline.specs.Kept.{opening_of, timeline_of, AreKept}
 use Rattle.pfl_timeline.specs.Memory.{is_refusal, IsAccepted}
 use Rattle.pfl_timeline.specs.declared.refused.Refused.TheVariants as refused
 use Rattle.pfl_timeline.specs.Replies.{Reply, Replied, Refused as Refusing}
-use Rattle.pfl_timeline.specs.Rooted.{Rooted, StandsIn, Accepts, IsReplyOf}
-use Rattle.pfl_timeline.specs.Timelines.{Branch, Timeline, IsBranch, IsTimeline, branch_of, main_name, same_name}
+use Rattle.pfl_timeline.specs.Rooted.{Rooted, shown, StandsIn, Accepts, IsReplyOf}
+use Rattle.pfl_timeline.specs.Timelines.{Branch, Timeline, IsBranch, IsTimeline, branch_of, main_name, same_name, standing, world_of}
 use Rattle.pfl_timeline.proofs.Distinct.{itself, differ, all_behind, others, one_goes}
 use Rattle.pfl_timeline.proofs.NewTimelines.{new_timeline-is}
 
@@ -209,6 +210,17 @@ module _ (name : List ℕ) (rs : List Rooted) (i : ℕ) (old new : Rooted) (plac
       ap (λ (b : Option Branch). is_refusal (option_map_or (asked t) b (replied t (Refusing refused.NoBranch))).reply) spot.found
       ∙ h t (subst (λ (u : Timeline). StandsIn u spot.here) (sym same) (stands spot.front spot.here spot.rest kept_spot))
 
+  -- what is so of the world that the branch shows is so of the one of the timeline's branch
+  pub shows-here : (P : World → Type 0) → IsSomeAnd (shown old) P → IsSomeAnd (branch_of (timeline_of rs) name) (λ b. IsSomeAnd (world_of (timeline_of rs) b) P)
+  unfolding world_of
+  shows-here P is =
+      let t = timeline_of rs in
+      let same = ap timeline_of spot.whole in
+      let so : IsSomeAnd (shown spot.here) P = subst (λ (r : Rooted). IsSomeAnd (shown r) P) (sym is_old) is in
+      let s : StandsIn t spot.here = subst (λ (u : Timeline). StandsIn u spot.here) (sym same) (stands spot.front spot.here spot.rest kept_spot) in
+      let there : world_of t spot.here.branch ≡ shown spot.here = ap (λ (o : World). run o (standing spot.here.branch)) s.opening in
+      subst (λ (b : Option Branch). IsSomeAnd b (λ k. IsSomeAnd (world_of t k) P)) (sym spot.found) (subst (λ (w : Option World). IsSomeAnd w P) (sym there) so)
+
   pub kept-here : new.opening ≡ old.opening → new.branch.name ≡ old.branch.name → IsBranch new.opening new.branch → AreKept (set rs i new)
   kept-here opening called is =
       subst AreKept is_new (still_kept spot.front spot.here new spot.rest (opening ∙ ap (λ (r : Rooted). r.opening) (sym is_old)) (called ∙ ap (λ (r : Rooted). r.branch.name) (sym is_old)) kept_spot is)
@@ -270,6 +282,12 @@ pub accepted-at : (asked : Timeline → Branch → Replied) (name : List ℕ) (r
     → position (has_name name) rs ≡ Some i → old ≡ get_or rs i old → AreKept rs → Accepts asked old → IsAccepted (with_branch t name (asked t))
 accepted-at asked name rs i old t view place here kept accepts =
     subst (λ (u : Timeline). IsAccepted (with_branch u name (asked u))) view (accepted-here name rs i old old place here kept asked accepts)
+
+-- what is so of the world that the branch of the name shows
+pub shows-at : (P : World → Type 0) (name : List ℕ) (rs : List Rooted) (i : ℕ) (old : Rooted) (t : Timeline) → timeline_of rs ≡ t
+    → position (has_name name) rs ≡ Some i → old ≡ get_or rs i old → AreKept rs → IsSomeAnd (shown old) P → IsSomeAnd (branch_of t name) (λ b. IsSomeAnd (world_of t b) P)
+shows-at P name rs i old t view place here kept is =
+    subst (λ (u : Timeline). IsSomeAnd (branch_of u name) (λ b. IsSomeAnd (world_of u b) P)) view (shows-here name rs i old old place here kept P is)
 
 -- ---- the first timeline
 

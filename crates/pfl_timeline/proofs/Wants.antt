@@ -1,8 +1,8 @@
 -- Where memory is wanted, what is asked is not refused.
-use Rattle.std.specs.Prelude.{◌≡◌, ℕ, ◌+◌, ◌-◌, Bool, true, false, not, nat_lt, nat_le, ◌==◌, List, [], ◌∷◌, ◌++◌, length, filter, Option, Some, None, is_some, Result, Ok, Err, refl}
-use Rattle.std.specs.List.{AllByRecursion, list_any}
+use Rattle.std.specs.Prelude.{◌≡◌, ◌⊎◌, ℕ, ◌+◌, ◌-◌, Bool, true, false, not, nat_lt, nat_le, ◌==◌, List, [], ◌∷◌, ◌++◌, length, filter, get_or, position, Option, Some, None, is_some, IsSomeAnd, Result, Ok, Err, refl}
+use Rattle.std.specs.List.{AllByRecursion}
 use Rattle.std.specs.Option.{option_map_or}
-use Rattle.std.proofs.Common.{sym, ◌∙◌, ap, subst}
+use Rattle.std.proofs.Common.{sym, ◌∙◌, ap, subst, inl, inr}
 use Rattle.pfl_base.specs.declared.node_id.NodeId.{NodeId}
 use Rattle.pfl_base.specs.declared.refusal.Refusal.{Refusal}
 use Rattle.pfl_base.specs.declared.refusal.Refusal.TheVariants.{NoSuchFrame, NothingPending, NoSuchState, LinkFull, QueueFull, ClockFull, CountFull, NotSyncing, TooEarly, NoMemory}
@@ -11,8 +11,12 @@ use Rattle.pfl_track.specs.declared.state.State.{State}
 use Rattle.pfl_link.specs.Links.{InFlight, is_full, is_counted_out}
 use Rattle.pfl_queue.specs.Queues.{pending}
 use Rattle.pfl_node.specs.Purging.{purge_points}
-use Rattle.pfl_parts.specs.Nodes.{Node, refused_by, points_refusal, is_overfull, is_overcounted, last_millisecond}
-use Rattle.pfl_parts.specs.Changes.{deleted}
+use Rattle.pfl_parts.specs.Nodes.{Node, refused_by, points_refusal, full_tests, is_overfull, is_overcounted, greatest, last_millisecond}
+use Rattle.pfl_parts.specs.Changes.{deleted, count_broken}
+use Rattle.pfl_receive.specs.Delivering.{receive_points}
+use Rattle.pfl_wire.specs.declared.fault.BadFrame.{BadFrame}
+use Rattle.pfl_wire.specs.Frames.{Frame}
+use Rattle.pfl_wire.specs.Reading.{reading}
 use Rattle.pfl_node.specs.Packets.{packet_points}
 use Rattle.pfl_node.specs.Clearing.{cleared}
 use Rattle.pfl_node.specs.Releasing.{due_names, released_due}
@@ -21,44 +25,45 @@ use Rattle.pfl_node.specs.Turning.{turned}
 use Rattle.pfl_bulk.specs.Bulk.{is_serving, is_waiting, is_due}
 use Rattle.pfl_world.specs.declared.event.Event.{Event}
 use Rattle.pfl_world.specs.declared.event.Event.TheVariants as event
-use Rattle.pfl_world.specs.Events.{step, IsRefusalOf}
+use Rattle.pfl_world.specs.Events.{step, IsRefusalOf, IsEventRefusal}
 use Rattle.pfl_world.specs.Outcomes.{Stepped}
-use Rattle.pfl_world.specs.Steps.{answered as step_given, with_ticket, packet_step, flush_refusal, flush_step, lose_step, repeat_step, cut_step, tick_step, purge_step, release_step, killed, kill_step, clear_step, turn_step, retry_step}
+use Rattle.pfl_world.specs.Steps.{answered as step_given, with_ticket, without, read_taken, packet_step, flush_step, deliver_step, lose_step, repeat_step, cut_step, tick_step, purge_step, release_step, killed, kill_step, clear_step, restart_step, turn_step, retry_step}
 use Rattle.pfl_world.specs.Worlds.{World, node_at}
 use Rattle.pfl_timeline.specs.declared.command.Command.{Command}
 use Rattle.pfl_timeline.specs.declared.command.Command.TheVariants as command
 use Rattle.pfl_timeline.specs.declared.refused.Refused.TheVariants as refused
 use Rattle.pfl_timeline.specs.Commands.{replied, answered, with_branch, undone, at_cursor, step_answered, step_reply, back_reply, forward_reply, first_events, fork_reply, drop_reply, show_reply, step_command, back_command, forward_command, fork_command, drop_command, show_command, names_command, command_step}
 use Rattle.pfl_timeline.specs.Laws.{NoReplyTellsWantOfMemory}
-use Rattle.pfl_timeline.specs.Memory.{is_refusal, IsAccepted, makes_something, MayWantMemory}
+use Rattle.pfl_timeline.specs.Memory.{is_refusal, IsAccepted, makes_something, Reads, StepMayWant, IsNotRefused, MayWantMemory}
 use Rattle.pfl_timeline.specs.Replies.{Reply, Replied, Forked, Removed, Shown, Refused as Refusing}
 use Rattle.pfl_timeline.specs.Rooted.{Rooted, shown, Accepts}
 use Rattle.pfl_timeline.specs.Timelines.{Branch, Timeline, branch_of, is_branch_name, same_name, world_of}
-use Rattle.pfl_timeline.proofs.Asked.{asked_of, is-step, is-forward, is-fork, is-show, is-names}
+use Rattle.pfl_timeline.specs.Kept.{timeline_of, AreKept}
+use Rattle.pfl_timeline.proofs.Asked.{asked_of, step-asks, is-forward, is-fork, is-show, is-names}
+use Rattle.pfl_timeline.proofs.Places.{has_name, accepted-at, shows-at}
+use Rattle.pfl_timeline.proofs.Refusals.{told-apart}
 
 -- ---- no event is refused for want of memory
 
-full_is_other : (a b : Bool) → refused_by ((a, QueueFull) ∷ (b, CountFull) ∷ []) ≡ Some NoMemory → ⊥
-full_is_other true b is = cc
-full_is_other false true is = cc
-full_is_other false false is = cc
+-- no test refuses for want of memory
+abbrev AreOther : List (Bool × Refusal) → Type 0
+AreOther tests = AllByRecursion (λ t. t.1 ≡ NoMemory → ⊥) tests
 
-points_are_other : (points : List Node) → points_refusal points ≡ Some NoMemory → ⊥
-points_are_other points is = full_is_other (list_any is_overfull points) (list_any is_overcounted points) is
-
--- the first refusal of some that are none of them want of memory
-first_is_other : (tests : List (Bool × Refusal)) → AllByRecursion (λ t. t.1 ≡ NoMemory → ⊥) tests → refused_by tests ≡ Some NoMemory → ⊥
+-- so neither does the first that refuses
+first_is_other : (tests : List (Bool × Refusal)) → AreOther tests → refused_by tests ≡ Some NoMemory → ⊥
 first_is_other [] others is = cc
 first_is_other ((true, r) ∷ tests) others is = let same : r ≡ NoMemory = cc in others.0 same
 first_is_other ((false, r) ∷ tests) others is = first_is_other tests others.1 is
 
-clock_is_other : (b : Bool) → refused_by ((b, ClockFull) ∷ []) ≡ Some NoMemory → ⊥
-clock_is_other true is = cc
-clock_is_other false is = cc
-
 answered_is_other : (o : Option Refusal) (s : Stepped) → (o ≡ Some NoMemory → ⊥) → step_given o s ≡ Err NoMemory → ⊥
 answered_is_other None s other is = cc
 answered_is_other (Some r) s other is = let same : r ≡ NoMemory = cc in other (ap Some same)
+
+tests_are_other : (tests : List (Bool × Refusal)) → AreOther tests → (s : Stepped) → step_given (refused_by tests) s ≡ Err NoMemory → ⊥
+tests_are_other tests others s is = answered_is_other (refused_by tests) s (first_is_other tests others) is
+
+points_are_other : (points : List Node) (s : Stepped) → step_given (points_refusal points) s ≡ Err NoMemory → ⊥
+points_are_other points s is = tests_are_other (full_tests points) ((λ e. cc), ((λ e. cc), tt)) s is
 
 frame_is_other : (w : World) (ticket : ℕ) (done : InFlight → Result Stepped Refusal) → ((f : InFlight) → done f ≡ Err NoMemory → ⊥) → with_ticket w ticket done ≡ Err NoMemory → ⊥
 frame_is_other w ticket done other =
@@ -67,56 +72,42 @@ frame_is_other w ticket done other =
       | Some f ↦ other f
     ]
 
-room_is_other : (full counted : Bool) → refused_by ((full, LinkFull) ∷ (counted, CountFull) ∷ []) ≡ Some NoMemory → ⊥
-room_is_other true counted is = cc
-room_is_other false true is = cc
-room_is_other false false is = cc
-
-none_goes_out_is_other : (none full counted : Bool) → refused_by ((none, NothingPending) ∷ (full, LinkFull) ∷ (counted, CountFull) ∷ []) ≡ Some NoMemory → ⊥
-none_goes_out_is_other true full counted is = cc
-none_goes_out_is_other false full counted is = room_is_other full counted is
-
 kill_is_other : (w : World) (node : NodeId) (found : Option State) → option_map_or (killed w node) found (Err NoSuchState) ≡ Err NoMemory → ⊥
 kill_is_other w node None is = cc
-kill_is_other w node (Some s) is =
-    let points = deleted (node_at w node) s ∷ [] in
-    answered_is_other (points_refusal points) _ (points_are_other points) is
+kill_is_other w node (Some s) is = points_are_other (deleted (node_at w node) s ∷ []) _ is
+
+-- what was read of a frame
+read_is_other : (w : World) (to : NodeId) (n : Node) (read : Result Frame BadFrame) → read_taken w to n read ≡ Err NoMemory → ⊥
+read_is_other w to n (Ok f) is = points_are_other (receive_points n f) _ is
+read_is_other w to n (Err why) is = points_are_other (count_broken n ∷ []) _ is
 
 pub step_is_other : (w : World) (e : Event) → step w e ≡ Err NoMemory → ⊥
-unfolding step packet_step flush_step lose_step repeat_step cut_step tick_step purge_step release_step kill_step clear_step turn_step retry_step
-step_is_other w (event.Packet node dir p) is =
-    let points = packet_points (node_at w node) dir p in
-    answered_is_other (points_refusal points) _ (points_are_other points) is
-step_is_other w (event.Flush node) is = answered_is_other (flush_refusal w node) _ (none_goes_out_is_other (pending (node_at w node).queue == 0) (is_full w.link) (is_counted_out w.link)) is
+unfolding step packet_step flush_step deliver_step lose_step repeat_step cut_step tick_step purge_step release_step kill_step clear_step restart_step turn_step retry_step
+step_is_other w (event.Packet node dir p) is = points_are_other (packet_points (node_at w node) dir p) _ is
+step_is_other w (event.Flush node) is =
+    tests_are_other ((pending (node_at w node).queue == 0, NothingPending) ∷ (is_full w.link, LinkFull) ∷ (is_counted_out w.link, CountFull) ∷ [])
+    ((λ e. cc), ((λ e. cc), ((λ e. cc), tt))) _ is
+step_is_other w (event.Deliver ticket) is = frame_is_other w ticket _ (λ f at. read_is_other (without w ticket) f.to (node_at w f.to) (reading f.bytes) at) is
 step_is_other w (event.Lose ticket) is = frame_is_other w ticket _ (λ f at. cc) is
 step_is_other w (event.Repeat ticket) is =
-    frame_is_other w ticket _ (λ f at. answered_is_other (refused_by ((is_full w.link, LinkFull) ∷ (is_counted_out w.link, CountFull) ∷ [])) _ (room_is_other (is_full w.link) (is_counted_out w.link)) at) is
+    frame_is_other w ticket _ (λ f at. tests_are_other ((is_full w.link, LinkFull) ∷ (is_counted_out w.link, CountFull) ∷ []) ((λ e. cc), ((λ e. cc), tt)) _ at) is
 step_is_other w (event.Cut ticket len) is = frame_is_other w ticket _ (λ f at. cc) is
-step_is_other w (event.Tick node ms) is =
-    let late = nat_lt last_millisecond ((node_at w node).clock + ms) in
-    answered_is_other (refused_by ((late, ClockFull) ∷ [])) _ (clock_is_other late) is
-step_is_other w (event.Purge node) is =
-    let points = purge_points (node_at w node) in
-    answered_is_other (points_refusal points) _ (points_are_other points) is
+step_is_other w (event.Tick node ms) is = tests_are_other ((nat_lt last_millisecond ((node_at w node).clock + ms), ClockFull) ∷ []) ((λ e. cc), tt) _ is
+step_is_other w (event.Purge node) is = points_are_other (purge_points (node_at w node)) _ is
 step_is_other w (event.Release node) is =
     let n = node_at w node in
-    let tests : List (Bool × Refusal) = (length n.held.list == 0, NothingPending) ∷ (is_overcounted (released_due n), CountFull) ∷ (length (due_names n) == 0, TooEarly) ∷ [] in
-    let others : AllByRecursion (λ t. t.1 ≡ NoMemory → ⊥) tests = ((λ e. cc), ((λ e. cc), ((λ e. cc), tt))) in
-    answered_is_other (refused_by tests) _ (first_is_other tests others) is
+    tests_are_other ((length n.held.list == 0, NothingPending) ∷ (is_overcounted (released_due n), CountFull) ∷ (length (due_names n) == 0, TooEarly) ∷ [])
+    ((λ e. cc), ((λ e. cc), ((λ e. cc), tt))) _ is
 step_is_other w (event.Kill node name) is = kill_is_other w node (maps.get (node_at w node).states name) is
-step_is_other w (event.Clear node) is =
-    let points = cleared (node_at w node) ∷ [] in
-    answered_is_other (points_refusal points) _ (points_are_other points) is
+step_is_other w (event.Clear node) is = points_are_other (cleared (node_at w node) ∷ []) _ is
+step_is_other w (event.Restart node) is = tests_are_other ((nat_le greatest w.next_boot, CountFull) ∷ []) ((λ e. cc), tt) _ is
 step_is_other w (event.BulkTurn node) is =
     let n = node_at w node in
-    let tests : List (Bool × Refusal) = (not (is_serving n.server), NotSyncing) ∷ (list_any is_overfull (turned n ∷ []), QueueFull) ∷ (list_any is_overcounted (turned n ∷ []), CountFull) ∷ [] in
-    let others : AllByRecursion (λ t. t.1 ≡ NoMemory → ⊥) tests = ((λ e. cc), ((λ e. cc), ((λ e. cc), tt))) in
-    answered_is_other (refused_by tests) _ (first_is_other tests others) is
+    tests_are_other ((not (is_serving n.server), NotSyncing) ∷ full_tests (turned n ∷ [])) ((λ e. cc), ((λ e. cc), ((λ e. cc), tt))) _ is
 step_is_other w (event.BulkRetry node) is =
     let n = node_at w node in
-    let tests : List (Bool × Refusal) = (not (is_waiting n.client), NotSyncing) ∷ (not (is_due n.client n.limits.bulk_ms n.clock), TooEarly) ∷ (is_overfull (retried_client n), QueueFull) ∷ [] in
-    let others : AllByRecursion (λ t. t.1 ≡ NoMemory → ⊥) tests = ((λ e. cc), ((λ e. cc), ((λ e. cc), tt))) in
-    answered_is_other (refused_by tests) _ (first_is_other tests others) is
+    tests_are_other ((not (is_waiting n.client), NotSyncing) ∷ (not (is_due n.client n.limits.bulk_ms n.clock), TooEarly) ∷ (is_overfull (retried_client n), QueueFull) ∷ [])
+    ((λ e. cc), ((λ e. cc), ((λ e. cc), tt))) _ is
 
 -- ---- a branch
 
@@ -125,10 +116,19 @@ answered_accepts : (t : Timeline) (b : Branch) (e : Event) (at : Result Stepped 
 answered_accepts t b e (Ok s) is other = refl
 answered_accepts t b e (Err first) is other = absurd (other (ap Err (sym is)))
 
-pub step_accepts : (r : Rooted) (e : Event) (w : World) (why : Refusal) → shown r ≡ Some w → IsRefusalOf (step w e) why → why ≡ NoMemory → Accepts (λ t b. step_reply t e b) r
+step_accepts : (r : Rooted) (e : Event) (w : World) (why : Refusal) → shown r ≡ Some w → IsRefusalOf (step w e) why → why ≡ NoMemory → Accepts (λ t b. step_reply t e b) r
 step_accepts r e w why here is wants = λ t stands.
     ap (λ (done : Replied). is_refusal done.reply) (asked_of (λ v. step_answered t r.branch e (step v e)) r w t here stands)
     ∙ answered_accepts t r.branch e (step w e) (subst (IsRefusalOf (step w e)) wants is) (step_is_other w e)
+
+-- or it delivers a frame whose records want memory before they are judged
+either_may : (r : Rooted) (e : Event) (w : World) (why : Refusal) → shown r ≡ Some w → IsRefusalOf (step w e) why ⊎ ((why ≡ NoMemory) × Reads w e) → why ≡ NoMemory
+    → Accepts (λ t b. step_reply t e b) r ⊎ IsSomeAnd (shown r) (λ v. Reads v e)
+either_may r e w why here (inl is) wants = inl (step_accepts r e w why here is wants)
+either_may r e w why here (inr reads) wants = inr (subst (λ (o : Option World). IsSomeAnd o (λ v. Reads v e)) (sym here) reads.1)
+
+pub step_may : (r : Rooted) (e : Event) (w : World) (why : Refusal) → shown r ≡ Some w → IsEventRefusal w e why → why ≡ NoMemory → Accepts (λ t b. step_reply t e b) r ⊎ IsSomeAnd (shown r) (λ v. Reads v e)
+step_may r e w why here is wants = either_may r e w why here (told-apart w e why is) wants
 
 -- a branch that is there is shown
 pub show_accepts : (r : Rooted) (w : World) → shown r ≡ Some w → Accepts (λ t b. show_reply t b) r
@@ -142,35 +142,41 @@ forward_accepts r n near = λ t stands.
 
 -- ---- a command
 
-pub step_wants : (t : Timeline) (c : Command) (name : List ℕ) (e : Event) → c ≡ command.Step name e → IsAccepted (step_command t name e) → MayWantMemory t c
-step_wants t c name e is accepted = record {
+-- the branch of the name may want memory for the event
+pub may_at : (name : List ℕ) (e : Event) (rs : List Rooted) (i : ℕ) (old : Rooted) (t : Timeline) → timeline_of rs ≡ t → position (has_name name) rs ≡ Some i → old ≡ get_or rs i old → AreKept rs
+    → Accepts (λ u b. step_reply u e b) old ⊎ IsSomeAnd (shown old) (λ v. Reads v e) → StepMayWant t name e
+may_at name e rs i old t view place here kept (inl accepts) = inl (subst IsAccepted (sym (step-asks t name e)) (accepted-at (λ u b. step_reply u e b) name rs i old t view place here kept accepts))
+may_at name e rs i old t view place here kept (inr reads) = inr (shows-at (λ v. Reads v e) name rs i old t view place here kept reads)
+
+pub step_wants : (t : Timeline) (c : Command) (name : List ℕ) (e : Event) → c ≡ command.Step name e → StepMayWant t name e → MayWantMemory t c
+step_wants t c name e is may = record {
   makes = ap makes_something is;
-  accepted = subst IsAccepted (sym (is-step t c name e is)) accepted;
+  not_refused = subst (λ (k : Command). IsNotRefused t k) (sym is) may;
 }
 
 pub forward_wants : (t : Timeline) (c : Command) (name : List ℕ) (n : ℕ) → c ≡ command.Forward name n → IsAccepted (forward_command t name n) → MayWantMemory t c
 forward_wants t c name n is accepted = record {
   makes = ap makes_something is;
-  accepted = subst IsAccepted (sym (is-forward t c name n is)) accepted;
+  not_refused = subst (λ (k : Command). IsNotRefused t k) (sym is) (subst IsAccepted (sym (is-forward t (command.Forward name n) name n refl)) accepted);
 }
 
 pub fork_wants : (t : Timeline) (c : Command) (from : List ℕ) (k : ℕ) (name : List ℕ) → c ≡ command.Fork from k name → IsAccepted (fork_command t from k name) → MayWantMemory t c
 fork_wants t c from k name is accepted = record {
   makes = ap makes_something is;
-  accepted = subst IsAccepted (sym (is-fork t c from k name is)) accepted;
+  not_refused = subst (λ (d : Command). IsNotRefused t d) (sym is) (subst IsAccepted (sym (is-fork t (command.Fork from k name) from k name refl)) accepted);
 }
 
 pub names_wants : (t : Timeline) (c : Command) → c ≡ command.Names → MayWantMemory t c
 unfolding names_command
 names_wants t c is = record {
   makes = ap makes_something is;
-  accepted = subst IsAccepted (sym (is-names t c is)) refl;
+  not_refused = subst (λ (k : Command). IsNotRefused t k) (sym is) (subst IsAccepted (sym (is-names t command.Names refl)) refl);
 }
 
 pub show_wants : (t : Timeline) (c : Command) (name : List ℕ) → c ≡ command.Show name → IsAccepted (show_command t name) → MayWantMemory t c
 show_wants t c name is accepted = record {
   makes = ap makes_something is;
-  accepted = subst IsAccepted (sym (is-show t c name is)) accepted;
+  not_refused = subst (λ (k : Command). IsNotRefused t k) (sym is) (subst IsAccepted (sym (is-show t (command.Show name) name refl)) accepted);
 }
 
 -- ---- no reply tells want of memory

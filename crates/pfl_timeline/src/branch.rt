@@ -1,7 +1,7 @@
 //! Branches.
 
 ghost use Rattle.std.specs.Prelude.{◌≡◌, ◌+◌, ◌-◌, ◌<◌, ◌≤◌, false, nat_lt, [], ◌∷◌, ◌++◌, length, take, Ok, Some, None, IfErr, IfOk, OnErr, OnOk, IsTrue, if◌then◌else◌, vec_len, vec_capacity};
-ghost use Rattle.pfl_world.specs.Events.{step, IsRefusalOf};
+ghost use Rattle.pfl_world.specs.Events.{step, IsEventRefusal};
 ghost use Rattle.pfl_world.specs.Outcomes.{told};
 ghost use Rattle.pfl_world.specs.Worlds.{World as Pair};
 ghost use Rattle.pfl_timeline.specs.Commands.{extended, undone, first_events};
@@ -179,7 +179,7 @@ impl<A: Allocator + Copy> Branch<A> {
     /// Puts an event behind those that stand, in place of those that had been undone. Gives its outcome, and how many were
     /// cut. Where it is refused, or there is no memory, nothing changes.
     pub(crate) fn extend(&mut self, event: &Event) -> Result<(Outcome, usize), Refusal>
-        ensures refused { IfErr result (λ why. (w : Pair) × (shown self.old ≡ Some w) × IsRefusalOf (step w event.now) why) }
+        ensures refused { IfErr result (λ why. (w : Pair) × (shown self.old ≡ Some w) × IsEventRefusal w event.now why) }
         ensures unchanged { OnErr result (self.new ≡ self.old) }
         ensures stepped { IfOk result (λ r. (w new : Pair) × (shown self.old ≡ Some w) × (step w event.now ≡ Ok (record { world = new; outcome = told r.0 }))) }
         ensures extended { OnOk result (self.new ≡ record self.old { branch = extended self.old.branch event.now }) }

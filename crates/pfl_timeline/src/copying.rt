@@ -14,6 +14,7 @@ fn copy_edit<A: Allocator + Copy>(edit: &WorldEdit<A>) -> Result<WorldEdit<A>, N
     match edit {
         WorldEdit::OfNode(node, edit) => Ok(WorldEdit::OfNode(*node, *edit)),
         WorldEdit::OfLink(edit) => Ok(WorldEdit::OfLink(edit.copy()?)),
+        WorldEdit::OfRestart(edit) => Ok(WorldEdit::OfRestart(edit.copy()?)),
     }
 }
 

@@ -3,7 +3,7 @@
 ghost use Rattle.std.specs.Prelude.{◌≡◌, ◌≢◌, map, position, IfOk, OnErr};
 ghost use Rattle.std.specs.List.{AllByRecursion};
 ghost use Rattle.pfl_timeline.specs.Commands.{replied, step_command, back_command, forward_command, fork_refusal, fork_command, drop_command, show_command, names_command, command_step};
-ghost use Rattle.pfl_timeline.specs.Memory.{IsAccepted, MayWantMemory};
+ghost use Rattle.pfl_timeline.specs.Memory.{IsAccepted, MayWantMemory, StepMayWant};
 ghost use Rattle.pfl_timeline.specs.Replies.{reply_of, moved, Refused as Refusing};
 ghost use Rattle.pfl_timeline.specs.Timelines.{IsTimeline, new_timeline, same_name};
 
@@ -135,7 +135,7 @@ impl<A: Allocator + Copy> Timeline<A> {
     /// Puts an event behind those before the branch's cursor.
     fn step(&mut self, name: &BranchWord, event: &Event) -> Result<Reply<A>, NoMemory>
         ensures step { IfOk result (λ reply. step_command self.old name.now event.now ≡ replied self.new (reply_of reply)) }
-        ensures memory { OnErr result (IsAccepted (step_command self.old name.now event.now)) }
+        ensures memory { OnErr result (StepMayWant self.old name.now event.now) }
         ensures unchanged { OnErr result (self.new ≡ self.old) }
     {
         let Some(place) = place_of(&self.branches, name) else {
@@ -239,7 +239,8 @@ impl<A: Allocator + Copy> Timeline<A> {
     }
 
     /// Carries a command out: the reply and the timeline are those of its definition, so a refusal changes nothing. Where
-    /// there is no memory, nothing changes either. Memory is wanted last: by no way back, by no drop, and by no command that is refused.
+    /// there is no memory, nothing changes either. Memory is wanted last: by no way back, by no drop, and by no command that is
+    /// refused, but for the delivery of a frame that can be read, whose records want it before they are judged.
     pub fn command(&mut self, command: Command) -> Result<Reply<A>, NoMemory>
         ensures step { IfOk result (λ reply. command_step self.old command ≡ replied self.new (reply_of reply)) }
         ensures memory { OnErr result (MayWantMemory self.old command) }

@@ -17,7 +17,7 @@ use Rattle.pfl_wire.specs.Reading.{reading}
 use Rattle.pfl_parts.specs.Nodes.{Node, new_node}
 use Rattle.pfl_node.specs.Flushing.{frame_of, remaining}
 use Rattle.pfl_receive.specs.Receiving.{taken as take_record}
-use Rattle.pfl_world.specs.Steps.{records_of}
+use Rattle.pfl_receive.specs.Delivering.{records_of}
 use Rattle.pfl_world.specs.Weights.{edits_for, packet_work, deliver_work}
 use Rattle.pfl_world.specs.Outcomes.{Outcome}
 use Rattle.pfl_world.specs.Outcomes as outcome

@@ -46,6 +46,7 @@ use Rattle.pfl_queue.specs.Taking as taking
 use Rattle.pfl_parts.specs.Changes as changes
 use Rattle.pfl_node.specs.Starting as starting
 use Rattle.pfl_node.specs.Packets as packets
+use Rattle.pfl_receive.specs.Delivering as delivering
 use Rattle.pfl_receive.specs.Receiving as receiving
 use Rattle.pfl_node.specs.Flushing as flushing
 use Rattle.pfl_node.specs.Purging as purging
@@ -199,7 +200,7 @@ final w (e ∷ es) = final (world_after w (happens w e)) es
 
 -- what a run needs to compute on literals
 unfoldable pub computing : ℕ
-unfolding answers final happens maps.computing spelling.number_bytes spelling.name_bytes spelling.peer_bytes spelling.end_bytes spelling.key_bytes spelling.keys_bytes spelling.class_bytes spelling.state_bytes spelling.update_bytes spelling.record_bytes spelling.group_bytes spelling.spelling reading.computing taking.next_frame changes.changed changes.deleted changes.forgotten starting.started starting.judged packets.handled packets.packet_points receiving.taken flushing.frame_of flushing.flushed purging.purged purging.purge_points releasing.released_due clearing.cleared events.restarted turning.turn_of turning.turned retrying.retried_client steps.packet_step steps.flush_step steps.deliver_step steps.lose_step steps.repeat_step steps.cut_step steps.tick_step steps.purge_step steps.release_step steps.kill_step steps.clear_step steps.restart_step steps.turn_step steps.retry_step one.step runs.run
+unfolding answers final happens maps.computing spelling.number_bytes spelling.name_bytes spelling.peer_bytes spelling.end_bytes spelling.key_bytes spelling.keys_bytes spelling.class_bytes spelling.state_bytes spelling.update_bytes spelling.record_bytes spelling.group_bytes spelling.spelling reading.computing taking.next_frame changes.changed changes.deleted changes.forgotten starting.started starting.judged packets.handled packets.packet_points receiving.taken flushing.frame_of flushing.flushed purging.purged purging.purge_points releasing.released_due clearing.cleared events.restarted turning.turn_of turning.turned retrying.retried_client steps.packet_step steps.flush_step steps.deliver_step steps.lose_step steps.repeat_step steps.cut_step steps.tick_step steps.purge_step steps.release_step steps.kill_step steps.clear_step steps.restart_step steps.turn_step steps.retry_step one.step runs.run delivering.cleared_by delivering.records_work
 computing = 0
 
 -- what is pending at a node

@@ -8,6 +8,8 @@ pub mod Leads
 pub mod Stepping
 pub mod Tickets
 pub mod Sending
+pub mod Delivered
+pub mod Restarted
 pub mod Ranges
 pub mod LimitFaults
 pub mod Little

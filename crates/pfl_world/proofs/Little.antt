@@ -1,21 +1,27 @@
--- Each edit of the pair holds little.
+-- Each edit of the pair holds little, but for those of a restart.
 use Rattle.std.specs.Prelude.{◌≡◌, ℕ, true, List, [], ◌∷◌, ◌++◌, Option, Some, None, Result, Ok, Err, IfOk, refl}
 use Rattle.std.specs.List.{AllByRecursion}
+use Rattle.std.proofs.Common.{sym, subst}
 use Rattle.pfl_queue.specs.declared.Mark.{Mark}
 use Rattle.pfl_queue.specs.declared.edits.QueueEdit.TheVariants.{OfMark, OfName, OfRequest, OfStatus, OfClear}
 use Rattle.pfl_defer.specs.Edits as deferrals
 use Rattle.pfl_parts.specs.declared.edit.NodeEdit.TheVariants.{OfState, OfQueue, OfHeld, Server, Client, Clock, NextId, Push, Count}
 use Rattle.pfl_edits.specs.Changes.{Edits}
+use Rattle.pfl_base.specs.declared.node_id.NodeId.{NodeId}
+use Rattle.pfl_parts.specs.declared.edit.NodeEdit.{NodeEdit}
+use Rattle.pfl_link.specs.LinkEdits.{LinkEdit}
 use Rattle.pfl_link.specs.declared.change.LinkChange.{LinkChange}
 use Rattle.pfl_link.specs.declared.change.LinkChange.TheVariants.{Sent, Taken, Cut}
 use Rattle.pfl_link.specs.Links.{InFlight}
 use Rattle.pfl_world.specs.declared.edit.WorldEdit.{WorldEdit}
 use Rattle.pfl_world.specs.declared.edit.WorldEdit.TheVariants.{OfNode, OfLink}
-use Rattle.pfl_world.specs.Values.{Thing, AState, AMark, ARequest, AStatus, AClear, APacket, ANumber, Values, things, link_values, is_small, HoldsLittle}
+use Rattle.pfl_world.specs.declared.event.Event.{Event}
+use Rattle.pfl_world.specs.WorldEdits as edits
+use Rattle.pfl_world.specs.Values.{Thing, AState, AMark, ARequest, AStatus, AClear, APacket, ANumber, Values, things, link_values, is_part, is_small, HoldsLittle, MayHold}
 
-few : {X : Type 0} (thing : X → Thing) (x : Option X) → is_small (things thing x) ≡ true
-few thing None = refl
-few thing (Some x) = refl
+few : {X : Type 0} (thing : X → Thing) → ((x : X) → is_part (thing x) ≡ true) → (x : Option X) → is_small (things thing x) ≡ true
+few thing part None = refl
+few thing part (Some x) = part x
 
 numbered : (m : Option Mark) (n : ℕ) → is_small (things AMark m ++ ANumber n ∷ []) ≡ true
 numbered None n = refl
@@ -30,27 +36,42 @@ of_link Sent ticket f = (refl, refl)
 of_link Taken ticket f = (refl, refl)
 of_link (Cut n) ticket f = (refl, refl)
 
-holds_little : {M : Type 0} (e : WorldEdit M) → HoldsLittle e
-holds_little (OfNode id (OfState e)) = record { former = few AState e.before; present = few AState e.after }
-holds_little (OfNode id (OfQueue (OfMark name before after next_before next_after))) = record { former = numbered before next_before; present = numbered after next_after }
-holds_little (OfNode id (OfQueue (OfName name before after))) = record { former = few AMark before; present = few AMark after }
-holds_little (OfNode id (OfQueue (OfRequest position before after))) = record { former = few ARequest before; present = few ARequest after }
-holds_little (OfNode id (OfQueue (OfStatus position before after))) = record { former = few AStatus before; present = few AStatus after }
-holds_little (OfNode id (OfQueue (OfClear position before after))) = record { former = few AClear before; present = few AClear after }
-holds_little (OfNode id (OfHeld e)) = record { former = few APacket (deferrals.former e); present = few APacket (deferrals.present e) }
-holds_little (OfNode id (Server before after)) = record { former = refl; present = refl }
-holds_little (OfNode id (Client before after)) = record { former = refl; present = refl }
-holds_little (OfNode id (Clock before after)) = record { former = refl; present = refl }
-holds_little (OfNode id (NextId before after)) = record { former = refl; present = refl }
-holds_little (OfNode id (Push before after)) = record { former = refl; present = refl }
-holds_little (OfNode id (Count counter before after)) = record { former = refl; present = refl }
-holds_little (OfLink e) = let l = of_link e.change e.ticket e.frame in record { former = l.0; present = l.1 }
+pub of_node-little : {M : Type 0} (id : NodeId) (e : NodeEdit) → HoldsLittle {M = M} (OfNode id e)
+of_node-little id (OfState e) = record { former = few AState (λ x. refl) e.before; present = few AState (λ x. refl) e.after }
+of_node-little id (OfQueue (OfMark name before after next_before next_after)) = record { former = numbered before next_before; present = numbered after next_after }
+of_node-little id (OfQueue (OfName name before after)) = record { former = few AMark (λ x. refl) before; present = few AMark (λ x. refl) after }
+of_node-little id (OfQueue (OfRequest position before after)) = record { former = few ARequest (λ x. refl) before; present = few ARequest (λ x. refl) after }
+of_node-little id (OfQueue (OfStatus position before after)) = record { former = few AStatus (λ x. refl) before; present = few AStatus (λ x. refl) after }
+of_node-little id (OfQueue (OfClear position before after)) = record { former = few AClear (λ x. refl) before; present = few AClear (λ x. refl) after }
+of_node-little id (OfHeld e) = record { former = few APacket (λ x. refl) (deferrals.former e); present = few APacket (λ x. refl) (deferrals.present e) }
+of_node-little id (Server before after) = record { former = refl; present = refl }
+of_node-little id (Client before after) = record { former = refl; present = refl }
+of_node-little id (Clock before after) = record { former = refl; present = refl }
+of_node-little id (NextId before after) = record { former = refl; present = refl }
+of_node-little id (Push before after) = record { former = refl; present = refl }
+of_node-little id (Count counter before after) = record { former = refl; present = refl }
 
-all_hold_little : {M : Type 0} (es : List (WorldEdit M)) → AllByRecursion HoldsLittle es
-all_hold_little [] = tt
-all_hold_little (e ∷ es) = (holds_little e, all_hold_little es)
+pub of_link-little : {M : Type 0} (e : LinkEdit) → HoldsLittle {M = M} (OfLink e)
+of_link-little e = let l = of_link e.change e.ticket e.frame in record { former = l.0; present = l.1 }
 
--- whatever the event was
-pub answer_holds_little : {M X E : Type 0} (result : Result (X × Edits (WorldEdit M)) E) → IfOk result (λ r. AllByRecursion HoldsLittle r.1.list)
-answer_holds_little (Ok r) = all_hold_little r.1.list
-answer_holds_little (Err e) = tt
+-- what a node changed
+pub node_edits-little : (M : Type 0) (id : NodeId) (es : List NodeEdit) → AllByRecursion HoldsLittle (edits.of_node {M = M} id es)
+node_edits-little M id [] = tt
+node_edits-little M id (e ∷ es) = (of_node-little id e, node_edits-little M id es)
+
+-- what is recorded behind others
+behind : {M : Type 0} (es : List (WorldEdit M)) (e : LinkEdit) → AllByRecursion HoldsLittle es → AllByRecursion HoldsLittle (es ++ OfLink e ∷ [])
+behind [] e are = (of_link-little e, tt)
+behind (f ∷ es) e are = (are.0, behind es e are.1)
+
+pub and_link : {M : Type 0} (es more : List (WorldEdit M)) (e : LinkEdit) → more ≡ es ++ OfLink e ∷ [] → AllByRecursion HoldsLittle es → AllByRecursion HoldsLittle more
+and_link {M = M} es more e list are = subst (λ (fs : List (WorldEdit M)). AllByRecursion HoldsLittle fs) (sym list) (behind es e are)
+
+-- an event that is no restart
+all_may : {M : Type 0} (e f : Event) → e ≡ f → ((x : WorldEdit M) → HoldsLittle x → MayHold f x) → (es : List (WorldEdit M)) → AllByRecursion HoldsLittle es → AllByRecursion (MayHold e) es
+all_may e f is may [] are = tt
+all_may e f is may (x ∷ es) are = (subst (λ (v : Event). MayHold v x) (sym is) (may x are.0), all_may e f is may es are.1)
+
+pub may_hold : {M X E : Type 0} (e f : Event) → e ≡ f → ((x : WorldEdit M) → HoldsLittle x → MayHold f x) → (result : Result (X × Edits (WorldEdit M)) E) → IfOk result (λ r. AllByRecursion HoldsLittle r.1.list) → IfOk result (λ r. AllByRecursion (MayHold e) r.1.list)
+may_hold e f is may (Ok r) are = all_may e f is may r.1.list are
+may_hold e f is may (Err why) are = tt

@@ -1,11 +1,11 @@
 -- The steps of the pair that happen at one node, in words of the node's.
 use Rattle.std.specs.Prelude.{◌≡◌, ℕ, ◌+◌, Bool, true, false, nat_lt, [], ◌∷◌, Option, Some, None, is_none, Result, Ok, Err, IfErr, refl, if◌then◌else◌}
 use Rattle.std.specs.Option.{option_map_or}
-use Rattle.std.proofs.Common.{◌∙◌, ap, sym, subst}
+use Rattle.std.proofs.Common.{◌∙◌, ap, sym, subst, inl}
 use Rattle.pfl_base.specs.declared.direction.Dir.{Dir}
 use Rattle.pfl_base.specs.declared.packet.Packet.{Packet}
 use Rattle.pfl_base.specs.declared.refusal.Refusal.{Refusal}
-use Rattle.pfl_base.specs.declared.refusal.Refusal.TheVariants.{ClockFull, NoSuchState}
+use Rattle.pfl_base.specs.declared.refusal.Refusal.TheVariants.{ClockFull, NoSuchState, NoMemory}
 use Rattle.pfl_base.specs.declared.node_id.NodeId.{NodeId}
 use Rattle.pfl_base.specs.declared.state_name.StateName.{StateName}
 use Rattle.pfl_edits.specs.Maps as maps
@@ -19,7 +19,7 @@ use Rattle.pfl_node.specs.Stepping.{NodeStepped, node_refusal, node_after, node_
 use Rattle.pfl_world.specs.declared.event.Event.{Event}
 use Rattle.pfl_world.specs.declared.event.Event.TheVariants as event
 use Rattle.pfl_world.specs.AtNode.{outcome_at, stepped_at, node_stepped}
-use Rattle.pfl_world.specs.Events.{step, IsRefusalOf}
+use Rattle.pfl_world.specs.Events.{step, IsRefusalOf, IsEventRefusal}
 use Rattle.pfl_world.specs.Outcomes.{Outcome, Stepped}
 use Rattle.pfl_world.specs.Outcomes as outcome
 use Rattle.pfl_world.specs.Steps.{answered, packet_step, tick_step, purge_step, release_step, killed, kill_step, clear_step, turn_step, retry_step}
@@ -37,6 +37,32 @@ refusal_of None s r is = is
 pub refused_as : {X : Type 0} (o : Option Refusal) (s : Stepped) (at : Result Stepped Refusal) → at ≡ answered o s → (result : Result X Refusal) → IfErr result (IsRefusal o) → IfErr result (IsRefusalOf at)
 refused_as o s at is (Ok x) r = tt
 refused_as o s at is (Err given) r = subst (λ (v : Result Stepped Refusal). IsRefusalOf v given) (sym is) (refusal_of o s given r)
+
+-- and so that of the event
+pub event_refusal : (w : World) (e : Event) (r : Refusal) → IsRefusalOf (step w e) r → IsEventRefusal w e r
+unfolding step
+event_refusal w (event.Packet node dir p) r is = is
+event_refusal w (event.Flush node) r is = is
+event_refusal w (event.Deliver ticket) r is = inl is
+event_refusal w (event.Lose ticket) r is = is
+event_refusal w (event.Repeat ticket) r is = is
+event_refusal w (event.Cut ticket len) r is = is
+event_refusal w (event.Tick node ms) r is = is
+event_refusal w (event.Purge node) r is = is
+event_refusal w (event.Release node) r is = is
+event_refusal w (event.Kill node name) r is = is
+event_refusal w (event.Clear node) r is = is
+event_refusal w (event.Restart node) r is = is
+event_refusal w (event.BulkTurn node) r is = is
+event_refusal w (event.BulkRetry node) r is = is
+
+-- an event that is accepted may want memory
+pub event_wants : (w : World) (e : Event) (s : Stepped) → step w e ≡ Ok s → IsEventRefusal w e NoMemory
+event_wants w e s is = event_refusal w e NoMemory (subst (λ (v : Result Stepped Refusal). IsRefusalOf v NoMemory) (sym is) refl)
+
+pub refused_then : {X : Type 0} (w : World) (e : Event) (result : Result X Refusal) → IfErr result (IsRefusalOf (step w e)) → IfErr result (IsEventRefusal w e)
+refused_then w e (Ok x) is = tt
+refused_then w e (Err r) is = event_refusal w e r is
 
 -- ---- what a node answers, at the pair
 

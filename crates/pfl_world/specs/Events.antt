@@ -1,4 +1,4 @@
--- One step of the pair, over the events that the code has.
+-- One step of the pair, and why an event is refused.
 use Rattle.std.specs.Prelude.{◌≡◌, ◌⊎◌, ℕ, IsOk, IsSomeAnd, Result, Ok, Err}
 use Rattle.pfl_base.specs.declared.refusal.Refusal.{Refusal}
 use Rattle.pfl_base.specs.declared.refusal.Refusal.TheVariants.{NoMemory}
@@ -8,12 +8,13 @@ use Rattle.pfl_world.specs.declared.event.Event.{Event}
 use Rattle.pfl_world.specs.declared.event.Event.TheVariants as event
 use Rattle.pfl_world.specs.Outcomes.{Stepped}
 use Rattle.pfl_world.specs.Worlds.{World}
-use Rattle.pfl_world.specs.Steps.{packet_step, flush_step, deliver_step, lose_step, repeat_step, cut_step, tick_step, purge_step, release_step, kill_step, clear_step, turn_step, retry_step}
+use Rattle.pfl_world.specs.Steps.{packet_step, flush_step, deliver_step, lose_step, repeat_step, cut_step, tick_step, purge_step, release_step, kill_step, clear_step, restart_step, turn_step, retry_step}
 
 -- an event of the pair (this project's profile)
 unfoldable pub step : World → Event → Result Stepped Refusal
 step w (event.Packet node dir p) = packet_step w node dir p
 step w (event.Flush node) = flush_step w node
+step w (event.Deliver ticket) = deliver_step w ticket
 step w (event.Lose ticket) = lose_step w ticket
 step w (event.Repeat ticket) = repeat_step w ticket
 step w (event.Cut ticket len) = cut_step w ticket len
@@ -22,6 +23,7 @@ step w (event.Purge node) = purge_step w node
 step w (event.Release node) = release_step w node
 step w (event.Kill node name) = kill_step w node name
 step w (event.Clear node) = clear_step w node
+step w (event.Restart node) = restart_step w node
 step w (event.BulkTurn node) = turn_step w node
 step w (event.BulkRetry node) = retry_step w node
 
@@ -38,3 +40,8 @@ IsReadable w ticket = IsSomeAnd (maps.get w.link.frames ticket) (λ f. IsOk (rea
 -- they would be refused for
 abbrev pub IsDeliveryRefusal : World → ℕ → Refusal → Type 0
 IsDeliveryRefusal w ticket r = IsRefusalOf (deliver_step w ticket) r ⊎ ((r ≡ NoMemory) × IsReadable w ticket)
+
+-- why an event is refused: a delivery may want memory before what its records would be refused for, and no other event does
+abbrev pub IsEventRefusal : World → Event → Refusal → Type 0
+IsEventRefusal w (event.Deliver ticket) r = IsDeliveryRefusal w ticket r
+IsEventRefusal w e r = IsRefusalOf (step w e) r

@@ -2,12 +2,14 @@ pub mod Worlds
 pub mod Faults
 pub mod Codes
 pub mod Lending
+pub mod Restarts
 pub mod WorldEdits
 pub mod Values
 pub mod Outcomes
 pub mod Steps
 pub mod AtNode
 pub mod Events
+pub mod Delivering
 pub mod Runs
 pub mod Weights
 pub mod Laws

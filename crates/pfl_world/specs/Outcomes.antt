@@ -7,7 +7,7 @@ use Rattle.pfl_world.specs.declared.outcome.Outcome.{Outcome as Answer}
 use Rattle.pfl_world.specs.declared.outcome.Outcome.TheVariants as answer
 use Rattle.pfl_world.specs.Worlds.{World}
 
--- the outcome of an event that is accepted; the code's enum has those of the events that it has
+-- the outcome of an event that is accepted
 pub data Outcome : Type 0 where
   Pass : Option StateName → Outcome
   Held : StateName → Outcome
@@ -38,6 +38,8 @@ told (answer.Pass name) = Pass name
 told (answer.Held name) = Held name
 told (answer.Dropped why) = Dropped why
 told (answer.Sent ticket len) = Sent ticket len
+told (answer.Taken n) = Taken n
+told (answer.Broken why) = Broken why
 told answer.Lost = Lost
 told (answer.CutTo len) = CutTo len
 told (answer.Clock time) = Clock time
@@ -45,6 +47,7 @@ told (answer.Purged n) = Purged n
 told (answer.Released n) = Released n
 told answer.Killed = Killed
 told (answer.Cleared n) = Cleared n
+told (answer.Boot n) = Boot n
 told (answer.Queued n) = Queued n
 told (answer.Asked tries) = Asked tries
 told answer.Served = Served

@@ -1,10 +1,7 @@
 -- Each event of the pair: the world after it with its outcome, or the first refusal that applies (pf(4), pfsync(4); the
 -- events and their refusals are this project's profile).
 use Rattle.std.specs.Prelude.{ℕ, ◌+◌, Bool, not, ◌==◌, nat_lt, nat_le, List, [], ◌∷◌, length, Option, Some, None, Result, Ok, Err}
-use Rattle.std.specs.List.{fold, flat_map}
-use Rattle.std.specs.Cmp.Lexicographic.{pointwise}
 use Rattle.std.specs.Option.{option_map_or}
-use Rattle.pfl_base.specs.Lists.{folds}
 use Rattle.pfl_base.specs.Nodes.{other_node}
 use Rattle.pfl_base.specs.declared.direction.Dir.{Dir}
 use Rattle.pfl_base.specs.declared.packet.Packet.{Packet}
@@ -15,7 +12,6 @@ use Rattle.pfl_base.specs.declared.state_name.StateName.{StateName}
 use Rattle.pfl_edits.specs.Maps as maps
 use Rattle.pfl_track.specs.declared.state.State.{State}
 use Rattle.pfl_wire.specs.declared.fault.BadFrame.{BadFrame}
-use Rattle.pfl_wire.specs.declared.message.Message.{Message}
 use Rattle.pfl_wire.specs.Frames.{Frame}
 use Rattle.pfl_wire.specs.Spelling.{spelling}
 use Rattle.pfl_wire.specs.Reading.{reading}
@@ -28,7 +24,7 @@ use Rattle.pfl_node.specs.declared.retried.Retried.TheVariants as retried
 use Rattle.pfl_parts.specs.Nodes.{Node, greatest, last_millisecond, full_tests, refused_by, is_overfull, is_overcounted}
 use Rattle.pfl_parts.specs.Changes.{count_broken, deleted}
 use Rattle.pfl_node.specs.Packets.{handled, packet_points}
-use Rattle.pfl_receive.specs.Receiving.{taken}
+use Rattle.pfl_receive.specs.Delivering.{records_of, received, receive_points}
 use Rattle.pfl_node.specs.Flushing.{frame_of, flushed}
 use Rattle.pfl_node.specs.Ticking.{ticked}
 use Rattle.pfl_node.specs.Purging.{purged, purge_points, expired_states}
@@ -83,20 +79,10 @@ flush_step w node = answered (flush_refusal w node) (record {
   outcome = outcome.Sent w.link.next (length (sent_frame w node).bytes);
 })
 
--- the records of a frame, one after another
-abbrev pub records_of : Frame → List Message
-records_of f = flat_map (λ group. group) f.groups
-
--- the sender has the node's own rules
-abbrev pub same_rules : Node → Frame → Bool
-same_rules n f = pointwise ◌==◌ f.print n.rules.print
-
 -- a frame that is read: its records are taken in order
 abbrev pub frame_taken : World → NodeId → Node → Frame → Result Stepped Refusal
 frame_taken w to n f =
-    unless (full_tests (folds (λ m r. taken m (same_rules n f) r) n (records_of f)))
-    (with_node w to (fold (λ m r. taken m (same_rules n f) r) n (records_of f)))
-    (outcome.Taken (length (records_of f)))
+    unless (full_tests (receive_points n f)) (with_node w to (received n f)) (outcome.Taken (length (records_of f)))
 
 -- a frame that cannot be read is counted
 abbrev pub broken_taken : World → NodeId → Node → BadFrame → Result Stepped Refusal

@@ -15,12 +15,17 @@ use Rattle.pfl_bulk.specs.declared.BulkClient.{BulkClient}
 use Rattle.pfl_bulk.specs.declared.BulkServer.{BulkServer}
 use Rattle.pfl_parts.specs.declared.edit.NodeEdit.{NodeEdit}
 use Rattle.pfl_parts.specs.declared.edit.NodeEdit.TheVariants.{OfState, OfQueue, OfHeld, Server, Client, Clock, NextId, Push, Count}
+use Rattle.pfl_parts.specs.Nodes.{Node}
+use Rattle.pfl_node.specs.Events.{restarted}
 use Rattle.pfl_link.specs.declared.change.LinkChange.{LinkChange}
 use Rattle.pfl_link.specs.declared.change.LinkChange.TheVariants.{Sent, Taken, Cut}
 use Rattle.pfl_link.specs.LinkEdits.{frame_before, frame_after}
 use Rattle.pfl_link.specs.Links.{InFlight}
 use Rattle.pfl_world.specs.declared.edit.WorldEdit.{WorldEdit}
-use Rattle.pfl_world.specs.declared.edit.WorldEdit.TheVariants.{OfNode, OfLink}
+use Rattle.pfl_world.specs.declared.edit.WorldEdit.TheVariants.{OfNode, OfLink, OfRestart}
+use Rattle.pfl_world.specs.declared.event.Event.{Event}
+use Rattle.pfl_world.specs.declared.event.Event.TheVariants as event
+use Rattle.pfl_world.specs.Restarts.{RestartEdit}
 
 -- a thing that values are made of; a mark, a request, a status and a clear are entries of the queues
 pub data Thing : Type 0 where
@@ -35,6 +40,7 @@ pub data Thing : Type 0 where
   AClient : BulkClient → Thing
   ANumber : ℕ → Thing
   AFlag : Bool → Thing
+  ANode : Node → Thing
 
 -- the two values of an edit's place
 pub record Values : Type 0 where
@@ -80,10 +86,15 @@ link_values Sent ticket f = record { former = ANumber ticket ∷ []; present = A
 link_values Taken ticket f = either AFrame (frame_before Taken f) (frame_after Taken f)
 link_values (Cut n) ticket f = either AFrame (frame_before (Cut n) f) (frame_after (Cut n) f)
 
+-- of the edit of a restart: the node, and the number of the next boot beside it
+abbrev pub restart_values : RestartEdit → Values
+restart_values e = record { former = ANode e.former ∷ ANumber e.boot ∷ []; present = ANode (restarted e.former e.boot) ∷ ANumber (e.boot + 1) ∷ [] }
+
 -- of an edit of the pair
 abbrev pub values : {M : Type 0} → WorldEdit M → Values
 values (OfNode id e) = node_values e
 values (OfLink e) = link_values e.change e.ticket e.frame
+values (OfRestart e) = restart_values e
 
 -- an entry or a frame, and the next number beside it
 abbrev pub is_numbered : Thing → List Thing → Bool
@@ -91,13 +102,33 @@ is_numbered (AMark m) (ANumber n ∷ []) = true
 is_numbered (AFrame f) (ANumber n ∷ []) = true
 is_numbered _ _ = false
 
--- one thing at most, but for the number beside it
+-- not a whole node
+abbrev pub is_part : Thing → Bool
+is_part (ANode n) = false
+is_part _ = true
+
+-- one thing at most, but for the number beside it, and never a whole node
 abbrev pub is_small : List Thing → Bool
 is_small [] = true
-is_small (t ∷ []) = true
+is_small (t ∷ []) = is_part t
 is_small (t ∷ u ∷ rest) = is_numbered t (u ∷ rest)
+
+-- a whole node, and a number beside it
+abbrev pub is_whole : List Thing → Bool
+is_whole (ANode n ∷ ANumber boot ∷ []) = true
+is_whole _ = false
 
 -- both values of the edit are small
 pub record HoldsLittle {M : Type 0} (e : WorldEdit M) : Type 0 where
   pub former : is_small (values e).former ≡ true
   pub present : is_small (values e).present ≡ true
+
+-- both values of the edit are a node with the next boot
+pub record HoldsNode {M : Type 0} (e : WorldEdit M) : Type 0 where
+  pub former : is_whole (values e).former ≡ true
+  pub present : is_whole (values e).present ≡ true
+
+-- what an edit of an event holds: a restart's a whole node, that of every other event little
+abbrev pub MayHold : {M : Type 0} → Event → WorldEdit M → Type 0
+MayHold (event.Restart id) e = HoldsNode e
+MayHold _ e = HoldsLittle e

@@ -1,40 +1,24 @@
 -- How many edits an event may take: by the states, records or packets that it is about (this project's profile).
-use Rattle.std.specs.Prelude.{ℕ, ◌+◌, ◌*◌, ◌∷◌, length, Result, Ok, Err}
-use Rattle.std.specs.List.{zip, sum_by}
+use Rattle.std.specs.Prelude.{ℕ, ◌+◌, ◌*◌, length, Result, Ok, Err}
 use Rattle.std.specs.Option.{option_map_or}
-use Rattle.pfl_base.specs.Lists.{folds}
 use Rattle.pfl_base.specs.declared.node_id.NodeId.{NodeId}
 use Rattle.pfl_edits.specs.Maps as maps
 use Rattle.pfl_wire.specs.declared.fault.BadFrame.{BadFrame}
-use Rattle.pfl_wire.specs.declared.message.Message.{Message}
-use Rattle.pfl_wire.specs.declared.message.Message.TheVariants as message
 use Rattle.pfl_wire.specs.Frames.{Frame}
 use Rattle.pfl_wire.specs.Reading.{reading}
 use Rattle.pfl_queue.specs.Taking.{next_frame}
 use Rattle.pfl_parts.specs.Nodes.{Node}
-use Rattle.pfl_receive.specs.Receiving.{taken, cleared_names}
+use Rattle.pfl_receive.specs.Delivering.{frame_work}
 use Rattle.pfl_node.specs.Purging.{expired_states}
 use Rattle.pfl_node.specs.Releasing.{due_names}
 use Rattle.pfl_node.specs.Turning.{turn_of}
 use Rattle.pfl_world.specs.declared.event.Event.{Event}
 use Rattle.pfl_world.specs.declared.event.Event.TheVariants as event
 use Rattle.pfl_world.specs.Worlds.{World, node_at}
-use Rattle.pfl_world.specs.Steps.{records_of, same_rules}
 
 -- the edits of an event that is about so many states, records or packets
 abbrev pub edits_for : ℕ → ℕ
 edits_for n = 12 + 12 * n
-
--- the states that a record removes by its bound
-abbrev pub cleared_by : Node → Message → ℕ
-cleared_by n (message.Clear creator bound) = length (cleared_names n creator bound)
-cleared_by n _ = 0
-
--- the records of a frame, and the states that they clear
-abbrev pub frame_work : Node → Frame → ℕ
-frame_work n f =
-    let nodes = n ∷ folds (λ m r. taken m (same_rules n f) r) n (records_of f) in
-    length (records_of f) + sum_by (λ at. cleared_by at.0 at.1) (zip nodes (records_of f))
 
 -- of what was read
 abbrev pub read_work : Node → Result Frame BadFrame → ℕ
@@ -73,6 +57,7 @@ turn_work w node = length (turn_of (node_at w node))
 abbrev pub work : World → Event → ℕ
 work w (event.Packet node dir p) = packet_work
 work w (event.Flush node) = flush_work w node
+work w (event.Deliver ticket) = deliver_work w ticket
 work w (event.Lose ticket) = 0
 work w (event.Repeat ticket) = 0
 work w (event.Cut ticket len) = 0
@@ -81,6 +66,7 @@ work w (event.Purge node) = purge_work w node
 work w (event.Release node) = release_work w node
 work w (event.Kill node name) = packet_work
 work w (event.Clear node) = clear_work w node
+work w (event.Restart node) = 0
 work w (event.BulkTurn node) = turn_work w node
 work w (event.BulkRetry node) = 0
 

@@ -3,9 +3,9 @@
 ghost use Rattle.std.specs.Prelude.{◌≡◌, ◌≤◌, Ok, IfOk, IfErr, OnErr, length};
 ghost use Rattle.std.specs.List.{AllByRecursion};
 ghost use Rattle.pfl_edits.specs.Changes.{Fits, back};
-ghost use Rattle.pfl_world.specs.Events.{step, IsRefusalOf};
+ghost use Rattle.pfl_world.specs.Events.{step, IsEventRefusal};
 ghost use Rattle.pfl_world.specs.Outcomes.{told};
-ghost use Rattle.pfl_world.specs.Values.{HoldsLittle};
+ghost use Rattle.pfl_world.specs.Values.{MayHold};
 ghost use Rattle.pfl_world.specs.Weights.{weight};
 ghost use Rattle.pfl_world.specs.WorldEdits.{Finds, put_back};
 ghost use Rattle.pfl_world.specs.Worlds.{IsWorld};
@@ -20,15 +20,14 @@ use std::alloc::Allocator;
 
 impl<A: Allocator + Copy> World<A> {
     /// Lets an event happen, and gives its outcome and what it changed.
-    #[tactic(auto, using(crate::proofs::Little::answer_holds_little))]
     pub fn apply(&mut self, event: &Event) -> Result<(Outcome, WorldChange<A>), Refusal>
-        ensures refused { IfErr result (IsRefusalOf (step self.old event.now)) }
+        ensures refused { IfErr result (IsEventRefusal self.old event.now) }
         ensures unchanged { OnErr result (self.new ≡ self.old) }
         ensures step { IfOk result (λ r. step self.old event.now ≡ Ok (record { world = self.new; outcome = told r.0 })) }
         ensures fits { IfOk result (λ r. Fits Finds IsWorld put_back r.1.list self.new) }
         ensures back { IfOk result (λ r. back put_back r.1.list self.new ≡ self.old) }
         ensures weight { IfOk result (λ r. length r.1.list ≤ weight self.old event.now) }
-        ensures small { IfOk result (λ r. AllByRecursion HoldsLittle r.1.list) }
+        ensures small { IfOk result (λ r. AllByRecursion (MayHold event.now) r.1.list) }
     {
         match event {
             Event::Packet { node, dir, packet } => self.at_node(
@@ -39,6 +38,7 @@ impl<A: Allocator + Copy> World<A> {
                 },
             ),
             Event::Flush { node } => self.flush(*node),
+            Event::Deliver { ticket } => self.deliver(*ticket),
             Event::Lose { ticket } => self.lose(*ticket),
             Event::Repeat { ticket } => self.repeat(*ticket),
             Event::Cut { ticket, len } => self.cut(*ticket, *len),
@@ -47,6 +47,7 @@ impl<A: Allocator + Copy> World<A> {
             Event::Release { node } => self.at_node(*node, &NodeEvent::Release),
             Event::Kill { node, name } => self.at_node(*node, &NodeEvent::Kill { name: *name }),
             Event::Clear { node } => self.at_node(*node, &NodeEvent::Clear),
+            Event::Restart { node } => self.restart(*node),
             Event::BulkTurn { node } => self.at_node(*node, &NodeEvent::BulkTurn),
             Event::BulkRetry { node } => self.at_node(*node, &NodeEvent::BulkRetry),
         }

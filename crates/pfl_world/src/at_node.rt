@@ -1,10 +1,12 @@
 //! What happens at one node by itself.
 
 ghost use Rattle.std.specs.Prelude.{◌≡◌, ◌≤◌, Ok, IfOk, IfErr, OnErr, length};
+ghost use Rattle.std.specs.List.{AllByRecursion};
 ghost use Rattle.pfl_node.specs.Stepping.{node_weight};
 ghost use Rattle.pfl_world.specs.AtNode.{node_stepped};
 ghost use Rattle.pfl_world.specs.Events.{IsRefusalOf};
 ghost use Rattle.pfl_world.specs.Outcomes.{told};
+ghost use Rattle.pfl_world.specs.Values.{HoldsLittle};
 ghost use Rattle.pfl_world.specs.WorldEdits.{WorldLeadsBack};
 ghost use Rattle.pfl_world.specs.Worlds.{node_at};
 
@@ -26,6 +28,7 @@ impl<A: Allocator + Copy> World<A> {
         ensures unchanged { OnErr result (self.new ≡ self.old) }
         ensures step { IfOk result (λ r. node_stepped self.old node event.now ≡ Ok (record { world = self.new; outcome = told r.0 })) }
         ensures leads_back { IfOk result (λ r. WorldLeadsBack r.1.list self.old self.new) }
+        ensures little { IfOk result (λ r. AllByRecursion HoldsLittle r.1.list) }
         ensures weight { IfOk result (λ r. length r.1.list ≤ node_weight (node_at self.old node) event.now) }
     {
         let (outcome, change) = self.nodes.at_mut(node).step(event)?;

@@ -1,9 +1,11 @@
 //! What becomes of frames on their way: lost, repeated, cut.
 
 ghost use Rattle.std.specs.Prelude.{◌≡◌, ◌≤◌, Ok, IfOk, IfErr, OnErr, length};
+ghost use Rattle.std.specs.List.{AllByRecursion};
 ghost use Rattle.pfl_world.specs.Events.{IsRefusalOf};
 ghost use Rattle.pfl_world.specs.Outcomes.{told};
 ghost use Rattle.pfl_world.specs.Steps.{lose_step, repeat_step, cut_step};
+ghost use Rattle.pfl_world.specs.Values.{HoldsLittle};
 ghost use Rattle.pfl_world.specs.WorldEdits.{WorldLeadsBack};
 
 use crate::edit::WorldChange;
@@ -19,6 +21,7 @@ impl<A: Allocator + Copy> World<A> {
         ensures unchanged { OnErr result (self.new ≡ self.old) }
         ensures step { IfOk result (λ r. lose_step self.old ticket ≡ Ok (record { world = self.new; outcome = told r.0 })) }
         ensures leads_back { IfOk result (λ r. WorldLeadsBack r.1.list self.old self.new) }
+        ensures little { IfOk result (λ r. AllByRecursion HoldsLittle r.1.list) }
         ensures weight { IfOk result (λ r. length r.1.list ≤ 1) }
     {
         let taken = self.link.take(ticket)?;
@@ -32,6 +35,7 @@ impl<A: Allocator + Copy> World<A> {
         ensures unchanged { OnErr result (self.new ≡ self.old) }
         ensures step { IfOk result (λ r. repeat_step self.old ticket ≡ Ok (record { world = self.new; outcome = told r.0 })) }
         ensures leads_back { IfOk result (λ r. WorldLeadsBack r.1.list self.old self.new) }
+        ensures little { IfOk result (λ r. AllByRecursion HoldsLittle r.1.list) }
         ensures weight { IfOk result (λ r. length r.1.list ≤ 1) }
     {
         let (next, edit) = self.link.copy(ticket)?;
@@ -50,6 +54,7 @@ impl<A: Allocator + Copy> World<A> {
         ensures unchanged { OnErr result (self.new ≡ self.old) }
         ensures step { IfOk result (λ r. cut_step self.old ticket len ≡ Ok (record { world = self.new; outcome = told r.0 })) }
         ensures leads_back { IfOk result (λ r. WorldLeadsBack r.1.list self.old self.new) }
+        ensures little { IfOk result (λ r. AllByRecursion HoldsLittle r.1.list) }
         ensures weight { IfOk result (λ r. length r.1.list ≤ 1) }
     {
         let (kept, edit) = self.link.cut(ticket, len as usize)?;

@@ -1,5 +1,6 @@
 //! Changes of the pair, each of one place.
 
+use crate::restart_edit::RestartEdit;
 use pfl_base::NodeId;
 use pfl_edits::Change;
 use pfl_link::LinkEdit;
@@ -13,6 +14,8 @@ pub enum WorldEdit<A: Allocator> {
     OfNode(NodeId, NodeEdit),
     /// Of the link.
     OfLink(LinkEdit<A>),
+    /// Of a node that began anew, and the next boot.
+    OfRestart(RestartEdit<A>),
 }
 
 /// What an event changed, by which it can be taken back.

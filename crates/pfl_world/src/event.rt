@@ -15,6 +15,10 @@ pub enum Event {
     Flush {
         node: NodeId,
     },
+    /// A frame comes to its receiver.
+    Deliver {
+        ticket: u32,
+    },
     /// A frame is lost.
     Lose {
         ticket: u32,
@@ -48,6 +52,10 @@ pub enum Event {
     },
     /// A node gives up all its states.
     Clear {
+        node: NodeId,
+    },
+    /// A node begins anew, with its clock and its rules.
+    Restart {
         node: NodeId,
     },
     /// A node queues the next states of a bulk update.

@@ -1,12 +1,14 @@
 //! A node's frame goes out to the other node (pfsync(4)).
 
 ghost use Rattle.std.specs.Prelude.{◌≡◌, ◌≤◌, ◌+◌, ◌*◌, None, IfOk, IfErr, OnOk, OnErr, length};
+ghost use Rattle.std.specs.List.{AllByRecursion};
 ghost use Rattle.pfl_edits.specs.Changes.{Fits, back};
 ghost use Rattle.pfl_node.specs.Flushing as flushing;
 ghost use Rattle.pfl_parts.specs.Nodes.{IsRefusal};
 ghost use Rattle.pfl_link.specs.Faults.{room_fault};
 ghost use Rattle.pfl_link.specs.Links.{sent};
 ghost use Rattle.pfl_world.specs.Steps.{flush_refusal, sent_frame};
+ghost use Rattle.pfl_world.specs.Values.{HoldsLittle};
 ghost use Rattle.pfl_world.specs.Weights.{flush_work};
 ghost use Rattle.pfl_world.specs.WorldEdits.{Finds, put_back, WorldLeadsBack};
 ghost use Rattle.pfl_world.specs.Worlds.{IsWorld, node_at, with_node, with_link};
@@ -43,6 +45,7 @@ impl<A: Allocator + Copy> World<A> {
         ensures world { OnOk result (self.new ≡ with_link (with_node self.old node (flushing.flushed (node_at self.old node))) (sent self.old.link (sent_frame self.old node))) }
         ensures outcome { IfOk result (λ r. r.0 ≡ Outcome.Sent self.old.link.next (length (sent_frame self.old node).bytes)) }
         ensures leads_back { IfOk result (λ r. WorldLeadsBack r.1.list self.old self.new) }
+        ensures little { IfOk result (λ r. AllByRecursion HoldsLittle r.1.list) }
         ensures weight { IfOk result (λ r. length r.1.list ≤ 2 + 2 * flush_work self.old node) }
     {
         if let Some(refusal) = self.flush_refusal(node) {
@@ -64,11 +67,13 @@ impl<A: Allocator + Copy> World<A> {
         mut edits: WorldChange<A>,
     ) -> Result<(Outcome, WorldChange<A>), NoMemory>
         requires fits { Fits Finds IsWorld put_back edits.list self.old }
+        requires little { AllByRecursion HoldsLittle edits.list }
         requires room { room_fault self.old.link ≡ None }
         ensures undone { OnErr result (self.new ≡ back put_back edits.list self.old) }
         ensures world { OnOk result (self.new ≡ with_link self.old (sent self.old.link (record { to = to; bytes = bytes }))) }
         ensures outcome { IfOk result (λ r. r.0 ≡ Outcome.Sent self.old.link.next (length bytes)) }
         ensures leads_back { IfOk result (λ r. WorldLeadsBack r.1.list (back put_back edits.list self.old) self.new) }
+        ensures little { IfOk result (λ r. AllByRecursion HoldsLittle r.1.list) }
         ensures weight { IfOk result (λ r. length r.1.list ≡ length edits.list + 1) }
     {
         self.known();

@@ -4,6 +4,7 @@
 mod applying;
 mod at_node;
 mod carrying;
+mod delivering;
 mod edit;
 mod event;
 mod fault;
@@ -12,6 +13,8 @@ mod laws;
 mod lifting;
 mod nodes;
 mod outcome;
+mod restart_edit;
+mod restarting;
 mod undoing;
 mod world;
 
@@ -20,4 +23,5 @@ pub use event::Event;
 pub use fault::WorldFault;
 pub use laws::new_worlds_are_worlds;
 pub use outcome::Outcome;
+pub use restart_edit::RestartEdit;
 pub use world::World;

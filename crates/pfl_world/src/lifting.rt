@@ -1,11 +1,13 @@
 //! What a node or the link changed, as a change of the pair.
 
 ghost use Rattle.std.specs.Prelude.{◌≡◌, ◌≤◌, [], ◌∷◌, ◌++◌, length, IfOk, IfErr, OnOk, OnErr};
+ghost use Rattle.std.specs.List.{AllByRecursion};
 ghost use Rattle.pfl_edits.specs.Changes.{Fits, back};
 ghost use Rattle.pfl_parts.specs.Edits as nodes;
 ghost use Rattle.pfl_parts.specs.Nodes.{IsNode};
 ghost use Rattle.pfl_link.specs.LinkEdits as links;
 ghost use Rattle.pfl_link.specs.Links.{IsLink};
+ghost use Rattle.pfl_world.specs.Values.{HoldsLittle};
 ghost use Rattle.pfl_world.specs.WorldEdits.{WorldLeadsBack, of_node, of_link};
 ghost use Rattle.pfl_world.specs.Worlds.{node_at, with_node, with_link};
 
@@ -39,6 +41,7 @@ impl<A: Allocator + Copy> World<A> {
         ensures edits { IfOk result (λ edits. edits.list ≡ of_node node change.list) }
         ensures kept { OnOk result (self.new ≡ self.old) }
         ensures leads_back { IfOk result (λ edits. WorldLeadsBack edits.list (with_node self.old node (back nodes.put_back change.list (node_at self.old node))) self.old) }
+        ensures little { IfOk result (λ edits. AllByRecursion HoldsLittle edits.list) }
         ensures undone { OnErr result (self.new ≡ with_node self.old node (back nodes.put_back change.list (node_at self.old node))) }
     {
         self.known();
@@ -58,6 +61,7 @@ impl<A: Allocator + Copy> World<A> {
         ensures edits { IfOk result (λ edits. edits.list ≡ of_link (edit ∷ [])) }
         ensures kept { OnOk result (self.new ≡ self.old) }
         ensures leads_back { IfOk result (λ edits. WorldLeadsBack edits.list (with_link self.old (back links.put_back (edit ∷ []) self.old.link)) self.old) }
+        ensures little { IfOk result (λ edits. AllByRecursion HoldsLittle edits.list) }
         ensures undone { OnErr result (self.new ≡ with_link self.old (back links.put_back (edit ∷ []) self.old.link)) }
     {
         self.known();

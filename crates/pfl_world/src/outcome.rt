@@ -2,6 +2,7 @@
 
 use pfl_base::{Millis, StateName};
 use pfl_node::{Fate, NodeOutcome, Reason, Retried};
+use pfl_wire::BadFrame;
 
 /// What comes of an event that is accepted.
 #[derive(Clone, Copy, Debug, PartialEq, Eq)]
@@ -14,6 +15,10 @@ pub enum Outcome {
     Dropped(Reason),
     /// A frame of so many bytes is in flight under this ticket.
     Sent { ticket: u32, len: usize },
+    /// So many records of the frame were taken.
+    Taken(usize),
+    /// The frame cannot be read, and is counted.
+    Broken(BadFrame),
     /// The frame is lost.
     Lost,
     /// The frame has so many bytes now.
@@ -28,6 +33,8 @@ pub enum Outcome {
     Killed,
     /// So many states were given up.
     Cleared(usize),
+    /// The node began anew as this boot.
+    Boot(u32),
     /// So many states were queued for the bulk update.
     Queued(usize),
     /// The client asked again; so often it has asked.

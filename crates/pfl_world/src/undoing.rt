@@ -30,6 +30,7 @@ impl<A: Allocator> Reversible for World<A> {
         match edit {
             WorldEdit::OfNode(node, edit) => self.nodes.at_mut(node).undo(edit),
             WorldEdit::OfLink(edit) => self.link.undo(edit),
+            WorldEdit::OfRestart(edit) => self.undo_restart(edit),
         }
     }
 

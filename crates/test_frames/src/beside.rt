@@ -1,8 +1,9 @@
 //! A mark that was taken off goes back beside one that came later, with its former number.
 
+use super::queue::{inserted, sends};
 use pfl_base::StateName;
 use pfl_edits::Reversible;
-use pfl_queue::{Kind, Mark, Pending, former_marks_go_back};
+use pfl_queue::{Kind, Pending, former_marks_go_back};
 use std::alloc::Global;
 use std::test::Fail;
 
@@ -21,20 +22,10 @@ fn undone_beside(alloc: Global) -> Result<Pending<Global>, Fail> {
     Ok(pending)
 }
 
-/// The mark of an insertion of 1.`id`.
-fn inserted(id: u64, number: u64) -> Mark {
-    Mark {
-        name: StateName { creator: 1, id },
-        kind: Kind::Insert,
-        number,
-    }
-}
-
 #[test]
 fn a_mark_goes_back_beside_a_later_one(rt: HostRuntime) -> Result<(), Fail> {
     let pending = undone_beside(rt.alloc())?;
-    let both = [inserted(1, 1), inserted(2, 2)];
-    assert_eq!(rt; pending.marks_in_turn()?.as_slice(), both.as_slice());
-    assert_eq!(rt; (pending.next(), pending.len()), (3, 2));
+    assert!(rt; sends(&pending, &[inserted(1, 1), inserted(2, 2)]));
+    assert!(rt; (pending.next(), pending.len()) == (3, 2));
     Ok(())
 }

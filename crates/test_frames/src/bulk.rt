@@ -1,6 +1,6 @@
 //! Turns over two names, and the tries of a client that is never served.
-use pfl_base::{Refusal, StateName};
-use pfl_bulk::{BulkClient, BulkServer, Retry};
+use pfl_base::{Millis, Refusal, StateName};
+use pfl_bulk::{BulkClient, BulkServer};
 use pfl_wire::BulkStatus;
 use std::test::*;
 
@@ -8,65 +8,45 @@ const ONE: StateName = StateName { creator: 1, id: 1 };
 
 const TWO: StateName = StateName { creator: 1, id: 2 };
 
+/// A turn of one of two names: the name, whether it is the last, and the server then.
+fn turned(server: BulkServer) -> (Option<StateName>, bool, BulkServer) {
+    let turn = server.turn(&[ONE, TWO], 1);
+    (turn.names.first().copied(), turn.is_last, turn.server)
+}
+
 #[test]
 fn sends_a_name_a_turn(rt: HostRuntime) {
-    let server = BulkServer::Idle.start(true, 7);
-    assert!(rt; server.is_serving());
-    assert_eq!(rt; BulkServer::Idle.start(false, 7), BulkServer::Idle);
-    let first = server.turn(&[ONE, TWO], 1);
-    assert_eq!(rt; first.names.len(), 1);
-    assert_eq!(rt; first.names[0], ONE);
-    assert!(rt; !first.is_last);
-    assert_eq!(rt;
-        first.server,
-        BulkServer::Serving {
-            cursor: ONE,
-            since: 7
-        }
-    );
-    let second = first.server.turn(&[ONE, TWO], 1);
-    assert_eq!(rt;
-        first.server.start(true, 9),
-        BulkServer::Idle.start(true, 9)
-    );
-    assert_eq!(rt; first.server.start(false, 9), first.server);
-    assert_eq!(rt; second.names.len(), 1);
-    assert_eq!(rt; second.names[0], TWO);
-    assert!(rt; second.is_last);
-    assert_eq!(rt; second.server, BulkServer::Idle);
-    assert!(rt; second.server.turn(&[ONE], 1).names.is_empty());
+    assert!(rt; BulkServer::Idle.start(false, 7) == BulkServer::Idle);
+    let (name, is_last, server) = turned(BulkServer::Idle.start(true, 7));
+    assert!(rt; (name, is_last, server.is_serving()) == (Some(ONE), false, true));
+    assert!(rt; turned(server) == (Some(TWO), true, BulkServer::Idle));
+    assert!(rt; turned(BulkServer::Idle).0 == None);
+}
+
+/// How many tries there are after a try at this time, and whether it asks.
+fn tried(client: &mut BulkClient, now: Millis) -> Result<(u8, bool), Refusal> {
+    let retry = client.retry(10000, now)?;
+    *client = retry.client;
+    Ok((retry.client.tries(), retry.asks))
 }
 
 #[test]
 fn asks_twelve_times(rt: HostRuntime) {
     let mut client = BulkClient::first_asked(0);
-    assert_eq!(rt; client.retry(10000, 9999), Err(Refusal::TooEarly));
+    assert!(rt; tried(&mut client, 9999) == Err(Refusal::TooEarly));
     for tries in 2..=12u8 {
-        let retry = client.retry(10000, u64::from(tries - 1) * 10000).ok();
-        assert_eq!(rt;
-            retry.map(|r| (r.asks, r.client.tries())),
-            Some((true, tries))
-        );
-        client = retry.map_or(client, |r| r.client);
+        let now = u64::from(tries - 1) * 10000;
+        assert!(rt; tried(&mut client, now) == Ok((tries, true)));
     }
-    assert_eq!(rt;
-        client.retry(10000, 120000),
-        Ok(Retry {
-            asks: false,
-            client: BulkClient::Idle
-        })
-    );
-    assert_eq!(rt; BulkClient::Idle.retry(0, 0), Err(Refusal::NotSyncing));
+    assert!(rt; tried(&mut client, 120000) == Ok((0, false)));
+    assert!(rt; tried(&mut client, 130000) == Err(Refusal::NotSyncing));
 }
 
 #[test]
 fn hears_of_an_update(rt: HostRuntime) {
     let heard = BulkClient::first_asked(3).status(BulkStatus::Start, 5);
-    assert_eq!(rt; (heard.tries(), heard.is_waiting()), (1, true));
-    assert_eq!(rt; (heard.is_due(10, 14), heard.is_due(10, 15)), (false, true));
-    assert_eq!(rt; heard.status(BulkStatus::End, 6), BulkClient::Idle);
-    assert_eq!(rt;
-        BulkClient::Idle.status(BulkStatus::Start, 6),
-        BulkClient::Idle
-    );
+    assert!(rt; (heard.tries(), heard.is_waiting()) == (1, true));
+    assert!(rt; (heard.is_due(10, 14), heard.is_due(10, 15)) == (false, true));
+    assert!(rt; heard.status(BulkStatus::End, 6) == BulkClient::Idle);
+    assert!(rt; BulkClient::Idle.status(BulkStatus::Start, 6) == BulkClient::Idle);
 }

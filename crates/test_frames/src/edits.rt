@@ -7,7 +7,7 @@ ghost use Rattle.pfl_edits.specs.Places.{value-both_ways};
 
 use linked_list_allocator::LocalHeap;
 use pfl_edits::{Change, Keyed, NoMemory, Reversible, Rows, undo_all};
-use std::alloc::Allocator;
+use std::alloc::{Allocator, Global};
 use std::cmp::Ordering;
 use std::test::*;
 use test_devices::Refusing;
@@ -63,27 +63,32 @@ fn takes_edits_back(rt: HostRuntime) -> Result<(), Fail> {
     assert!(rt; change.is_empty());
     change.push(counter.count_to(2));
     change.push(counter.count_to(3));
-    assert_eq!(rt; (counter.count, change.len()), (3, 2));
+    assert!(rt; (counter.count, change.len()) == (3, 2));
     undo_all(&mut counter, change);
-    assert_eq!(rt; counter.count, 1);
+    assert!(rt; counter.count == 1);
     Ok(())
 }
 
 #[test]
-fn wants_memory(rt: HostRuntime) -> Result<(), Fail> {
+fn wants_memory(rt: HostRuntime) {
     let mut change: Change<Counted, _> = Change::new(rt.alloc());
-    assert_eq!(rt; change.reserve(usize::MAX), Err(NoMemory));
-    assert_eq!(rt; change.len(), 0);
+    assert!(rt; change.reserve(usize::MAX).is_err());
+    assert!(rt; change.len() == 0);
     assert!(rt; Rows::<Squared, _>::new(rt.alloc(), usize::MAX).is_err());
-    assert_eq!(rt; format!(in rt.alloc(); "{NoMemory}")?.as_str(), "no memory");
+}
+
+#[test]
+fn want_of_memory_prints(rt: HostRuntime) -> Result<(), Fail> {
+    let text = format!(in rt.alloc(); "{NoMemory}")?;
+    assert!(rt; text.as_str() == "no memory");
     Ok(())
 }
 
 #[test]
 fn a_refused_growth_changes_nothing(rt: HostRuntime) {
     let mut change: Change<Counted, _> = Change::new(Refusing);
-    assert_eq!(rt; change.reserve(1), Err(NoMemory));
-    assert_eq!(rt; (change.len(), change.reserve(0)), (0, Ok(())));
+    assert!(rt; change.reserve(1) == Err(NoMemory));
+    assert!(rt; (change.len(), change.reserve(0)) == (0, Ok(())));
     assert!(rt; Rows::<Squared, _>::new(Refusing, 1).is_err());
 }
 
@@ -131,31 +136,45 @@ fn set<A: Allocator>(rows: &mut Rows<Squared, A>, root: u64, at: Option<Squared>
     rows.set(root, at)
 }
 
-#[test]
-fn keeps_rows_in_order(rt: HostRuntime) -> Result<(), Fail> {
-    let mut rows = Rows::new(rt.alloc(), 4)?;
+/// Rows for three numbers, with room for a fourth.
+fn three(alloc: Global) -> Result<Rows<Squared, Global>, NoMemory> {
+    let mut rows = Rows::new(alloc, 4)?;
     set(&mut rows, 3, Some(THREE));
     set(&mut rows, 1, Some(ONE));
     set(&mut rows, 2, Some(TWO));
-    let copied = rows.copy()?;
-    assert_eq!(rt; set(&mut rows, 1, None), Some(ONE));
-    assert_eq!(rt;
-        (rows.get(1).copied(), rows.get(2).copied()),
-        (None, Some(TWO))
-    );
-    assert_eq!(rt; (copied.len(), copied.is_full()), (3, false));
-    assert_eq!(rt; copied.as_slice(), [ONE, TWO, THREE].as_slice());
-    assert_eq!(rt; copied.after(1), [TWO, THREE].as_slice());
+    Ok(rows)
+}
+
+#[test]
+fn keeps_rows_in_order(rt: HostRuntime) -> Result<(), Fail> {
+    let rows = three(rt.alloc())?;
+    assert!(rt; rows.as_slice() == [ONE, TWO, THREE].as_slice());
+    assert!(rt; rows.after(1) == [TWO, THREE].as_slice());
+    assert!(rt; (rows.len(), rows.is_full()) == (3, false));
     Ok(())
 }
 
 #[test]
-fn a_copy_without_memory_changes_nothing(rt: HostRuntime) -> Result<(), Fail> {
-    // Room for one list of four rows.
-    let heap = LocalHeap::new(rt.alloc(), 96)?;
-    let mut rows = Rows::new(&heap, 4)?;
-    set(&mut rows, 2, Some(TWO));
-    assert_eq!(rt; rows.copy().err(), Some(NoMemory));
-    assert_eq!(rt; rows.as_slice(), [TWO].as_slice());
+fn a_copy_stays_as_it_was(rt: HostRuntime) -> Result<(), Fail> {
+    let mut rows = three(rt.alloc())?;
+    let copied = rows.copy()?;
+    assert!(rt; set(&mut rows, 1, None) == Some(ONE));
+    assert!(rt; rows.get(1).is_none());
+    assert!(rt; copied.get(1).is_some());
     Ok(())
+}
+
+/// Why there is no copy of a row over a heap of so many bytes, and how many rows there are then.
+fn uncopied(alloc: Global, bytes: usize) -> Option<(Option<NoMemory>, usize)> {
+    let heap = LocalHeap::new(alloc, bytes).ok()?;
+    let mut rows = Rows::new(&heap, 4).ok()?;
+    set(&mut rows, 2, Some(TWO));
+    let fault = rows.copy().err();
+    Some((fault, rows.len()))
+}
+
+#[test]
+fn a_copy_without_memory_changes_nothing(rt: HostRuntime) {
+    // Room for one list of four rows.
+    assert!(rt; uncopied(rt.alloc(), 96) == Some((Some(NoMemory), 1)));
 }

@@ -45,19 +45,18 @@ fn end(addr: u32, port: u16) -> End {
     }
 }
 
+/// The connection from 10.0.0.1:1000 to this end.
+fn flow(near: End) -> Key {
+    Key {
+        proto: Proto::Tcp,
+        far: end(0x0a00_0001, 1000),
+        near,
+    }
+}
+
+/// The record of `STATE`.
 fn state() -> Option<StateRecord> {
-    let far = end(0x0a00_0001, 1000);
-    let wire = Key {
-        proto: Proto::Tcp,
-        far,
-        near: end(0xc000_0209, 80),
-    };
-    let stack = Key {
-        proto: Proto::Tcp,
-        far,
-        near: end(0xc0a8_0009, 8080),
-    };
-    let keys = KeyPair::of(wire, stack)?;
+    let keys = KeyPair::of(flow(end(0xc000_0209, 80)), flow(end(0xc0a8_0009, 8080)))?;
     let src = Peer::of(PeerFields {
         level: 2,
         scale: Some(7),
@@ -65,20 +64,13 @@ fn state() -> Option<StateRecord> {
         lo: 100,
         hi: 102,
     })?;
-    let dst = Peer::of(PeerFields {
-        level: 0,
-        scale: None,
-        window: 0,
-        lo: 0,
-        hi: 0,
-    })?;
     Some(StateRecord {
         name: StateName { creator: 1, id: 2 },
         keys,
         direction: Dir::Inbound,
         ack_wanted: false,
         src,
-        dst,
+        dst: Peer::silent(),
         class: Class::TcpFirst,
         remaining: 120,
         rule: None,
@@ -100,36 +92,56 @@ fn spelled_again(alloc: Global, bytes: &[u8]) -> Result<Vec<u8>, Fail> {
     Ok(encode(alloc, &frame)?)
 }
 
+/// The frame that the bytes spell has these bytes.
+fn is_spelled_again(alloc: Global, bytes: &[u8]) -> Result<bool, Fail> {
+    let again = spelled_again(alloc, bytes)?;
+    Ok(again.as_slice() == bytes)
+}
+
 fn fault_of(alloc: Global, bytes: &[u8]) -> Option<FrameFault> {
     decode(alloc, bytes).err()
 }
 
+/// The first byte of the checksum and the record of a frame of one record.
+fn only_record(alloc: Global, bytes: &[u8]) -> Option<(u8, Message)> {
+    let frame = decode(alloc, bytes).ok()?;
+    let [print, ..] = frame.print();
+    match frame.groups() {
+        [group] => match group.as_slice() {
+            [record] => Some((*print, *record)),
+            _ => None,
+        },
+        _ => None,
+    }
+}
+
+/// The acknowledgement with another byte at a place.
+fn changed(at: usize, byte: u8) -> [u8; 36] {
+    let mut bytes = ACKNOWLEDGEMENT;
+    if let Some(place) = bytes.get_mut(at) {
+        *place = byte;
+    }
+    bytes
+}
+
+/// The acknowledgement and a byte behind it, under this lowest byte of the length.
+fn longer(alloc: Global, len: u8) -> Result<Vec<u8>, AllocError> {
+    let mut bytes = Vec::from_slice(alloc, &changed(3, len))?;
+    bytes.push(0)?;
+    Ok(bytes)
+}
+
 #[test]
 fn an_acknowledgement(rt: HostRuntime) -> Result<(), Fail> {
-    let frame = decode(rt.alloc(), &ACKNOWLEDGEMENT)?;
-    assert_eq!(rt; frame.print()[0], 0xd4);
-    assert_eq!(rt; frame.groups().len(), 1);
-    assert_eq!(rt; frame.groups()[0].len(), 1);
-    assert_eq!(rt;
-        frame.groups()[0][0],
-        Message::InsertAck(StateName { creator: 1, id: 1 })
-    );
-    let again = encode(rt.alloc(), &frame)?;
-    assert_eq!(rt; again.as_slice(), ACKNOWLEDGEMENT.as_slice());
+    let told = Message::InsertAck(StateName { creator: 1, id: 1 });
+    let found = only_record(rt.alloc(), &ACKNOWLEDGEMENT);
+    assert!(rt; found == Some((0xd4, told)));
+    assert!(rt; is_spelled_again(rt.alloc(), &ACKNOWLEDGEMENT)?);
     Ok(())
 }
 
 #[test]
-fn faults_of_the_acknowledgement(rt: HostRuntime) -> Result<(), Fail> {
-    let alloc = rt.alloc();
-    assert_eq!(rt;
-        fault_of(alloc, &ACKNOWLEDGEMENT[..19]),
-        Some(FrameFault::Short)
-    );
-    assert_eq!(rt;
-        fault_of(alloc, &ACKNOWLEDGEMENT[..35]),
-        Some(FrameFault::Length)
-    );
+fn faults_of_the_acknowledgement(rt: HostRuntime) {
     for (at, byte, fault) in [
         (0, 6, FrameFault::Version),
         (1, 1, FrameFault::Value),
@@ -137,53 +149,54 @@ fn faults_of_the_acknowledgement(rt: HostRuntime) -> Result<(), Fail> {
         (23, 0, FrameFault::Count),
         (23, 2, FrameFault::Count),
     ] {
-        let mut bytes = Vec::from_slice(alloc, &ACKNOWLEDGEMENT)?;
-        if let Some(place) = bytes.get_mut(at) {
-            *place = byte;
-        }
-        assert_eq!(rt; fault_of(alloc, bytes.as_slice()), Some(fault), "at {at}");
+        assert!(rt; fault_of(rt.alloc(), &changed(at, byte)) == Some(fault));
     }
-    let mut longer = Vec::from_slice(alloc, &ACKNOWLEDGEMENT)?;
-    longer.push(0)?;
-    assert_eq!(rt;
-        fault_of(alloc, longer.as_slice()),
-        Some(FrameFault::Length)
-    );
-    if let Some(len) = longer.get_mut(3) {
-        *len = 0x25;
-    }
-    assert_eq!(rt;
-        fault_of(alloc, longer.as_slice()),
-        Some(FrameFault::Length)
-    );
-    Ok(())
+}
+
+/// The fault of a front of the acknowledgement.
+fn fault_of_front(alloc: Global, len: usize) -> Option<FrameFault> {
+    let front = ACKNOWLEDGEMENT.get(..len)?;
+    fault_of(alloc, front)
+}
+
+/// The fault of the acknowledgement and a byte behind it.
+fn fault_of_longer(alloc: Global, len: u8) -> Option<FrameFault> {
+    let bytes = longer(alloc, len).ok()?;
+    fault_of(alloc, bytes.as_slice())
 }
 
 #[test]
-fn a_header_alone(rt: HostRuntime) -> Result<(), Fail> {
-    let mut bytes = ACKNOWLEDGEMENT;
-    bytes[3] = 20;
-    let frame = decode(rt.alloc(), &bytes[..20])?;
-    assert_eq!(rt; frame.groups().len(), 0);
-    Ok(())
+fn faults_of_its_length(rt: HostRuntime) {
+    assert!(rt; fault_of_front(rt.alloc(), 19) == Some(FrameFault::Short));
+    assert!(rt; fault_of_front(rt.alloc(), 35) == Some(FrameFault::Length));
+    assert!(rt; fault_of_longer(rt.alloc(), 0x24) == Some(FrameFault::Length));
+    assert!(rt; fault_of_longer(rt.alloc(), 0x25) == Some(FrameFault::Length));
+}
+
+/// How many groups the header alone has.
+fn groups_of_the_header(alloc: Global) -> Option<usize> {
+    let frame = decode(alloc, changed(3, 20).get(..20)?).ok()?;
+    Some(frame.groups().len())
+}
+
+#[test]
+fn a_header_alone(rt: HostRuntime) {
+    assert!(rt; groups_of_the_header(rt.alloc()) == Some(0));
 }
 
 #[test]
 fn one_state(rt: HostRuntime) -> Result<(), Fail> {
-    let alloc = rt.alloc();
-    let bytes = frame_of(alloc, &ONE_STATE, 1)?;
-    assert_eq!(rt; bytes.len(), 148);
-    let frame = decode(alloc, bytes.as_slice())?;
-    assert_eq!(rt; frame.groups().len(), 1);
-    assert_eq!(rt; frame.groups()[0].len(), 1);
-    assert_eq!(rt;
-        frame.groups()[0].first().copied(),
-        state().map(Message::Insert)
-    );
-    assert_eq!(rt;
-        spelled_again(alloc, bytes.as_slice())?.as_slice(),
-        bytes.as_slice()
-    );
+    let bytes = frame_of(rt.alloc(), &ONE_STATE, 1)?;
+    assert!(rt; bytes.len() == 148);
+    let told = Message::Insert(state().ok_or("no state")?);
+    assert!(rt; only_record(rt.alloc(), bytes.as_slice()) == Some((0xd4, told)));
+    assert!(rt; is_spelled_again(rt.alloc(), bytes.as_slice())?);
+    Ok(())
+}
+
+#[test]
+fn fronts_of_one_state(rt: HostRuntime) -> Result<(), Fail> {
+    let bytes = frame_of(rt.alloc(), &ONE_STATE, 1)?;
     for len in 0..148 {
         let wanted = if len < 20 {
             FrameFault::Short
@@ -191,63 +204,65 @@ fn one_state(rt: HostRuntime) -> Result<(), Fail> {
             FrameFault::Length
         };
         let front = bytes.as_slice().get(..len).unwrap_or(&[]);
-        assert_eq!(rt; fault_of(alloc, front), Some(wanted), "{len} bytes");
+        assert!(rt; fault_of(rt.alloc(), front) == Some(wanted));
     }
     Ok(())
 }
 
+/// The fault of the frame with one state, under this count of states.
+fn fault_of_count(alloc: Global, count: u16) -> Result<Option<FrameFault>, AllocError> {
+    let mut head = ONE_STATE;
+    let [high, low] = count.to_be_bytes();
+    head[22] = high;
+    head[23] = low;
+    let bytes = frame_of(alloc, &head, 1)?;
+    Ok(fault_of(alloc, bytes.as_slice()))
+}
+
 #[test]
 fn every_other_count(rt: HostRuntime) -> Result<(), Fail> {
-    let alloc = rt.alloc();
     for count in 0..=u16::MAX {
-        let mut head = ONE_STATE;
-        let [high, low] = count.to_be_bytes();
-        head[22] = high;
-        head[23] = low;
-        let bytes = frame_of(alloc, &head, 1)?;
-        let wanted = if count == 1 {
-            None
-        } else {
-            Some(FrameFault::Count)
-        };
-        assert_eq!(rt;
-            fault_of(alloc, bytes.as_slice()),
-            wanted,
-            "{count} records"
-        );
+        let fault = fault_of_count(rt.alloc(), count)?;
+        assert!(rt; fault == Some(FrameFault::Count) || (count == 1 && fault == None));
     }
     Ok(())
 }
 
 #[test]
 fn ten_states(rt: HostRuntime) -> Result<(), Fail> {
-    let alloc = rt.alloc();
-    let bytes = frame_of(alloc, &TEN_STATES, 10)?;
-    assert_eq!(rt; bytes.len(), 1264);
-    assert_eq!(rt;
-        spelled_again(alloc, bytes.as_slice())?.as_slice(),
-        bytes.as_slice()
-    );
+    let bytes = frame_of(rt.alloc(), &TEN_STATES, 10)?;
+    assert!(rt; bytes.len() == 1264);
+    assert!(rt; is_spelled_again(rt.alloc(), bytes.as_slice())?);
     Ok(())
+}
+
+/// The fault of an allocator that refuses each request.
+fn fault_without_memory(bytes: &[u8]) -> Option<FrameFault> {
+    decode(Refusing, bytes).err()
+}
+
+/// The fault of the spelling of the header alone.
+fn spelling_fault(header: &[u8]) -> Result<Option<NoMemory>, Fail> {
+    let frame = decode(Refusing, header)?;
+    Ok(encode(Refusing, &frame).err())
 }
 
 #[test]
 fn no_memory(rt: HostRuntime) -> Result<(), Fail> {
-    let mut bytes = ACKNOWLEDGEMENT;
-    assert_eq!(rt; decode(Refusing, &bytes).err(), Some(FrameFault::NoMemory));
-    bytes[22] = 1;
-    assert_eq!(rt; decode(Refusing, &bytes).err(), Some(FrameFault::Count));
-    bytes[3] = 20;
-    let header_alone = decode(Refusing, &bytes[..20])?;
-    assert_eq!(rt; encode(Refusing, &header_alone).err(), Some(NoMemory));
+    let whole = fault_without_memory(&ACKNOWLEDGEMENT);
+    assert!(rt; whole == Some(FrameFault::NoMemory));
+    let miscounted = fault_without_memory(&changed(22, 1));
+    assert!(rt; miscounted == Some(FrameFault::Count));
+    let header = changed(3, 20);
+    let header = header.get(..20).unwrap_or(&[]);
+    assert!(rt; spelling_fault(header)? == Some(NoMemory));
     Ok(())
 }
 
 #[test]
 fn words_of_faults(rt: HostRuntime) -> Result<(), Fail> {
-    assert_eq!(rt; FrameFault::Short.number(), 1);
-    assert_eq!(rt; FrameFault::NoMemory.number(), 7);
     let text = format!(in rt.alloc(); "{}", FrameFault::Length)?;
-    assert_eq!(rt; text.as_str(), "Length");
+    assert!(rt; text.as_str() == "Length");
+    assert!(rt; FrameFault::NoMemory.number() == 7);
     Ok(())
 }

@@ -15,7 +15,7 @@ fn a_script_with_faulty_lines(rt: HostRuntime) {
         b"rule a pass out\nopen\n\n# back\nback main\nshow main\nview\nback main 1 2".as_slice();
     let mut reader = LineReader::new(Std::new(script));
     let status = check_lab(rt.alloc(), &mut reader, &mut writer, &mut faults);
-    assert_eq!(rt; status, 1);
+    assert!(rt; status == 1);
     assert!(rt;
         writer.into_inner().as_slice()
             == b"line 5 bad 4 Missing\nline 7 bad 3 Unknown\nline 8 bad 6 Extra\ngood 1\n".as_slice()
@@ -29,7 +29,7 @@ fn a_script_without_commands(rt: HostRuntime) {
     let mut faults = Std::new(Vec::new(rt.alloc()));
     let mut reader = LineReader::new(Std::new(b"open\n# the end".as_slice()));
     let status = check_lab(rt.alloc(), &mut reader, &mut writer, &mut faults);
-    assert_eq!(rt; status, 0);
+    assert!(rt; status == 0);
     assert!(rt; writer.into_inner().as_slice() == b"good 0\n".as_slice());
     assert!(rt; faults.into_inner().is_empty());
 }
@@ -43,7 +43,7 @@ fn a_reader_fails(rt: HostRuntime) {
         good: 16,
     }));
     let status = check_lab(rt.alloc(), &mut reader, &mut writer, &mut faults);
-    assert_eq!(rt; status, 1);
+    assert!(rt; status == 1);
     assert!(rt; writer.into_inner().as_slice() == b"line 2 bad 4 Missing\n".as_slice());
     assert!(rt; faults.into_inner().as_slice() == b"pfl_lab: read\n".as_slice());
 }
@@ -73,7 +73,7 @@ fn without_memory(rt: HostRuntime) {
     let mut faults = Std::new(Vec::new(rt.alloc()));
     let mut reader = LineReader::new(Std::new(b"rule a pass out\nopen\n".as_slice()));
     let status = check_lab(Refusing, &mut reader, &mut writer, &mut faults);
-    assert_eq!(rt; status, 3);
+    assert!(rt; status == 3);
     assert!(rt; writer.into_inner().is_empty());
     assert!(rt; faults.into_inner().as_slice() == b"pfl_lab: no memory\n".as_slice());
 }
@@ -87,7 +87,7 @@ fn a_check_takes_no_memory(rt: HostRuntime) {
         b"set states 65536\nopen\nback\nback main 0\n".as_slice(),
     ));
     let status = check_lab(Refusing, &mut reader, &mut writer, &mut faults);
-    assert_eq!(rt; status, 1);
+    assert!(rt; status == 1);
     assert!(rt; writer.into_inner().as_slice() == b"line 3 bad 4 Missing\ngood 1\n".as_slice());
     assert!(rt; faults.into_inner().is_empty());
 }

@@ -13,7 +13,7 @@ fn an_empty_script(rt: HostRuntime) {
     let mut faults = Std::new(Vec::new(rt.alloc()));
     let mut reader = LineReader::new(Std::new(b"".as_slice()));
     let status = run_lab(rt.alloc(), &mut reader, &mut writer, &mut faults);
-    assert_eq!(rt; status, 1);
+    assert!(rt; status == 1);
     assert!(rt; writer.into_inner().is_empty());
     assert!(rt; faults.into_inner().as_slice() == b"pfl_lab: setup line 0: no open\n".as_slice());
 }
@@ -27,7 +27,7 @@ fn a_reader_fails(rt: HostRuntime) {
         good: 16,
     }));
     let status = run_lab(rt.alloc(), &mut reader, &mut writer, &mut faults);
-    assert_eq!(rt; status, 1);
+    assert!(rt; status == 1);
     assert!(rt; writer.into_inner().is_empty());
     assert!(rt; faults.into_inner().as_slice() == b"pfl_lab: read\n".as_slice());
 }
@@ -38,8 +38,8 @@ fn a_writer_fails(rt: HostRuntime) {
     let mut faults = Std::new(Vec::new(rt.alloc()));
     let mut reader = LineReader::new(Std::new(b"open\nback main 0\nback main 0\n".as_slice()));
     let status = run_lab(rt.alloc(), &mut reader, &mut writer, &mut faults);
-    assert_eq!(rt; status, 1);
-    assert_eq!(rt; writer.into_inner().len, 3);
+    assert!(rt; status == 1);
+    assert!(rt; writer.into_inner().len == 3);
     assert!(rt; faults.into_inner().as_slice() == b"pfl_lab: write\n".as_slice());
 }
 
@@ -49,7 +49,7 @@ fn without_memory(rt: HostRuntime) {
     let mut faults = Std::new(Vec::new(rt.alloc()));
     let mut reader = LineReader::new(Std::new(b"rule a pass out\nopen\n".as_slice()));
     let status = run_lab(Refusing, &mut reader, &mut writer, &mut faults);
-    assert_eq!(rt; status, 3);
+    assert!(rt; status == 3);
     assert!(rt; faults.into_inner().as_slice() == b"pfl_lab: no memory\n".as_slice());
 }
 
@@ -59,7 +59,7 @@ fn a_fault_is_told_without_memory(rt: HostRuntime) {
     let mut faults = Std::new(Vec::new(rt.alloc()));
     let mut reader = LineReader::new(Std::new(b"set states x\n".as_slice()));
     let status = run_lab(Refusing, &mut reader, &mut writer, &mut faults);
-    assert_eq!(rt; status, 1);
+    assert!(rt; status == 1);
     assert!(rt; faults.into_inner().as_slice() == b"pfl_lab: setup line 1: line 5\n".as_slice());
 }
 
@@ -74,14 +74,11 @@ fn mode_or_status(alloc: Global, words: &[&str]) -> Result<Mode, u8> {
 #[test]
 fn words(rt: HostRuntime) {
     let alloc = rt.alloc();
-    assert_eq!(rt; mode_or_status(alloc, &["pfl_lab", "run"]), Ok(Mode::Run));
-    assert_eq!(rt;
-        mode_or_status(alloc, &["pfl_lab", "check"]),
-        Ok(Mode::Check)
-    );
-    assert_eq!(rt; mode_or_status(alloc, &["pfl_lab"]), Err(2));
-    assert_eq!(rt; mode_or_status(alloc, &["pfl_lab", "fly"]), Err(2));
-    assert_eq!(rt; mode_or_status(alloc, &["pfl_lab", "run", "now"]), Err(2));
-    assert_eq!(rt; mode_or_status(alloc, &["pfl_lab", "check", "now"]), Err(2));
-    assert_eq!(rt; mode_or_status(alloc, &["pfl_lab", "--help"]), Err(0));
+    assert!(rt; mode_or_status(alloc, &["pfl_lab", "run"]) == Ok(Mode::Run));
+    assert!(rt; mode_or_status(alloc, &["pfl_lab", "check"]) == Ok(Mode::Check));
+    assert!(rt; mode_or_status(alloc, &["pfl_lab"]) == Err(2));
+    assert!(rt; mode_or_status(alloc, &["pfl_lab", "fly"]) == Err(2));
+    assert!(rt; mode_or_status(alloc, &["pfl_lab", "run", "now"]) == Err(2));
+    assert!(rt; mode_or_status(alloc, &["pfl_lab", "check", "now"]) == Err(2));
+    assert!(rt; mode_or_status(alloc, &["pfl_lab", "--help"]) == Err(0));
 }

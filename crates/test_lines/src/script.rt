@@ -13,11 +13,11 @@ use test_devices::{Bytewise, Endless, Narrow, Refusing};
 fn a_writer_fails_in_mid_line(rt: HostRuntime) {
     let mut writer = Std::new(Narrow::new(20));
     let written = write_text(&mut writer, b"bad 3 Unknown\nbad 3 Unknown\n");
-    assert_eq!(rt; written, Err(EngineFault::Write));
+    assert!(rt; written == Err(EngineFault::Write));
     assert!(rt; writer.failed());
     let Narrow { taken, len, .. } = writer.into_inner();
-    assert_eq!(rt; len, 20);
-    assert_eq!(rt; &taken[..20], b"bad 3 Unknown\nbad 3 ".as_slice());
+    assert!(rt; len == 20);
+    assert!(rt; &taken[..20] == b"bad 3 Unknown\nbad 3 ".as_slice());
 }
 
 #[test]
@@ -39,7 +39,7 @@ fn long_lines(rt: HostRuntime) -> Result<(), Fail> {
     assert!(rt; second.has_word());
     assert!(rt; reader.next_line()?.is_none());
     assert!(rt; reader.next_line()?.is_none());
-    assert_eq!(rt; reader.lines(), 2);
+    assert!(rt; reader.lines() == 2);
     Ok(())
 }
 
@@ -70,18 +70,18 @@ fn setup_of_both_nodes(rt: HostRuntime) -> Result<(), Fail> {
         rules_a,
         rules_b,
     } = setup;
-    assert_eq!(rt;
-        limits,
-        Limits {
-            states: 3,
-            defer: true,
-            ..Limits::default()
-        }
+    assert!(rt;
+        limits
+            == Limits {
+                states: 3,
+                defer: true,
+                ..Limits::default()
+            }
     );
-    assert_eq!(rt; action_of(&rules_a, 0), None);
-    assert_eq!(rt; action_of(&rules_b, 0), Some(Action::Block));
-    assert_eq!(rt; action_of(&rules_b, 1), Some(Action::Pass));
-    assert_eq!(rt; reader.lines(), 7);
+    assert!(rt; action_of(&rules_a, 0) == None);
+    assert!(rt; action_of(&rules_b, 0) == Some(Action::Block));
+    assert!(rt; action_of(&rules_b, 1) == Some(Action::Pass));
+    assert!(rt; reader.lines() == 7);
     let Some(next) = reader.next_line()? else {
         return Err("the line behind the setup".into());
     };
@@ -130,7 +130,7 @@ fn a_line_without_end(rt: HostRuntime) {
     let mut reader = LineReader::new(Endless { calls: 0 });
     let setup = read_setup(rt.alloc(), &mut reader);
     assert!(rt; matches!(setup, Err(SetupFault::TooManyTurns)));
-    assert_eq!(rt; reader.turns(), 16777216);
-    assert_eq!(rt; reader.lines(), 0);
-    assert_eq!(rt; reader.into_inner().calls, 16777216);
+    assert!(rt; reader.turns() == 16777216);
+    assert!(rt; reader.lines() == 0);
+    assert!(rt; reader.into_inner().calls == 16777216);
 }

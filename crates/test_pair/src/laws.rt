@@ -1,51 +1,32 @@
 //! Ticks that are taken back at once.
 
-use super::world::limits;
+use super::world::{clock, opening};
 use pfl_base::{Millis, NodeId, Refusal};
 use pfl_laws::all_there_and_back;
-use pfl_rules::RuleSet;
-use pfl_world::{Event, World};
+use pfl_world::Event;
 use std::alloc::Global;
-use std::test::Fail;
 
-/// A pair without rules.
-fn opening(alloc: Global) -> Result<World<Global>, Fail> {
-    let rules_a = RuleSet::new(alloc, Vec::new(alloc))?;
-    let rules_b = RuleSet::new(alloc, Vec::new(alloc))?;
-    Ok(World::new(alloc, limits(), rules_a, rules_b)?)
-}
-
-/// Node B's clock goes on.
+/// The clock of node A goes on.
 fn tick(ms: Millis) -> Event {
     Event::Tick {
-        node: NodeId::B,
+        node: NodeId::A,
         ms,
     }
 }
 
-/// What node B's clock shows.
-fn clock(world: &World<Global>) -> Millis {
-    world.node(NodeId::B).clock()
+/// What events of a new pair answer that are taken back, and what the clock of node A shows then.
+fn taken_back(alloc: Global, events: &[Event]) -> Option<(Result<(), Refusal>, Millis)> {
+    let mut world = opening(alloc).ok()?;
+    let told = all_there_and_back(alloc, &mut world, events);
+    Some((told, clock(&world)))
 }
 
 #[test]
-fn ticks_are_taken_back(rt: HostRuntime) -> Result<(), Fail> {
-    let mut world = opening(rt.alloc())?;
-    assert_eq!(rt;
-        all_there_and_back(rt.alloc(), &mut world, &[tick(20), tick(500)]),
-        Ok(())
-    );
-    assert_eq!(rt; clock(&world), 0);
-    Ok(())
-}
-
-#[test]
-fn a_refused_tick_takes_those_before_it_back(rt: HostRuntime) -> Result<(), Fail> {
-    let mut world = opening(rt.alloc())?;
-    assert_eq!(rt;
-        all_there_and_back(rt.alloc(), &mut world, &[tick(20), tick(1_000_000_000_000)]),
-        Err(Refusal::ClockFull)
-    );
-    assert_eq!(rt; clock(&world), 0);
-    Ok(())
+fn ticks_are_taken_back(rt: HostRuntime) {
+    let ticks = [tick(20), tick(500)];
+    assert!(rt; taken_back(rt.alloc(), &ticks) == Some((Ok(()), 0)));
+    // The last is refused.
+    let ticks = [tick(20), tick(1_000_000_000_000)];
+    let refused = Some((Err(Refusal::ClockFull), 0));
+    assert!(rt; taken_back(rt.alloc(), &ticks) == refused);
 }

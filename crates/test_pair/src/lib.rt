@@ -1,5 +1,5 @@
-//! What only a call shows of the pair and of timelines over it: copies, ranges of limits, and want of memory. Runs of events are
-//! cases of test_cases.
+//! What only a call shows of the pair and of timelines over it: ranges of limits, want of memory, and events that are taken
+//! back at once. Runs of events are cases of test_cases.
 #![tactic(auto)]
 
 #[cfg(test)]

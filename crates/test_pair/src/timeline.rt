@@ -1,145 +1,160 @@
 //! Want of memory of commands over a pair's clocks.
 
-use super::world::limits;
+use super::world::{EDITS, clock, opening};
 use linked_list_allocator::LocalHeap;
 use pfl_base::{Millis, NodeId};
-use pfl_edits::NoMemory;
-use pfl_rules::RuleSet;
-use pfl_timeline::{BranchWord, Command, Reply, Timeline};
-use pfl_world::{Event, World, WorldFault};
-use std::alloc::Allocator;
-use std::test::Fail;
-
-/// The bytes that the nodes of a pair keep for the edits of an event, where each holds one state.
-const EDITS: usize = 43_648;
+use pfl_timeline::{BranchWord, Command, Timeline};
+use pfl_world::Event;
+use std::alloc::{Allocator, Global};
 
 /// The bytes that the change of a tick takes.
 const A_TICK: usize = 704;
 
-/// A set without rules.
-fn no_rules<A: Allocator + Copy>(alloc: A) -> Option<RuleSet<A>> {
-    RuleSet::new(alloc, Vec::new(alloc)).ok()
+/// What is seen of a timeline whose commands wanted memory.
+#[derive(Clone, Copy, PartialEq)]
+struct Seen {
+    /// So many commands wanted memory.
+    wanting: u8,
+    branches: usize,
+    /// The events of the first branch.
+    events: usize,
+    cursor: usize,
+    /// What the clock of node A shows there.
+    clock: Millis,
 }
 
-/// A timeline over a pair without rules.
-fn opening<A: Allocator + Copy>(alloc: A) -> Result<Timeline<A>, WorldFault> {
-    match (no_rules(alloc), no_rules(alloc)) {
-        (Some(rules_a), Some(rules_b)) => {
-            let world = World::new(alloc, limits(), rules_a, rules_b)?;
-            Ok(Timeline::new(alloc, world)?)
-        }
-        _ => Err(WorldFault::NoMemory),
-    }
-}
-
-/// The clock of node a goes on.
-fn tick(ms: Millis) -> Event {
-    Event::Tick {
-        node: NodeId::A,
-        ms,
-    }
+/// What is seen of a timeline with one branch.
+fn one_branch(wanting: u8, events: usize, cursor: usize, clock: Millis) -> Option<Seen> {
+    Some(Seen {
+        wanting,
+        branches: 1,
+        events,
+        cursor,
+        clock,
+    })
 }
 
 /// An event on `main`.
-fn step<A: Allocator + Copy>(
-    timeline: &mut Timeline<A>,
-    event: Event,
-) -> Result<Reply<A>, NoMemory> {
+fn step(event: Event) -> Command {
     let branch = BranchWord::main();
-    timeline.command(Command::Step { branch, event })
+    Command::Step { branch, event }
+}
+
+/// The clock of node A goes on by five milliseconds.
+fn tick() -> Command {
+    step(Event::Tick {
+        node: NodeId::A,
+        ms: 5,
+    })
 }
 
 /// The last events of `main` are taken back.
-fn back<A: Allocator>(timeline: &mut Timeline<A>, n: u32) -> Reply<A> {
-    timeline.back(BranchWord::main(), n)
+fn back(n: u32) -> Command {
+    let branch = BranchWord::main();
+    Command::Back { branch, n }
 }
 
 /// The next events of `main` happen again.
-fn forward<A: Allocator + Copy>(timeline: &mut Timeline<A>, n: u32) -> Result<Reply<A>, NoMemory> {
+fn forward(n: u32) -> Command {
     let branch = BranchWord::main();
-    timeline.command(Command::Forward { branch, n })
+    Command::Forward { branch, n }
 }
 
-/// How many events stand.
-fn at<A: Allocator>(reply: Reply<A>) -> Option<usize> {
-    match reply {
-        Reply::At(cursor) => Some(cursor),
-        _ => None,
+/// Carries commands out: how many of them want memory.
+fn wanting<A: Allocator + Copy>(timeline: &mut Timeline<A>, commands: &[Command]) -> u8 {
+    let mut wanting = 0u8;
+    for command in commands {
+        if timeline.command(*command).is_err() {
+            wanting = wanting.saturating_add(1);
+        }
     }
+    wanting
 }
 
-/// What the first branch shows: its events, how many of them stand, and the clock of node a.
-fn first<A: Allocator>(timeline: &Timeline<A>) -> Option<(usize, usize, Millis)> {
-    let branch = timeline.branches().first()?;
-    let clock = branch.world().node(NodeId::A).clock();
-    Some((branch.events().len(), branch.cursor(), clock))
+/// What is seen of a timeline.
+fn shown<A: Allocator>(timeline: &Timeline<A>, wanting: u8) -> Option<Seen> {
+    let branches = timeline.branches();
+    let first = branches.first()?;
+    Some(Seen {
+        wanting,
+        branches: branches.len(),
+        events: first.events().len(),
+        cursor: first.cursor(),
+        clock: clock(first.world()),
+    })
+}
+
+/// A timeline over a pair without rules.
+fn begun<A: Allocator + Copy>(alloc: A) -> Option<Timeline<A>> {
+    let world = opening(alloc).ok()?;
+    Timeline::new(alloc, world).ok()
+}
+
+/// Carries commands out over a heap, others after so many bytes of it are taken, and gives what is seen then of those
+/// others. There is nothing to see where the heap has no room for the timeline.
+fn over(
+    alloc: Global,
+    bytes: usize,
+    before: &[Command],
+    taken: usize,
+    commands: &[Command],
+) -> Option<Seen> {
+    let heap = LocalHeap::new(alloc, bytes).ok()?;
+    let mut timeline = begun(&heap)?;
+    let _before = wanting(&mut timeline, before);
+    let _taken: Vec<u8, _> = Vec::with_capacity(&heap, taken).ok()?;
+    let wanting = wanting(&mut timeline, commands);
+    shown(&timeline, wanting)
+}
+
+/// Room for the pair and for two ticks.
+const TWO_TICKS: usize = EDITS + 11264;
+
+#[test]
+fn want_of_memory_changes_nothing(rt: HostRuntime) {
+    let ticks = [tick(), tick(), tick()];
+    let ticked = over(rt.alloc(), TWO_TICKS, &[], 0, &ticks);
+    assert!(rt; ticked == one_branch(1, 2, 2, 10));
+    let undone = over(rt.alloc(), TWO_TICKS, &ticks, 0, &[back(2)]);
+    assert!(rt; undone == one_branch(0, 2, 0, 0));
 }
 
 #[test]
-fn want_of_memory_changes_nothing(rt: HostRuntime) -> Result<(), Fail> {
-    // Room for the pair and for two ticks.
-    let heap = LocalHeap::new(rt.alloc(), EDITS + 11264)?;
-    let mut timeline = opening(&heap)?;
-    step(&mut timeline, tick(5))?;
-    step(&mut timeline, tick(5))?;
-    assert_eq!(rt; step(&mut timeline, tick(5)).err(), Some(NoMemory));
-    assert_eq!(rt; first(&timeline), Some((2, 2, 10)));
-    assert_eq!(rt; at(back(&mut timeline, 2)), Some(0));
-    assert_eq!(rt; first(&timeline), Some((2, 0, 0)));
-    Ok(())
-}
-
-#[test]
-fn a_branch_wants_memory(rt: HostRuntime) -> Result<(), Fail> {
-    // Room for the pair, and not for a branch; then for an empty branch, and not for an event without edits, nor for a
-    // copy of the pair.
-    let heap = LocalHeap::new(rt.alloc(), EDITS + 2048)?;
-    let wanting = opening(&heap).err();
-    assert_eq!(rt; wanting, Some(WorldFault::NoMemory));
-    let heap = LocalHeap::new(rt.alloc(), EDITS + 2560)?;
-    let mut timeline = opening(&heap)?;
-    let purge = Event::Purge { node: NodeId::A };
-    assert_eq!(rt; step(&mut timeline, purge).err(), Some(NoMemory));
+fn a_branch_wants_memory(rt: HostRuntime) {
+    // Room for the pair, and not for a branch.
+    assert!(rt; over(rt.alloc(), EDITS + 2048, &[], 0, &[]) == None);
+    // Room for an empty branch, and not for an event without edits, nor for a copy of the pair.
     let branch = BranchWord::main();
-    assert_eq!(rt;
-        timeline.command(Command::Show { branch }).err(),
-        Some(NoMemory)
-    );
-    assert_eq!(rt; first(&timeline), Some((0, 0, 0)));
-    Ok(())
+    let purge = step(Event::Purge { node: NodeId::A });
+    let commands = [purge, Command::Show { branch }];
+    let seen = over(rt.alloc(), EDITS + 2560, &[], 0, &commands);
+    assert!(rt; seen == one_branch(2, 0, 0, 0));
 }
 
 #[test]
-fn want_of_memory_in_the_middle_of_a_way_forward_leaves_the_branch(
-    rt: HostRuntime,
-) -> Result<(), Fail> {
-    // Room for the pair and for two ticks, of which one is taken while both are undone.
-    let heap = LocalHeap::new(rt.alloc(), EDITS + 11264)?;
-    let mut timeline = opening(&heap)?;
-    step(&mut timeline, tick(5))?;
-    step(&mut timeline, tick(5))?;
-    assert_eq!(rt; at(back(&mut timeline, 2)), Some(0));
-    let _taken: Vec<u8, _> = Vec::with_capacity(&heap, A_TICK)?;
-    assert_eq!(rt; forward(&mut timeline, 2).err(), Some(NoMemory));
-    assert_eq!(rt; first(&timeline), Some((2, 0, 0)));
-    assert_eq!(rt; at(forward(&mut timeline, 1)?), Some(1));
-    assert_eq!(rt; first(&timeline), Some((2, 1, 5)));
-    Ok(())
+fn want_of_memory_in_the_middle_of_a_way_forward_leaves_the_branch(rt: HostRuntime) {
+    let undone = [tick(), tick(), back(2)];
+    // There is room for one of the two ticks.
+    let both = over(rt.alloc(), TWO_TICKS, &undone, A_TICK, &[forward(2)]);
+    assert!(rt; both == one_branch(1, 2, 0, 0));
+    let commands = [forward(2), forward(1)];
+    let one = over(rt.alloc(), TWO_TICKS, &undone, A_TICK, &commands);
+    assert!(rt; one == one_branch(1, 2, 1, 5));
+}
+
+/// A branch is made of the first event of `main`.
+fn fork() -> Option<Command> {
+    let name = BranchWord::of(b"other")?;
+    Some(Command::Fork {
+        from: BranchWord::main(),
+        place: 1,
+        name,
+    })
 }
 
 #[test]
-fn want_of_memory_makes_no_branch(rt: HostRuntime) -> Result<(), Fail> {
-    // Room for the pair and for two ticks, and not for a copy of the pair.
-    let heap = LocalHeap::new(rt.alloc(), EDITS + 11264)?;
-    let mut timeline = opening(&heap)?;
-    step(&mut timeline, tick(5))?;
-    let Some(name) = BranchWord::of(b"other") else {
-        return Err("a word of five bytes".into());
-    };
-    let (from, place) = (BranchWord::main(), 1);
-    let fork = timeline.command(Command::Fork { from, place, name });
-    assert_eq!(rt; fork.err(), Some(NoMemory));
-    assert_eq!(rt; timeline.branches().len(), 1);
-    assert_eq!(rt; first(&timeline), Some((1, 1, 5)));
-    Ok(())
+fn want_of_memory_makes_no_branch(rt: HostRuntime) {
+    let fork = fork().unwrap_or(tick());
+    let seen = over(rt.alloc(), TWO_TICKS, &[tick()], 0, &[fork]);
+    assert!(rt; seen == one_branch(1, 1, 1, 5));
 }

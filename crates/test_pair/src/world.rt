@@ -1,4 +1,4 @@
-//! Copies of a pair, the ranges of its limits, and want of memory.
+//! The ranges of a pair's limits, and want of memory.
 
 use linked_list_allocator::LocalHeap;
 use pfl_base::{Millis, NodeId, Refusal};
@@ -7,13 +7,12 @@ use pfl_parts::Limits;
 use pfl_rules::RuleSet;
 use pfl_world::{Event, Outcome, World, WorldFault};
 use std::alloc::{Allocator, Global};
-use std::test::Fail;
 
 /// The bytes that the nodes of a pair keep for the edits of an event, where each holds one state.
-const EDITS: usize = 43_648;
+pub(super) const EDITS: usize = 43_648;
 
 /// Limits within their ranges, most of them the least.
-pub(super) fn limits() -> Limits {
+fn limits() -> Limits {
     Limits {
         states: 1,
         queue: 1,
@@ -28,57 +27,27 @@ pub(super) fn limits() -> Limits {
     }
 }
 
-/// A pair without rules.
-fn opening<A: Allocator + Copy>(alloc: A, limits: Limits) -> Result<World<A>, WorldFault> {
+/// A set without rules.
+fn no_rules<A: Allocator + Copy>(alloc: A) -> Option<RuleSet<A>> {
+    RuleSet::new(alloc, Vec::new(alloc)).ok()
+}
+
+/// A pair without rules, within these limits.
+fn within<A: Allocator + Copy>(alloc: A, limits: Limits) -> Result<World<A>, WorldFault> {
     match (no_rules(alloc), no_rules(alloc)) {
         (Some(rules_a), Some(rules_b)) => World::new(alloc, limits, rules_a, rules_b),
         _ => Err(WorldFault::NoMemory),
     }
 }
 
-/// A set without rules.
-fn no_rules<A: Allocator + Copy>(alloc: A) -> Option<RuleSet<A>> {
-    RuleSet::new(alloc, Vec::new(alloc)).ok()
+/// A pair without rules.
+pub(super) fn opening<A: Allocator + Copy>(alloc: A) -> Result<World<A>, WorldFault> {
+    within(alloc, limits())
 }
 
-/// A node's clock goes on.
-fn tick<A: Allocator + Copy>(
-    world: &mut World<A>,
-    node: NodeId,
-    ms: Millis,
-) -> Result<Outcome, Refusal> {
-    match world.apply(&Event::Tick { node, ms }) {
-        Ok((outcome, _change)) => Ok(outcome),
-        Err(refusal) => Err(refusal),
-    }
-}
-
-/// What both clocks show.
-fn clocks<A: Allocator>(world: &World<A>) -> (Millis, Millis) {
-    (world.node(NodeId::A).clock(), world.node(NodeId::B).clock())
-}
-
-/// What a clock shows after a tick of a copy.
-fn tick_copied(world: &World<Global>, node: NodeId, ms: Millis) -> Option<Millis> {
-    let mut copied = world.copy().ok()?;
-    match tick(&mut copied, node, ms) {
-        Ok(Outcome::Clock(time)) => Some(time),
-        _ => None,
-    }
-}
-
-#[test]
-fn copies_go_their_own_ways(rt: HostRuntime) -> Result<(), Fail> {
-    let mut world = opening(rt.alloc(), limits())?;
-    assert_eq!(rt; tick(&mut world, NodeId::B, 7), Ok(Outcome::Clock(7)));
-    assert_eq!(rt; tick_copied(&world, NodeId::B, 7), Some(14));
-    assert_eq!(rt; clocks(&world), (0, 7));
-    Ok(())
-}
-
-/// Why there is no pair of these limits.
+/// Why there is no pair within these limits.
 fn fault(alloc: Global, limits: Limits) -> Option<WorldFault> {
-    opening(alloc, limits).err()
+    within(alloc, limits).err()
 }
 
 #[test]
@@ -87,59 +56,55 @@ fn limits_have_ranges(rt: HostRuntime) {
         states: 65537,
         ..limits()
     };
-    let small = Limits {
-        mtu: 147,
-        ..limits()
-    };
+    assert!(rt; fault(rt.alloc(), large) == Some(WorldFault::TooLarge));
     let both = Limits { mtu: 147, ..large };
-    assert_eq!(rt; fault(rt.alloc(), large), Some(WorldFault::TooLarge));
-    assert_eq!(rt; fault(rt.alloc(), small), Some(WorldFault::TooSmall));
-    assert_eq!(rt; fault(rt.alloc(), both), Some(WorldFault::TooSmall));
+    assert!(rt; fault(rt.alloc(), both) == Some(WorldFault::TooSmall));
 }
 
-#[test]
-fn want_of_memory_makes_no_pair(rt: HostRuntime) -> Result<(), Fail> {
-    let heap = LocalHeap::new(rt.alloc(), 1024)?;
-    assert_eq!(rt; opening(&heap, limits()).err(), Some(WorldFault::NoMemory));
-    Ok(())
+/// What the clock of node A shows.
+pub(super) fn clock<A: Allocator>(world: &World<A>) -> Millis {
+    world.node(NodeId::A).clock()
 }
 
-/// What a tick answers over a heap of this size, and what the clocks show then.
-fn tick_over(
+/// The clock of node A goes on by five milliseconds: what that answers.
+fn ticked<A: Allocator + Copy>(world: &mut World<A>) -> Result<Outcome, Refusal> {
+    let tick = Event::Tick {
+        node: NodeId::A,
+        ms: 5,
+    };
+    let (outcome, _change) = world.apply(&tick)?;
+    Ok(outcome)
+}
+
+/// Why there is no copy of the pair.
+fn uncopied<A: Allocator + Copy>(world: &World<A>) -> Option<NoMemory> {
+    world.copy().err()
+}
+
+/// What a tick and then a copy of the pair answer over a heap of so many bytes, and what the clock shows.
+fn over(
     alloc: Global,
-    size: usize,
-) -> Result<(Result<Outcome, Refusal>, (Millis, Millis)), Fail> {
-    let heap = LocalHeap::new(alloc, size)?;
-    let mut world = opening(&heap, limits())?;
-    let ticked = tick(&mut world, NodeId::A, 5);
-    Ok((ticked, clocks(&world)))
+    bytes: usize,
+) -> Result<(Result<Outcome, Refusal>, Option<NoMemory>, Millis), WorldFault> {
+    let Ok(heap) = LocalHeap::new(alloc, bytes) else {
+        return Err(WorldFault::TooLarge);
+    };
+    let mut world = opening(&heap)?;
+    let told = ticked(&mut world);
+    Ok((told, uncopied(&world), clock(&world)))
 }
 
 #[test]
-fn want_of_memory_changes_nothing(rt: HostRuntime) -> Result<(), Fail> {
-    let refused = (Err(Refusal::NoMemory), (0, 0));
+fn want_of_memory_makes_no_pair(rt: HostRuntime) {
+    assert!(rt; over(rt.alloc(), 1024) == Err(WorldFault::NoMemory));
+}
+
+#[test]
+fn want_of_memory_changes_nothing(rt: HostRuntime) {
+    let refused = Ok((Err(Refusal::NoMemory), Some(NoMemory), 0));
     // Room for the pair alone, then for a node's edit too, then for the pair's edit too.
-    assert_eq!(rt; tick_over(rt.alloc(), EDITS + 2048)?, refused);
-    assert_eq!(rt; tick_over(rt.alloc(), EDITS + 4096)?, refused);
-    assert_eq!(rt;
-        tick_over(rt.alloc(), EDITS + 8192)?,
-        (Ok(Outcome::Clock(5)), (5, 0))
-    );
-    Ok(())
-}
-
-#[test]
-fn a_copy_wants_memory(rt: HostRuntime) -> Result<(), Fail> {
-    let heap = LocalHeap::new(rt.alloc(), EDITS + 2048)?;
-    let world = opening(&heap, limits())?;
-    assert_eq!(rt; world.copy().err(), Some(NoMemory));
-    Ok(())
-}
-
-#[test]
-fn faults_have_numbers_and_words(rt: HostRuntime) -> Result<(), Fail> {
-    assert_eq!(rt; WorldFault::TooLarge.number(), 2);
-    let text = format!(in rt.alloc(); "{}", WorldFault::TooSmall)?;
-    assert_eq!(rt; text.as_str(), "a limit below its range");
-    Ok(())
+    assert!(rt; over(rt.alloc(), EDITS + 2048) == refused);
+    assert!(rt; over(rt.alloc(), EDITS + 4096) == refused);
+    let told = Ok((Ok(Outcome::Clock(5)), Some(NoMemory), 5));
+    assert!(rt; over(rt.alloc(), EDITS + 8192) == told);
 }

@@ -67,16 +67,13 @@ fn overtaken_among_the_loads(rt: HostRuntime) -> Result<(), Fail> {
     publisher.load(&mut viewer, 5);
     publisher.load(&mut viewer, 6);
     publisher.load(&mut viewer, 7);
-    assert_eq!(rt;
-        publisher.finish(&mut viewer),
-        Err(Overtaken { at: 0, now: 4 })
-    );
-    assert_eq!(rt; viewer.floor(), 4);
-    assert_eq!(rt;
-        publisher.read(&mut viewer, 0),
-        Ok(Revision {
-            words: [4, 41, 42, 43, 44, 45, 46, 47]
-        })
+    assert!(rt; publisher.finish(&mut viewer) == Err(Overtaken { at: 0, now: 4 }));
+    assert!(rt; viewer.floor() == 4);
+    assert!(rt;
+        publisher.read(&mut viewer, 0)
+            == Ok(Revision {
+                words: [4, 41, 42, 43, 44, 45, 46, 47]
+            })
     );
     Ok(())
 }
@@ -90,14 +87,11 @@ fn overtaken_by_four(rt: HostRuntime) -> Result<(), Fail> {
     publish_next(&publisher, &mut writer);
     let told = publish_next(&publisher, &mut writer);
     load_all(&publisher, &mut viewer);
-    assert_eq!(rt;
-        publisher.finish(&mut viewer),
-        Err(Overtaken { at: 0, now: 4 })
-    );
-    assert_eq!(rt; publisher.read(&mut viewer, 1), Ok(row(4)));
-    assert_eq!(rt; told, Told { number: 4 });
+    assert!(rt; publisher.finish(&mut viewer) == Err(Overtaken { at: 0, now: 4 }));
+    assert!(rt; publisher.read(&mut viewer, 1) == Ok(row(4)));
+    assert!(rt; told == Told { number: 4 });
     assert!(rt; publisher.learn(&mut viewer, &told));
-    assert_eq!(rt; writer.number(), 4);
+    assert!(rt; writer.number() == 4);
     Ok(())
 }
 
@@ -110,12 +104,9 @@ fn overtaken_by_three(rt: HostRuntime) -> Result<(), Fail> {
     publish_next(&publisher, &mut writer);
     publish_next(&publisher, &mut writer);
     load_all(&publisher, &mut viewer);
-    assert_eq!(rt;
-        publisher.finish(&mut viewer),
-        Err(Overtaken { at: 0, now: 3 })
-    );
-    assert_eq!(rt; later.floor(), 0);
-    assert_eq!(rt; publisher.read(&mut later, 1), Ok(row(3)));
+    assert!(rt; publisher.finish(&mut viewer) == Err(Overtaken { at: 0, now: 3 }));
+    assert!(rt; later.floor() == 0);
+    assert!(rt; publisher.read(&mut later, 1) == Ok(row(3)));
     Ok(())
 }
 
@@ -126,7 +117,7 @@ fn whole_after_two(rt: HostRuntime) -> Result<(), Fail> {
     publish_next(&publisher, &mut writer);
     publish_next(&publisher, &mut writer);
     load_all(&publisher, &mut viewer);
-    assert_eq!(rt; publisher.finish(&mut viewer), Ok(row(0)));
+    assert!(rt; publisher.finish(&mut viewer) == Ok(row(0)));
     Ok(())
 }
 
@@ -136,15 +127,15 @@ fn split_learn_meet_join(rt: HostRuntime) -> Result<(), Fail> {
     let (mut one, mut two) = publisher.split(viewer);
     publish_next(&publisher, &mut writer);
     publish_next(&publisher, &mut writer);
-    assert_eq!(rt; publisher.read(&mut one, 1), Ok(row(2)));
-    assert_eq!(rt; two.floor(), 0);
+    assert!(rt; publisher.read(&mut one, 1) == Ok(row(2)));
+    assert!(rt; two.floor() == 0);
     assert!(rt; publisher.learn(&mut two, &one.told()));
-    assert_eq!(rt; two.floor(), 2);
+    assert!(rt; two.floor() == 2);
     publish_next(&publisher, &mut writer);
     let (writer, two, number) = publisher.meet(writer, two);
-    assert_eq!(rt; number, 3);
-    assert_eq!(rt; writer.number(), 3);
-    assert_eq!(rt; publisher.join(one, two).floor(), 3);
+    assert!(rt; number == 3);
+    assert!(rt; writer.number() == 3);
+    assert!(rt; publisher.join(one, two).floor() == 3);
     Ok(())
 }
 
@@ -249,8 +240,8 @@ fn one_writer_two_viewers(rt: HostRuntime) -> Result<(), Fail> {
     let (one, two) = publisher.split(viewer);
     let (mut one, mut two) = write_and_read(&rt, &publisher, writer, one, two, 3);
     assert!(rt; one.good && two.good);
-    assert_eq!(rt; publisher.read(&mut one.viewer, 1), Ok(row(1000)));
-    assert_eq!(rt; publisher.read(&mut two.viewer, 1), Ok(row(1000)));
+    assert!(rt; publisher.read(&mut one.viewer, 1) == Ok(row(1000)));
+    assert!(rt; publisher.read(&mut two.viewer, 1) == Ok(row(1000)));
     Ok(())
 }
 
@@ -268,17 +259,17 @@ fn enough_tries_are_not_overtaken(rt: HostRuntime) -> Result<(), Fail> {
 #[test]
 fn wants_memory(rt: HostRuntime) -> Result<(), Fail> {
     let refused = Publisher::<(), Refusing>::new(Refusing, row(0), &());
-    assert_eq!(rt; refused.err(), Some(NoMemory));
+    assert!(rt; refused.err() == Some(NoMemory));
     Ok(())
 }
 
 #[test]
 fn texts_of_errors(rt: HostRuntime) -> Result<(), Fail> {
     let no_memory = format!(in rt.alloc(); "{NoMemory}")?;
-    assert_eq!(rt; no_memory.as_str(), "no memory");
+    assert!(rt; no_memory.as_str() == "no memory");
     let overtaken = Overtaken { at: 2, now: 5 };
     let overtaken = format!(in rt.alloc(); "{overtaken}")?;
-    assert_eq!(rt; overtaken.as_str(), "overtaken at revision 2 by revision 5");
+    assert!(rt; overtaken.as_str() == "overtaken at revision 2 by revision 5");
     Ok(())
 }
 
@@ -330,6 +321,6 @@ fn sent<T: Send>(value: T) -> T
 #[test]
 fn tickets_are_published(rt: HostRuntime) -> Result<(), Fail> {
     let (_publisher, writer, viewer) = publish_tickets(rt.alloc())?;
-    assert_eq!(rt; (writer.number(), viewer.floor()), (1, 0));
+    assert!(rt; (writer.number(), viewer.floor()) == (1, 0));
     Ok(())
 }

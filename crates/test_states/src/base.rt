@@ -1,12 +1,9 @@
 //! Worked values, and devices that fail.
 
 use pfl_base::{
-    Addr, BadPacket, Class, DeviceFault, Dir, End, Input, NodeId, Output, Packet, PacketFields,
-    Proto, Refusal, StateName, Std, TcpFlags, key, seq_geq, seq_gt,
+    Addr, BadPacket, Class, DeviceFault, Dir, End, Input, Key, Output, Packet, PacketFields, Proto,
+    StateName, Std, TcpFlags, key, seq_geq, seq_gt,
 };
-use std::alloc::{AllocError, Global};
-use std::cmp::Ordering;
-use std::fmt::Display;
 use std::io::{self, ErrorKind};
 use std::test::Fail;
 
@@ -57,32 +54,29 @@ fn refused(fields: PacketFields, fault: BadPacket) -> bool {
     matches!(checked(fields), Err(given) if given == fault)
 }
 
-/// The value prints as this text.
-fn prints(alloc: Global, value: impl Display + Drop, text: &str) -> Result<bool, AllocError> {
-    Ok(format!(in alloc; "{value}")?.as_str() == text)
-}
-
 #[test]
 fn sequence_numbers_wrap(rt: HostRuntime) {
-    assert!(rt; seq_gt(1000, 999));
-    assert!(rt; !seq_gt(1000, 1000));
-    assert!(rt; !seq_gt(1000, 2_147_484_648));
-    assert!(rt; seq_gt(1000, 2_147_484_649));
-    assert!(rt; seq_gt(0, 4_294_967_295));
-    assert!(rt; !seq_gt(4_294_967_295, 0));
-    assert!(rt; seq_geq(1000, 1000));
-    assert!(rt; !seq_geq(2_147_483_648, 0));
-    assert!(rt; seq_geq(2_147_483_647, 0));
+    for (a, b, is_after) in [
+        (1000, 999, true),
+        (1000, 1000, false),
+        (1000, 2_147_484_648, false),
+        (1000, 2_147_484_649, true),
+        (0, 4_294_967_295, true),
+        (4_294_967_295, 0, false),
+    ] {
+        assert!(rt; seq_gt(a, b) == is_after);
+    }
+    let not_before = [
+        seq_geq(1000, 1000),
+        seq_geq(2_147_483_648, 0),
+        seq_geq(2_147_483_647, 0),
+    ];
+    assert!(rt; not_before == [true, false, true]);
 }
 
 #[test]
 fn packets_are_checked(rt: HostRuntime) -> Result<(), Fail> {
-    let packet = checked(request())?;
-    assert_eq!(rt; packet.fields(), request());
-    packet.known();
-    assert_eq!(rt; checked(opening())?.scale(), Some(14));
-    assert_eq!(rt; checked(opening())?.flags().bits(), 2);
-    assert!(rt; checked(opening())?.flags().contains(TcpFlags::SYN));
+    assert!(rt; checked(opening())?.fields() == opening());
     Ok(())
 }
 
@@ -147,68 +141,86 @@ fn the_first_fault_is_answered(rt: HostRuntime) {
 
 #[test]
 fn flags_have_the_bits_of_the_header(rt: HostRuntime) {
-    assert_eq!(rt; TcpFlags::NONE.bits(), 0);
-    assert_eq!(rt; TcpFlags::FIN.bits(), 1);
-    assert_eq!(rt; TcpFlags::SYN.bits(), 2);
-    assert_eq!(rt; TcpFlags::RST.bits(), 4);
-    assert_eq!(rt; TcpFlags::PSH.bits(), 8);
-    assert_eq!(rt; TcpFlags::ACK.bits(), 16);
-    assert_eq!(rt; TcpFlags::URG.bits(), 32);
+    for (flag, bits) in [
+        (TcpFlags::NONE, 0),
+        (TcpFlags::FIN, 1),
+        (TcpFlags::SYN, 2),
+        (TcpFlags::RST, 4),
+        (TcpFlags::PSH, 8),
+        (TcpFlags::ACK, 16),
+        (TcpFlags::URG, 32),
+    ] {
+        assert!(rt; flag.bits() == bits);
+    }
 }
 
 #[test]
 fn numbers_of_protocols(rt: HostRuntime) {
-    assert_eq!(rt; Proto::of(6), Proto::Tcp);
-    assert_eq!(rt; Proto::of(17), Proto::Udp);
-    assert_eq!(rt; Proto::of(1), Proto::Icmp);
-    assert_eq!(rt; Proto::of(47).number(), 47);
-    assert_ne!(rt; Proto::of(47), Proto::Tcp);
+    for (number, proto) in [(6, Proto::Tcp), (17, Proto::Udp), (1, Proto::Icmp)] {
+        assert!(rt; Proto::of(number) == proto);
+    }
+    let other = Proto::of(47);
+    assert!(rt; other.number() == 47 && other != Proto::Tcp);
+}
+
+/// The flow of the request.
+fn flow() -> Result<Key, BadPacket> {
+    let packet = checked(request())?;
+    Ok(key(&packet, Dir::Outbound))
+}
+
+/// The flow of its answer.
+fn flow_of_answer() -> Result<Key, BadPacket> {
+    let packet = checked(request())?;
+    Ok(key(&packet.exchanged(), Dir::Inbound))
 }
 
 #[test]
 fn a_flow_has_one_key_both_ways(rt: HostRuntime) -> Result<(), Fail> {
-    let packet = checked(request())?;
-    let flow = key(&packet, Dir::Outbound);
-    assert_eq!(rt; flow.far, end(v4(192, 0, 2, 9), 53));
-    assert_eq!(rt; flow.near, end(v4(10, 0, 0, 1), 1000));
-    assert_eq!(rt; key(&packet.exchanged(), Dir::Outbound.other()), flow);
-    assert_ne!(rt; key(&packet, Dir::Inbound), flow);
+    let wanted = Key {
+        proto: Proto::Udp,
+        far: end(v4(192, 0, 2, 9), 53),
+        near: end(v4(10, 0, 0, 1), 1000),
+    };
+    assert!(rt; flow()? == wanted);
+    assert!(rt; flow_of_answer()? == wanted);
     Ok(())
 }
 
 #[test]
-fn names_and_classes(rt: HostRuntime) {
-    let name = |creator, id| StateName { creator, id };
-    assert_eq!(rt; name(1, 9).compare(name(2, 1)), Ordering::Less);
-    assert!(rt; name(1, 9) < name(1, 10));
-    assert_eq!(rt; Class::of_word(b"tcp.finwait"), Some(Class::TcpFinWait));
-    assert_eq!(rt; Class::of_number(10), Some(Class::IcmpError));
-    assert_eq!(rt; Class::of_number(14), None);
-    assert_eq!(rt; Class::TcpEstablished.default_seconds(), 86400);
-    assert_eq!(rt; Refusal::TooEarly.number(), 9);
-    assert_eq!(rt; NodeId::A.other(), NodeId::B);
+fn names_in_order(rt: HostRuntime) {
+    let early = StateName { creator: 1, id: 9 };
+    let late = StateName { creator: 2, id: 1 };
+    assert!(rt; early < late);
 }
 
 #[test]
-fn texts(rt: HostRuntime) -> Result<(), Fail> {
-    let v6 = Addr::V6(0x2001_0db8_0000_0000_0000_0000_0000_00af);
-    assert!(rt; prints(rt.alloc(), end(v4(10, 0, 0, 1), 53), "10.0.0.1:53")?);
+fn classes(rt: HostRuntime) {
     assert!(rt;
-        prints(
-            rt.alloc(),
-            end(v6, 53),
-            "[2001:0db8:0000:0000:0000:0000:0000:00af]:53"
-        )?
+        [
+            Class::of_word(b"tcp.finwait"),
+            Class::of_number(10),
+            Class::of_number(14)
+        ] == [Some(Class::TcpFinWait), Some(Class::IcmpError), None]
     );
-    assert!(rt; prints(rt.alloc(), StateName { creator: 1, id: 12 }, "1.12")?);
-    assert!(rt; prints(rt.alloc(), Proto::of(47), "47")?);
-    assert!(rt; prints(rt.alloc(), Proto::Udp, "udp")?);
-    assert!(rt; prints(rt.alloc(), Class::UdpFirst, "udp.first")?);
-    assert!(rt; prints(rt.alloc(), Dir::Inbound, "in")?);
-    assert!(rt; prints(rt.alloc(), NodeId::B, "b")?);
-    assert!(rt; prints(rt.alloc(), Refusal::TooEarly, "TooEarly")?);
-    assert!(rt; prints(rt.alloc(), BadPacket::Family, "ends of two families")?);
-    assert!(rt; prints(rt.alloc(), DeviceFault, "a call of a device failed")?);
+    assert!(rt; Class::TcpEstablished.default_seconds() == 86400);
+}
+
+#[test]
+fn texts_of_ends(rt: HostRuntime) -> Result<(), Fail> {
+    let v6 = Addr::V6(0x2001_0db8_0000_0000_0000_0000_0000_00af);
+    let (four, six) = (end(v4(10, 0, 0, 1), 53), end(v6, 53));
+    let text = format!(in rt.alloc(); "{four} {six}")?;
+    assert!(rt; text.as_str() == "10.0.0.1:53 [2001:0db8:0000:0000:0000:0000:0000:00af]:53");
+    Ok(())
+}
+
+#[test]
+fn texts_of_faults(rt: HostRuntime) -> Result<(), Fail> {
+    let text = format!(in rt.alloc(); "{}", BadPacket::Family)?;
+    assert!(rt; text.as_str() == "ends of two families");
+    let text = format!(in rt.alloc(); "{DeviceFault}")?;
+    assert!(rt; text.as_str() == "a call of a device failed");
     Ok(())
 }
 
@@ -270,30 +282,30 @@ impl io::Write for Full {
 fn a_reader_fails_in_mid_stream(rt: HostRuntime) {
     let mut reader = Std::new(Faulty { calls: 0 });
     let mut buf = [0u8; 4];
-    assert_eq!(rt; reader.read(&mut buf), Ok(1));
-    assert_eq!(rt; reader.read(&mut buf), Ok(1));
-    assert_eq!(rt; buf[0], 3);
+    assert!(rt; reader.read(&mut buf) == Ok(1));
+    assert!(rt; reader.read(&mut buf) == Ok(1));
+    assert!(rt; buf[0] == 3);
     assert!(rt; !reader.failed());
-    assert_eq!(rt; reader.read(&mut buf), Err(DeviceFault));
+    assert!(rt; reader.read(&mut buf) == Err(DeviceFault));
     assert!(rt; reader.failed());
 }
 
 #[test]
 fn an_interrupted_write_is_made_again(rt: HostRuntime) {
     let mut patient = Std::new(Interrupted { times: 4096 });
-    assert_eq!(rt; patient.write(b"at 0"), Ok(1));
+    assert!(rt; patient.write(b"at 0") == Ok(1));
     assert!(rt; !patient.failed());
     let mut tired = Std::new(Interrupted { times: 4097 });
-    assert_eq!(rt; tired.write(b"at 0"), Err(DeviceFault));
+    assert!(rt; tired.write(b"at 0") == Err(DeviceFault));
     assert!(rt; tired.failed());
 }
 
 #[test]
 fn a_writer_takes_a_byte_or_fails(rt: HostRuntime) {
     let mut full = Std::new(Full);
-    assert_eq!(rt; full.write(b""), Ok(0));
+    assert!(rt; full.write(b"") == Ok(0));
     assert!(rt; !full.failed());
-    assert_eq!(rt; full.write(b"at 0"), Err(DeviceFault));
+    assert!(rt; full.write(b"at 0") == Err(DeviceFault));
     assert!(rt; full.failed());
 }
 
@@ -301,9 +313,9 @@ fn a_writer_takes_a_byte_or_fails(rt: HostRuntime) {
 fn memory_tells_its_bytes(rt: HostRuntime) {
     let mut reader = Std::new(b"abc".as_slice());
     let mut buf = [0u8; 2];
-    assert_eq!(rt; reader.read(&mut buf), Ok(2));
-    assert_eq!(rt; reader.into_inner(), b"c".as_slice());
+    assert!(rt; reader.read(&mut buf) == Ok(2));
+    assert!(rt; reader.into_inner() == b"c".as_slice());
     let mut writer = Std::new(Vec::new(rt.alloc()));
-    assert_eq!(rt; writer.write(b"at 0"), Ok(4));
-    assert_eq!(rt; writer.into_inner().as_slice(), b"at 0".as_slice());
+    assert!(rt; writer.write(b"at 0") == Ok(4));
+    assert!(rt; writer.into_inner().as_slice() == b"at 0".as_slice());
 }

@@ -1,9 +1,9 @@
-//! Worked rules, from the rule form and the verdicts that docs/ tells.
+//! What is refused of rules, and their texts and checksums. Verdicts are cases of test_cases.
 use linked_list_allocator::LocalHeap;
-use pfl_base::{Addr, Class, Dir, End, Packet, PacketFields, Proto, TcpFlags};
+use pfl_base::{Addr, End, Proto};
 use pfl_edits::NoMemory;
-use pfl_rules::{Action, Net, Rule, RuleDir, RuleFault, RuleSet, Verdict};
-use std::alloc::{AllocError, Global};
+use pfl_rules::{Action, Net, Rule, RuleDir, RuleFault, RuleSet};
+use std::alloc::Global;
 use std::test::Fail;
 use test_devices::Refusing;
 
@@ -27,21 +27,6 @@ fn rule(action: Action, direction: RuleDir) -> Rule {
         nat: None,
         timeouts: [None; 14],
     }
-}
-
-/// `block any`, `pass out proto tcp tport 80`, `block out quick to 192.0.2.9/32`.
-fn three_rules(alloc: Global) -> Result<Vec<Rule>, AllocError> {
-    let web = Rule {
-        proto: Some(Proto::Tcp),
-        to_port: Some(80),
-        ..rule(Action::Pass, RuleDir::Out)
-    };
-    let host = Rule {
-        quick: true,
-        to: Net::new(v4(192, 0, 2, 9), 32),
-        ..rule(Action::Block, RuleDir::Out)
-    };
-    Ok(vec![in alloc; rule(Action::Block, RuleDir::Any), web, host]?)
 }
 
 /// `pass out`, with every option.
@@ -84,187 +69,117 @@ fn nat_any_way() -> Rule {
     }
 }
 
-/// The address is one of those that begin with the first `len` bits of `net`.
-fn holds(net: Addr, len: u8, addr: Addr) -> bool {
-    Net::new(net, len).is_some_and(|net| net.contains(addr))
-}
-
-/// A packet out of 10.0.0.1.
-fn packet(
-    port: u16,
-    to: End,
-    proto: Proto,
-    flags: TcpFlags,
-) -> Result<Packet, pfl_base::BadPacket> {
-    Packet::of(PacketFields {
-        seq: 0,
-        ack: 0,
-        window: 0,
-        len: 40,
-        proto,
-        src: End {
-            addr: v4(10, 0, 0, 1),
-            port,
-        },
-        dst: to,
-        flags,
-        scale: None,
-    })
-}
-
-fn decided(rule: u16, pass: bool) -> Verdict {
-    Verdict {
-        rule: Some(rule),
-        pass,
-    }
+/// Why the rules are refused.
+fn fault_of(alloc: Global, rules: Vec<Rule>) -> Option<RuleFault> {
+    RuleSet::new(alloc, rules).err()
 }
 
 #[test]
-fn verdicts(rt: HostRuntime) -> Result<(), Fail> {
-    let set = RuleSet::new(rt.alloc(), three_rules(rt.alloc())?)?;
-    let near = |port| End {
-        addr: v4(192, 0, 2, 9),
-        port,
-    };
-    let far = End {
-        addr: v4(198, 51, 100, 7),
-        port: 80,
-    };
-    let name = packet(1000, near(53), Proto::Udp, TcpFlags::NONE)?;
-    assert_eq!(rt; set.verdict(&name, Dir::Outbound), decided(2, false));
-    let opening = packet(1000, far, Proto::Tcp, TcpFlags::SYN)?;
-    assert_eq!(rt; set.verdict(&opening, Dir::Outbound), decided(1, true));
-    let later = packet(1001, far, Proto::Tcp, TcpFlags::ACK)?;
-    assert_eq!(rt; set.verdict(&later, Dir::Outbound), decided(0, false));
-    let blocked = packet(1000, near(80), Proto::Tcp, TcpFlags::SYN)?;
-    assert_eq!(rt; set.verdict(&blocked, Dir::Outbound), decided(2, false));
-    let none = RuleSet::new(rt.alloc(), Vec::new(rt.alloc()))?;
-    let free = Verdict {
-        rule: None,
-        pass: true,
-    };
-    assert_eq!(rt; none.verdict(&name, Dir::Outbound), free);
-    Ok(())
-}
-
-#[test]
-fn checksums(rt: HostRuntime) -> Result<(), Fail> {
-    let none = RuleSet::new(rt.alloc(), Vec::new(rt.alloc()))?;
-    let empty = [
-        0xd4, 0x1d, 0x8c, 0xd9, 0x8f, 0x00, 0xb2, 0x04, 0xe9, 0x80, 0x09, 0x98, 0xec, 0xf8, 0x42,
-        0x7e,
-    ];
-    assert_eq!(rt; none.print(), empty);
-    let one = vec![in rt.alloc(); rule(Action::Pass, RuleDir::Out)]?;
-    let one = RuleSet::new(rt.alloc(), one)?;
-    let pass_out = [
-        0x6d, 0x74, 0x0d, 0x4d, 0x05, 0xe1, 0x02, 0x85, 0x5e, 0x6b, 0x05, 0xc1, 0xaa, 0xce, 0xd9,
-        0xad,
-    ];
-    assert_eq!(rt; one.print(), pass_out);
-    Ok(())
-}
-
-#[test]
-fn texts(rt: HostRuntime) -> Result<(), Fail> {
-    let text = format!(in rt.alloc(); "{}", whole_rule())?;
-    assert_eq!(rt;
-        text.as_str(),
-        "pass out quick proto tcp from 10.0.0.0/8 fport 1000 to 192.0.2.9/32 tport 80 flags any no-sync max 7 nat 198.51.100.1:4000 timeout tcp.first 0 timeout udp.single 15"
-    );
-    let set = RuleSet::new(rt.alloc(), three_rules(rt.alloc())?)?;
-    let text = format!(in rt.alloc(); "{set}")?;
-    assert_eq!(rt;
-        text.as_str(),
-        "block any\npass out proto tcp tport 80\nblock out quick to 192.0.2.9/32\n"
-    );
-    let (fault, number) = (RuleFault::ZeroMax, RuleFault::NoMemory.number());
-    let text = format!(in rt.alloc(); "{fault} {number}")?;
-    assert_eq!(rt; text.as_str(), "a limit of no states 4");
-    Ok(())
-}
-
-#[test]
-fn timeouts(rt: HostRuntime) -> Result<(), Fail> {
-    let rules = vec![in rt.alloc();
-        whole_rule(),
-        Rule {
-            action: Action::Block,
-            ..whole_rule()
-        },
-    ]?;
-    let set = RuleSet::new(rt.alloc(), rules)?;
-    assert_eq!(rt; set.timeout(Some(0), Class::TcpFirst), 0);
-    assert_eq!(rt; set.timeout(Some(0), Class::TcpOpening), 30);
-    assert_eq!(rt; set.timeout(Some(1), Class::TcpFirst), 120);
-    assert_eq!(rt; set.timeout(Some(2), Class::UdpSingle), 30);
-    assert_eq!(rt; set.timeout(None, Class::UdpSingle), 30);
-    let first = set.rule(0).map(|rule| rule.max);
-    assert_eq!(rt; first, Some(Some(7)));
-    assert!(rt; set.rule(2).is_none());
+fn at_most_256_rules(rt: HostRuntime) -> Result<(), Fail> {
+    let alloc = rt.alloc();
+    let full = Vec::from_slice(alloc, &[rule(Action::Pass, RuleDir::Out); 256])?;
+    assert!(rt; fault_of(alloc, full) == None);
+    let more = Vec::from_slice(alloc, &[zero_max(); 257])?;
+    assert!(rt; fault_of(alloc, more) == Some(RuleFault::TooMany));
     Ok(())
 }
 
 #[test]
 fn faults_in_order(rt: HostRuntime) -> Result<(), Fail> {
-    let (mut full, mut one_more) = (Vec::new(rt.alloc()), Vec::new(rt.alloc()));
-    for _ in 0..256 {
-        full.push(rule(Action::Pass, RuleDir::Out))?;
-        one_more.push(zero_max())?;
-    }
-    one_more.push(nat_any_way())?;
-    assert!(rt; RuleSet::new(rt.alloc(), full).is_ok());
-    assert_eq!(rt;
-        RuleSet::new(rt.alloc(), one_more).err(),
-        Some(RuleFault::TooMany)
-    );
-    let both = vec![in rt.alloc(); zero_max(), nat_any_way()]?;
-    assert_eq!(rt;
-        RuleSet::new(rt.alloc(), both).err(),
-        Some(RuleFault::NatNotOut)
-    );
-    let zero = vec![in rt.alloc(); zero_max()]?;
-    assert_eq!(rt;
-        RuleSet::new(rt.alloc(), zero).err(),
-        Some(RuleFault::ZeroMax)
+    let alloc = rt.alloc();
+    let both = Vec::from_slice(alloc, &[zero_max(), nat_any_way()])?;
+    assert!(rt; fault_of(alloc, both) == Some(RuleFault::NatNotOut));
+    let zero = Vec::from_slice(alloc, &[zero_max()])?;
+    assert!(rt; fault_of(alloc, zero) == Some(RuleFault::ZeroMax));
+    Ok(())
+}
+
+/// The MD5 of the rules' text.
+fn print_of(alloc: Global, rules: Vec<Rule>) -> Option<[u8; 16]> {
+    let set = RuleSet::new(alloc, rules).ok()?;
+    Some(set.print())
+}
+
+#[test]
+fn checksums(rt: HostRuntime) -> Result<(), Fail> {
+    let alloc = rt.alloc();
+    let of_nothing = [
+        0xd4, 0x1d, 0x8c, 0xd9, 0x8f, 0x00, 0xb2, 0x04, 0xe9, 0x80, 0x09, 0x98, 0xec, 0xf8, 0x42,
+        0x7e,
+    ];
+    assert!(rt; print_of(alloc, Vec::new(alloc)) == Some(of_nothing));
+    let pass_out = Vec::from_slice(alloc, &[rule(Action::Pass, RuleDir::Out)])?;
+    let of_pass_out = [
+        0x6d, 0x74, 0x0d, 0x4d, 0x05, 0xe1, 0x02, 0x85, 0x5e, 0x6b, 0x05, 0xc1, 0xaa, 0xce, 0xd9,
+        0xad,
+    ];
+    assert!(rt; print_of(alloc, pass_out) == Some(of_pass_out));
+    Ok(())
+}
+
+#[test]
+fn a_checksum_is_of_all_rules(rt: HostRuntime) -> Result<(), Fail> {
+    let alloc = rt.alloc();
+    let two = Vec::from_slice(alloc, &[rule(Action::Block, RuleDir::Any), whole_rule()])?;
+    let of_two = [
+        0xf5, 0x33, 0xfc, 0xff, 0xe2, 0x5a, 0xfb, 0x03, 0x3c, 0xd5, 0x5a, 0x40, 0x0c, 0xfe, 0x9b,
+        0x1a,
+    ];
+    assert!(rt; print_of(alloc, two) == Some(of_two));
+    Ok(())
+}
+
+#[test]
+fn a_rule_prints(rt: HostRuntime) -> Result<(), Fail> {
+    let text = format!(in rt.alloc(); "{}", whole_rule())?;
+    assert!(rt;
+        text.as_str()
+            == "pass out quick proto tcp from 10.0.0.0/8 fport 1000 to 192.0.2.9/32 tport 80 flags any no-sync max 7 nat 198.51.100.1:4000 timeout tcp.first 0 timeout udp.single 15"
     );
     Ok(())
 }
 
 #[test]
-fn memory(rt: HostRuntime) -> Result<(), Fail> {
-    let refused = RuleSet::new(Refusing, three_rules(rt.alloc())?);
-    assert_eq!(rt; refused.err(), Some(RuleFault::NoMemory));
-    let set = RuleSet::new(rt.alloc(), three_rules(rt.alloc())?)?;
-    let copied = set.copy()?;
-    assert_eq!(rt; copied.print(), set.print());
-    assert_eq!(rt; copied.rules().len(), 3);
-    let (text, copied) = (
-        format!(in rt.alloc(); "{set}")?,
-        format!(in rt.alloc(); "{copied}")?,
-    );
-    assert_eq!(rt; text.as_str(), copied.as_str());
+fn a_fault_prints(rt: HostRuntime) -> Result<(), Fail> {
+    let text = format!(in rt.alloc(); "{}", RuleFault::ZeroMax)?;
+    assert!(rt; text.as_str() == "a limit of no states");
+    assert!(rt; RuleFault::NoMemory.number() == 4);
     Ok(())
 }
 
 #[test]
-fn a_copy_without_memory_changes_nothing(rt: HostRuntime) -> Result<(), Fail> {
+fn wants_memory(rt: HostRuntime) -> Result<(), Fail> {
+    let refused = RuleSet::new(Refusing, Vec::from_slice(rt.alloc(), &[whole_rule()])?).err();
+    assert!(rt; refused == Some(RuleFault::NoMemory));
+    Ok(())
+}
+
+/// Why there is no copy of one rule over a heap of so many bytes, and how many rules there are then.
+fn uncopied(alloc: Global, bytes: usize) -> Option<(Option<NoMemory>, usize)> {
+    let heap = LocalHeap::new(alloc, bytes).ok()?;
+    let rules = Vec::from_slice(&heap, &[whole_rule()]).ok()?;
+    let set = RuleSet::new(alloc, rules).ok()?;
+    let fault = set.copy().err();
+    Some((fault, set.rules().len()))
+}
+
+#[test]
+fn a_copy_without_memory_changes_nothing(rt: HostRuntime) {
     // Room for one list of one rule.
-    let heap = LocalHeap::new(rt.alloc(), 480)?;
-    let rules = Vec::from_slice(&heap, &[whole_rule()])?;
-    let set = RuleSet::new(rt.alloc(), rules)?;
-    assert_eq!(rt; set.copy().err(), Some(NoMemory));
-    assert_eq!(rt; set.rules().len(), 1);
-    Ok(())
+    assert!(rt; uncopied(rt.alloc(), 480) == Some((Some(NoMemory), 1)));
+}
+
+/// The address is one of those that begin with the first `len` bits of `net`.
+fn holds(net: Addr, len: u8, addr: Addr) -> bool {
+    Net::new(net, len).is_some_and(|net| net.contains(addr))
 }
 
 #[test]
-fn nets(rt: HostRuntime) -> Result<(), Fail> {
+fn nets(rt: HostRuntime) {
     assert!(rt; Net::new(v4(10, 0, 0, 0), 33).is_none());
     assert!(rt; Net::new(Addr::V6(0), 129).is_none());
     assert!(rt; holds(Addr::V6(1), 0, Addr::V6(u128::MAX)));
     assert!(rt; !holds(Addr::V6(1), 0, v4(0, 0, 0, 0)));
     assert!(rt; holds(v4(10, 1, 0, 0), 15, v4(10, 0, 255, 255)));
     assert!(rt; !holds(v4(10, 1, 0, 0), 15, v4(10, 2, 0, 0)));
-    Ok(())
 }

@@ -3,7 +3,7 @@ ghost use Rattle.std.specs.Prelude.{◌≡◌, OnOk};
 
 use linked_list_allocator::LocalHeap;
 use pfl_base::{Addr, Class, Dir, End, Key, Proto, StateName};
-use pfl_edits::{InOrder, NoMemory, Reversible};
+use pfl_edits::{NoMemory, Reversible};
 use pfl_table::{PutFault, Row, StateTable};
 use pfl_track::{Peer, State, StateFields};
 use std::alloc::{Allocator, Global};
@@ -30,8 +30,8 @@ fn flow(port: u16) -> Key {
 }
 
 /// A state by its id, the ports of its two keys, and its rule.
-fn state(id: u64, wire: u16, stack: u16, rule: u16) -> Result<State, Fail> {
-    let made = State::of(StateFields {
+fn state(id: u64, wire: u16, stack: u16, rule: u16) -> Option<State> {
+    State::of(StateFields {
         name: name(id),
         wire: flow(wire),
         stack: flow(stack),
@@ -45,122 +45,88 @@ fn state(id: u64, wire: u16, stack: u16, rule: u16) -> Result<State, Fail> {
         ack_wanted: false,
         updates: 0,
         peer_change: None,
-    });
-    Ok(made.ok_or("no such state")?)
-}
-
-/// Puts a state, and says why not.
-fn put<A: Allocator>(table: &mut StateTable<A>, state: State, expires: u64) -> Option<PutFault> {
-    table.put(state, expires).err()
-}
-
-/// Puts a state that nothing keeps from being put.
-fn add<A: Allocator>(table: &mut StateTable<A>, state: State, expires: u64) -> Result<(), Fail> {
-    match put(table, state, expires) {
-        Some(_fault) => Err("not put".into()),
-        None => Ok(()),
-    }
-}
-
-/// The ids of the rows.
-fn ids(alloc: Global, rows: InOrder<'_, Row>) -> Result<Vec<u64>, Fail> {
-    let mut ids = Vec::new(alloc);
-    for row in rows {
-        ids.push(row.state.name().id)?;
-    }
-    Ok(ids)
+    })
 }
 
 /// The id of the row.
 fn id_of(row: Option<&Row>) -> Option<u64> {
-    row.map(|row| row.state.name().id)
-}
-
-/// The rows themselves.
-fn copies(alloc: Global, rows: InOrder<'_, Row>) -> Result<Vec<Row>, Fail> {
-    let mut copies = Vec::new(alloc);
-    for row in rows {
-        copies.push(*row)?;
-    }
-    Ok(copies)
+    Some(row?.state.name().id)
 }
 
 /// A table of three states: the first has other keys on the wire, and the second and third expire at one time.
-fn three(alloc: Global) -> Result<StateTable<Global>, Fail> {
-    let mut table = StateTable::new(alloc, 3)?;
-    add(&mut table, state(3, 1003, 1003, 1)?, 100)?;
-    add(&mut table, state(1, 4001, 1001, 0)?, 200)?;
-    add(&mut table, state(2, 1002, 1002, 0)?, 100)?;
-    Ok(table)
+fn three(alloc: Global) -> Option<StateTable<Global>> {
+    let mut table = StateTable::new(alloc, 3).ok()?;
+    table.put(state(3, 1003, 1003, 1)?, 100).ok()?;
+    table.put(state(1, 4001, 1001, 0)?, 200).ok()?;
+    table.put(state(2, 1002, 1002, 0)?, 100).ok()?;
+    Some(table)
+}
+
+/// Why a state of this id and of these ports is not put.
+fn fault(table: &mut StateTable<Global>, id: u64, wire: u16, stack: u16) -> Option<PutFault> {
+    let state = state(id, wire, stack, 0)?;
+    table.put(state, 60).err()
 }
 
 #[test]
 fn refuses_in_order(rt: HostRuntime) -> Result<(), Fail> {
-    let mut full = StateTable::new(rt.alloc(), 1)?;
-    assert_eq!(rt; put(&mut full, state(1, 1000, 1000, 0)?, 60), None);
-    assert_eq!(rt;
-        put(&mut full, state(1, 1000, 1000, 0)?, 60),
-        Some(PutFault::Full)
-    );
     let mut table = StateTable::new(rt.alloc(), 2)?;
-    assert_eq!(rt; put(&mut table, state(1, 1000, 1000, 0)?, 60), None);
-    assert_eq!(rt;
-        put(&mut table, state(1, 1000, 1000, 0)?, 60),
-        Some(PutFault::NameInUse)
-    );
-    assert_eq!(rt;
-        put(&mut table, state(2, 1000, 1000, 0)?, 60),
-        Some(PutFault::WireInUse)
-    );
-    assert_eq!(rt;
-        put(&mut table, state(2, 1001, 1000, 0)?, 60),
-        Some(PutFault::StackInUse)
-    );
-    assert_eq!(rt; (table.len(), table.is_full()), (1, false));
-    assert_eq!(rt; put(&mut table, state(2, 1001, 1001, 0)?, 60), None);
-    assert_eq!(rt; (table.len(), table.limit(), table.is_full()), (2, 2, true));
+    for (id, wire, stack, wanted) in [
+        (1, 1000, 1000, None),
+        (1, 1000, 1000, Some(PutFault::NameInUse)),
+        (2, 1000, 1000, Some(PutFault::WireInUse)),
+        (2, 1001, 1000, Some(PutFault::StackInUse)),
+        (2, 1001, 1001, None),
+        (1, 1000, 1000, Some(PutFault::Full)),
+    ] {
+        assert!(rt; fault(&mut table, id, wire, stack) == wanted);
+    }
+    assert!(rt; (table.len(), table.limit(), table.is_full()) == (2, 2, true));
     Ok(())
 }
 
+/// The id of the state of a packet from or to this port.
+fn found(table: &StateTable<Global>, port: u16, direction: Dir) -> Option<u64> {
+    Some(table.found(&flow(port), direction)?.name().id)
+}
+
 #[test]
-fn finds_by_name_and_keys(rt: HostRuntime) -> Result<(), Fail> {
-    let table = three(rt.alloc())?;
-    let first = Some(state(1, 4001, 1001, 0)?);
-    assert_eq!(rt; table.by_name(name(1)).copied(), first);
-    assert_eq!(rt; table.row(name(1)).map(|row| row.expires), Some(200));
-    assert_eq!(rt; table.by_wire(&flow(4001)).copied(), first);
-    assert_eq!(rt; table.by_stack(&flow(1001)).copied(), first);
-    assert_eq!(rt; table.found(&flow(4001), Dir::Inbound).copied(), first);
-    assert_eq!(rt; table.found(&flow(1001), Dir::Outbound).copied(), first);
-    assert!(rt; table.found(&flow(1001), Dir::Inbound).is_none());
-    assert!(rt; table.found(&flow(4001), Dir::Outbound).is_none());
-    assert_eq!(rt; (table.count_of_rule(0), table.count_of_rule(2)), (2, 0));
+fn finds_by_the_keys_of_the_direction(rt: HostRuntime) -> Result<(), Fail> {
+    let table = three(rt.alloc()).ok_or("no table")?;
+    for (port, direction, wanted) in [
+        (4001, Dir::Inbound, Some(1)),
+        (1001, Dir::Outbound, Some(1)),
+        (1001, Dir::Inbound, None),
+        (4001, Dir::Outbound, None),
+    ] {
+        assert!(rt; found(&table, port, direction) == wanted);
+    }
+    assert!(rt; (table.count_of_rule(0), table.count_of_rule(2)) == (2, 0));
     Ok(())
 }
 
 #[test]
 fn walks_by_rising_name(rt: HostRuntime) -> Result<(), Fail> {
-    let table = three(rt.alloc())?;
-    let all = ids(rt.alloc(), table.iter())?;
-    assert_eq!(rt; all.as_slice(), [1, 2, 3].as_slice());
-    assert_eq!(rt; id_of(table.after(name(0))), Some(1));
-    assert_eq!(rt; id_of(table.after(name(1))), Some(2));
-    assert_eq!(rt; id_of(table.after(name(3))), None);
+    let table = three(rt.alloc()).ok_or("no table")?;
+    for (below, wanted) in [(0, Some(1)), (1, Some(2)), (2, Some(3)), (3, None)] {
+        assert!(rt; id_of(table.after(name(below))) == wanted);
+    }
     Ok(())
+}
+
+/// Takes out the state that expires first: its id.
+fn expired(table: &mut StateTable<Global>) -> Option<u64> {
+    let name = table.first_expiring()?.state.name();
+    let (state, _) = table.take(name)?;
+    Some(state.name().id)
 }
 
 #[test]
 fn expires_in_order(rt: HostRuntime) -> Result<(), Fail> {
-    let mut table = three(rt.alloc())?;
-    for id in [2, 3, 1] {
-        assert_eq!(rt;
-            table.first_expiring().map(|row| row.state.name()),
-            Some(name(id))
-        );
-        assert!(rt; table.take(name(id)).is_some());
+    let mut table = three(rt.alloc()).ok_or("no table")?;
+    for wanted in [Some(2), Some(3), Some(1), None] {
+        assert!(rt; expired(&mut table) == wanted);
     }
-    assert!(rt; table.first_expiring().is_none());
-    assert!(rt; table.take(name(1)).is_none());
     Ok(())
 }
 
@@ -201,18 +167,21 @@ fn take_and_undo<A: Allocator>(table: &mut StateTable<A>, name: StateName) -> Op
     Some(state)
 }
 
+/// When the state of an id expires.
+fn expiry(table: &StateTable<Global>, id: u64) -> Option<u64> {
+    Some(table.row(name(id))?.expires)
+}
+
 #[test]
 fn takes_edits_back(rt: HostRuntime) -> Result<(), Fail> {
-    let mut table = three(rt.alloc())?;
-    let before = table.copy()?;
-    assert_eq!(rt; change_and_undo(&mut table, name(2), 7), Some(()));
-    let second = state(2, 1002, 1002, 0)?;
-    assert_eq!(rt; take_and_undo(&mut table, name(2)), Some(second));
-    let rows = copies(rt.alloc(), table.iter())?;
-    assert_eq!(rt; rows, copies(rt.alloc(), before.iter())?);
+    let mut table = three(rt.alloc()).ok_or("no table")?;
+    let fourth = state(4, 1004, 1004, 0).ok_or("no state")?;
+    assert!(rt; take_and_undo(&mut table, name(2)).is_some());
+    assert!(rt; change_and_undo(&mut table, name(2), 7).is_some());
+    assert!(rt; expiry(&table, 2) == Some(100));
     assert!(rt; table.take(name(2)).is_some());
-    assert_eq!(rt; put_and_undo(&mut table, second, 9), Ok(()));
-    assert_eq!(rt; (table.len(), before.len()), (2, 3));
+    assert!(rt; put_and_undo(&mut table, fourth, 9).is_ok());
+    assert!(rt; (table.len(), expiry(&table, 4)) == (2, None));
     Ok(())
 }
 
@@ -222,34 +191,42 @@ fn wants_memory(rt: HostRuntime) {
     assert!(rt; StateTable::new(rt.alloc(), usize::MAX).is_err());
 }
 
+/// A table of one state, with room for two.
+fn one<A: Allocator>(alloc: A) -> Option<StateTable<A>> {
+    let mut table = StateTable::new(alloc, 2).ok()?;
+    table.put(state(1, 1000, 1000, 0)?, 60).ok()?;
+    Some(table)
+}
+
+/// Why there is no copy over a heap of so many bytes, and how many states the table has then.
+fn uncopied(alloc: Global, bytes: usize) -> Option<(Option<NoMemory>, usize)> {
+    let heap = LocalHeap::new(alloc, bytes).ok()?;
+    let table = one(&heap)?;
+    let fault = table.copy().err();
+    Some((fault, table.len()))
+}
+
 #[test]
-fn a_copy_without_memory_changes_nothing(rt: HostRuntime) -> Result<(), Fail> {
+fn a_copy_without_memory_changes_nothing(rt: HostRuntime) {
     // Room for one list of two rows.
-    let heap = LocalHeap::new(rt.alloc(), 1024)?;
-    let mut table = StateTable::new(&heap, 2)?;
-    add(&mut table, state(1, 1000, 1000, 0)?, 60)?;
-    assert_eq!(rt; table.copy().err(), Some(NoMemory));
-    assert_eq!(rt; (table.len(), table.limit()), (1, 2));
-    Ok(())
+    assert!(rt; uncopied(rt.alloc(), 1024) == Some((Some(NoMemory), 1)));
+}
+
+/// The fault prints so.
+fn prints(alloc: Global, fault: PutFault, text: &str) -> Result<bool, Fail> {
+    let told = format!(in alloc; "{fault}")?;
+    Ok(told.as_str() == text)
 }
 
 #[test]
 fn faults_print(rt: HostRuntime) -> Result<(), Fail> {
-    let faults = [
-        PutFault::Full,
-        PutFault::NameInUse,
-        PutFault::WireInUse,
-        PutFault::StackInUse,
-    ];
-    let texts = [
-        "the table is full",
-        "the name is in use",
-        "the wire key is in use",
-        "the stack key is in use",
-    ];
-    for (fault, text) in faults.iter().zip(texts) {
-        assert_eq!(rt; format!(in rt.alloc(); "{fault}")?.as_str(), text);
+    for (fault, text) in [
+        (PutFault::Full, "the table is full"),
+        (PutFault::NameInUse, "the name is in use"),
+        (PutFault::WireInUse, "the wire key is in use"),
+        (PutFault::StackInUse, "the stack key is in use"),
+    ] {
+        assert!(rt; prints(rt.alloc(), fault, text)?);
     }
-    assert_eq!(rt; PutFault::StackInUse.number(), 4);
     Ok(())
 }

@@ -4,7 +4,7 @@ ghost use Rattle.std.specs.List.{AllByRecursion, flat_map};
 ghost use Rattle.std.specs.Prelude.{◌≡◌, ◌<◌, ◌^◌, [], ◌∷◌, Some, IsSome, IfOk};
 ghost use Rattle.pfl_edits.specs.Maps as maps;
 ghost use Rattle.pfl_node.specs.Flushing as flushing;
-ghost use Rattle.pfl_parts.specs.Nodes.{IsPast};
+ghost use Rattle.pfl_parts.specs.Nodes.{AreParts, IsPast};
 ghost use Rattle.pfl_node.specs.Sending as sending;
 ghost use Rattle.pfl_queue.specs.Fitting.{entry_bytes};
 ghost use Rattle.pfl_wire.specs.Frames.{lists};
@@ -40,10 +40,10 @@ fn groups_of<A: Allocator + Copy>(
     alloc: A,
     entries: &[Entry],
 ) -> Result<Vec<Vec<Message, A>, A>, AllocError>
+    requires parts { AreParts parts.now }
     requires told { AllByRecursion (sending.IsTold parts.now) entries.now }
     ensures groups { IfOk result (λ v. lists v.items ≡ sending.groups_of parts.now entries.now) }
 {
-    parts.known();
     let mut groups = Vec::new(alloc);
     let mut left = entries;
     while let Some(first) = left.first() {

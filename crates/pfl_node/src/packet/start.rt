@@ -2,10 +2,11 @@
 
 ghost use Rattle.std.specs.Prelude.{◌≡◌, ◌≤◌, ◌+◌, Some, true, slice_get, ◌<◌, None, false};
 ghost use Rattle.pfl_base.specs.Keys.{key as flow_of};
+ghost use Rattle.pfl_base.specs.Packets.{IsPacket};
 ghost use Rattle.pfl_parts.specs.Edits.{NodeExtends, total};
 ghost use Rattle.pfl_node.specs.Carried.{Tried};
 ghost use Rattle.pfl_parts.specs.Kept.{MayStart};
-ghost use Rattle.pfl_parts.specs.Nodes.{Node as Whole};
+ghost use Rattle.pfl_parts.specs.Nodes.{Node as Whole, AreParts};
 ghost use Rattle.pfl_node.specs.Starting.{pass, drop as dropped};
 ghost use Rattle.pfl_node.specs.Starting as starting;
 ghost use Rattle.pfl_queue.specs.Queues.{most_numbers};
@@ -29,11 +30,11 @@ pub(crate) fn judge<A: Allocator>(
     packet: &Packet,
     change: &mut Change<NodeEdit, A>,
 ) -> Result<Fate, Overfull>
+    requires packet { IsPacket packet.now }
     requires room { 9 ≤ change.old.spare }
     requires countable { total parts.old + change.old.spare ≤ most_numbers }
     ensures done { Tried 9 result change.old change.new parts.old parts.new (starting.judged parts.old dir packet.now) }
 {
-    packet.known();
     let verdict = parts.rules().verdict(packet, dir);
     if !verdict.pass {
         return Ok(drop_packet(parts, Reason::Block, change));
@@ -56,14 +57,13 @@ fn start<A: Allocator>(
     rule: &Rule,
     change: &mut Change<NodeEdit, A>,
 ) -> Result<Fate, Overfull>
+    requires packet { IsPacket packet.now }
     requires fits { fits_family (flow_of packet.now dir) rule.now.nat ≡ true }
     requires stands { slice_get parts.old.rules.list number ≡ Some rule.now }
     requires room { 9 ≤ change.old.spare }
     requires countable { total parts.old + change.old.spare ≤ most_numbers }
     ensures done { Tried 9 result change.old change.new parts.old parts.new (starting.started parts.old dir packet.now number rule.now) }
 {
-    parts.known();
-    packet.known();
     if is_at_max(parts, number, rule) {
         return Ok(drop_packet(parts, Reason::Max, change));
     }
@@ -146,13 +146,13 @@ fn announce<A: Allocator>(
 
 /// Puts a new state under the next name.
 fn put_new<A: Allocator>(parts: &mut Parts<A>, state: State, change: &mut Change<NodeEdit, A>)
+    requires parts { AreParts parts.old }
     requires room { 2 ≤ change.old.spare }
     requires countable { total parts.old + change.old.spare ≤ most_numbers }
     requires known { MayStart parts.old state }
     ensures node { parts.new ≡ starting.with_new parts.old state }
     ensures extends { NodeExtends 2 change.old change.new parts.old parts.new }
 {
-    parts.known();
     parts.use_id(change);
     parts.add_state(state, change);
 }

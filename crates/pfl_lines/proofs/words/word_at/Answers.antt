@@ -1,6 +1,5 @@
 use Rattle.std.proofs.Common.{◌≡◌, ◌-◌, Bool, true, List, [], ◌∷◌, ℕ, ◌⊎◌, inl, inr, length, take, drop, refl, sym, ap, subst, arith, length-drop, Ok}
 use Rattle.std.proofs.lemmas.List.{take_all}
-use Rattle.std.proofs.lemmas.Bool.Decides.{nat_tests}
 use Rattle.pfl_lines.specs.Words.{words, front, behind, begins_word}
 use Rattle.pfl_lines.specs.Readings.{word_at}
 use Rattle.pfl_lines.proofs.Fronts.{words_first}

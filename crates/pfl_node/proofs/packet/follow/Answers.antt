@@ -15,7 +15,7 @@ accept-requires-clause-known g c =
     let p = c.args.packet.now in
     let s = c.args.state.now in
     let moved : tracked s p c.args.dir n.clock ≡ Moved c.in-Moved.state = ap (tracked s p c.args.dir) (sym c.clock.ensures.clock) ∙ (sym c.track.ensures ∙ c.in-Moved.is) in
-    found-replaces n c.args.dir p s c.in-Moved.state c.known.ensures.parts c.known-2.ensures c.requires.found moved
+    found-replaces n c.args.dir p s c.in-Moved.state c.requires.parts c.requires.packet c.requires.found moved
 
 pub returns-in_err-fate-in-Moved : goal.returns-in_err-fate-in-Moved
 returns-in_err-fate-in-Moved g c =
@@ -48,7 +48,7 @@ returns-in-OutOfWindow g c =
 pub reuse-requires-clause-stands : goal.reuse-requires-clause-stands
 reuse-requires-clause-stands g c =
     let n = c.args.parts.now in
-    found-stands n.states (key c.args.packet.now c.args.dir) c.args.dir c.args.state.now c.known.ensures.parts.states c.requires.found
+    found-stands n.states (key c.args.packet.now c.args.dir) c.args.dir c.args.state.now c.requires.parts.states c.requires.found
 
 pub returns-in-Reused : goal.returns-in-Reused
 returns-in-Reused g c =

@@ -28,27 +28,27 @@ pub loop-count-preserved-then-is_eligible : goal.loop-count-preserved-then-is_el
 loop-count-preserved-then-is_eligible g c =
     let n = c.args.parts.now in
     let found : state_after n.states c.loop-count.at ≡ Some c.in-Some.row.now.state = ap (λ (m : States). state_after m c.loop-count.at) (sym c.states.ensures.states) ∙ sym c.in-Some.ensures.state in
-    let next = next-passes n.states c.known.ensures.parts.states (is_eligible n c.in-Serving.since) c.loop-count.at c.in-Some.row.now.state c.name-at.result found c.name-at.ensures (sym c.is_eligible.ensures.eligible ∙ c.if-is_eligible.true) in
+    let next = next-passes n.states c.requires.parts.states (is_eligible n c.in-Serving.since) c.loop-count.at c.in-Some.row.now.state c.name-at.result found c.name-at.ensures (sym c.is_eligible.ensures.eligible ∙ c.if-is_eligible.true) in
     gathered-more _ _ _ _ _ _ c.loop-count.invariant c.name-at.result c.loop-count-test.true next
 
 pub loop-count-preserved : goal.loop-count-preserved
 loop-count-preserved g c =
     let n = c.args.parts.now in
     let found : state_after n.states c.loop-count.at ≡ Some c.in-Some.row.now.state = ap (λ (m : States). state_after m c.loop-count.at) (sym c.states.ensures.states) ∙ sym c.in-Some.ensures.state in
-    let next = next-skipped n.states c.known.ensures.parts.states (is_eligible n c.in-Serving.since) c.loop-count.at c.in-Some.row.now.state c.name-at.result found c.name-at.ensures (sym c.is_eligible.ensures.eligible ∙ c.if-is_eligible.false) in
+    let next = next-skipped n.states c.requires.parts.states (is_eligible n c.in-Serving.since) c.loop-count.at c.in-Some.row.now.state c.name-at.result found c.name-at.ensures (sym c.is_eligible.ensures.eligible ∙ c.if-is_eligible.false) in
     gathered-skip _ _ _ _ _ _ c.loop-count.invariant c.name-at.result next
 
 pub loop-count-smaller-then-is_eligible : goal.loop-count-smaller-then-is_eligible
 loop-count-smaller-then-is_eligible g c =
     let n = c.args.parts.now in
     let found : state_after n.states c.loop-count.at ≡ Some c.in-Some.row.now.state = ap (λ (m : States). state_after m c.loop-count.at) (sym c.states.ensures.states) ∙ sym c.in-Some.ensures.state in
-    fewer-behind n.states c.known.ensures.parts.states c.loop-count.at c.in-Some.row.now.state c.name-at.result found c.name-at.ensures
+    fewer-behind n.states c.requires.parts.states c.loop-count.at c.in-Some.row.now.state c.name-at.result found c.name-at.ensures
 
 pub loop-count-smaller : goal.loop-count-smaller
 loop-count-smaller g c =
     let n = c.args.parts.now in
     let found : state_after n.states c.loop-count.at ≡ Some c.in-Some.row.now.state = ap (λ (m : States). state_after m c.loop-count.at) (sym c.states.ensures.states) ∙ sym c.in-Some.ensures.state in
-    fewer-behind n.states c.known.ensures.parts.states c.loop-count.at c.in-Some.row.now.state c.name-at.result found c.name-at.ensures
+    fewer-behind n.states c.requires.parts.states c.loop-count.at c.in-Some.row.now.state c.name-at.result found c.name-at.ensures
 
 pub returns : goal.returns
 returns g c =

@@ -16,7 +16,7 @@ pub turn-turn-requires : goal.turn-turn-requires
 turn-turn-requires g c =
     let n = c.args.parts.now in
     let first = c.next_names-count.ensures.names ∙ ap (λ (l : Limits). first_names n.server (all_eligible n) (l.batch + 1)) c.limits-batch.ensures.limits in
-    record { rising = first-rising n _ first c.known.ensures.parts }
+    record { rising = first-rising n _ first c.requires.parts }
 
 pub queue_all-requires : goal.queue_all-requires
 queue_all-requires g c =
@@ -28,7 +28,7 @@ queue_all-requires g c =
     record {
       room = omega (arith, room, long);
       countable = c.requires.countable;
-      may = subst (AllByRecursion (λ name. MayMark n name Update)) (sym turn.names) (turn-may n c.known.ensures.parts);
+      may = subst (AllByRecursion (λ name. MayMark n name Update)) (sym turn.names) (turn-may n c.requires.parts);
     }
 
 pub returns-in_err-queue_all : goal.returns-in_err-queue_all
@@ -80,7 +80,7 @@ set_server-requires g c =
     let left = c.tell_end.ensures.extends.spare in
     record {
       room = omega (arith, room, long, spare, left);
-      past = turned-past n _ _ _ turn c.known.ensures.parts c.queue_all.new.parts c.tell_end.new.parts c.in_ok-queue_all.ensures.node c.in_ok-tell_end.ensures.node;
+      past = turned-past n _ _ _ turn c.requires.parts c.queue_all.new.parts c.tell_end.new.parts c.in_ok-queue_all.ensures.node c.in_ok-tell_end.ensures.node;
     }
 
 pub returns : goal.returns

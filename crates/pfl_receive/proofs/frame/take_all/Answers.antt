@@ -27,4 +27,4 @@ returns-in_err-take_record-clause-extends g c = delivered-stops _ _ _ _ _ _ _ _ 
 pub returns : goal.returns
 returns g c =
     let done = delivered-all _ _ _ _ _ _ _ _ c.loop-message.invariant c.loop-message-test.false in
-    record { went = (done.full, done.counted); node = done.node; extends = done.extends }
+    record { went = (done.full, done.counted); node = done.node; paid = done.paid; extends = done.extends }

@@ -1,11 +1,20 @@
-use Rattle.std.proofs.Common.{◌∙◌, sym, arith}
-use Rattle.pfl_receive.proofs.ByKind.{taken-clear, taken-insert, taken-ack, taken-update, taken-short, taken-request, taken-delete, taken-gone, taken-status}
+use Rattle.std.proofs.Common.{◌+◌, ◌*◌, length, ◌∙◌, sym, arith}
+use Rattle.pfl_receive.proofs.ByKind.{cleared-clear, taken-clear, taken-insert, taken-ack, taken-update, taken-short, taken-request, taken-delete, taken-gone, taken-status}
 use Rattle.pfl_receive.proofs.Paying.{paid-as, paid-on, few-insert, few-update, few-short, few-ack, few-delete}
-use Rattle.pfl_receive.specs.Receiving.{of_state, of_update}
+use Rattle.pfl_parts.proofs.Recording.{extends-more}
+use Rattle.pfl_receive.specs.Delivering.{cleared_by}
+use Rattle.pfl_receive.specs.Receiving.{cleared_names, of_state, of_update}
 use Rattle.pfl_receive.proofs.records.take_record.Goals as goal
 
 pub returns-in-Clear-clause-node : goal.returns-in-Clear-clause-node
 returns-in-Clear-clause-node g c = c.take_clear.ensures.node ∙ sym (taken-clear c.args.parts.now c.args.same_rules c.args.message.now c.in-Clear.creator c.in-Clear.bound c.in-Clear.is)
+
+pub returns-in-Clear-clause-extends : goal.returns-in-Clear-clause-extends
+returns-in-Clear-clause-extends g c =
+    let n = c.args.parts.now in
+    let m = c.args.message.now in
+    let names = cleared-clear n c.args.same_rules m c.in-Clear.creator c.in-Clear.bound c.in-Clear.is in
+    extends-more (4 * length (cleared_names n c.in-Clear.creator c.in-Clear.bound)) (8 + 4 * cleared_by n m) _ _ _ _ (omega (arith, names)) c.take_clear.ensures.extends
 
 pub returns-in-Insert-clause-full : goal.returns-in-Insert-clause-full
 returns-in-Insert-clause-full g c = rw (taken-insert c.args.parts.now c.args.same_rules c.args.message.now c.in-Insert.sent c.in-Insert.is) c.take_insertion.ensures.full

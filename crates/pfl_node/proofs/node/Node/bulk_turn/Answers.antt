@@ -32,7 +32,7 @@ turn-tried-requires g c =
     let room = b.room in
     let states = c.self.invariant.0.parts.few in
     let few = turn-few n in
-    record { room = omega (arith, room, few, states); countable = b.countable }
+    record { parts = c.self.invariant.0.parts; room = omega (arith, room, few, states); countable = b.countable }
 
 pub settle-requires : goal.settle-requires
 settle-requires g c = record { fits = recorded-fits (length (turn_of c.self.inside.parts) + 3) _ c.self.inside.parts _ c.self.inside.edits _ c.self.invariant.1 c.turn-tried.ensures.extends }

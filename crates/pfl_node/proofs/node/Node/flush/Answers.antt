@@ -14,7 +14,7 @@ send-sent-requires g c =
     let b = begins c.self.inside.parts c.self.inside.edits c.self.invariant.0 c.self.invariant.1 in
     let few = frame-few c.self.inside.parts c.self.invariant.0.parts in
     let room = b.room in
-    record { room = omega (arith, few, room) }
+    record { parts = c.self.invariant.0.parts; room = omega (arith, few, room) }
 
 pub invariant_of-self : goal.invariant_of-self
 invariant_of-self g c =

@@ -13,6 +13,9 @@ few : (result : Result (Fate × Edits NodeEdit) Refusal) → IfOk result (λ r. 
 few (Ok r) h = omega (arith, h)
 few (Err e) h = tt
 
+pub handle-tried-requires-clause-parts : goal.handle-tried-requires-clause-parts
+handle-tried-requires-clause-parts g c = c.self.invariant.0.parts
+
 pub handle-tried-requires-clause-room : goal.handle-tried-requires-clause-room
 handle-tried-requires-clause-room g c =
     let b = begins c.self.inside.parts c.self.inside.edits c.self.invariant.0 c.self.invariant.1 in

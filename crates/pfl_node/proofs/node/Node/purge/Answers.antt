@@ -5,6 +5,9 @@ use Rattle.pfl_node.proofs.Purged.{purged-ends}
 use Rattle.pfl_node.proofs.Ready.{begins, settled-answer, settled}
 use Rattle.pfl_node.proofs.node.Node.purge.Goals as goal
 
+pub purge-tried-requires-clause-parts : goal.purge-tried-requires-clause-parts
+purge-tried-requires-clause-parts g c = c.self.invariant.0.parts
+
 pub purge-tried-requires-clause-room : goal.purge-tried-requires-clause-room
 purge-tried-requires-clause-room g c =
     let b = begins c.self.inside.parts c.self.inside.edits c.self.invariant.0 c.self.invariant.1 in

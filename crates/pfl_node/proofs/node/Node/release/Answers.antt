@@ -28,6 +28,9 @@ returns-then-is_empty g c =
       weight = tt;
     }
 
+pub release-count-requires-clause-parts : goal.release-count-requires-clause-parts
+release-count-requires-clause-parts g c = c.self.invariant.0.parts
+
 pub release-count-requires-clause-room : goal.release-count-requires-clause-room
 release-count-requires-clause-room g c =
     let n = c.self.inside.parts in

@@ -47,7 +47,7 @@ start-requires-clause-fits g c =
     let passes : c.verdict-verdict.result.pass ≡ true = search rules in
     let pass = ap (λ (x : Verdict). x.pass) (sym v) ∙ passes in
     let there = ap (λ (r : Rules). slice_get r.list c.in-Some.number) (sym c.rules-2.ensures.rules) ∙ sym c.in-Some-rule.ensures in
-    judged-fits n.rules.list p c.args.dir c.in-Some.number c.in-Some-rule.rule c.known.ensures.family pass (ap (λ (x : Verdict). x.rule) (sym v) ∙ c.in-Some.is) there
+    judged-fits n.rules.list p c.args.dir c.in-Some.number c.in-Some-rule.rule c.requires.packet.family pass (ap (λ (x : Verdict). x.rule) (sym v) ∙ c.in-Some.is) there
 
 pub returns : goal.returns
 returns g c =

@@ -53,7 +53,7 @@ announce-requires-clause-known g c =
     let name = c.next_name-name.ensures.name in
     let same = c.start_state-state.ensures ∙ (λ i. start_state (name i) c.in-Some.keys.wire c.in-Some.keys.stack c.args.dir p (Some c.args.number) r.no_sync (clock i)) in
     subst (MayStart n) (sym same)
-    (new-starts n c.in-Some.keys.wire c.in-Some.keys.stack c.args.dir p c.args.number r r.no_sync c.known-2.ensures c.known-3.ensures (sym c.key_in_use.ensures.used ∙ c.if-key_in_use.false) (sym full ∙ c.if-is_full.false) c.requires.stands)
+    (new-starts n c.in-Some.keys.wire c.in-Some.keys.stack c.args.dir p c.args.number r r.no_sync c.requires.packet c.known.ensures (sym c.key_in_use.ensures.used ∙ c.if-key_in_use.false) (sym full ∙ c.if-is_full.false) c.requires.stands)
 
 pub returns : goal.returns
 returns g c =

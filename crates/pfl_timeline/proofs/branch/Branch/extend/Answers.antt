@@ -1,10 +1,9 @@
 use Rattle.std.specs.Prelude.{List, ◌∷◌, [], ◌++◌, refl}
-use Rattle.std.proofs.Common.{◌∙◌, ap, sym, subst}
-use Rattle.pfl_base.specs.declared.refusal.Refusal.TheVariants.{NoMemory}
-use Rattle.pfl_world.specs.Events.{IsRefusalOf}
+use Rattle.std.proofs.Common.{◌∙◌, ap, sym}
 use Rattle.pfl_timeline.specs.Commands.{extended}
 use Rattle.pfl_timeline.specs.Rooted.{Rooted, shown}
 use Rattle.pfl_timeline.proofs.Runs.{Change, shown-kept, kept-more, more, kept_as, rooted_as, put_as}
+use Rattle.pfl_world.proofs.Stepping.{event_wants}
 use Rattle.pfl_timeline.proofs.branch.Branch.extend.Goals as goal
 
 pub returns-in-Err-clause-refused : goal.returns-in-Err-clause-refused
@@ -13,7 +12,7 @@ returns-in-Err-clause-refused g c =
 
 pub returns-then-is_err-clause-refused : goal.returns-then-is_err-clause-refused
 returns-then-is_err-clause-refused g c =
-    (c.self.inside.world, ap shown (sym c.self.view_is) ∙ shown-kept _ _ _ _ c.self.invariant, subst (λ v. IsRefusalOf v NoMemory) (sym c.in-Ok.ensures.step) refl)
+    (c.self.inside.world, ap shown (sym c.self.view_is) ∙ shown-kept _ _ _ _ c.self.invariant, event_wants c.self.inside.world c.args.event.now _ c.in-Ok.ensures.step)
 
 pub invariant_of-self-in-Ok : goal.invariant_of-self-in-Ok
 invariant_of-self-in-Ok g c =

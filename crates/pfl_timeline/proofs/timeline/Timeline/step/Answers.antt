@@ -1,15 +1,14 @@
 use Rattle.std.specs.Prelude.{length, refl}
-use Rattle.std.proofs.Common.{◌∙◌, ap, arith, subst, sym}
+use Rattle.std.proofs.Common.{◌∙◌, ap, arith}
 use Rattle.std.proofs.lemmas.Result.{IfOk-weaker, on_err_weaker}
 use Rattle.pfl_timeline.specs.declared.refused.Refused.TheVariants as refused
 use Rattle.pfl_timeline.specs.Commands.{step_reply}
-use Rattle.pfl_timeline.specs.Memory.{IsAccepted}
 use Rattle.pfl_timeline.specs.Replies.{Refused as Refusing}
 use Rattle.pfl_timeline.proofs.Asked.{step-asks, told-stepped, told-refused, replied_as, if_ok, as_ok, as_err, no_err, anyway}
-use Rattle.pfl_timeline.proofs.Places.{placed, below, kept-here, told-none, told-at, same_there, accepted-at}
+use Rattle.pfl_timeline.proofs.Places.{placed, below, kept-here, told-none, told-at, same_there}
 use Rattle.pfl_timeline.proofs.timeline.Timeline.step.Goals as goal
 use Rattle.pfl_timeline.proofs.timeline.Timeline.step.Goals.{in-Ok, in-Err}
-use Rattle.pfl_timeline.proofs.Wants.{step_accepts}
+use Rattle.pfl_timeline.proofs.Wants.{step_may, may_at}
 
 pub index_mut-branch-requires : goal.index_mut-branch-requires
 index_mut-branch-requires g c =
@@ -52,9 +51,8 @@ returns-clause-memory g c =
       | in-Err w ↦
           let why = w.in-Err.ensures.refused in
           as_err _ w.refused.result _ w.result-is (on_err_weaker w.refused.result
-          (λ wants. subst IsAccepted (sym (step-asks _ _ _))
-          (accepted-at (λ t b. step_reply t c.args.event.now b) c.args.name.now _ _ _ _ c.self.view_is place c.index_mut-branch.ensures.value c.self.invariant
-          (step_accepts _ c.args.event.now why.0 _ why.1 why.2 wants)))
+          (λ wants. may_at c.args.name.now c.args.event.now _ _ _ _ c.self.view_is place c.index_mut-branch.ensures.value c.self.invariant
+          (step_may _ c.args.event.now why.0 _ why.1 why.2 wants))
           w.refused.ensures.memory)
     ]
 

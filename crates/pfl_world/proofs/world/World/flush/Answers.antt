@@ -33,6 +33,9 @@ returns-in_err-edits-clause-unchanged g c =
 pub send-requires-clause-fits : goal.send-requires-clause-fits
 send-requires-clause-fits g c = rw c.in_ok-edits.ensures.kept c.in_ok-edits.ensures.leads_back.fits
 
+pub send-requires-clause-little : goal.send-requires-clause-little
+send-requires-clause-little g c = c.in_ok-edits.ensures.little
+
 pub send-requires-clause-room : goal.send-requires-clause-room
 send-requires-clause-room g c =
     ap (λ (w : World). room_fault w.link) c.in_ok-edits.ensures.kept

@@ -1,6 +1,7 @@
 use Rattle.std.proofs.Common.{arith, ◌≤◌, ◌∙◌, sym, ap}
 use Rattle.pfl_parts.specs.Nodes.{Node}
 use Rattle.pfl_world.proofs.Leads.{back_limits, agrees_with, lifted, where_ok}
+use Rattle.pfl_world.proofs.Little.{node_edits-little}
 use Rattle.pfl_world.proofs.world.World.lift.Goals as goal
 
 pub record_all-requires : goal.record_all-requires
@@ -17,3 +18,6 @@ pub returns-clause-leads_back : goal.returns-clause-leads_back
 returns-clause-leads_back g c =
     rw (c.record_all.ensures.list, c.reserve.ensures.list, c.new-edits.ensures.list)
     (lifted c.args.self.now c.known.ensures.world c.args.node c.args.change.list c.requires.fits)
+
+pub returns-clause-little : goal.returns-clause-little
+returns-clause-little g c = rw (c.record_all.ensures.list, c.reserve.ensures.list, c.new-edits.ensures.list) (node_edits-little _ c.args.node c.args.change.list)
