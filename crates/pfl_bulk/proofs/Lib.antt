@@ -1,1 +1,2 @@
 mod Turns
+pub mod FirstNames

@@ -8,9 +8,11 @@ use Rattle.std.specs.declared.cmp.Ordering.TheVariants.{Less, Equal, Greater}
 use Rattle.std.proofs.lemmas.Bool.{not-true, not-false}
 use Rattle.pfl_base.specs.declared.state_name.StateName.{StateName}
 use Rattle.pfl_base.specs.Lists.{last_of}
-use Rattle.pfl_base.specs.Names.{name_cmp, names_total}
+use Rattle.pfl_base.specs.Names.{name_cmp}
+use Rattle.pfl_base.proofs.Names.{names_total}
 use Rattle.pfl_edits.specs.Ordered.{IsBelow, IsRising}
-use Rattle.pfl_bulk.specs.Bulk.{after, TurnsNeedFewNames, turn_names-first, after_turn-first, is_last_turn-first}
+use Rattle.pfl_bulk.specs.Bulk.{after, TurnsNeedFewNames}
+use Rattle.pfl_bulk.proofs.FirstNames.{turn_names-first, after_turn-first, is_last_turn-first}
 
 -- the last element is that at the last place
 pub last_is : {X : Type 0} (xs : List X) (d e : X) → 0 < length xs → get_or xs (length xs - 1) d ≡ unwrap_or (last_of xs) e

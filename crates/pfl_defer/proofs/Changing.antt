@@ -7,12 +7,14 @@ use Rattle.std.specs.List.{slice_get, remove, position, prefix_len}
 use Rattle.std.specs.Option.{option_map_or}
 use Rattle.pfl_base.specs.declared.packet.Packet.{Packet}
 use Rattle.pfl_base.specs.declared.state_name.StateName.{StateName}
-use Rattle.pfl_base.specs.Names.{is_name, is_name-same}
+use Rattle.pfl_base.specs.Names.{is_name}
+use Rattle.pfl_base.proofs.Names.{is_name-same}
 use Rattle.pfl_defer.specs.declared.Held.{Held}
 use Rattle.pfl_defer.specs.declared.edits.DeferEdit.TheVariants.{Added, Removed}
 use Rattle.pfl_defer.specs.Deferring.{Deferrals, IsDeferrals, IsUpTo, held_of, let_go, pushed_out, with_room, with_held}
-use Rattle.pfl_defer.specs.Edits.{DefersBack, removed-leads_back, added-leads_back}
-use Rattle.pfl_defer.specs.Kept.{let_go-keeps, let_go_place, found_place, absent_stays, with_held-keeps}
+use Rattle.pfl_defer.specs.Edits.{DefersBack}
+use Rattle.pfl_defer.proofs.Leading.{removed-leads_back, added-leads_back}
+use Rattle.pfl_defer.proofs.Kept.{let_go-keeps, let_go_place, found_place, absent_stays, with_held-keeps}
 
 -- the items are the list without the packet h, which stood at place i
 pub record TakesOut (d : Deferrals) (i : ℕ) (h : Held) (name : StateName) (items : List Held) : Type 0 where

@@ -1,2 +1,4 @@
 mod Changing
 mod Ripening
+pub mod Leading
+pub mod Kept

@@ -30,7 +30,8 @@ impl<A: Allocator> Model for Deferrals<A> {
 
 impl<A: Allocator> Reversible for Deferrals<A> {
     ghost use Rattle.pfl_defer.specs.Deferring.{IsDeferrals};
-    ghost use Rattle.pfl_defer.specs.Edits.{Finds, FindsFormer, put_back, redone, edit-both_ways};
+    ghost use Rattle.pfl_defer.specs.Edits.{Finds, FindsFormer, put_back, redone};
+    ghost use Rattle.pfl_defer.specs.inner.BothWays.{edit-both_ways};
 
     type Edit = DeferEdit;
 

@@ -6,9 +6,12 @@ use Rattle.std.specs.declared.cmp.Ordering.{Ordering}
 use Rattle.std.specs.Cmp.{IsTotalOrder}
 use Rattle.std.specs.FinMap.{IsAntisymmetric}
 use Rattle.pfl_edits.specs.Maps as maps
-use Rattle.pfl_edits.specs.Maps.{Map, set_at, len-insert, len-remove}
-use Rattle.pfl_edits.specs.Rows.{row_at, map_of, get-map_of, len-map_of, map_with, map_without, map_of-between, map_as_it_is}
-use Rattle.pfl_edits.specs.Ordered.{Distinct-rising, IsRising, IsAbove, IsBelow, StandsIn, IsGap, AreRows, RowList}
+use Rattle.pfl_edits.specs.Maps.{Map, set_at}
+use Rattle.pfl_edits.proofs.Maps.{len-insert, len-remove}
+use Rattle.pfl_edits.proofs.RowMaps.{row_at, get-map_of, len-map_of, map_with, map_without, map_of-between, map_as_it_is, Distinct-rising}
+use Rattle.pfl_edits.specs.Rows.{map_of}
+use Rattle.pfl_edits.specs.Ordered.{IsRising, IsBelow, AreRows, RowList}
+use Rattle.pfl_edits.specs.inner.Ordered.{IsAbove, StandsIn, IsGap}
 use Rattle.pfl_edits.proofs.Sorted.{row_at-gap, row_at-here, rising-without, rising-changed, rising-between}
 
 -- the new rows stand for the map with this under the key, and there is room for them

@@ -8,9 +8,10 @@ use Rattle.std.specs.declared.cmp.Ordering.TheVariants.{Less, Equal, Greater}
 use Rattle.std.specs.Ordering.{eq_by_cmp, is_eq, is_lt, ordering_reverse}
 use Rattle.std.specs.Cmp.{IsTotalOrder, eq_by_cmp_equiv}
 use Rattle.std.specs.FinMap.{IsAntisymmetric}
-use Rattle.pfl_edits.specs.Places.{equal_is}
-use Rattle.pfl_edits.specs.Rows.{row_at}
-use Rattle.pfl_edits.specs.Ordered.{row_at-below, IsBelow, IsAbove, IsRising, StandsIn, IsGap}
+use Rattle.pfl_edits.proofs.Places.{equal_is}
+use Rattle.pfl_edits.proofs.RowMaps.{row_at, row_at-below}
+use Rattle.pfl_edits.specs.Ordered.{IsBelow, IsRising}
+use Rattle.pfl_edits.specs.inner.Ordered.{IsAbove, StandsIn, IsGap}
 
 module _ {K X : Type 0} {R : K → K → Ordering} (o : IsTotalOrder R) (exact : IsAntisymmetric R) (key : X → K) where
   above_is : (q k : K) → R k q ≡ Less → R q k ≡ Greater

@@ -1,6 +1,7 @@
 -- What a change that fits says of its newest edit.
 use Rattle.std.proofs.Common.{◌≡◌, List, [], ◌∷◌, ◌++◌, ◌∙◌, ap, sym, subst}
-use Rattle.pfl_edits.specs.Changes.{back, Fits, back-append, Fits-front, Fits-rest}
+use Rattle.pfl_edits.specs.Changes.{back, Fits}
+use Rattle.pfl_edits.proofs.Leading.{back-append, Fits-front, Fits-rest}
 
 -- xs are the edits of a change that is taken back from s: ys, and e as the newest
 module _ {S E : Type 0} (finds : E → S → Type 0) (allows : S → Type 0) (put_back : E → S → S) (xs ys : List E) (e : E) (s : S) (is : xs ≡ ys ++ e ∷ []) where

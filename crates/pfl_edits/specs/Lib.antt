@@ -3,4 +3,4 @@ pub mod Changes
 pub mod Places
 pub mod Rows
 pub mod Ordered
-pub mod Scans
+pub mod inner

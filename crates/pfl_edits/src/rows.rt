@@ -5,7 +5,8 @@ ghost use Rattle.std.specs.Ordering.{is_lt};
 ghost use Rattle.pfl_edits.specs.Maps as maps;
 ghost use Rattle.pfl_edits.specs.Maps.{set_at};
 ghost use Rattle.pfl_edits.specs.Rows.{map_of};
-ghost use Rattle.pfl_edits.specs.Ordered.{RowList, AreRows, IsRising, StandsIn, IsGap};
+ghost use Rattle.pfl_edits.specs.Ordered.{RowList, AreRows, IsRising};
+ghost use Rattle.pfl_edits.specs.inner.Ordered.{StandsIn, IsGap};
 
 use crate::keyed::Keyed;
 use crate::no_memory::NoMemory;

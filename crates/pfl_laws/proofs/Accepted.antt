@@ -3,7 +3,8 @@ use Rattle.std.specs.Prelude.{◌≡◌, ◌≤◌, ◌<◌, ◌+◌, ◌++◌, 
 use Rattle.std.proofs.Common.{◌∙◌, ap, sym, subst, inr, get_or}
 use Rattle.std.proofs.lemmas.List.{drop_all, drop_more}
 use Rattle.pfl_base.specs.declared.refusal.Refusal.{Refusal}
-use Rattle.pfl_edits.specs.Changes.{Fits, back, LeadsBack-append}
+use Rattle.pfl_edits.specs.Changes.{Fits, back}
+use Rattle.pfl_edits.proofs.Leading.{LeadsBack-append}
 use Rattle.pfl_world.specs.declared.edit.WorldEdit.{WorldEdit}
 use Rattle.pfl_world.specs.declared.event.Event.{Event}
 use Rattle.pfl_world.specs.declared.outcome.Outcome.{Outcome as Answer}
@@ -12,7 +13,8 @@ use Rattle.pfl_world.specs.Outcomes.{Stepped, told}
 use Rattle.pfl_world.specs.Runs.{run, after}
 use Rattle.pfl_world.specs.WorldEdits.{Finds, put_back, WorldLeadsBack}
 use Rattle.pfl_world.specs.Worlds.{World, IsWorld}
-use Rattle.pfl_laws.specs.Reverting.{IsRefusalAlong, LeadsOn}
+use Rattle.pfl_laws.specs.Reverting.{IsRefusalAlong}
+use Rattle.pfl_laws.specs.inner.Reverting.{LeadsOn}
 
 -- the answer is the outcome of the step
 pub accepted-outcome : (w v : World) (e : Event) (a : Answer) → step w e ≡ Ok (record { world = v; outcome = told a }) → IsOkAnd (step w e) (λ s. s.outcome ≡ told a)

@@ -4,11 +4,11 @@ use Rattle.std.proofs.Common.{◌∙◌, ap, sym, subst, arith, inl, inr}
 use Rattle.pfl_base.specs.declared.direction.Dir.{Dir}
 use Rattle.pfl_base.specs.declared.packet.Packet.{Packet}
 use Rattle.pfl_base.specs.declared.state_name.StateName.{StateName}
-use Rattle.pfl_base.specs.Names.{names_total, names_exact}
+use Rattle.pfl_base.proofs.Names.{names_total, names_exact}
 use Rattle.pfl_base.specs.Packets.{IsPacket}
 use Rattle.pfl_edits.specs.Maps as maps
-use Rattle.pfl_edits.specs.Places.{get-set_at_cases}
-use Rattle.pfl_edits.specs.Rows.{some_is_none}
+use Rattle.pfl_edits.proofs.Places.{get-set_at_cases}
+use Rattle.pfl_edits.proofs.RowMaps.{some_is_none}
 use Rattle.pfl_track.specs.declared.state.State.{State}
 use Rattle.pfl_track.specs.declared.tracked.Tracked.TheVariants.{Moved}
 use Rattle.pfl_track.specs.Laws.{Rises}

@@ -6,8 +6,8 @@ use Rattle.std.proofs.lemmas.Map.Lookups.{exact_unsigned}
 use Rattle.std.proofs.lemmas.List.{append-nil, take-append-drop}
 use Rattle.pfl_base.specs.declared.node_id.NodeId.{NodeId}
 use Rattle.pfl_edits.specs.Maps as maps
-use Rattle.pfl_edits.specs.Places.{get-set_at_cases}
-use Rattle.pfl_edits.specs.Rows.{some_is_none}
+use Rattle.pfl_edits.proofs.Places.{get-set_at_cases}
+use Rattle.pfl_edits.proofs.RowMaps.{some_is_none}
 use Rattle.pfl_track.specs.declared.state.State.{State}
 use Rattle.pfl_link.specs.Links.{Link, InFlight, sent, without_frame, cut_to}
 use Rattle.pfl_world.specs.declared.event.Event.{Event}

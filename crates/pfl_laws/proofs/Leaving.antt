@@ -9,9 +9,9 @@ use Rattle.pfl_base.specs.declared.node_id.NodeId.TheVariants.{A, B}
 use Rattle.pfl_base.specs.declared.packet.Packet.{Packet}
 use Rattle.pfl_base.specs.declared.state_name.StateName.{StateName}
 use Rattle.pfl_base.specs.Keys.{key}
-use Rattle.pfl_base.specs.Names.{names_total, names_exact}
+use Rattle.pfl_base.proofs.Names.{names_total, names_exact}
 use Rattle.pfl_edits.specs.Maps as maps
-use Rattle.pfl_edits.specs.Places.{key_cases}
+use Rattle.pfl_edits.proofs.Places.{key_cases}
 use Rattle.pfl_rules.specs.declared.rule.Rule.{Rule}
 use Rattle.pfl_rules.specs.Rules.{verdict, rule_at}
 use Rattle.pfl_track.specs.declared.state.State.{State}
@@ -49,7 +49,7 @@ use Rattle.pfl_world.specs.declared.event.Event.{Event}
 use Rattle.pfl_world.specs.declared.event.Event.TheVariants as event
 use Rattle.pfl_receive.specs.Delivering.{records_of}
 use Rattle.pfl_world.specs.Worlds.{World, node_at, with_node}
-use Rattle.pfl_laws.specs.Laws.{asked_at, Holds, OneLetsOut, FrameLetsOut, LetsGo, HeldPacketsLeaveOnlySo}
+use Rattle.pfl_laws.specs.Laws.{FrameLetsOut, HeldPacketsLeaveOnlySo, Holds, LetsGo, LetsOldestGo, OneLetsOut, asked_at}
 use Rattle.pfl_laws.proofs.Following.{Alike, Filed}
 use Rattle.pfl_laws.proofs.Keeping.{deleted-keeps, keeps-given}
 use Rattle.pfl_laws.proofs.Handling.{filed-without, judged-keeps}
@@ -65,15 +65,15 @@ use Rattle.pfl_laws.proofs.Running.{node-is}
 
 -- ---- a packet that no state takes
 
--- the packet stays held, or a full list let the oldest go, which is of its name
-abbrev Stays : Node → Held → Node → Type 0
-Stays n h m = Holds m h ⊎ IsSomeAnd (pushed_out n.held) (λ k. k.name ≡ h.name)
+-- the packet stays held, or the event's packet is held, and the full list let its oldest go, which is of its name
+abbrev Stays : Node → Held → Handled → Type 0
+Stays n h x = Holds x.node h ⊎ LetsOldestGo x.fate n.held h.name
 
-stays_test : (n : Node) (h : Held) (b : Bool) (x y : Handled) → Stays n h x.node → Stays n h y.node → Stays n h (cond b x y).node
+stays_test : (n : Node) (h : Held) (b : Bool) (x y : Handled) → Stays n h x → Stays n h y → Stays n h (cond b x y)
 stays_test n h true x y k l = k
 stays_test n h false x y k l = l
 
-stays_some : {X : Type 0} (n : Node) (h : Held) (o : Option X) (f : X → Handled) (d : Handled) → ((x : X) → Stays n h (f x).node) → Stays n h d.node → Stays n h (option_map_or f o d).node
+stays_some : {X : Type 0} (n : Node) (h : Held) (o : Option X) (f : X → Handled) (d : Handled) → ((x : X) → Stays n h (f x)) → Stays n h d → Stays n h (option_map_or f o d)
 stays_some n h None f d k l = l
 stays_some n h (Some x) f d k l = k x
 
@@ -87,11 +87,11 @@ room-stays n h holds = by (pushed_out n.held)
       | inr other ↦ inl (other-holds h n (released n k.name) k.name (released-held n k.name) other holds)
     ]
 
-held-stays : (n : Node) (h : Held) (s : State) (p : Packet) (k : Node) → Holds k h ⊎ IsSomeAnd (pushed_out n.held) (λ x. x.name ≡ h.name) → Stays n h (hold k s p).node
+held-stays : (n : Node) (h : Held) (s : State) (p : Packet) (k : Node) → Holds k h ⊎ IsSomeAnd (pushed_out n.held) (λ x. x.name ≡ h.name) → Stays n h (hold k s p)
 held-stays n h s p k (inl holds) = inl (found-on k.held.list (record { name = s.name; packet = p; held_at = k.clock } ∷ []) h.name h holds)
-held-stays n h s p k (inr out) = inr out
+held-stays n h s p k (inr out) = inr (s.name, (refl, out))
 
-announced-stays : (n : Node) (h : Held) (new : Node) (s : State) (dir : Dir) (p : Packet) → new.held ≡ n.held → Holds n h → Stays n h (announced new s dir p).node
+announced-stays : (n : Node) (h : Held) (new : Node) (s : State) (dir : Dir) (p : Packet) → new.held ≡ n.held → Holds n h → Stays n h (announced new s dir p)
 announced-stays n h new s dir p same holds =
     let here : Holds new h = same-holds h n new same holds in
     let marked : Node = mark new s.name Insert in
@@ -101,7 +101,7 @@ announced-stays n h new s dir p same holds =
     (held-stays n h s p (with_room marked) (subst (λ (d : Deferrals). Holds (with_room marked) h ⊎ IsSomeAnd (pushed_out d) (λ k. k.name ≡ h.name)) same room))
     (inl here))
 
-started-stays : (n : Node) (h : Held) (dir : Dir) (p : Packet) (number : ℕ) (r : Rule) → Holds n h → Stays n h (started n dir p number r).node
+started-stays : (n : Node) (h : Held) (dir : Dir) (p : Packet) (number : ℕ) (r : Rule) → Holds n h → Stays n h (started n dir p number r)
 unfolding started
 started-stays n h dir p number r holds =
     let s = new_state n dir p number r in
@@ -110,11 +110,11 @@ started-stays n h dir p number r holds =
     (stays_test n h (key_in_use n.states (wire_key (key p dir) r.nat) (key p dir)) _ _ (inl holds)
     (announced-stays n h (with_new n s) s dir p refl holds)))
 
-judged-stays : (n : Node) (h : Held) (dir : Dir) (p : Packet) → Holds n h → Stays n h (judged n dir p).node
+judged-stays : (n : Node) (h : Held) (dir : Dir) (p : Packet) → Holds n h → Stays n h (judged n dir p)
 unfolding judged
 judged-stays n h dir p holds = stays_test n h (verdict n.rules.list p dir).pass _ _ (by_number (verdict n.rules.list p dir).rule) (inl holds)
   where
-    by_number : (rule : Option ℕ) → Stays n h (by_rule n dir p rule).node
+    by_number : (rule : Option ℕ) → Stays n h (by_rule n dir p rule)
     by_number None = inl holds
     by_number (Some number) = stays_some n h (rule_at n.rules.list (Some number)) (started n dir p number) _ (λ r. started-stays n h dir p number r holds) (inl holds)
 
@@ -123,9 +123,9 @@ judged-stays n h dir p holds = stays_test n h (verdict n.rules.list p dir).pass 
 -- what lets it go at a node
 abbrev Gone : Node → Dir → Packet → Held → Handled → Node → Type 0
 Gone n dir p h x at =
-    (x.fate ≡ fate.Pass (Some h.name)) ⊎ (IsSomeAnd (pushed_out at.held) (λ k. k.name ≡ h.name) ⊎ (maps.get x.node.states h.name ≡ None))
+    (x.fate ≡ fate.Pass (Some h.name)) ⊎ (LetsOldestGo x.fate at.held h.name ⊎ (maps.get x.node.states h.name ≡ None))
 
-stays-gone : (n at : Node) (dir : Dir) (p : Packet) (h : Held) (x : Handled) → Stays at h x.node → Holds x.node h ⊎ Gone n dir p h x at
+stays-gone : (n at : Node) (dir : Dir) (p : Packet) (h : Held) (x : Handled) → Stays at h x → Holds x.node h ⊎ Gone n dir p h x at
 stays-gone n at dir p h x (inl holds) = inl holds
 stays-gone n at dir p h x (inr out) = inr (inr (inl out))
 

@@ -7,9 +7,10 @@ use Rattle.pfl_base.specs.declared.direction.Dir.{Dir}
 use Rattle.pfl_base.specs.declared.packet.Packet.{Packet}
 use Rattle.pfl_base.specs.declared.state_name.StateName.{StateName}
 use Rattle.pfl_base.specs.Keys.{key}
-use Rattle.pfl_base.specs.Names.{names_total, names_exact, is_name}
+use Rattle.pfl_base.proofs.Names.{names_total, names_exact}
+use Rattle.pfl_base.specs.Names.{is_name}
 use Rattle.pfl_edits.specs.Maps as maps
-use Rattle.pfl_edits.specs.Places.{get-set_at_other, key_cases}
+use Rattle.pfl_edits.proofs.Places.{get-set_at_other, key_cases}
 use Rattle.pfl_rules.specs.declared.rule.Rule.{Rule}
 use Rattle.pfl_rules.specs.Rules.{timeout, verdict, rule_at}
 use Rattle.pfl_track.specs.declared.state.State.{State}

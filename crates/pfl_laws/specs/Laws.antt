@@ -20,7 +20,8 @@ use Rattle.pfl_wire.specs.Frames.{Frame}
 use Rattle.pfl_wire.specs.Reading.{reading}
 use Rattle.pfl_link.specs.Links.{InFlight}
 use Rattle.pfl_defer.specs.declared.Held.{Held}
-use Rattle.pfl_defer.specs.Deferring.{held_of, pushed_out}
+use Rattle.pfl_defer.specs.Deferring.{Deferrals, held_of, pushed_out}
+use Rattle.pfl_node.specs.declared.fate.Fate.{Fate}
 use Rattle.pfl_node.specs.declared.fate.Fate.TheVariants as fate
 use Rattle.pfl_parts.specs.declared.limits.Limits.{Limits}
 use Rattle.pfl_parts.specs.Nodes.{Node}
@@ -307,11 +308,15 @@ OneLetsOut (m ∷ ms) name = LetsOut m name ⊎ OneLetsOut ms name
 abbrev pub FrameLetsOut : NodeId → StateName → InFlight → Type 0
 FrameLetsOut id name f = (f.to ≡ id) × IsOkAnd (reading f.bytes) (λ frame. OneLetsOut (records_of frame) name)
 
+-- a packet of this fate is held, and the list, which is full, lets its oldest go, which is of this name
+abbrev pub LetsOldestGo : Fate → Deferrals → StateName → Type 0
+LetsOldestGo f held name = (s : StateName) × ((f ≡ fate.Held s) × IsSomeAnd (pushed_out held) (λ k. k.name ≡ name))
+
 -- why an event at a node lets a packet go that is held there: a later packet of its state is accepted, a full list lets its oldest go, its
 -- time has come at a release, its state is deleted or cleared, the peer tells of it, or the node begins anew; no other event does
 abbrev pub LetsGo : World → NodeId → Node → Node → Event → Held → Type 0
 LetsGo w id old new (event.Packet node dir p) h =
-    (node ≡ id) × (((handled old dir p).fate ≡ fate.Pass (Some h.name)) ⊎ (IsSomeAnd (pushed_out (asked_at old dir p).held) (λ k. k.name ≡ h.name) ⊎ (maps.get new.states h.name ≡ None)))
+    (node ≡ id) × (((handled old dir p).fate ≡ fate.Pass (Some h.name)) ⊎ (LetsOldestGo (handled old dir p).fate (asked_at old dir p).held h.name ⊎ (maps.get new.states h.name ≡ None)))
 LetsGo w id old new (event.Flush node) h = ⊥
 LetsGo w id old new (event.Deliver ticket) h = IsSomeAnd (maps.get w.link.frames ticket) (FrameLetsOut id h.name)
 LetsGo w id old new (event.Lose ticket) h = ⊥

@@ -4,7 +4,8 @@ ghost use Rattle.std.specs.Prelude.{◌≡◌, ◌≤◌, ◌++◌, Some, length
 ghost use Rattle.pfl_world.specs.Events.{step, IsEventRefusal};
 ghost use Rattle.pfl_world.specs.Outcomes.{told};
 ghost use Rattle.pfl_world.specs.Runs.{after, run};
-ghost use Rattle.pfl_laws.specs.Reverting.{IsRefusalAlong, LeadsOn};
+ghost use Rattle.pfl_laws.specs.Reverting.{IsRefusalAlong};
+ghost use Rattle.pfl_laws.specs.inner.Reverting.{LeadsOn};
 
 use pfl_base::Refusal;
 use pfl_edits::Change;

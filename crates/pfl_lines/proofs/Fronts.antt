@@ -1,7 +1,8 @@
 -- The first word of a line.
 use Rattle.std.proofs.Common.{◌≡◌, ℕ, Bool, true, false, List, [], ◌∷◌, refl, ◌∙◌, ap, cond}
 use Rattle.std.specs.Prelude.{not}
-use Rattle.pfl_lines.specs.Words.{words, front, behind, is_blank, begins_word, with_first}
+use Rattle.pfl_lines.specs.Words.{words, is_blank, begins_word, with_first}
+use Rattle.pfl_lines.specs.inner.Words.{front, behind}
 
 -- a choice by a test that holds
 chosen : {X : Type 0} (b : Bool) (x y : X) → b ≡ true → cond b x y ≡ x

@@ -8,3 +8,4 @@ pub mod Packets
 pub mod Commands
 pub mod Rules
 pub mod Setup
+pub mod inner

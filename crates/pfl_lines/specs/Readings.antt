@@ -1,5 +1,5 @@
 -- What is read from the words of a line: a value and the words behind it, or the first fault from the left.
-use Rattle.std.specs.Prelude.{◌≡◌, ℕ, List, [], ◌∷◌, Option, Result, Ok, Err}
+use Rattle.std.specs.Prelude.{ℕ, List, [], ◌∷◌, Option, Result, Ok, Err}
 use Rattle.std.specs.Option.{ok_or}
 use Rattle.pfl_lines.specs.declared.fault.LineFault.{LineFault}
 use Rattle.pfl_lines.specs.declared.fault.LineFault.TheVariants.{Missing, Number}
@@ -13,11 +13,6 @@ abbrev pub ◌>>=◌ : {X Y : Type 0} → Result X LineFault → (X → Result Y
 -- a value, and the words behind it
 abbrev pub Reading : Type 0 → Type 0
 Reading X = Result (X × List (List ℕ)) LineFault
-
--- what a function returned, seen by `view`, is what the definition reads
-abbrev pub Gives : {X Y : Type 0} → (X → Y) → Result X LineFault → Result Y LineFault → Type 0
-Gives view (Ok x) read = read ≡ Ok (view x)
-Gives view (Err e) read = read ≡ Err e
 
 -- a word that is wanted, and the words behind it
 abbrev pub word_at : List (List ℕ) → Reading (List ℕ)

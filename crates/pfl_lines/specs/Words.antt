@@ -21,13 +21,3 @@ words [] = []
 words (b ∷ bytes) =
     if is_blank b then words bytes else
     if begins_word bytes then with_first b (words bytes) else (b ∷ []) ∷ words bytes
-
--- the first word of bytes that begin with one
-abbrev pub front : List ℕ → List ℕ
-front [] = []
-front (b ∷ bytes) = if is_blank b then [] else b ∷ front bytes
-
--- what follows the first word
-abbrev pub behind : List ℕ → List ℕ
-behind [] = []
-behind (b ∷ bytes) = if is_blank b then b ∷ bytes else behind bytes

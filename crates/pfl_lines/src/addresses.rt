@@ -1,7 +1,7 @@
 //! Addresses, ends and nets.
 
 ghost use Rattle.std.specs.Prelude.{◌≡◌, ◌<◌, IfOk};
-ghost use Rattle.pfl_lines.specs.Readings.{Gives};
+ghost use Rattle.pfl_lines.specs.inner.Readings.{Gives};
 ghost use Rattle.pfl_lines.specs.Addresses.{v4_of, hex_digit, mark_at, hex_at, group_at, pair_at, quad_at, v6_at, v6_of, v4_end, v6_end, end_of, addr_of, net_at_word};
 
 use crate::fault::LineFault;

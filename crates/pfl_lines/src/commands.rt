@@ -3,7 +3,7 @@
 ghost use Rattle.std.specs.Prelude.{◌≡◌};
 ghost use Rattle.std.specs.List.{list_all};
 ghost use Rattle.pfl_lines.specs.Words.{words};
-ghost use Rattle.pfl_lines.specs.Readings.{Gives};
+ghost use Rattle.pfl_lines.specs.inner.Readings.{Gives};
 ghost use Rattle.pfl_lines.specs.Commands.{packet_at, flush_at, ticket_at, deliver_at, lose_at, repeat_at, cut_at, tick_at, purge_at, release_at, kill_at, clear_at, restart_at, turn_at, retry_at, own_event_by, event_by, event_at, step_at, back_at, forward_at, fork_at, drop_at, show_at, names_at, command_by, command_at, finished, whole_event, whole_step, whole_command, command_of, is_text, checked, parsed};
 
 use crate::draft::{CommandDraft, EventDraft};

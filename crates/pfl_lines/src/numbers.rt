@@ -1,7 +1,7 @@
 //! Numbers.
 
 ghost use Rattle.std.specs.Prelude.{◌≡◌, ◌≤◌, IfOk};
-ghost use Rattle.pfl_lines.specs.Readings.{Gives};
+ghost use Rattle.pfl_lines.specs.inner.Readings.{Gives};
 ghost use Rattle.pfl_lines.specs.Numbers.{number_of, cut_at};
 
 use crate::fault::LineFault;

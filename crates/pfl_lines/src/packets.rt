@@ -2,7 +2,7 @@
 
 ghost use Rattle.std.specs.Prelude.{◌≡◌};
 ghost use Rattle.pfl_lines.specs.Words.{words};
-ghost use Rattle.pfl_lines.specs.Readings.{Gives};
+ghost use Rattle.pfl_lines.specs.inner.Readings.{Gives};
 ghost use Rattle.pfl_lines.specs.Packets.{plain_at, last_scale, scale_at, tcp_at, segment_at, fields_at};
 
 use crate::draft::Segment;

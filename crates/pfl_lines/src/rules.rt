@@ -6,7 +6,7 @@ ghost use Rattle.std.specs.Option.{option_map};
 ghost use Rattle.pfl_base.specs.Classes.{classes};
 ghost use Rattle.pfl_base.specs.Numbers.{greatest};
 ghost use Rattle.pfl_lines.specs.Words.{words};
-ghost use Rattle.pfl_lines.specs.Readings.{Gives};
+ghost use Rattle.pfl_lines.specs.inner.Readings.{Gives};
 ghost use Rattle.pfl_lines.specs.Parts.{number_at, end_at, proto_at};
 ghost use Rattle.pfl_lines.specs.Rules.{action_at, rule_dir_at, net_at, any_of, any_at, class_at, behind_word, option_at, flag_word_at, any_flags_at, behind_class, timeout_at, timeouts_at, option_names, misplaced, rule_ended, rule_of};
 

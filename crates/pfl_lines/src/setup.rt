@@ -2,7 +2,7 @@
 
 ghost use Rattle.std.specs.Prelude.{◌≡◌};
 ghost use Rattle.pfl_lines.specs.Words.{words};
-ghost use Rattle.pfl_lines.specs.Readings.{Gives};
+ghost use Rattle.pfl_lines.specs.inner.Readings.{Gives};
 ghost use Rattle.pfl_lines.specs.Commands.{finished};
 ghost use Rattle.pfl_lines.specs.Setup.{limit_at, set_of, rule_line_of, setup_by, setup_of, parsed_setup};
 

@@ -1,8 +1,10 @@
 //! The words of a line.
 
 ghost use Rattle.std.specs.Prelude.{◌≡◌, ◌≤◌, ◌⊎◌, true, [], length, take, drop, bytes_eq};
-ghost use Rattle.pfl_lines.specs.Words.{words, is_blank, begins_word, front, behind};
-ghost use Rattle.pfl_lines.specs.Readings.{Gives, word_at};
+ghost use Rattle.pfl_lines.specs.Words.{words, is_blank, begins_word};
+ghost use Rattle.pfl_lines.specs.inner.Words.{front, behind};
+ghost use Rattle.pfl_lines.specs.inner.Readings.{Gives};
+ghost use Rattle.pfl_lines.specs.Readings.{word_at};
 
 use crate::fault::LineFault;
 

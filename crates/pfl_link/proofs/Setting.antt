@@ -5,11 +5,14 @@ use Rattle.std.specs.Ordering.{nat_cmp}
 use Rattle.std.proofs.lemmas.Cmp.{nat_cmp_total}
 use Rattle.std.proofs.lemmas.Map.Lookups.{exact_unsigned}
 use Rattle.pfl_edits.specs.Maps as maps
-use Rattle.pfl_edits.specs.Maps.{Map, set_at, len-empty, get-empty}
-use Rattle.pfl_edits.specs.Rows.{map_of, some_is_none}
+use Rattle.pfl_edits.specs.Maps.{Map, set_at}
+use Rattle.pfl_edits.proofs.Maps.{len-empty, get-empty}
+use Rattle.pfl_edits.specs.Rows.{map_of}
+use Rattle.pfl_edits.proofs.RowMaps.{some_is_none}
 use Rattle.pfl_edits.specs.Ordered.{RowList}
 use Rattle.pfl_link.specs.Links.{Link, InFlight, IsLink, empty_link}
-use Rattle.pfl_link.specs.Framed.{Ticketed, ticket_of, frames_of, frames_of-none, link_of, IsKept, map_values, len-map_values, get-map_values, map_values-set_at}
+use Rattle.pfl_link.specs.Framed.{Ticketed, ticket_of, frames_of, link_of, IsKept, map_values}
+use Rattle.pfl_link.proofs.Framed.{frames_of-none, len-map_values, get-map_values, map_values-set_at}
 use Rattle.pfl_link.specs.LinkEdits.{with_place}
 
 abbrev pub by_ticket : List Ticketed → Map nat_cmp Ticketed

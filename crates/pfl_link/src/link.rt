@@ -42,7 +42,8 @@ impl<A: Allocator> Model for Link<A> {
 
 impl<A: Allocator> Reversible for Link<A> {
     ghost use Rattle.pfl_link.specs.Links.{IsLink};
-    ghost use Rattle.pfl_link.specs.LinkEdits.{Finds, FindsFormer, put_back, redone, edit-both_ways};
+    ghost use Rattle.pfl_link.specs.LinkEdits.{Finds, FindsFormer, put_back, redone};
+    ghost use Rattle.pfl_link.specs.inner.BothWays.{edit-both_ways};
 
     type Edit = LinkEdit<A>;
 

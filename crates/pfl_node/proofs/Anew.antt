@@ -5,7 +5,7 @@ use Rattle.std.proofs.lemmas.Bool.Decides.{nat_tests}
 use Rattle.pfl_base.specs.Names.{name_cmp}
 use Rattle.pfl_bulk.specs.Bulk.{no_name, first_asked}
 use Rattle.pfl_edits.specs.Maps as maps
-use Rattle.pfl_edits.specs.Maps.{len-empty}
+use Rattle.pfl_edits.proofs.Maps.{len-empty}
 use Rattle.pfl_queue.specs.declared.Mark.{Mark}
 use Rattle.pfl_rules.specs.Rules.{Rules}
 use Rattle.pfl_parts.specs.declared.limits.Limits.{Limits}

@@ -2,13 +2,13 @@
 use Rattle.std.specs.Prelude.{◌≡◌, ◌≤◌, ◌<◌, ℕ, ◌+◌, Bool, true, false, Option, Some, None, refl}
 use Rattle.std.proofs.Common.{cond, sym, subst, arith}
 use Rattle.pfl_base.specs.declared.state_name.StateName.{StateName}
-use Rattle.pfl_base.specs.Names.{names_total}
+use Rattle.pfl_base.proofs.Names.{names_total}
 use Rattle.pfl_edits.specs.Maps as maps
-use Rattle.pfl_edits.specs.Maps.{len-insert}
+use Rattle.pfl_edits.proofs.Maps.{len-insert}
 use Rattle.pfl_track.specs.declared.state.State.{State}
 use Rattle.pfl_table.proofs.Apart.{OwnsKeys-unused}
 use Rattle.pfl_queue.specs.declared.Mark.{Mark}
-use Rattle.pfl_parts.specs.Kept.{MayStart, MayAdd}
+use Rattle.pfl_parts.specs.inner.Kept.{MayStart, MayAdd}
 use Rattle.pfl_parts.specs.Nodes.{Node, AreParts, IsGiven}
 use Rattle.pfl_node.specs.Starting.{with_new}
 use Rattle.pfl_parts.proofs.Keeps.{keeps_next_id}

@@ -7,10 +7,12 @@ use Rattle.std.proofs.Common.{cond, T, ◌∙◌, ap, sym, subst, arith}
 use Rattle.std.proofs.lemmas.List.{length-map}
 use Rattle.std.specs.Cmp.{eq_by_cmp_equiv}
 use Rattle.pfl_base.specs.declared.state_name.StateName.{StateName}
-use Rattle.pfl_base.specs.Names.{name_cmp, names_total}
+use Rattle.pfl_base.specs.Names.{name_cmp}
+use Rattle.pfl_base.proofs.Names.{names_total}
 use Rattle.pfl_edits.specs.Changes.{Edits}
 use Rattle.pfl_edits.specs.Maps as maps
-use Rattle.pfl_edits.specs.Maps.{entries_sorted, len-entries}
+use Rattle.pfl_edits.specs.Maps.{entries_sorted}
+use Rattle.pfl_edits.proofs.Maps.{len-entries}
 use Rattle.pfl_table.specs.Tables.{States}
 use Rattle.pfl_track.specs.declared.state.State.{State}
 use Rattle.pfl_parts.specs.declared.edit.NodeEdit.{NodeEdit}

@@ -18,7 +18,7 @@ use Rattle.pfl_track.proofs.Keeping.{tracked-is, start-is}
 use Rattle.pfl_track.proofs.Moving.{tracked-used}
 use Rattle.pfl_table.specs.Tables.{found, key_in_use}
 use Rattle.pfl_table.proofs.Apart.{found-stands}
-use Rattle.pfl_parts.specs.Kept.{MayReplace, MayStart}
+use Rattle.pfl_parts.specs.inner.Kept.{MayReplace, MayStart}
 use Rattle.pfl_parts.specs.Nodes.{Node, AreParts, IsGiven, IsPast}
 use Rattle.pfl_node.specs.Starting.{Handled, judged, next_name}
 use Rattle.pfl_node.specs.Packets.{handled, handled_by, followed, packet_points, before_rules, on_the_way}

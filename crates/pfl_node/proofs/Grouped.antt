@@ -10,7 +10,7 @@ use Rattle.std.proofs.lemmas.List.{map-append}
 use Rattle.std.proofs.lemmas.List.Sums.{sum_by-cons}
 use Rattle.pfl_base.specs.Lists.{neighbours, joined}
 use Rattle.pfl_edits.specs.Maps as maps
-use Rattle.pfl_edits.specs.Rows.{some_is_none}
+use Rattle.pfl_edits.proofs.RowMaps.{some_is_none}
 use Rattle.pfl_rules.proofs.Verdicts.{few}
 use Rattle.pfl_track.specs.declared.state.State.{State}
 use Rattle.pfl_wire.specs.Actions.{action_number, action_with, record_len}
@@ -22,11 +22,11 @@ use Rattle.pfl_wire.specs.declared.message.Message.TheVariants as message
 use Rattle.pfl_queue.specs.declared.Entry.{Entry}
 use Rattle.pfl_queue.specs.declared.Entry.TheVariants.{Marked, Request, Status, Clear}
 use Rattle.pfl_queue.specs.declared.Kind.TheVariants.{Insert, InsertAck, Update, UpdateShort, Delete}
-use Rattle.pfl_queue.specs.Fitting.{entry_bytes}
+use Rattle.pfl_queue.specs.inner.Fitting.{entry_bytes}
 use Rattle.pfl_queue.specs.Taking.{entry_action, one_action, bytes_of}
 use Rattle.pfl_node.specs.Flushing.{state_record, update_record, messages_of}
 use Rattle.pfl_parts.specs.Nodes.{Node, AreParts}
-use Rattle.pfl_node.specs.Sending.{IsTold, run_of, groups_of}
+use Rattle.pfl_node.specs.inner.Sending.{IsTold, run_of, groups_of}
 
 abbrev pub like : Message → Message → Bool
 like a b = one_action (action_of a) (action_of b)

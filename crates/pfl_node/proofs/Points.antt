@@ -11,7 +11,7 @@ use Rattle.pfl_parts.specs.declared.edit.NodeEdit.{NodeEdit}
 use Rattle.pfl_node.specs.declared.fate.Fate.{Fate}
 use Rattle.pfl_parts.specs.declared.parts.judge.Overfull.{Overfull}
 use Rattle.pfl_parts.specs.Edits.{NodeExtends}
-use Rattle.pfl_node.specs.Carried.{Handles}
+use Rattle.pfl_node.specs.inner.Carried.{Handles}
 use Rattle.pfl_parts.specs.Nodes.{Node, is_overfull, is_overcounted}
 use Rattle.pfl_node.specs.Packets.{followed, on_the_way, handled, packet_points}
 use Rattle.pfl_node.specs.Starting.{Handled}

@@ -9,7 +9,8 @@ use Rattle.std.specs.FinMap.Entries.{is_sorted, below_all}
 use Rattle.std.proofs.Common.{cond, T, ◌∙◌, ap, sym, subst, arith}
 use Rattle.std.proofs.lemmas.List.{append_assoc, append-nil, length-set, length-take-le, take_all, take-append-le, take_more_set}
 use Rattle.pfl_base.specs.declared.state_name.StateName.{StateName}
-use Rattle.pfl_base.specs.Names.{name_cmp, names_total}
+use Rattle.pfl_base.specs.Names.{name_cmp}
+use Rattle.pfl_base.proofs.Names.{names_total}
 use Rattle.pfl_bulk.specs.Bulk.{after}
 use Rattle.pfl_edits.specs.Maps as maps
 use Rattle.pfl_edits.specs.Maps.{entries_sorted}

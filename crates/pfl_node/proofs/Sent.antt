@@ -13,7 +13,7 @@ use Rattle.pfl_queue.specs.declared.Entry.{Entry}
 use Rattle.pfl_queue.specs.declared.Entry.TheVariants.{Marked, Request, Status, Clear}
 use Rattle.pfl_queue.specs.declared.Kind.{Kind}
 use Rattle.pfl_queue.specs.declared.Kind.TheVariants.{Insert, InsertAck, Update, UpdateShort, Delete}
-use Rattle.pfl_queue.specs.Fitting.{entry_bytes}
+use Rattle.pfl_queue.specs.inner.Fitting.{entry_bytes}
 use Rattle.pfl_queue.specs.Queues.{pending}
 use Rattle.pfl_queue.specs.Taking.{in_turn, gone, left_by, next_frame}
 use Rattle.pfl_queue.proofs.Carried.{frame_carries, pending-in_turn}
@@ -21,13 +21,13 @@ use Rattle.pfl_queue.proofs.Framed.{Stands, frame_stands, frame_begins, frame_fi
 use Rattle.pfl_parts.specs.declared.edit.NodeEdit.{NodeEdit}
 use Rattle.pfl_parts.specs.Edits.{NodeExtends}
 use Rattle.pfl_parts.specs.Nodes.{Node, AreParts, IsRefusal, is_overcounted}
-use Rattle.pfl_parts.specs.Judging.{judged_as}
+use Rattle.pfl_parts.specs.inner.Judging.{judged_as}
 use Rattle.pfl_base.specs.declared.refusal.Refusal.TheVariants.{NothingPending, NoMemory}
 use Rattle.pfl_base.specs.declared.refusal.Refusal.{Refusal}
 use Rattle.pfl_parts.specs.Changes.{put_state}
 use Rattle.pfl_node.specs.Flushing.{frame_of, flushed, update_count_cleared, flush_refusal}
-use Rattle.pfl_node.specs.Sending.{IsTold, frame_with}
-use Rattle.pfl_parts.specs.Taking.{taken_from}
+use Rattle.pfl_node.specs.inner.Sending.{IsTold, frame_with}
+use Rattle.pfl_parts.specs.inner.Taking.{taken_from}
 use Rattle.pfl_parts.proofs.Taking.{frame_entries, left-next}
 use Rattle.pfl_parts.proofs.Recording.{extends-none, extends-then, extends-more}
 

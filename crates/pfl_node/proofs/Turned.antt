@@ -7,13 +7,15 @@ use Rattle.std.proofs.lemmas.Bool.Decides.{nat_tests}
 use Rattle.std.proofs.lemmas.List.{length-append, length-map, take-append-drop, take_all}
 use Rattle.std.proofs.lemmas.List.Sums.{fold_more, fold-append}
 use Rattle.pfl_base.specs.declared.state_name.StateName.{StateName}
-use Rattle.pfl_base.specs.Names.{name_cmp, names_total}
-use Rattle.pfl_bulk.specs.Bulk.{after, first_names, turn_names, is_last_turn, after_turn, turn_names-first, is_last_turn-first, after_turn-first}
+use Rattle.pfl_base.specs.Names.{name_cmp}
+use Rattle.pfl_base.proofs.Names.{names_total}
+use Rattle.pfl_bulk.specs.Bulk.{after, first_names, turn_names, is_last_turn, after_turn}
+use Rattle.pfl_bulk.proofs.FirstNames.{turn_names-first, is_last_turn-first, after_turn-first}
 use Rattle.pfl_bulk.specs.declared.BulkServer.{BulkServer}
 use Rattle.pfl_bulk.specs.declared.BulkServer.TheVariants as server
 use Rattle.pfl_edits.specs.Changes.{Edits}
 use Rattle.pfl_edits.specs.Maps as maps
-use Rattle.pfl_edits.specs.Maps.{len-insert, len-entries}
+use Rattle.pfl_edits.proofs.Maps.{len-insert, len-entries}
 use Rattle.pfl_edits.specs.Ordered.{IsRising}
 use Rattle.pfl_queue.specs.declared.Kind.{Kind}
 use Rattle.pfl_queue.specs.declared.Kind.TheVariants.{Update}
@@ -25,7 +27,7 @@ use Rattle.pfl_parts.specs.declared.edit.NodeEdit.{NodeEdit}
 use Rattle.pfl_parts.specs.declared.limits.Limits.{Limits}
 use Rattle.pfl_parts.specs.Changes.{mark, tell_status}
 use Rattle.pfl_parts.specs.Edits.{NodeExtends}
-use Rattle.pfl_parts.specs.Kept.{MayMark}
+use Rattle.pfl_parts.specs.inner.Kept.{MayMark}
 use Rattle.pfl_parts.specs.Nodes.{Node, AreParts, ServesSince, is_overfull}
 use Rattle.pfl_parts.proofs.Putting.{told-may}
 use Rattle.pfl_parts.proofs.Recording.{extends-none, extends-then, extends-more}

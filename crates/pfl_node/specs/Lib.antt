@@ -1,9 +1,6 @@
-pub mod Room
 pub mod Starting
 pub mod Packets
-pub mod Carried
 pub mod Flushing
-pub mod Sending
 pub mod Ticking
 pub mod Purging
 pub mod Releasing
@@ -15,3 +12,5 @@ pub mod Delivering
 pub mod Stepping
 pub mod Events
 pub mod Laws
+pub mod inner
+pub mod Weights

@@ -6,9 +6,10 @@ ghost use Rattle.pfl_edits.specs.Maps as maps;
 ghost use Rattle.pfl_node.specs.Clearing as clearing;
 ghost use Rattle.pfl_parts.specs.Changes.{forgotten};
 ghost use Rattle.pfl_parts.specs.Edits.{NodeExtends, NodeLeadsBack, total};
-ghost use Rattle.pfl_parts.specs.Judging.{Went};
+ghost use Rattle.pfl_parts.specs.inner.Judging.{Went};
 ghost use Rattle.pfl_parts.specs.Nodes.{Node as Whole, IsRefusal};
 ghost use Rattle.pfl_queue.specs.Queues.{most_numbers};
+ghost use Rattle.pfl_parts.specs.Weights.{forgotten_edits, listed_edits};
 
 use crate::node::Node;
 use pfl_base::{Refusal, StateName};
@@ -25,7 +26,7 @@ impl<A: Allocator + Copy> Node<A> {
         ensures node { OnOk result (self.new ≡ clearing.cleared self.old) }
         ensures count { IfOk result (λ r. r.0 ≡ maps.len self.old.states) }
         ensures leads_back { IfOk result (λ r. NodeLeadsBack r.1.list self.old self.new) }
-        ensures weight { IfOk result (λ r. length r.1.list ≤ 4 * maps.len self.old.states + 2) }
+        ensures weight { IfOk result (λ r. length r.1.list ≤ forgotten_edits * maps.len self.old.states + listed_edits) }
     {
         let tried = clear(&mut self.parts, &mut self.edits);
         settle(self.alloc, &mut self.parts, &mut self.edits, tried)

@@ -11,9 +11,10 @@ ghost use Rattle.pfl_parts.specs.Changes as to;
 ghost use Rattle.pfl_parts.specs.Edits.{NodeLeadsBack, NodeExtends};
 ghost use Rattle.pfl_node.specs.Flushing as flushing;
 ghost use Rattle.pfl_parts.specs.Nodes.{Node as Whole, AreParts, IsRefusal};
-ghost use Rattle.pfl_parts.specs.Taking.{taken_from};
+ghost use Rattle.pfl_parts.specs.inner.Taking.{taken_from};
 ghost use Rattle.pfl_queue.specs.Taking.{next_frame};
 ghost use Rattle.pfl_wire.specs.Spelling.{spelling};
+ghost use Rattle.pfl_node.specs.Weights.{sent_edits};
 
 use crate::flush::frame::bytes_of;
 use crate::node::Node;
@@ -34,7 +35,7 @@ impl<A: Allocator + Copy> Node<A> {
         ensures bytes { IfOk result (λ r. r.0.items ≡ spelling (flushing.frame_of self.old)) }
         ensures carries { OnOk result (0 < length (next_frame self.old.queue self.old.limits.mtu)) }
         ensures leads_back { IfOk result (λ r. NodeLeadsBack r.1.list self.old self.new) }
-        ensures weight { IfOk result (λ r. length r.1.list ≤ 1 + 2 * length (next_frame self.old.queue self.old.limits.mtu)) }
+        ensures weight { IfOk result (λ r. length r.1.list ≤ 1 + sent_edits * length (next_frame self.old.queue self.old.limits.mtu)) }
     {
         if let Some(refusal) = self.flush_refusal() {
             return Err(refusal);

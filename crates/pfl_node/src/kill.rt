@@ -5,9 +5,10 @@ ghost use Rattle.pfl_edits.specs.Maps as maps;
 ghost use Rattle.pfl_node.specs.Killing as killing;
 ghost use Rattle.pfl_parts.specs.Changes.{deleted};
 ghost use Rattle.pfl_parts.specs.Edits.{NodeExtends, NodeLeadsBack, total};
-ghost use Rattle.pfl_parts.specs.Judging.{Went};
+ghost use Rattle.pfl_parts.specs.inner.Judging.{Went};
 ghost use Rattle.pfl_parts.specs.Nodes.{Node as Whole, IsRefusal};
 ghost use Rattle.pfl_queue.specs.Queues.{most_numbers};
+ghost use Rattle.pfl_parts.specs.Weights.{deleted_edits};
 
 use crate::node::Node;
 use pfl_base::{Refusal, StateName};
@@ -25,7 +26,7 @@ impl<A: Allocator + Copy> Node<A> {
         ensures node { OnOk result (self.new ≡ killing.killed self.old name) }
         ensures state { IfOk result (λ r. maps.get self.old.states name ≡ Some r.0) }
         ensures leads_back { IfOk result (λ r. NodeLeadsBack r.1.list self.old self.new) }
-        ensures weight { IfOk result (λ r. length r.1.list ≤ 5) }
+        ensures weight { IfOk result (λ r. length r.1.list ≤ deleted_edits) }
     {
         let Some(state) = self.states().by_name(name).copied() else {
             return Err(Refusal::NoSuchState);

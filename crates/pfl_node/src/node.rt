@@ -3,7 +3,7 @@
 mod readers;
 
 ghost use Rattle.std.specs.Prelude.{◌≡◌, IfOk};
-ghost use Rattle.pfl_node.specs.Room.{most_edits as most};
+ghost use Rattle.pfl_node.specs.inner.Room.{most_edits as most};
 ghost use Rattle.pfl_parts.specs.Limits.{AreLimits};
 ghost use Rattle.pfl_parts.specs.Nodes.{Node as Whole, IsNode, new_node};
 
@@ -26,7 +26,7 @@ pub struct Node<A: Allocator> {
 impl<A: Allocator> Model for Node<A> {
     ghost use Rattle.pfl_parts.specs.Nodes.{Node, IsNode};
     ghost use Rattle.pfl_parts.specs.Codes.{coded_node};
-    ghost use Rattle.pfl_node.specs.Room.{IsReady};
+    ghost use Rattle.pfl_node.specs.inner.Room.{IsReady};
 
     ghost Value = { Node };
 
@@ -87,7 +87,8 @@ pub(crate) fn most_edits(limits: &Limits) -> usize
 
 impl<A: Allocator> Reversible for Node<A> {
     ghost use Rattle.pfl_parts.specs.Nodes.{IsNode};
-    ghost use Rattle.pfl_parts.specs.Edits.{Finds, FindsFormer, put_back, redone, edit-both_ways};
+    ghost use Rattle.pfl_parts.specs.Edits.{Finds, FindsFormer, put_back, redone};
+    ghost use Rattle.pfl_parts.specs.inner.BothWays.{edit-both_ways};
 
     type Edit = NodeEdit;
 

@@ -9,14 +9,15 @@ ghost use Rattle.pfl_base.specs.Packets.{IsPacket};
 ghost use Rattle.pfl_edits.specs.Maps as maps;
 ghost use Rattle.pfl_parts.specs.Changes as to;
 ghost use Rattle.pfl_parts.specs.Edits.{NodeLeadsBack, total};
-ghost use Rattle.pfl_node.specs.Carried.{Handles, Tried};
-ghost use Rattle.pfl_parts.specs.Kept.{MayReplace};
+ghost use Rattle.pfl_node.specs.inner.Carried.{Handles, Tried};
+ghost use Rattle.pfl_parts.specs.inner.Kept.{MayReplace};
 ghost use Rattle.pfl_parts.specs.Nodes.{Node as Whole, AreParts, IsRefusal, points_refusal};
 ghost use Rattle.pfl_node.specs.Packets.{handled, packet_points, followed, on_the_way, accepted};
 ghost use Rattle.pfl_node.specs.Starting.{judged, pass};
 ghost use Rattle.pfl_queue.specs.Queues.{most_numbers};
 ghost use Rattle.pfl_table.specs.Tables.{found};
 ghost use Rattle.pfl_track.specs.Tracking.{tracked};
+ghost use Rattle.pfl_node.specs.Weights.{packet_edits};
 
 use crate::fate::{Fate, Reason};
 use crate::node::Node;
@@ -39,7 +40,7 @@ impl<A: Allocator + Copy> Node<A> {
         ensures not_refused { OnOk result (points_refusal (packet_points self.old dir packet.now) ≡ None) }
         ensures step { IfOk result (λ r. record { fate = r.0; node = self.new } ≡ handled self.old dir packet.now) }
         ensures leads_back { IfOk result (λ r. NodeLeadsBack r.1.list self.old self.new) }
-        ensures weight { IfOk result (λ r. length r.1.list ≤ 24) }
+        ensures weight { IfOk result (λ r. length r.1.list ≤ packet_edits) }
     {
         let tried = handle(&mut self.parts, dir, packet, &mut self.edits);
         settle(self.alloc, &mut self.parts, &mut self.edits, tried)

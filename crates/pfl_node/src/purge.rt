@@ -4,9 +4,10 @@ ghost use Rattle.std.specs.List.{slice_get};
 ghost use Rattle.std.specs.Prelude.{◌≡◌, ◌≤◌, ◌+◌, ◌*◌, None, IfOk, IfErr, OnOk, OnErr, length};
 ghost use Rattle.pfl_parts.specs.Edits.{NodeExtends, NodeLeadsBack, total};
 ghost use Rattle.pfl_node.specs.Purging as event;
-ghost use Rattle.pfl_parts.specs.Judging.{Went};
+ghost use Rattle.pfl_parts.specs.inner.Judging.{Went};
 ghost use Rattle.pfl_parts.specs.Nodes.{Node as Whole, AreParts, IsRefusal, points_refusal};
 ghost use Rattle.pfl_queue.specs.Queues.{most_numbers};
+ghost use Rattle.pfl_parts.specs.Weights.{deleted_edits};
 
 use crate::node::Node;
 use pfl_base::Refusal;
@@ -25,7 +26,7 @@ impl<A: Allocator + Copy> Node<A> {
         ensures node { OnOk result (self.new ≡ event.purged self.old) }
         ensures count { IfOk result (λ r. r.0 ≡ length (event.expired_states self.old)) }
         ensures leads_back { IfOk result (λ r. NodeLeadsBack r.1.list self.old self.new) }
-        ensures weight { IfOk result (λ r. length r.1.list ≤ 5 * length (event.expired_states self.old)) }
+        ensures weight { IfOk result (λ r. length r.1.list ≤ deleted_edits * length (event.expired_states self.old)) }
     {
         let tried = purge(&mut self.parts, &mut self.edits);
         settle(self.alloc, &mut self.parts, &mut self.edits, tried)

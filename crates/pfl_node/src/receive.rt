@@ -4,13 +4,15 @@ ghost use Rattle.std.specs.Prelude.{◌≡◌, ◌≤◌, ◌<◌, ◌+◌, ◌*
 ghost use Rattle.pfl_base.specs.declared.refusal.Refusal.TheVariants as refusal;
 ghost use Rattle.pfl_edits.specs.Maps as maps;
 ghost use Rattle.pfl_node.specs.Delivering as delivering;
-ghost use Rattle.pfl_node.specs.Room.{IsReady};
+ghost use Rattle.pfl_node.specs.inner.Delivering.{Receives};
+ghost use Rattle.pfl_node.specs.inner.Room.{IsReady};
 ghost use Rattle.pfl_parts.specs.Changes as to;
 ghost use Rattle.pfl_parts.specs.Edits.{NodeExtends, NodeLeadsBack, total};
-ghost use Rattle.pfl_parts.specs.Judging.{Went};
+ghost use Rattle.pfl_parts.specs.inner.Judging.{Went};
 ghost use Rattle.pfl_parts.specs.Nodes.{Node as Whole, IsNode, IsRefusal};
 ghost use Rattle.pfl_queue.specs.Queues.{most_numbers};
 ghost use Rattle.pfl_receive.specs.Delivering as receiving;
+ghost use Rattle.pfl_receive.specs.inner.Delivering as paying;
 
 use crate::node::{Node, most_edits};
 use pfl_base::Refusal;
@@ -31,7 +33,7 @@ impl<A: Allocator + Copy> Node<A> {
         ensures node { OnOk result (self.new ≡ receiving.received self.old frame.now) }
         ensures count { IfOk result (λ r. r.0 ≡ length (receiving.records_of frame.now)) }
         ensures leads_back { IfOk result (λ r. NodeLeadsBack r.1.list self.old self.new) }
-        ensures weight { IfOk result (λ r. length r.1.list ≤ 12 * receiving.frame_work self.old frame.now) }
+        ensures weight { IfOk result (λ r. length r.1.list ≤ receiving.work_edits * receiving.frame_work self.old frame.now) }
     {
         receive(self.alloc, &mut self.parts, frame, &mut self.edits)
     }
@@ -75,7 +77,7 @@ fn receive<A: Allocator + Copy>(
 ) -> Result<(usize, Change<NodeEdit, A>), Refusal>
     requires node { IsNode parts.old }
     requires ready { IsReady parts.old.limits own.old }
-    ensures done { delivering.Receives result parts.old parts.new frame.now }
+    ensures done { Receives result parts.old parts.new frame.now }
     ensures ready { IsReady parts.new.limits own.new }
 {
     let Some(count) = count_records(frame) else {
@@ -96,7 +98,7 @@ fn receive_counted<A: Allocator + Copy>(
     requires ready { IsReady parts.old.limits own.old }
     requires count { count ≡ length (receiving.records_of frame.now) }
     requires few { count ≤ receiving.most_records }
-    ensures done { delivering.Receives result parts.old parts.new frame.now }
+    ensures done { Receives result parts.old parts.new frame.now }
     ensures ready { IsReady parts.new.limits own.new }
 {
     let room = most_taken(parts.states().len(), count);
@@ -112,7 +114,7 @@ fn receive_counted<A: Allocator + Copy>(
 fn most_taken(states: usize, records: usize) -> usize
     requires states { states ≤ 65536 }
     requires records { records ≤ 65536 }
-    ensures most { result ≡ receiving.most_taken states records }
+    ensures most { result ≡ paying.most_taken states records }
 {
     4 * (states + records) + 8 * records
 }
@@ -127,9 +129,9 @@ fn receive_apart<A: Allocator + Copy>(
 ) -> Result<(usize, Change<NodeEdit, A>), Refusal>
     requires node { IsNode parts.old }
     requires count { count ≡ length (receiving.records_of frame.now) }
-    requires room { receiving.most_taken (maps.len parts.old.states) count ≤ room }
+    requires room { paying.most_taken (maps.len parts.old.states) count ≤ room }
     requires countable { total parts.old + room ≤ most_numbers }
-    ensures done { delivering.Receives result parts.old parts.new frame.now }
+    ensures done { Receives result parts.old parts.new frame.now }
 {
     let mut change = room_for(alloc, room)?;
     receive_in(alloc, parts, frame, count, &mut change)
@@ -158,9 +160,9 @@ fn receive_in<A: Allocator + Copy>(
     requires node { IsNode parts.old }
     requires none { change.old.list ≡ [] }
     requires count { count ≡ length (receiving.records_of frame.now) }
-    requires room { receiving.most_taken (maps.len parts.old.states) count ≤ change.old.spare }
+    requires room { paying.most_taken (maps.len parts.old.states) count ≤ change.old.spare }
     requires countable { total parts.old + change.old.spare ≤ most_numbers }
-    ensures done { delivering.Receives result parts.old parts.new frame.now }
+    ensures done { Receives result parts.old parts.new frame.now }
     ensures none { change.new.list ≡ [] }
     ensures room { change.new.spare ≡ change.old.spare }
 {
@@ -176,7 +178,7 @@ fn take_counted<A: Allocator>(
     change: &mut Change<NodeEdit, A>,
 ) -> Result<(usize, bool), Overfull>
     requires count { count ≡ length (receiving.records_of frame.now) }
-    requires room { receiving.most_taken (maps.len parts.old.states) count ≤ change.old.spare }
+    requires room { paying.most_taken (maps.len parts.old.states) count ≤ change.old.spare }
     requires countable { total parts.old + change.old.spare ≤ most_numbers }
     ensures went { Went result (receiving.receive_points parts.old frame.now) }
     ensures node { OnOk result (parts.new ≡ receiving.received parts.old frame.now) }

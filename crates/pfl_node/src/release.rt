@@ -5,9 +5,10 @@ ghost use Rattle.std.specs.Prelude.{◌≡◌, ◌≤◌, ◌*◌, ◌+◌, ◌=
 ghost use Rattle.pfl_base.specs.declared.refusal.Refusal.TheVariants as refusal;
 ghost use Rattle.pfl_node.specs.Releasing as releasing;
 ghost use Rattle.pfl_parts.specs.Edits.{NodeExtends, NodeLeadsBack, total};
-ghost use Rattle.pfl_parts.specs.Judging.{judged_as};
+ghost use Rattle.pfl_parts.specs.inner.Judging.{judged_as};
 ghost use Rattle.pfl_parts.specs.Nodes.{Node as Whole, AreParts, IsRefusal, is_overcounted, refused_by};
 ghost use Rattle.pfl_queue.specs.Queues.{most_numbers};
+ghost use Rattle.pfl_parts.specs.Weights.{released_edits};
 
 use crate::node::Node;
 use pfl_base::{Refusal, StateName};
@@ -24,7 +25,7 @@ impl<A: Allocator + Copy> Node<A> {
         ensures node { OnOk result (self.new ≡ releasing.released_due self.old) }
         ensures count { IfOk result (λ r. r.0 ≡ length (releasing.due_names self.old)) }
         ensures leads_back { IfOk result (λ r. NodeLeadsBack r.1.list self.old self.new) }
-        ensures weight { IfOk result (λ r. length r.1.list ≤ 3 * length (releasing.due_names self.old)) }
+        ensures weight { IfOk result (λ r. length r.1.list ≤ released_edits * length (releasing.due_names self.old)) }
     {
         if self.held().is_empty() {
             return Err(Refusal::NothingPending);

@@ -4,8 +4,9 @@ ghost use Rattle.std.specs.Prelude.{◌≡◌, ◌≤◌, [], ◌∷◌, None, I
 ghost use Rattle.pfl_bulk.specs.Bulk.{asks_again, retried};
 ghost use Rattle.pfl_node.specs.Retrying as retrying;
 ghost use Rattle.pfl_parts.specs.Edits.{NodeExtends, NodeLeadsBack};
-ghost use Rattle.pfl_parts.specs.Judging.{Went};
+ghost use Rattle.pfl_parts.specs.inner.Judging.{Went};
 ghost use Rattle.pfl_parts.specs.Nodes.{Node as Whole, IsRefusal};
+ghost use Rattle.pfl_node.specs.Weights.{retried_edits};
 
 use crate::node::Node;
 use crate::retried::Retried;
@@ -27,7 +28,7 @@ impl<A: Allocator + Copy> Node<A> {
         ensures node { OnOk result (self.new ≡ retrying.retried_client self.old) }
         ensures answer { IfOk result (λ r. r.0 ≡ retrying.retry_answer self.old) }
         ensures leads_back { IfOk result (λ r. NodeLeadsBack r.1.list self.old self.new) }
-        ensures weight { IfOk result (λ r. length r.1.list ≤ 3) }
+        ensures weight { IfOk result (λ r. length r.1.list ≤ retried_edits) }
     {
         let wait = u64::from(self.limits().bulk_ms);
         let retry = self.client().retry(wait, self.clock())?;

@@ -4,6 +4,7 @@ ghost use Rattle.std.specs.Prelude.{◌≡◌, ◌≤◌, None, IfOk, IfErr, OnO
 ghost use Rattle.pfl_parts.specs.Edits.{NodeLeadsBack};
 ghost use Rattle.pfl_node.specs.Ticking as event;
 ghost use Rattle.pfl_parts.specs.Nodes.{IsRefusal};
+ghost use Rattle.pfl_node.specs.Weights.{ticked_edits};
 
 use crate::node::Node;
 use pfl_base::{Millis, Refusal};
@@ -37,7 +38,7 @@ impl<A: Allocator + Copy> Node<A> {
         ensures node { OnOk result (self.new ≡ event.ticked self.old ms) }
         ensures clock { IfOk result (λ r. r.0 ≡ self.new.clock) }
         ensures leads_back { IfOk result (λ r. NodeLeadsBack r.1.list self.old self.new) }
-        ensures weight { IfOk result (λ r. length r.1.list ≤ 12) }
+        ensures weight { IfOk result (λ r. length r.1.list ≤ ticked_edits) }
     {
         if let Some(refusal) = self.tick_refusal(ms) {
             return Err(refusal);

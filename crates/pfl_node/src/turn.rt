@@ -5,11 +5,12 @@ ghost use Rattle.std.specs.Prelude.{◌≡◌, ◌≤◌, ◌+◌, ◌∷◌, []
 ghost use Rattle.pfl_bulk.specs.Bulk.{first_names};
 ghost use Rattle.pfl_node.specs.Turning as turning;
 ghost use Rattle.pfl_parts.specs.Edits.{NodeExtends, NodeLeadsBack, total};
-ghost use Rattle.pfl_parts.specs.Judging.{Went};
-ghost use Rattle.pfl_parts.specs.Kept.{MayMark};
+ghost use Rattle.pfl_parts.specs.inner.Judging.{Went};
+ghost use Rattle.pfl_parts.specs.inner.Kept.{MayMark};
 ghost use Rattle.pfl_parts.specs.Nodes.{Node as Whole, AreParts, IsRefusal, is_overfull};
 ghost use Rattle.pfl_queue.specs.Queues.{most_numbers};
 ghost use Rattle.pfl_queue.specs.declared.Kind.TheVariants as kind;
+ghost use Rattle.pfl_node.specs.Weights.{turned_edits};
 
 use crate::node::Node;
 use pfl_base::{Millis, Refusal, StateName};
@@ -37,7 +38,7 @@ impl<A: Allocator + Copy> Node<A> {
         ensures node { OnOk result (self.new ≡ turning.turned self.old) }
         ensures count { IfOk result (λ r. r.0 ≡ length (turning.turn_of self.old)) }
         ensures leads_back { IfOk result (λ r. NodeLeadsBack r.1.list self.old self.new) }
-        ensures weight { IfOk result (λ r. length r.1.list ≤ length (turning.turn_of self.old) + 3) }
+        ensures weight { IfOk result (λ r. length r.1.list ≤ length (turning.turn_of self.old) + turned_edits) }
     {
         if !self.server().is_serving() {
             return Err(Refusal::NotSyncing);

@@ -2,11 +2,13 @@
 use Rattle.std.specs.Prelude.{◌≡◌, ◌≤◌, ℕ, ◌+◌, ◌-◌, Bool, true, false, not, ◌&&◌, Option, Some, None, refl}
 use Rattle.std.proofs.Common.{cond, ◌∙◌, ap, sym, subst, arith, inl, inr}
 use Rattle.pfl_base.specs.declared.state_name.StateName.{StateName}
-use Rattle.pfl_base.specs.Names.{name_cmp, names_total, names_exact}
+use Rattle.pfl_base.specs.Names.{name_cmp}
+use Rattle.pfl_base.proofs.Names.{names_total, names_exact}
 use Rattle.pfl_edits.specs.Maps as maps
-use Rattle.pfl_edits.specs.Maps.{Map, len-remove}
-use Rattle.pfl_edits.specs.Places.{get-set_at_same, get-set_at_other, get-set_at_cases, set_at-set_at, key_cases}
-use Rattle.pfl_edits.specs.Rows.{some_is_none}
+use Rattle.pfl_edits.specs.Maps.{Map}
+use Rattle.pfl_edits.proofs.Maps.{len-remove}
+use Rattle.pfl_edits.proofs.Places.{get-set_at_same, get-set_at_other, get-set_at_cases, set_at-set_at, key_cases}
+use Rattle.pfl_edits.proofs.RowMaps.{some_is_none}
 use Rattle.pfl_rules.specs.Rules.{Rules}
 use Rattle.pfl_track.specs.declared.state.State.{State}
 use Rattle.pfl_table.specs.Tables.{States}

@@ -2,7 +2,8 @@
 use Rattle.std.specs.Prelude.{◌≡◌, ◌≤◌, ℕ, ◌+◌, Bool, true, false, [], ◌∷◌, ◌++◌, Option, Some, None, if◌then◌else◌, refl}
 use Rattle.std.proofs.Common.{cond, ◌∙◌, ap, sym, arith}
 use Rattle.pfl_base.specs.declared.state_name.StateName.{StateName}
-use Rattle.pfl_edits.specs.Changes.{Edits, LeadsBack-one}
+use Rattle.pfl_edits.specs.Changes.{Edits}
+use Rattle.pfl_edits.proofs.Leading.{LeadsBack-one}
 use Rattle.pfl_wire.specs.declared.message.BulkStatus.{BulkStatus}
 use Rattle.pfl_queue.specs.declared.QueueFault.{QueueFault}
 use Rattle.pfl_queue.specs.declared.edits.QueueEdit.{QueueEdit}

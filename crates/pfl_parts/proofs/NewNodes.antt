@@ -6,11 +6,12 @@ use Rattle.std.proofs.lemmas.Bool.{le-ltb}
 use Rattle.pfl_base.specs.Names.{name_cmp}
 use Rattle.pfl_base.specs.declared.state_name.StateName.{StateName}
 use Rattle.pfl_edits.specs.Maps as maps
-use Rattle.pfl_edits.specs.Maps.{get-empty, len-empty}
-use Rattle.pfl_edits.specs.Rows.{some_is_none}
+use Rattle.pfl_edits.proofs.Maps.{get-empty, len-empty}
+use Rattle.pfl_edits.proofs.RowMaps.{some_is_none}
 use Rattle.pfl_rules.specs.Rules.{Rules}
 use Rattle.pfl_track.specs.declared.state.State.{State}
-use Rattle.pfl_table.specs.Tables.{Table, AreStates, states_of-empty}
+use Rattle.pfl_table.specs.Tables.{Table, AreStates}
+use Rattle.pfl_table.proofs.Tables.{states_of-empty}
 use Rattle.pfl_queue.specs.declared.Mark.{Mark}
 use Rattle.pfl_queue.specs.Queues.{Queue, IsQueue, empty_queue}
 use Rattle.pfl_defer.specs.Deferring.{Deferrals, IsDeferrals, no_deferrals}
@@ -19,7 +20,7 @@ use Rattle.pfl_bulk.specs.declared.BulkClient.TheVariants as client
 use Rattle.pfl_parts.specs.declared.limits.Limits.{Limits}
 use Rattle.pfl_parts.specs.Laws.{NewNodesAreNodes}
 use Rattle.pfl_parts.specs.declared.counters.Counters.{Counters}
-use Rattle.pfl_parts.specs.Kept.{node_of}
+use Rattle.pfl_parts.specs.inner.Kept.{node_of}
 use Rattle.pfl_parts.specs.Nodes.{new_node, no_counts, greatest}
 
 -- an empty map has nothing at a name

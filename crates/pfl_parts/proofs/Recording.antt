@@ -3,10 +3,12 @@ use Rattle.std.specs.Prelude.{◌≡◌, ◌≤◌, ℕ, ◌+◌, Bool, true, fa
 use Rattle.std.proofs.Common.{cond, ◌∙◌, ap, sym, subst, arith, length-append}
 use Rattle.std.proofs.lemmas.Bool.Decides.{nat_tests}
 use Rattle.pfl_base.specs.declared.state_name.StateName.{StateName}
-use Rattle.pfl_base.specs.Names.{names_total, is_name}
-use Rattle.pfl_edits.specs.Changes.{Edits, LeadsBack, LeadsBack-one, LeadsBack-append}
+use Rattle.pfl_base.proofs.Names.{names_total}
+use Rattle.pfl_base.specs.Names.{is_name}
+use Rattle.pfl_edits.specs.Changes.{Edits, LeadsBack}
+use Rattle.pfl_edits.proofs.Leading.{LeadsBack-one, LeadsBack-append}
 use Rattle.pfl_edits.specs.Maps as maps
-use Rattle.pfl_edits.specs.Maps.{len-insert}
+use Rattle.pfl_edits.proofs.Maps.{len-insert}
 use Rattle.pfl_queue.specs.declared.Kind.{Kind}
 use Rattle.pfl_queue.specs.declared.Mark.{Mark}
 use Rattle.pfl_queue.specs.declared.QueueFault.{QueueFault}
@@ -16,13 +18,14 @@ use Rattle.pfl_queue.specs.Queues.{Queue, pending, marked, room_fault}
 use Rattle.pfl_defer.specs.declared.edits.DeferEdit.{DeferEdit}
 use Rattle.pfl_defer.specs.Deferring.{Deferrals, let_go}
 use Rattle.pfl_defer.specs.Edits.{DefersBack}
-use Rattle.pfl_defer.specs.Kept.{let_go-keeps, kept_stood}
+use Rattle.pfl_defer.proofs.Kept.{let_go-keeps, kept_stood}
 use Rattle.pfl_parts.specs.declared.edit.Counter.{Counter}
 use Rattle.pfl_parts.specs.declared.edit.Counter.TheVariants.{Passed, Blocked, Freed, Lost, Bad, Stale, Broken}
 use Rattle.pfl_parts.specs.declared.edit.NodeEdit.{NodeEdit}
 use Rattle.pfl_parts.specs.declared.edit.NodeEdit.TheVariants.{OfState, OfQueue, OfHeld, Server, Client, Clock, NextId, Push, Count}
 use Rattle.pfl_parts.specs.Changes.{without_held, mark}
-use Rattle.pfl_parts.specs.Edits.{Finds, FindsFormer, put_back, redone, edit-both_ways, NodeExtends, total, count_of}
+use Rattle.pfl_parts.specs.Edits.{Finds, FindsFormer, put_back, redone, NodeExtends, total, count_of}
+use Rattle.pfl_parts.specs.inner.BothWays.{edit-both_ways}
 use Rattle.pfl_parts.specs.Nodes.{Node, AreParts, is_overfull}
 use Rattle.pfl_parts.proofs.Keeps.{keeps_held}
 

@@ -1,21 +1,18 @@
 -- What was carried out and is not refused leads back through nodes; what is refused is refused for its points.
-use Rattle.std.specs.Prelude.{◌≡◌, ◌≤◌, ℕ, ◌+◌, ◌*◌, Bool, true, false, List, [], ◌∷◌, length, Option, Some, None, Result, Ok, Err, IfOk, IfErr, OnOk, OnErr, if◌then◌else◌, refl}
+use Rattle.std.specs.Prelude.{◌≡◌, ◌≤◌, Bool, true, false, List, [], ◌∷◌, Some, None, Result, Ok, Err, IfOk, OnOk, if◌then◌else◌, refl}
 use Rattle.std.specs.List.{list_any}
-use Rattle.std.proofs.Common.{◌∙◌, ap, sym, subst, arith}
+use Rattle.std.proofs.Common.{◌∙◌, ap, sym, subst}
 use Rattle.pfl_base.specs.declared.refusal.Refusal.{Refusal}
 use Rattle.pfl_base.specs.declared.refusal.Refusal.TheVariants.{QueueFull, CountFull}
-use Rattle.pfl_edits.specs.Changes.{Edits, Fits, LeadsBack, back, LeadsBack-none}
+use Rattle.pfl_edits.specs.Changes.{Edits, Fits, LeadsBack, back}
 use Rattle.pfl_queue.specs.declared.edits.QueueEdit.TheVariants.{OfMark, OfName, OfRequest, OfStatus, OfClear}
-use Rattle.pfl_queue.specs.Queues.{most_numbers}
 use Rattle.pfl_parts.specs.declared.edit.Counter.TheVariants.{Passed, Blocked, Freed, Lost, Bad, Stale, Broken}
 use Rattle.pfl_parts.specs.declared.edit.NodeEdit.{NodeEdit}
 use Rattle.pfl_parts.specs.declared.edit.NodeEdit.TheVariants.{OfState, OfQueue, OfHeld, Server, Client, Clock, NextId, Push, Count}
 use Rattle.pfl_parts.specs.declared.parts.judge.Overfull.{Overfull}
-use Rattle.pfl_parts.specs.declared.limits.Limits.{Limits}
-use Rattle.pfl_parts.specs.Edits.{Finds, put_back, NodeExtends, NodeLeadsBack, total}
-use Rattle.pfl_parts.specs.Judging.{Went, judgement}
-use Rattle.pfl_parts.specs.Kept.{IsReady, most_edits}
-use Rattle.pfl_parts.specs.Nodes.{Node, AreParts, IsNode, IsRefusal, is_overfull, is_overcounted, refused_by, points_refusal, greatest}
+use Rattle.pfl_parts.specs.Edits.{Finds, put_back, NodeLeadsBack}
+use Rattle.pfl_parts.specs.inner.Judging.{Went, judgement}
+use Rattle.pfl_parts.specs.Nodes.{Node, AreParts, IsNode, is_overfull, is_overcounted, refused_by, points_refusal, greatest}
 use Rattle.pfl_parts.proofs.Keeps.{counted_all, all_counted}
 
 -- ---- the way back is through nodes
@@ -71,41 +68,6 @@ through_nodes (e ∷ es) n f c =
 pub leads_through : (es : List NodeEdit) (a b : Node) → LeadsBack Finds AreParts put_back es a b → is_overcounted b ≡ false → NodeLeadsBack es a b
 leads_through es a b l c = record { fits = (through_nodes es b l.fits c).0; back = l.back }
 
--- ---- from a node that is ready
-
--- what a node is, from which an event begins
-pub record Begins (n : Node) (x : Edits NodeEdit) : Type 0 where
-  pub room : most_edits n.limits ≤ x.spare
-  pub countable : total n + x.spare ≤ most_numbers
-
-small : (n : Node) → is_overcounted n ≡ false → total n ≤ 9 * greatest
-unfolding total
-small n c = let k = counted_all n c in omega (arith, k.next_id, k.next, k.passed, k.blocked, k.freed, k.lost, k.bad, k.stale, k.broken)
-
-pub begins : (n : Node) (x : Edits NodeEdit) → IsNode n → IsReady n.limits x → Begins n x
-begins n x is ready =
-    let states = is.parts.limits.0.1 in
-    let room = ready.room in
-    record { room = omega (arith, room); countable = omega (arith, small n is.counted, states, room) }
-
--- what was recorded from there on
-pub record Back (k : ℕ) (l : Limits) (a b : Node) (y : Edits NodeEdit) : Type 0 where
-  pub leads : LeadsBack Finds AreParts put_back y.list a b
-  pub few : length y.list ≤ k
-  pub room : y.spare + length y.list ≡ most_edits l
-
-pub recorded-back : (k : ℕ) (l : Limits) (a b : Node) (x y : Edits NodeEdit) → IsReady l x → NodeExtends k x y a b → Back k l a b y
-recorded-back k l a b x y ready e =
-    let none = ap (λ (es : List NodeEdit). length es) ready.none in
-    let room = e.room in
-    let spare = e.spare in
-    let all = ready.room in
-    record {
-      leads = e.leads_back a (subst (λ (es : List NodeEdit). LeadsBack Finds AreParts put_back es a a) (sym ready.none) (LeadsBack-none Finds AreParts put_back a));
-      few = omega (arith, room, spare, none);
-      room = omega (arith, room, none, all);
-    }
-
 -- ---- what is refused
 
 by_tests : (a b : Bool) → refused_by ((a, QueueFull) ∷ (b, CountFull) ∷ []) ≡ (if a then Some QueueFull else if b then Some CountFull else None)
@@ -127,96 +89,6 @@ pub went-counted : {T : Type 0} (r : Result (T × Bool) Overfull) (t : T) (point
 went-counted {T} r t points w e = let all = subst (λ (q : Result (T × Bool) Overfull). Went q points) e w in sym all.1
 
 -- ---- what stands, or was taken back
-
-put_back-limits : (e : NodeEdit) (n : Node) → (put_back e n).limits ≡ n.limits
-put_back-limits (OfState e) n = refl
-put_back-limits (OfQueue e) n = refl
-put_back-limits (OfHeld e) n = refl
-put_back-limits (Server before after) n = refl
-put_back-limits (Client before after) n = refl
-put_back-limits (Clock before after) n = refl
-put_back-limits (NextId before after) n = refl
-put_back-limits (Push before after) n = refl
-put_back-limits (Count counter before after) n = refl
-
-back-limits : (es : List NodeEdit) (n : Node) → (back put_back es n).limits ≡ n.limits
-back-limits [] n = refl
-back-limits (e ∷ es) n = put_back-limits e (back put_back es n) ∙ back-limits es n
-
--- what an event makes of the node a: m, ready with z again
-pub record Concluded {T : Type 0} (k : ℕ) (a m : Node) (z : Edits NodeEdit) (result : Result (T × Edits NodeEdit) Refusal) : Type 0 where
-  pub node : IsNode m
-  pub ready : IsReady m.limits z
-  pub unchanged : OnErr result (m ≡ a)
-  pub leads_back : IfOk result (λ r. NodeLeadsBack r.1.list a m)
-  pub weight : IfOk result (λ r. length r.1.list ≤ k)
-
--- Stands says which answers were given where no number is too high
-module _ {T : Type 0} (k : ℕ) (a b m : Node) (x y z : Edits NodeEdit) (Stands : T → Type 0)
-    (is : IsNode a) (ready : IsReady a.limits x) (extends : NodeExtends k x y a b) (counted : (t : T) → Stands t → is_overcounted b ≡ false)
-    (none : z.list ≡ []) (room : z.spare ≡ y.spare + length y.list) where
-  recorded : Back k a.limits a b y
-  recorded = recorded-back k a.limits a b x y ready extends
-
-  pub concluded : (result : Result (T × Edits NodeEdit) Refusal) → OnErr result (m ≡ back put_back y.list b) → IfOk result (λ r. Stands r.0) → OnOk result (m ≡ b) → OnOk result (AreParts m)
-      → IfOk result (λ r. r.1.list ≡ y.list) → Concluded k a m z result
-  concluded (Ok r) undone stands kept parts edits =
-      let low = counted r.0 stands in
-      let lead = leads_through y.list a b recorded.leads low in
-      let limits : a.limits ≡ m.limits = ap (λ (n : Node). n.limits) (sym recorded.leads.back) ∙ (back-limits y.list b ∙ ap (λ (n : Node). n.limits) (sym kept)) in
-      let few = recorded.few in
-      let long = ap (λ (es : List NodeEdit). length es) edits in
-      record {
-        node = record { parts = parts; counted = ap is_overcounted kept ∙ low };
-        ready = record { none = none; room = room ∙ (recorded.room ∙ ap most_edits limits) };
-        unchanged = tt;
-        leads_back = subst (λ (n : Node). NodeLeadsBack r.1.list a n) (sym kept) (subst (λ (es : List NodeEdit). NodeLeadsBack es a b) (sym edits) lead);
-        weight = omega (arith, few, long);
-      }
-  concluded (Err e) undone stands kept parts edits =
-      let same : m ≡ a = undone ∙ recorded.leads.back in
-      record {
-        node = subst IsNode (sym same) is;
-        ready = record { none = none; room = room ∙ (recorded.room ∙ ap (λ (n : Node). most_edits n.limits) (sym same)) };
-        unchanged = same;
-        leads_back = tt;
-        weight = tt;
-      }
-
--- the same of an event that went through these points
-pub record Settled {T : Type 0} (k : ℕ) (a m : Node) (z : Edits NodeEdit) (points : List Node) (result : Result (T × Edits NodeEdit) Refusal) : Type 0 where
-  pub node : IsNode m
-  pub ready : IsReady m.limits z
-  pub refused : IfErr result (IsRefusal (points_refusal points))
-  pub unchanged : OnErr result (m ≡ a)
-  pub not_refused : OnOk result (points_refusal points ≡ None)
-  pub leads_back : IfOk result (λ r. NodeLeadsBack r.1.list a m)
-  pub weight : IfOk result (λ r. length r.1.list ≤ k)
-
-module _ {T : Type 0} (k : ℕ) (a b m : Node) (x y z : Edits NodeEdit) (tried : Result (T × Bool) Overfull) (points : List Node)
-    (is : IsNode a) (ready : IsReady a.limits x) (extends : NodeExtends k x y a b) (went : Went tried points) (counted : (t : T) → tried ≡ Ok (t, false) → list_any is_overcounted points ≡ false → is_overcounted b ≡ false)
-    (none : z.list ≡ []) (room : z.spare ≡ y.spare + length y.list) where
-  why : (result : Result (T × Edits NodeEdit) Refusal) → IfErr result (IsRefusal (judgement tried)) → IfErr result (IsRefusal (points_refusal points))
-  why (Ok r) refused = tt
-  why (Err e) refused = subst (λ (o : Option Refusal). IsRefusal o e) (sym (went-refusal tried points went)) refused
-
-  free : (result : Result (T × Edits NodeEdit) Refusal) → IfOk result (λ r. tried ≡ Ok (r.0, false)) → OnOk result (points_refusal points ≡ None)
-  free (Ok r) stands = went-refusal tried points went ∙ ap (λ (q : Result (T × Bool) Overfull). judgement q) stands
-  free (Err e) stands = tt
-
-  pub settled : (result : Result (T × Edits NodeEdit) Refusal) → IfErr result (IsRefusal (judgement tried)) → OnErr result (m ≡ back put_back y.list b) → IfOk result (λ r. tried ≡ Ok (r.0, false)) → OnOk result (m ≡ b) → OnOk result (AreParts m)
-      → IfOk result (λ r. r.1.list ≡ y.list) → Settled k a m z points result
-  settled result refused undone stands kept parts edits =
-      let all = concluded k a b m x y z (λ t. tried ≡ Ok (t, false)) is ready extends (λ t stood. counted t stood (went-counted tried t points went stood)) none room result undone stands kept parts edits in
-      record {
-        node = all.node;
-        ready = all.ready;
-        refused = why result refused;
-        unchanged = all.unchanged;
-        not_refused = free result stands;
-        leads_back = all.leads_back;
-        weight = all.weight;
-      }
 
 -- what was answered of the node that stands
 pub settled-answer : {T : Type 0} (b m : Node) (tried : Result (T × Bool) Overfull) (P : T → Node → Type 0) → IfOk tried (λ r. P r.0 b) → (result : Result (T × Edits NodeEdit) Refusal) → IfOk result (λ r. tried ≡ Ok (r.0, false)) → OnOk result (m ≡ b) → IfOk result (λ r. P r.0 m)

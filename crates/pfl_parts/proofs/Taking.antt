@@ -2,7 +2,8 @@
 use Rattle.std.proofs.Common.{◌≡◌, ◌≢◌, ℕ, ◌+◌, ◌^◌, ◌<◌, ◌≤◌, List, [], ◌∷◌, ◌++◌, map, length, refl, sym, ◌∙◌, ap, subst, arith, length-append}
 use Rattle.std.specs.Prelude.{◌==◌, if◌then◌else◌}
 use Rattle.std.proofs.lemmas.List.{length-map}
-use Rattle.pfl_edits.specs.Changes.{Edits, LeadsBack, LeadsBack-one, LeadsBack-none, LeadsBack-append}
+use Rattle.pfl_edits.specs.Changes.{Edits, LeadsBack}
+use Rattle.pfl_edits.proofs.Leading.{LeadsBack-one, LeadsBack-none, LeadsBack-append}
 use Rattle.pfl_queue.specs.declared.Entry.{Entry}
 use Rattle.pfl_queue.specs.declared.Entry.TheVariants.{Marked, Request, Status, Clear}
 use Rattle.pfl_queue.specs.declared.edits.QueueEdit.{QueueEdit}
@@ -14,9 +15,10 @@ use Rattle.pfl_queue.proofs.Fronts.{first_found, front_gone, redone_gone, next_s
 use Rattle.pfl_queue.proofs.Keeping.{gone_kept}
 use Rattle.pfl_parts.specs.declared.edit.NodeEdit.{NodeEdit}
 use Rattle.pfl_parts.specs.declared.edit.NodeEdit.TheVariants.{OfQueue}
-use Rattle.pfl_parts.specs.Edits.{Finds, FindsFormer, NextStays, put_back, redone, edit-both_ways, NodeExtends, total}
+use Rattle.pfl_parts.specs.Edits.{Finds, FindsFormer, NextStays, put_back, redone, NodeExtends, total}
+use Rattle.pfl_parts.specs.inner.BothWays.{edit-both_ways}
 use Rattle.pfl_parts.specs.Nodes.{Node, AreParts}
-use Rattle.pfl_parts.specs.Taking.{of_queue, taken_from}
+use Rattle.pfl_parts.specs.inner.Taking.{of_queue, taken_from}
 use Rattle.pfl_parts.proofs.Keeps.{keeps_queue}
 
 -- ---- what is left is a node

@@ -6,7 +6,7 @@ use Rattle.pfl_base.specs.Packets.{is_tcp}
 use Rattle.pfl_queue.specs.Queues.{kind_of}
 use Rattle.pfl_track.specs.declared.state.State.{State}
 use Rattle.pfl_parts.specs.declared.counters.Counters.{Counters}
-use Rattle.pfl_parts.specs.Kept.{MayReplace}
+use Rattle.pfl_parts.specs.inner.Kept.{MayReplace}
 use Rattle.pfl_parts.specs.Nodes.{Node}
 use Rattle.pfl_parts.specs.Changes.{put_state, push_if, told, changed, is_untold, is_recent, is_held, freed, count_freed, without_held}
 

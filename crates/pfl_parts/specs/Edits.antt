@@ -1,10 +1,8 @@
 -- The edits of a node: each names one place, its former value and its new one (this project's profile).
-use Rattle.std.specs.Prelude.{◌≡◌, ◌≤◌, ℕ, ◌+◌, List, length, refl}
-use Rattle.pfl_base.specs.Names.{names_total, names_exact}
-use Rattle.pfl_edits.specs.Changes.{Edits, LeadsBack, LeadsBothWays}
+use Rattle.std.specs.Prelude.{◌≡◌, ◌≤◌, ℕ, ◌+◌, List, length}
+use Rattle.pfl_edits.specs.Changes.{Edits, LeadsBack}
 use Rattle.pfl_edits.specs.Maps as maps
 use Rattle.pfl_edits.specs.Maps.{set_at}
-use Rattle.pfl_edits.specs.Places.{value-both_ways, part-both_ways, key-both_ways}
 use Rattle.pfl_queue.specs.Edits as queues
 use Rattle.pfl_queue.specs.declared.edits.QueueEdit.{QueueEdit}
 use Rattle.pfl_queue.specs.declared.edits.QueueEdit.TheVariants.{OfMark}
@@ -109,34 +107,3 @@ pub record NodeExtends (k : ℕ) (x y : Edits NodeEdit) (a b : Node) : Type 0 wh
   pub room : y.spare + length y.list ≡ x.spare + length x.list
   pub counted : total b + y.spare ≤ total a + x.spare
   pub leads_back : (origin : Node) → LeadsBack Finds AreParts put_back x.list origin a → LeadsBack Finds AreParts put_back y.list origin b
-
--- what stays of an edit, beside how it leads both ways
-both_ways-with : {S P : Type 0} {F G : S → Type 0} {p r : S → S} → LeadsBothWays F G p r → LeadsBothWays (λ s. F s × P) (λ s. G s × P) p r
-both_ways-with l = record {
-  put_back_finds = λ s is. (l.put_back_finds s is.0, is.1);
-  redone_finds = λ s is. (l.redone_finds s is.0, is.1);
-  redone_put_back = λ s is. l.redone_put_back s is.0;
-  put_back_redone = λ s is. l.put_back_redone s is.0;
-}
-
--- one number of the counters leads both ways
-count-both_ways : (counter : Counter) (former new : ℕ) → LeadsBothWays (λ (c : Counters). count_of counter c ≡ former) (λ c. count_of counter c ≡ new) (λ c. with_count counter c former) (λ c. with_count counter c new)
-count-both_ways Passed former new = part-both_ways (λ (c : Counters). c.passed) (λ c k. record c { passed = k }) (λ c k. refl) (λ c. refl) (λ c k l. refl) _ _ _ _ (value-both_ways former new)
-count-both_ways Blocked former new = part-both_ways (λ (c : Counters). c.blocked) (λ c k. record c { blocked = k }) (λ c k. refl) (λ c. refl) (λ c k l. refl) _ _ _ _ (value-both_ways former new)
-count-both_ways Freed former new = part-both_ways (λ (c : Counters). c.freed) (λ c k. record c { freed = k }) (λ c k. refl) (λ c. refl) (λ c k l. refl) _ _ _ _ (value-both_ways former new)
-count-both_ways Lost former new = part-both_ways (λ (c : Counters). c.lost) (λ c k. record c { lost = k }) (λ c k. refl) (λ c. refl) (λ c k l. refl) _ _ _ _ (value-both_ways former new)
-count-both_ways Bad former new = part-both_ways (λ (c : Counters). c.bad) (λ c k. record c { bad = k }) (λ c k. refl) (λ c. refl) (λ c k l. refl) _ _ _ _ (value-both_ways former new)
-count-both_ways Stale former new = part-both_ways (λ (c : Counters). c.stale) (λ c k. record c { stale = k }) (λ c k. refl) (λ c. refl) (λ c k l. refl) _ _ _ _ (value-both_ways former new)
-count-both_ways Broken former new = part-both_ways (λ (c : Counters). c.broken) (λ c k. record c { broken = k }) (λ c k. refl) (λ c. refl) (λ c k l. refl) _ _ _ _ (value-both_ways former new)
-
--- each edit leads both ways
-pub edit-both_ways : (e : NodeEdit) → LeadsBothWays (FindsFormer e) (Finds e) (put_back e) (redone e)
-edit-both_ways (OfState e) = part-both_ways (λ (n : Node). n.states) (λ n m. record n { states = m }) (λ n m. refl) (λ n. refl) (λ n m l. refl) _ _ _ _ (key-both_ways names_total names_exact e.name e.before e.after)
-edit-both_ways (OfQueue e) = both_ways-with (part-both_ways (λ (n : Node). n.queue) (λ n q. record n { queue = q }) (λ n q. refl) (λ n. refl) (λ n q r. refl) _ _ _ _ (queues.edit-both_ways e))
-edit-both_ways (OfHeld e) = part-both_ways (λ (n : Node). n.held) (λ n d. record n { held = d }) (λ n d. refl) (λ n. refl) (λ n d k. refl) _ _ _ _ (deferrals.edit-both_ways e)
-edit-both_ways (Server before after) = part-both_ways (λ (n : Node). n.server) (λ n s. record n { server = s }) (λ n s. refl) (λ n. refl) (λ n s t. refl) _ _ _ _ (value-both_ways before after)
-edit-both_ways (Client before after) = part-both_ways (λ (n : Node). n.client) (λ n c. record n { client = c }) (λ n c. refl) (λ n. refl) (λ n c k. refl) _ _ _ _ (value-both_ways before after)
-edit-both_ways (Clock before after) = part-both_ways (λ (n : Node). n.clock) (λ n c. record n { clock = c }) (λ n c. refl) (λ n. refl) (λ n c k. refl) _ _ _ _ (value-both_ways before after)
-edit-both_ways (NextId before after) = both_ways-with (part-both_ways (λ (n : Node). n.next_id) (λ n i. record n { next_id = i }) (λ n i. refl) (λ n. refl) (λ n i k. refl) _ _ _ _ (value-both_ways before after))
-edit-both_ways (Push before after) = part-both_ways (λ (n : Node). n.push) (λ n p. record n { push = p }) (λ n p. refl) (λ n. refl) (λ n p q. refl) _ _ _ _ (value-both_ways before after)
-edit-both_ways (Count counter before after) = both_ways-with (part-both_ways (λ (n : Node). n.counters) (λ n c. record n { counters = c }) (λ n c. refl) (λ n. refl) (λ n c k. refl) _ _ _ _ (count-both_ways counter before after))

@@ -2,8 +2,7 @@ pub mod Limits
 pub mod Nodes
 pub mod Codes
 pub mod Edits
-pub mod Kept
 pub mod Changes
-pub mod Taking
-pub mod Judging
 pub mod Laws
+pub mod inner
+pub mod Weights

@@ -52,7 +52,7 @@ impl<A: Allocator> Model for Parts<A> {
 
     ghost coded = { coded_node };
 
-    ghost use Rattle.pfl_parts.specs.Kept.{node_of, IsTimely};
+    ghost use Rattle.pfl_parts.specs.inner.Kept.{node_of, IsTimely};
 
     ghost view = { λ n. node_of n.limits n.rules n.table n.queue n.held n.server n.client n.clock n.creator n.next_id n.push n.counters };
 

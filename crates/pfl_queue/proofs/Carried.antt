@@ -7,14 +7,15 @@ use Rattle.std.proofs.lemmas.List.{length-append, length-map}
 use Rattle.std.proofs.lemmas.List.Sums.{sum_by-cons}
 use Rattle.pfl_base.specs.Lists.{in_order, last_of, prefixes}
 use Rattle.pfl_edits.specs.Maps as maps
-use Rattle.pfl_edits.specs.Maps.{len-entries, entries}
+use Rattle.pfl_edits.proofs.Maps.{len-entries}
+use Rattle.pfl_edits.specs.Maps.{entries}
 use Rattle.pfl_wire.specs.Actions.{record_len}
 use Rattle.pfl_wire.specs.declared.action.Action.{Action}
 use Rattle.pfl_wire.specs.declared.action.Action.TheVariants as action
 use Rattle.pfl_queue.specs.declared.Entry.{Entry}
 use Rattle.pfl_queue.specs.declared.Entry.TheVariants.{Request, Status}
 use Rattle.pfl_queue.specs.declared.Mark.{Mark}
-use Rattle.pfl_queue.specs.Fitting.{entry_bytes, longest}
+use Rattle.pfl_queue.specs.inner.Fitting.{entry_bytes, longest}
 use Rattle.pfl_queue.specs.Queues.{Queue, pending}
 use Rattle.pfl_queue.specs.Taking.{mark_before, entry_of, clear_of, in_turn, next_frame, entry_action}
 use Rattle.pfl_queue.proofs.Fitting.{next_frame-longest}

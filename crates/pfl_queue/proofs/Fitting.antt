@@ -4,10 +4,9 @@ use Rattle.std.specs.Prelude.{if◌then◌else◌, filter, unwrap_or}
 use Rattle.std.specs.List.{sum_by}
 use Rattle.std.proofs.Math.Seq.{take-suc}
 use Rattle.std.proofs.lemmas.Bool.Decides.{nat_tests}
-use Rattle.std.proofs.lemmas.List.{take-append-drop, length-map, length-take-le}
+use Rattle.std.proofs.lemmas.List.{take-append-drop, length-map, length-take-le, map-append}
 use Rattle.std.proofs.lemmas.List.Sums.{sum_by-cons}
-use Rattle.std.proofs.lemmas.List.{map-append}
-use Rattle.pfl_edits.specs.Rows.{some_is_none}
+use Rattle.pfl_edits.proofs.RowMaps.{some_is_none}
 use Rattle.pfl_base.specs.Lists.{last_of, prefixes, neighbours, joined}
 use Rattle.pfl_wire.specs.declared.action.Action.{Action}
 use Rattle.pfl_wire.specs.declared.action.Action.TheVariants as action
@@ -15,7 +14,7 @@ use Rattle.pfl_wire.specs.Actions.{record_len}
 use Rattle.pfl_queue.specs.declared.Entry.{Entry}
 use Rattle.pfl_queue.specs.Queues.{Queue}
 use Rattle.pfl_queue.specs.Taking.{entry_action, one_action, bytes_of, in_turn, next_frame}
-use Rattle.pfl_queue.specs.Fitting.{entry_bytes, added, longest}
+use Rattle.pfl_queue.specs.inner.Fitting.{entry_bytes, added, longest}
 
 -- the frame is the longest prefix of what is pending
 pub next_frame-longest : (q : Queue) (mtu : ℕ) → next_frame q mtu ≡ longest (in_turn q) mtu

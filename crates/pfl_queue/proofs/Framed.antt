@@ -10,7 +10,7 @@ use Rattle.pfl_queue.specs.declared.Entry.{Entry}
 use Rattle.pfl_queue.specs.declared.Entry.TheVariants.{Marked, Request, Status, Clear}
 use Rattle.pfl_queue.specs.declared.Mark.{Mark}
 use Rattle.pfl_queue.specs.Edits.{FindsFormer, taking}
-use Rattle.pfl_queue.specs.Fitting.{entry_bytes, longest}
+use Rattle.pfl_queue.specs.inner.Fitting.{entry_bytes, longest}
 use Rattle.pfl_queue.specs.Queues.{Queue, IsQueue}
 use Rattle.pfl_queue.specs.Taking.{in_turn, gone, next_frame}
 use Rattle.pfl_queue.proofs.Fitting.{next_frame-longest}

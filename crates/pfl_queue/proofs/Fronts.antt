@@ -5,17 +5,18 @@ use Rattle.std.specs.List.{AllByRecursion, remove, sum_by}
 use Rattle.std.proofs.lemmas.List.Sums.{sum_by-cons}
 use Rattle.pfl_base.specs.declared.state_name.StateName.{StateName}
 use Rattle.pfl_base.specs.Lists.{last_of, prefixes, in_order}
-use Rattle.pfl_edits.specs.Changes.{LeadsBack-none, LeadsBack-append}
+use Rattle.pfl_edits.proofs.Leading.{LeadsBack-none, LeadsBack-append}
 use Rattle.pfl_edits.specs.Maps as maps
 use Rattle.pfl_wire.specs.declared.message.BulkStatus.{BulkStatus}
 use Rattle.pfl_queue.specs.declared.Cleared.{Cleared}
 use Rattle.pfl_queue.specs.declared.Entry.{Entry}
 use Rattle.pfl_queue.specs.declared.Entry.TheVariants.{Marked, Request, Status, Clear}
 use Rattle.pfl_queue.specs.declared.Mark.{Mark}
-use Rattle.pfl_queue.specs.Edits.{FindsFormer, Finds, redone, put_back, QueueLeadsBack, taking, redone-leads_back}
+use Rattle.pfl_queue.specs.Edits.{FindsFormer, Finds, redone, put_back, QueueLeadsBack, taking}
+use Rattle.pfl_queue.proofs.Leading.{redone-leads_back}
 use Rattle.pfl_queue.specs.Queues.{Queue, IsQueue, unmarked}
 use Rattle.pfl_queue.specs.Taking.{mark_before, entry_of, clear_of, in_turn, gone, left_by}
-use Rattle.pfl_queue.specs.Fitting.{longest}
+use Rattle.pfl_queue.specs.inner.Fitting.{longest}
 use Rattle.pfl_queue.specs.Laws.{FramesTakeFromTheFront}
 use Rattle.pfl_queue.proofs.Fitting.{next_frame-longest}
 use Rattle.pfl_queue.proofs.InTurn.{before_order, exact}

@@ -11,11 +11,13 @@ use Rattle.std.proofs.lemmas.Cmp.{on_total, then_total}
 use Rattle.std.proofs.lemmas.List.Sorted.{ranks_by}
 use Rattle.pfl_base.specs.Lists.{in_order}
 use Rattle.pfl_base.specs.declared.state_name.StateName.{StateName}
-use Rattle.pfl_base.specs.Names.{name_cmp, names_total, names_exact}
+use Rattle.pfl_base.specs.Names.{name_cmp}
+use Rattle.pfl_base.proofs.Names.{names_total, names_exact}
 use Rattle.pfl_edits.specs.Maps as maps
 use Rattle.pfl_edits.specs.Maps.{Map}
-use Rattle.pfl_edits.specs.Ordered.{IsRising, Distinct-rising}
-use Rattle.pfl_edits.specs.Rows.{row_at, map_of, Distinct, get-map_of, same_key, own_key, some_is_none}
+use Rattle.pfl_edits.specs.Ordered.{IsRising}
+use Rattle.pfl_edits.proofs.RowMaps.{Distinct-rising, row_at, Distinct, get-map_of, same_key, own_key, some_is_none}
+use Rattle.pfl_edits.specs.Rows.{map_of}
 use Rattle.pfl_queue.specs.declared.Mark.{Mark}
 use Rattle.pfl_queue.specs.Queues.{Queue, IsQueue}
 use Rattle.pfl_queue.specs.Taking.{kind_place, mark_before}

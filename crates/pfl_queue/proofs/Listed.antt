@@ -10,7 +10,7 @@ use Rattle.pfl_wire.specs.declared.message.BulkStatus.{BulkStatus}
 use Rattle.pfl_queue.specs.declared.Cleared.{Cleared}
 use Rattle.pfl_queue.specs.declared.Entry.{Entry}
 use Rattle.pfl_queue.specs.declared.Entry.TheVariants.{Request, Status}
-use Rattle.pfl_queue.specs.Parts.{lists_in_turn, first_of_each}
+use Rattle.pfl_queue.specs.inner.Parts.{lists_in_turn, first_of_each}
 use Rattle.pfl_queue.specs.declared.Mark.{Mark}
 use Rattle.pfl_queue.specs.Queues.{Queue, unmarked}
 use Rattle.pfl_queue.specs.Taking.{mark_before, entry_of, clear_of, in_turn, gone, left_by}

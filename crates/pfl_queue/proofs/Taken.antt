@@ -4,7 +4,7 @@ use Rattle.std.proofs.Math.Seq.{take-suc, take-append_seam}
 use Rattle.std.proofs.lemmas.List.{map-append, take-append-drop}
 use Rattle.pfl_queue.specs.declared.Entry.{Entry}
 use Rattle.pfl_queue.specs.Edits.{QueueLeadsBack, taking}
-use Rattle.pfl_queue.specs.Fitting.{longest}
+use Rattle.pfl_queue.specs.inner.Fitting.{longest}
 use Rattle.pfl_queue.specs.Queues.{Queue, IsQueue}
 use Rattle.pfl_queue.specs.Taking.{in_turn, left_by, next_frame}
 use Rattle.pfl_queue.proofs.Fitting.{next_frame-longest, longest_bounded}

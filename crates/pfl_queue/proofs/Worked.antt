@@ -1,7 +1,7 @@
 -- Worked examples of full queues, computed.
 use Rattle.std.specs.Prelude.{◌≡◌, true, false, Some, None, refl}
 use Rattle.pfl_base.specs.declared.state_name.StateName.{StateName}
-use Rattle.pfl_edits.specs.Maps as maps
+use Rattle.pfl_edits.proofs.Maps as maps
 use Rattle.pfl_queue.specs.declared.Kind.TheVariants.{Insert}
 use Rattle.pfl_queue.specs.declared.QueueFault.TheVariants.{QueueFull, CountFull}
 use Rattle.pfl_queue.specs.Queues.{empty_queue, is_counted_out, room_fault, mark_fault, marked, requested, request_fault}

@@ -1,12 +1,10 @@
 -- The edits of the pending queues, and what their operations record. This project's profile.
-use Rattle.std.specs.Prelude.{◌≡◌, ℕ, ◌+◌, List, [], ◌∷◌, length, Option, Some, None, refl}
-use Rattle.std.proofs.Common.{ap, sym, ◌∙◌}
+use Rattle.std.specs.Prelude.{◌≡◌, ℕ, ◌+◌, List, length, Option, Some, None}
 use Rattle.pfl_base.specs.declared.state_name.StateName.{StateName}
-use Rattle.pfl_base.specs.Names.{names_total, names_exact}
-use Rattle.pfl_edits.specs.Changes.{LeadsBack, LeadsBothWays, LeadsBack-one}
+use Rattle.pfl_edits.specs.Changes.{LeadsBack}
 use Rattle.pfl_edits.specs.Maps as maps
 use Rattle.pfl_edits.specs.Maps.{set_at}
-use Rattle.pfl_edits.specs.Places.{StandsAt, with_position, position-both_ways, part-both_ways, key-both_ways, get-set_at_same, set_at-back}
+use Rattle.pfl_edits.specs.Places.{StandsAt, with_position}
 use Rattle.pfl_wire.specs.declared.message.BulkStatus.{BulkStatus}
 use Rattle.pfl_queue.specs.declared.Kind.{Kind}
 use Rattle.pfl_queue.specs.declared.Mark.{Mark}
@@ -84,30 +82,3 @@ taking (Marked kind number name) = OfName name (Some (record { name = name; kind
 taking (Request name) = OfRequest 0 (Some name) None
 taking (Status status) = OfStatus 0 (Some status) None
 taking (Clear creator bound) = OfClear 0 (Some (record { creator = creator; bound = bound })) None
-
-mark-back : (q : Queue) (name : StateName) (was at : Option Mark) (next former : ℕ) → maps.get q.marks name ≡ was → q.next ≡ former → with_mark (with_mark q name at next) name was former ≡ q
-mark-back q name was at next former is same =
-    ap (λ m. record q { next = former; marks = m }) (set_at-back names_total names_exact q.marks name was at is) ∙ ap (λ n. record q { next = n }) (sym same)
-
--- a name with the next number or alone, a position of each list: an edit leads both ways
-pub edit-both_ways : (e : QueueEdit) → LeadsBothWays (FindsFormer e) (Finds e) (put_back e) (redone e)
-edit-both_ways (OfMark name before after next_before next_after) = record {
-  put_back_finds = λ q is. (get-set_at_same names_total names_exact q.marks name before, refl);
-  redone_finds = λ q is. (get-set_at_same names_total names_exact q.marks name after, refl);
-  redone_put_back = λ q is. mark-back q name after before next_before next_after is.0 is.1;
-  put_back_redone = λ q is. mark-back q name before after next_after next_before is.0 is.1;
-}
-edit-both_ways (OfName name before after) =
-    part-both_ways (λ (q : Queue). q.marks) (λ q ms. record q { marks = ms }) (λ q ms. refl) (λ q. refl) (λ q ms ns. refl) _ _ _ _ (key-both_ways names_total names_exact name before after)
-edit-both_ways (OfRequest position before after) =
-    part-both_ways (λ (q : Queue). q.requests) (λ q xs. record q { requests = xs }) (λ q xs. refl) (λ q. refl) (λ q xs ys. refl) _ _ _ _ (position-both_ways position before after)
-edit-both_ways (OfStatus position before after) =
-    part-both_ways (λ (q : Queue). q.statuses) (λ q xs. record q { statuses = xs }) (λ q xs. refl) (λ q. refl) (λ q xs ys. refl) _ _ _ _ (position-both_ways position before after)
-edit-both_ways (OfClear position before after) =
-    part-both_ways (λ (q : Queue). q.clears) (λ q xs. record q { clears = xs }) (λ q xs. refl) (λ q. refl) (λ q xs ys. refl) _ _ _ _ (position-both_ways position before after)
-
--- an edit that is made leads back
-pub redone-leads_back : (e : QueueEdit) (q : Queue) → IsQueue q → FindsFormer e q → QueueLeadsBack (e ∷ []) q (redone e q)
-redone-leads_back e q is found =
-    let both = edit-both_ways e in
-    LeadsBack-one Finds IsQueue put_back e q (redone e q) (both.redone_finds q found) is (both.put_back_redone q found)

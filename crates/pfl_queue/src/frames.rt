@@ -4,9 +4,9 @@ ghost use Rattle.pfl_wire.specs.Actions.{record_len};
 ghost use Rattle.pfl_queue.specs.Taking.{mark_before, kind_action, entry_action, entry_of, clear_of, left_by, next_frame};
 ghost use Rattle.pfl_base.specs.Lists.{in_order};
 ghost use Rattle.pfl_edits.specs.Maps as maps;
-ghost use Rattle.pfl_queue.specs.Parts.{first_of_each};
+ghost use Rattle.pfl_queue.specs.inner.Parts.{first_of_each};
 ghost use Rattle.pfl_queue.specs.Edits.{QueueLeadsBack, taking};
-ghost use Rattle.pfl_queue.specs.Fitting.{added, longest};
+ghost use Rattle.pfl_queue.specs.inner.Fitting.{added, longest};
 
 use crate::lists::first;
 use crate::{Cleared, Entry, Kind, Mark, Pending, QueueEdit};

@@ -1,6 +1,7 @@
 //! Marks under their names, and the places of kinds in a frame.
 ghost use Rattle.std.specs.Prelude.{◌≡◌};
-ghost use Rattle.pfl_base.specs.Names.{name_cmp, names_total, names_exact};
+ghost use Rattle.pfl_base.specs.Names.{name_cmp};
+ghost use Rattle.pfl_base.proofs.Names.{names_total, names_exact};
 
 use crate::{Kind, Mark};
 use pfl_base::StateName;

@@ -5,7 +5,7 @@ ghost use Rattle.pfl_queue.specs.Queues.{Queue, IsQueue, empty_queue, pending, k
 ghost use Rattle.pfl_queue.specs.Laws.{NothingTwice};
 ghost use Rattle.pfl_base.specs.Lists.{in_order};
 ghost use Rattle.pfl_queue.specs.Taking.{mark_before, entry_of, in_turn, left_by};
-ghost use Rattle.pfl_queue.specs.Parts.{lists_in_turn};
+ghost use Rattle.pfl_queue.specs.inner.Parts.{lists_in_turn};
 ghost use Rattle.pfl_queue.specs.Edits.{QueueLeadsBack, FindsFormer, redone, marking, unmarking, requesting, listing_status, listing_clear};
 
 use crate::edits::QueueEdit;
@@ -454,7 +454,8 @@ impl<A: Allocator> Pending<A> {
 }
 
 impl<A: Allocator> Reversible for Pending<A> {
-    ghost use Rattle.pfl_queue.specs.Edits.{FindsFormer, Finds, put_back, redone, edit-both_ways};
+    ghost use Rattle.pfl_queue.specs.Edits.{FindsFormer, Finds, put_back, redone};
+    ghost use Rattle.pfl_queue.specs.inner.BothWays.{edit-both_ways};
 
     type Edit = QueueEdit;
 

@@ -4,10 +4,10 @@ use Rattle.std.specs.Option.{option_map}
 use Rattle.std.proofs.Common.{cond, T, ◌∙◌, ap, sym, subst, arith}
 use Rattle.std.proofs.lemmas.Bool.Decides.{nat_tests}
 use Rattle.pfl_base.specs.declared.state_name.StateName.{StateName}
-use Rattle.pfl_base.specs.Names.{names_total, names_exact}
+use Rattle.pfl_base.proofs.Names.{names_total, names_exact}
 use Rattle.pfl_edits.specs.Maps as maps
-use Rattle.pfl_edits.specs.Maps.{len-insert}
-use Rattle.pfl_edits.specs.Places.{get-set_at_same}
+use Rattle.pfl_edits.proofs.Maps.{len-insert}
+use Rattle.pfl_edits.proofs.Places.{get-set_at_same}
 use Rattle.pfl_track.specs.States.{IsState}
 use Rattle.pfl_table.specs.Tables.{key_in_use}
 use Rattle.pfl_table.proofs.Apart.{OwnsKeys-unused}
@@ -17,7 +17,7 @@ use Rattle.pfl_queue.specs.declared.Kind.TheVariants.{InsertAck}
 use Rattle.pfl_queue.specs.declared.Mark.{Mark}
 use Rattle.pfl_queue.specs.Queues.{kind_of}
 use Rattle.pfl_parts.specs.Changes.{put_state}
-use Rattle.pfl_parts.specs.Kept.{MayAdd, MayMark}
+use Rattle.pfl_parts.specs.inner.Kept.{MayAdd, MayMark}
 use Rattle.pfl_parts.specs.Nodes.{Node, AreParts, IsNodeState, IsGiven}
 use Rattle.pfl_parts.proofs.Putting.{put-node, told-may}
 use Rattle.pfl_receive.specs.Receiving.{is_not_given, is_delete, can_import, imported, kept_rule}

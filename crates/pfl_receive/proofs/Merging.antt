@@ -11,7 +11,7 @@ use Rattle.pfl_merge.specs.declared.merged.Merged.{Merged}
 use Rattle.pfl_merge.specs.Merging.{merged, stale_src, stale_dst}
 use Rattle.pfl_merge.specs.Laws.{Keeps}
 use Rattle.pfl_parts.specs.Changes.{lost, is_held, count_lost, without_held}
-use Rattle.pfl_parts.specs.Kept.{MayReplace}
+use Rattle.pfl_parts.specs.inner.Kept.{MayReplace}
 use Rattle.pfl_parts.specs.Nodes.{Node, AreParts, IsPast}
 use Rattle.pfl_parts.proofs.Keeps.{state_still}
 

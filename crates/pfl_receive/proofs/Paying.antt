@@ -3,11 +3,11 @@ use Rattle.std.specs.Prelude.{◌≡◌, ◌≤◌, ℕ, ◌+◌, ◌-◌, ◌||
 use Rattle.std.specs.Option.{option_map_or}
 use Rattle.std.proofs.Common.{cond, ◌∙◌, ap, sym, subst, arith}
 use Rattle.pfl_base.specs.declared.state_name.StateName.{StateName}
-use Rattle.pfl_base.specs.Names.{names_total}
+use Rattle.pfl_base.proofs.Names.{names_total}
 use Rattle.pfl_base.specs.Packets.{is_tcp}
 use Rattle.pfl_edits.specs.Changes.{Edits}
 use Rattle.pfl_edits.specs.Maps as maps
-use Rattle.pfl_edits.specs.Maps.{len-insert, len-remove}
+use Rattle.pfl_edits.proofs.Maps.{len-insert, len-remove}
 use Rattle.pfl_rules.specs.Rules.{timeout}
 use Rattle.pfl_track.specs.declared.state.State.{State}
 use Rattle.pfl_wire.specs.declared.message.StateRecord.{StateRecord}
@@ -19,7 +19,7 @@ use Rattle.pfl_parts.specs.declared.edit.NodeEdit.{NodeEdit}
 use Rattle.pfl_parts.specs.Changes.{put_state, is_held, is_untold, freed, count_freed, lost, count_lost, without_held, released, changed, count_stale, count_bad, forgotten, ask}
 use Rattle.pfl_parts.specs.Edits.{NodeExtends}
 use Rattle.pfl_parts.specs.Nodes.{Node}
-use Rattle.pfl_receive.specs.Delivering.{IsPaid}
+use Rattle.pfl_receive.specs.inner.Delivering.{IsPaid}
 use Rattle.pfl_receive.specs.Receiving.{insert_taken, can_import, imported, merge_taken, merged_into, ack_taken, delete_taken, is_known}
 use Rattle.pfl_receive.proofs.Cleared.{forgotten-states}
 

@@ -1,17 +1,14 @@
 -- What the records of a frame do to a node, one after another, and how many edits they take (pfsync(4); that a frame is taken
 -- whole or not at all is this project's profile).
-use Rattle.std.specs.Prelude.{◌≡◌, ◌≤◌, ℕ, ◌+◌, ◌*◌, ◌==◌, Bool, true, false, List, ◌∷◌, length, Result, Ok, Err}
-use Rattle.std.specs.List.{fold, flat_map, list_any, zip, sum_by}
+use Rattle.std.specs.Prelude.{ℕ, ◌+◌, ◌==◌, Bool, List, ◌∷◌, length}
+use Rattle.std.specs.List.{fold, flat_map, zip, sum_by}
 use Rattle.std.specs.Cmp.Lexicographic.{pointwise}
 use Rattle.pfl_base.specs.Lists.{folds}
-use Rattle.pfl_edits.specs.Changes.{Edits}
-use Rattle.pfl_edits.specs.Maps as maps
 use Rattle.pfl_wire.specs.declared.message.Message.{Message}
 use Rattle.pfl_wire.specs.declared.message.Message.TheVariants as message
 use Rattle.pfl_wire.specs.Frames.{Frame}
-use Rattle.pfl_parts.specs.declared.edit.NodeEdit.{NodeEdit}
-use Rattle.pfl_parts.specs.declared.parts.judge.Overfull.{Overfull}
-use Rattle.pfl_parts.specs.Nodes.{Node, is_overfull, is_overcounted}
+use Rattle.pfl_parts.specs.Nodes.{Node}
+use Rattle.pfl_parts.specs.Weights.{forgotten_edits}
 use Rattle.pfl_receive.specs.Receiving.{taken, cleared_names}
 
 -- ---- records
@@ -30,6 +27,16 @@ unfoldable pub records_work : Node → Bool → List Message → ℕ
 records_work n same_rules messages =
     let nodes = n ∷ taken_points n same_rules messages in
     length messages + sum_by (λ at. cleared_by at.0 at.1) (zip nodes messages)
+
+-- ---- edits
+
+-- a record takes at most so many edits, beside those of the states that it clears: each of them is forgotten
+abbrev pub record_edits : ℕ
+record_edits = 8
+
+-- so many pay for each thing that records are about
+abbrev pub work_edits : ℕ
+work_edits = record_edits + forgotten_edits
 
 -- ---- frames
 
@@ -60,23 +67,3 @@ frame_work n f = records_work n (same_rules n f) (records_of f)
 -- so many records are counted; no frame that was read has as many, since each takes a byte at least
 abbrev pub most_records : ℕ
 most_records = 65536
-
--- ---- how they are carried out; no contract of a public call of a node cites these
-
--- the records were taken: it stopped where too much was pending after one, and else tells whether after one a number was too high
-abbrev pub WentAll : Result Bool Overfull → List Node → Type 0
-WentAll (Ok over) points = (list_any is_overfull points ≡ false) × (over ≡ list_any is_overcounted points)
-WentAll (Err _) points = list_any is_overfull points ≡ true
-
--- The edits of a record are paid by twelve, and by four for each state that it takes out: so a clear, which takes out states that
--- records before it brought, is paid by those.
-abbrev pub IsPaid : Edits NodeEdit → Edits NodeEdit → Node → Node → Type 0
-IsPaid x y a b = 4 * maps.len b.states + x.spare ≤ 4 * maps.len a.states + 12 + y.spare
-
--- the same of so many records
-abbrev pub ArePaid : ℕ → Edits NodeEdit → Edits NodeEdit → Node → Node → Type 0
-ArePaid records x y a b = 4 * maps.len b.states + x.spare ≤ 4 * maps.len a.states + 12 * records + y.spare
-
--- the room for the records of a frame, at a node with so many states
-abbrev pub most_taken : ℕ → ℕ → ℕ
-most_taken states records = 4 * (states + records) + 8 * records

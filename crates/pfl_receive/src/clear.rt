@@ -6,7 +6,7 @@ ghost use Rattle.std.specs.Prelude.{◌≡◌, ◌≤◌, ◌+◌, ◌*◌, ◌=
 ghost use Rattle.pfl_edits.specs.Maps as maps;
 ghost use Rattle.pfl_parts.specs.Edits.{NodeExtends, total};
 ghost use Rattle.pfl_queue.specs.Queues.{most_numbers};
-ghost use Rattle.pfl_receive.specs.Delivering.{IsPaid};
+ghost use Rattle.pfl_receive.specs.inner.Delivering.{IsPaid};
 ghost use Rattle.pfl_receive.specs.Receiving as receiving;
 ghost use Rattle.pfl_table.specs.Tables.{AreStates, state_after};
 

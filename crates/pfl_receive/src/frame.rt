@@ -7,7 +7,8 @@ ghost use Rattle.pfl_parts.specs.Edits.{NodeExtends, total};
 ghost use Rattle.pfl_parts.specs.Nodes.{Node as Whole};
 ghost use Rattle.pfl_queue.specs.Queues.{most_numbers};
 ghost use Rattle.pfl_receive.specs.Delivering as delivering;
-ghost use Rattle.pfl_receive.specs.Delivering.{ArePaid, WentAll, all_of, frame_work, most_taken, receive_points, received, records_of, records_work, taken_points};
+ghost use Rattle.pfl_receive.specs.inner.Delivering.{ArePaid, WentAll, most_taken};
+ghost use Rattle.pfl_receive.specs.Delivering.{all_of, frame_work, receive_points, received, records_of, records_work, taken_points, work_edits};
 ghost use Rattle.pfl_receive.specs.Receiving.{taken};
 ghost use Rattle.pfl_wire.specs.Frames.{lists};
 
@@ -29,7 +30,7 @@ pub fn take_frame<A: Allocator>(
     requires countable { total parts.old + change.old.spare ≤ most_numbers }
     ensures went { WentAll result (receive_points parts.old frame.now) }
     ensures node { OnOk result (parts.new ≡ received parts.old frame.now) }
-    ensures extends { NodeExtends (12 * frame_work parts.old frame.now) change.old change.new parts.old parts.new }
+    ensures extends { NodeExtends (work_edits * frame_work parts.old frame.now) change.old change.new parts.old parts.new }
 {
     let same_rules = has_same_rules(parts, frame);
     take_groups(parts, frame.groups(), same_rules, change)
@@ -53,7 +54,7 @@ fn take_groups<A: Allocator>(
     requires countable { total parts.old + change.old.spare ≤ most_numbers }
     ensures went { WentAll result (taken_points parts.old same_rules (all_of (lists groups.now))) }
     ensures node { OnOk result (parts.new ≡ fold (λ n m. taken n same_rules m) parts.old (all_of (lists groups.now))) }
-    ensures extends { NodeExtends (12 * records_work parts.old same_rules (all_of (lists groups.now))) change.old change.new parts.old parts.new }
+    ensures extends { NodeExtends (work_edits * records_work parts.old same_rules (all_of (lists groups.now))) change.old change.new parts.old parts.new }
 {
     let mut too_high = false;
     for group in groups {
@@ -76,7 +77,7 @@ pub fn take_all<A: Allocator>(
     ensures went { WentAll result (taken_points parts.old same_rules messages.now) }
     ensures node { OnOk result (parts.new ≡ fold (λ n m. taken n same_rules m) parts.old messages.now) }
     ensures paid { OnOk result (ArePaid (length messages.now) change.old change.new parts.old parts.new) }
-    ensures extends { NodeExtends (12 * records_work parts.old same_rules messages.now) change.old change.new parts.old parts.new }
+    ensures extends { NodeExtends (work_edits * records_work parts.old same_rules messages.now) change.old change.new parts.old parts.new }
 {
     let mut overcounted = false;
     for message in messages {

@@ -4,8 +4,10 @@ ghost use Rattle.std.specs.Prelude.{◌≡◌, ◌≤◌, ◌+◌, ◌*◌, true
 ghost use Rattle.pfl_edits.specs.Maps as maps;
 ghost use Rattle.pfl_parts.specs.Edits.{NodeExtends, total};
 ghost use Rattle.pfl_parts.specs.Nodes.{Node as Whole, is_overfull};
+ghost use Rattle.pfl_parts.specs.Weights.{forgotten_edits};
 ghost use Rattle.pfl_queue.specs.Queues.{most_numbers};
-ghost use Rattle.pfl_receive.specs.Delivering.{IsPaid, cleared_by};
+ghost use Rattle.pfl_receive.specs.inner.Delivering.{IsPaid};
+ghost use Rattle.pfl_receive.specs.Delivering.{cleared_by, record_edits};
 ghost use Rattle.pfl_receive.specs.Receiving.{taken};
 
 use crate::ack::take_ack;
@@ -28,12 +30,12 @@ pub fn take_record<A: Allocator>(
     same_rules: bool,
     change: &mut Change<NodeEdit, A>,
 ) -> Result<(), Overfull>
-    requires room { 4 * maps.len parts.old.states + 8 ≤ change.old.spare }
+    requires room { forgotten_edits * maps.len parts.old.states + record_edits ≤ change.old.spare }
     requires countable { total parts.old + change.old.spare ≤ most_numbers }
     ensures full { OnErr result (is_overfull (taken parts.old same_rules message.now) ≡ true) }
     ensures node { OnOk result (parts.new ≡ taken parts.old same_rules message.now) }
     ensures paid { OnOk result (IsPaid change.old change.new parts.old parts.new) }
-    ensures extends { NodeExtends (8 + 4 * cleared_by parts.old message.now) change.old change.new parts.old parts.new }
+    ensures extends { NodeExtends (record_edits + forgotten_edits * cleared_by parts.old message.now) change.old change.new parts.old parts.new }
 {
     parts.known();
     match message {

@@ -5,7 +5,7 @@ ghost use Rattle.std.specs.Prelude.{◌≡◌, ◌≤◌, ◌+◌, true, false, 
 ghost use Rattle.pfl_edits.specs.Maps as maps;
 ghost use Rattle.pfl_parts.specs.Changes as to;
 ghost use Rattle.pfl_parts.specs.Edits.{NodeExtends, total};
-ghost use Rattle.pfl_parts.specs.Kept.{MayReplace};
+ghost use Rattle.pfl_parts.specs.inner.Kept.{MayReplace};
 ghost use Rattle.pfl_parts.specs.Nodes.{Node as Whole, AreParts, is_overfull};
 ghost use Rattle.pfl_queue.specs.Queues.{most_numbers};
 ghost use Rattle.pfl_receive.specs.Receiving as receiving;

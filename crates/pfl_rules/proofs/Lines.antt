@@ -7,7 +7,8 @@ use Rattle.std.proofs.lemmas.Slice.Zip.{get_or-zip, length-zip}
 use Rattle.std.proofs.lemmas.Grind.{flat_map-append}
 use Rattle.pfl_base.specs.declared.class.Class.{Class}
 use Rattle.pfl_base.specs.Classes.{classes}
-use Rattle.pfl_rules.specs.Parts.{spaced, timeout_text, timeouts_text}
+use Rattle.pfl_rules.specs.inner.Parts.{spaced}
+use Rattle.pfl_rules.specs.Parts.{timeout_text, timeouts_text}
 use Rattle.pfl_rules.specs.Texts.{timeout_words}
 
 -- one element more

@@ -9,10 +9,6 @@ use Rattle.pfl_rules.specs.declared.parts.Value.{Value}
 use Rattle.pfl_rules.specs.declared.parts.Value.TheVariants.{Proto, Net, Number, End}
 use Rattle.pfl_rules.specs.Texts.{net_text}
 
--- the words, each behind a space
-abbrev pub spaced : List (List ℕ) → List ℕ
-spaced words = flat_map (λ word. codes " " ++ word) words
-
 -- the value of an option
 abbrev pub value_text : Value → List ℕ
 value_text (Proto proto) = proto_text proto

@@ -53,7 +53,8 @@ pub(crate) struct Said {
 impl Said {
     ghost use Rattle.std.specs.Fmt.{decimal};
     ghost use Rattle.pfl_base.specs.Texts.{end_text, proto_text};
-    ghost use Rattle.pfl_rules.specs.Parts.{said_text, spaced};
+    ghost use Rattle.pfl_rules.specs.Parts.{said_text};
+    ghost use Rattle.pfl_rules.specs.inner.Parts.{spaced};
     ghost use Rattle.pfl_rules.specs.Texts.{net_text, option_words};
 
     pub(crate) fn proto(word: &'static str, proto: Option<Proto>) -> Said

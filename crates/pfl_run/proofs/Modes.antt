@@ -14,7 +14,8 @@ use Rattle.clap.specs.declared.parser.matches.SubCommand.{SubCommand}
 use Rattle.std.specs.Box.{box_value}
 use Rattle.pfl_run.specs.declared.mode.Mode.{Mode}
 use Rattle.pfl_run.specs.declared.mode.Mode.TheVariants.{Run, Check}
-use Rattle.pfl_run.specs.Modes.{lab_app, mode_word, subcommand_name, IsModeOf}
+use Rattle.pfl_run.specs.Modes.{lab_app, mode_word, subcommand_name}
+use Rattle.pfl_run.specs.inner.Modes.{IsModeOf}
 
 -- the second kinds are none where both are
 or_else_second : (a b : Kinds) → or_else a b ≡ [] → b ≡ []

@@ -2,3 +2,4 @@ pub mod Faults
 pub mod Runs
 pub mod Checks
 pub mod Modes
+pub mod inner

@@ -1,5 +1,5 @@
 -- What the program's words ask for (this project's profile).
-use Rattle.std.specs.Prelude.{◌≡◌, ◌≢◌, ℕ, true, List, [], Option, Some, option_map, codes, ◌⊎◌}
+use Rattle.std.specs.Prelude.{◌≡◌, ℕ, true, List, [], Option, option_map, codes, ◌⊎◌}
 use Rattle.clap.specs.Simple.{App, on_top, new_app, new_shape, with_subcommand, subcommand_of}
 use Rattle.clap.specs.Kinds.{Kinds, IsAmong}
 use Rattle.clap.specs.Faults.{fault_of}
@@ -24,11 +24,6 @@ lab_app =
 abbrev pub mode_word : Mode → List ℕ
 mode_word Run = codes "run"
 mode_word Check = codes "check"
-
--- this is the mode of the subcommand with this name, which is one of the program's
-abbrev pub IsModeOf : Option (List ℕ) → Mode → Type 0
-IsModeOf name Run = name ≢ Some (codes "check")
-IsModeOf name Check = name ≡ Some (codes "check")
 
 -- the subcommand that words name
 abbrev pub subcommand_name : List (List ℕ) → Option (List ℕ)

@@ -58,11 +58,6 @@ pub record HasWorldFault (old : Option (List ℕ)) (n : ℕ) (why : WorldFault) 
 abbrev pub HasRuleFaultAt : Option (List ℕ) → ℕ → RuleFault → Type 0
 HasRuleFaultAt old n why = (mid : Option (List ℕ)) × HasRuleFault old mid n why
 
--- why limits of a setup, whose line `open` has this number, are none: their first fault
-abbrev pub IsLimitsStop : LabFault → ℕ → Option WorldFault → Type 0
-IsLimitsStop (fault.World m why) n first = (m ≡ n) × (first ≡ Some why)
-IsLimitsStop _ n first = ⊥
-
 -- why no pair was set up
 abbrev pub IsSetupStop : LabFault → Option (List ℕ) → Type 0
 IsSetupStop (fault.Line n why) old = IsFaultyAt old n why

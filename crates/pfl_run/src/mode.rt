@@ -4,7 +4,8 @@ ghost use Rattle.std.specs.Prelude.{◌≡◌, [], Some, map, IfOk, IfErr};
 ghost use Rattle.clap.specs.Faults.{fault_of};
 ghost use Rattle.clap.specs.Kinds.{HasKind, Kinds};
 ghost use Rattle.clap.specs.Words.{app_of, subcommand_name_of};
-ghost use Rattle.pfl_run.specs.Modes.{kind_status, lab_app, mode_word, subcommand_name, words_status, IsModeOf, IsWordsFault};
+ghost use Rattle.pfl_run.specs.Modes.{kind_status, lab_app, mode_word, subcommand_name, words_status, IsWordsFault};
+ghost use Rattle.pfl_run.specs.inner.Modes.{IsModeOf};
 
 use clap::error::ErrorKind;
 use clap::{ArgMatches, Command, Error};

@@ -2,7 +2,8 @@
 
 ghost use Rattle.std.specs.Prelude.{◌≡◌, ◌≤◌, ◌^◌, None, false, IfOk, IfErr, OnOk};
 ghost use Rattle.pfl_world.specs.Worlds.{world_fault};
-ghost use Rattle.pfl_run.specs.Runs.{IsDeviceFault, IsLimitsStop, IsSetup, IsSetupStop};
+ghost use Rattle.pfl_run.specs.Runs.{IsDeviceFault, IsSetup, IsSetupStop};
+ghost use Rattle.pfl_run.specs.inner.Runs.{IsLimitsStop};
 
 use crate::fault::LabFault;
 use pfl_base::Input;

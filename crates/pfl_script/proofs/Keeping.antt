@@ -5,7 +5,8 @@ use Rattle.std.proofs.lemmas.Bool.{lt-ltb, le-ltb, cases_lt}
 use Rattle.std.proofs.lemmas.Bool.Decides.{nat_tests}
 use Rattle.std.proofs.lemmas.List.{take-append-le, take_all, length-take, append-nil}
 use Rattle.pfl_script.specs.declared.head.Head.{Head}
-use Rattle.pfl_script.specs.Scans.{Kept, Keeps, pushed, settled, counted, carriage_of, head_from, head_after}
+use Rattle.pfl_script.specs.Scans.{Kept, Keeps, pushed, settled, counted, head_from, head_after}
+use Rattle.pfl_script.proofs.Scans.{carriage_of}
 
 -- the head of a line with one more byte
 head_from-push : (h : Head) (line : List ℕ) (b : ℕ) → head_from h (line ++ b ∷ []) ≡ head_after (head_from h line) b

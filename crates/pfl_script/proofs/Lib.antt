@@ -6,3 +6,4 @@ pub mod CheckedLines
 pub mod Lists
 pub mod Setting
 pub mod Turns
+pub mod Scans

@@ -7,7 +7,8 @@ use Rattle.pfl_lines.specs.Commands.{parsed}
 use Rattle.pfl_timeline.specs.Timelines.{Timeline}
 use Rattle.pfl_script.specs.Lines.{lines_of}
 use Rattle.pfl_script.specs.Scans.{Kept, Keeps, ReadsLine, TakesLine, TakesLines, IsOver}
-use Rattle.pfl_script.specs.Answers.{Answer, line_answer, is_bad, is_command, kept_answer, kept_bad, kept_command, kept_said, text, after, bad_lines, one_if, Breaks, IsAfter, AreLines, AreFirst, Drains, RunsWhole, RunsPart, RunsLines, RunsUnanswered, RunsUntil}
+use Rattle.pfl_script.specs.Answers.{Answer, line_answer, is_bad, is_command, kept_answer, kept_bad, kept_command, kept_said, text, after, bad_lines, one_if, IsAfter, AreLines, AreFirst, Drains, RunsWhole, RunsPart, RunsLines, RunsUnanswered, RunsUntil}
+use Rattle.pfl_script.specs.inner.Answers.{Breaks}
 use Rattle.pfl_script.specs.declared.fault.EngineFault.{EngineFault}
 use Rattle.pfl_script.specs.declared.fault.EngineFault.TheVariants as engine
 use Rattle.pfl_script.specs.Readers.{Source, IsReadFault, IsWriteFault}

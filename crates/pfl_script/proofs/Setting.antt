@@ -18,7 +18,8 @@ use Rattle.pfl_script.specs.Answers.{kept_setup}
 use Rattle.pfl_script.specs.declared.setup_fault.SetupFault.{SetupFault}
 use Rattle.pfl_script.specs.declared.setup_fault.SetupFault.TheVariants as fault
 use Rattle.pfl_script.specs.Readers.{Source}
-use Rattle.pfl_script.specs.Setups.{is_rule, says_rule, IsSetupFault, IsTakeFault, IsRuleStop, IsFinishStop, IsReadStop, Draft, nothing_set, said, kept_words, set_by_said, goes_on, drafted, all_go_on, Opens, IsFaultyAt, IsUnopened, Takes, WantsRule, GoOn, StopsAt}
+use Rattle.pfl_script.specs.Setups.{is_rule, says_rule, IsSetupFault, Draft, nothing_set, said, kept_words, set_by_said, goes_on, drafted, all_go_on, Opens, IsFaultyAt, IsUnopened, WantsRule, GoOn, StopsAt}
+use Rattle.pfl_script.specs.inner.Setups.{IsTakeFault, IsRuleStop, IsFinishStop, IsReadStop, Takes}
 use Rattle.pfl_script.proofs.Running.{taken-none, taken-line, taken-first, taken-all}
 
 -- lines were taken so far that set this

@@ -7,7 +7,9 @@ use Rattle.std.proofs.lemmas.Bool.{ne_eqb, and_parts}
 use Rattle.std.proofs.lemmas.Bool.Decides.{eqb_tells}
 use Rattle.std.proofs.lemmas.List.{append-nil}
 use Rattle.pfl_script.specs.Lines.{lines_of, with_first}
-use Rattle.pfl_script.specs.Scans.{Kept, Keeps, nothing, pushed, settled, counted, added, carriage_of, prepend, Begins, Reads, TakesLine, ReadsLine, IsOver, TakesByte}
+use Rattle.pfl_script.specs.Scans.{Kept, Keeps, nothing, pushed, settled, counted, added, TakesLine, ReadsLine, IsOver}
+use Rattle.pfl_script.proofs.Scans.{carriage_of, prepend, Begins, Reads}
+use Rattle.pfl_script.specs.inner.Scans.{TakesByte}
 use Rattle.pfl_script.proofs.Keeping.{Keeps-pushed, Keeps-settled}
 
 -- one more byte goes onto the front of what follows

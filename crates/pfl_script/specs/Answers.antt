@@ -1,6 +1,6 @@
 -- What lines do to a timeline, and the text of their replies.
 use Rattle.std.specs.Prelude.{◌≡◌, ◌≤◌, ℕ, ◌+◌, Bool, true, false, not, ◌&&◌, is_err, List, [], ◌∷◌, ◌++◌, length, take, if◌then◌else◌, Option, Some, None, ⊤, ◌⊎◌, Result, Ok, Err}
-use Rattle.std.specs.Io.KnownBytes.{Appends, Keeps as KeepsBytes}
+use Rattle.std.specs.Io.KnownBytes.{Appends}
 use Rattle.pfl_timeline.specs.declared.command.Command.{Command}
 use Rattle.pfl_lines.specs.declared.fault.LineFault.{LineFault}
 use Rattle.pfl_lines.specs.declared.fault.LineFault.TheVariants.{Long}
@@ -81,10 +81,6 @@ kept_command k = has_word k.head && not (is_err (kept_said k))
 -- the timeline is that of the answer, or as it was
 abbrev pub IsAfter : Answer → Timeline → Timeline → Type 0
 IsAfter answer t u = (u ≡ answer.timeline) ⊎ (u ≡ t)
-
--- the answer stands and its text was written in part, or nothing was done
-abbrev pub Breaks : Answer → Timeline → Timeline → Option (List ℕ) → Option (List ℕ) → Type 0
-Breaks answer t u w v = ((u ≡ answer.timeline) × ((n : ℕ) × Appends w v (take n answer.text))) ⊎ ((u ≡ t) × KeepsBytes w v)
 
 -- the lines of known bytes are these
 abbrev pub AreLines : Option (List ℕ) → List (List ℕ) → Type 0

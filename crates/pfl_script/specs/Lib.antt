@@ -7,3 +7,4 @@ pub mod Replies
 pub mod Answers
 pub mod Checks
 pub mod Setups
+pub mod inner

@@ -1,6 +1,6 @@
 -- A line while it is read: what is kept of it.
 use Rattle.std.specs.Prelude.{◌≡◌, ℕ, Bool, true, false, ◌==◌, nat_lt, List, [], ◌∷◌, ◌++◌, length, take, if◌then◌else◌, Option, Some, None, ⊤}
-use Rattle.pfl_script.specs.Lines.{lines_of, with_first, is_blank}
+use Rattle.pfl_script.specs.Lines.{lines_of, is_blank}
 use Rattle.pfl_script.specs.declared.head.Head.{Head}
 use Rattle.pfl_script.specs.declared.head.Head.TheVariants.{Blank, Comment, Word}
 
@@ -46,11 +46,6 @@ pushed k b = record {
   carriage = k.carriage;
 }
 
--- the CR that came last, if it is not counted yet
-abbrev pub carriage_of : Bool → List ℕ
-carriage_of true = 13 ∷ []
-carriage_of false = []
-
 -- the CR before this byte was one of the line
 abbrev pub counted : Kept → Kept
 counted k = record { bytes = (pushed k 13).bytes; long = (pushed k 13).long; head = (pushed k 13).head; carriage = false }
@@ -71,23 +66,6 @@ pub record Keeps (k : Kept) (body : List ℕ) : Type 0 where
   pub bytes : k.bytes ≡ take 512 body
   pub long : k.long ≡ nat_lt 512 (length body)
   pub head : k.head ≡ head_of body
-
--- the bytes go onto the front of the first line
-abbrev pub prepend : List ℕ → List (List ℕ) → List (List ℕ)
-prepend [] lines = lines
-prepend (b ∷ body) lines = with_first b (prepend body lines)
-
--- of known bytes the line so far was taken, with the CR that came last
-abbrev pub Begins : Option (List ℕ) → Option (List ℕ) → List ℕ → Bool → Type 0
-Begins None new body carriage = ⊤
-Begins (Some xs) None body carriage = ⊥
-Begins (Some xs) (Some ys) body carriage = lines_of xs ≡ prepend body (lines_of (carriage_of carriage ++ ys))
-
--- part of a line was taken, and this is kept of it
-pub record Reads (k : Kept) (old new : Option (List ℕ)) : Type 0 where
-  pub body : List ℕ
-  pub keeps : Keeps k body
-  pub begins : Begins old new body k.carriage
 
 -- of known bytes the first line was taken
 abbrev pub TakesLine : Option (List ℕ) → Option (List ℕ) → List ℕ → Type 0
@@ -117,10 +95,3 @@ IsOver (Some xs) (Some ys) = (xs ≡ []) × (ys ≡ [])
 abbrev pub Gives : Option (List ℕ) → Option (List ℕ) → Option Kept → Type 0
 Gives old new None = IsOver old new
 Gives old new (Some k) = ReadsLine k old new
-
--- one byte of known bytes was taken, or there was none
-abbrev pub TakesByte : Option (List ℕ) → Option (List ℕ) → Option ℕ → Type 0
-TakesByte old new None = IsOver old new
-TakesByte None new (Some b) = ⊤
-TakesByte (Some xs) None (Some b) = ⊥
-TakesByte (Some xs) (Some ys) (Some b) = xs ≡ b ∷ ys

@@ -2,7 +2,8 @@
 
 ghost use Rattle.std.specs.Prelude.{◌≡◌, true, IfOk, OnOk, OnErr, IfErr};
 ghost use Rattle.std.specs.Io.KnownBytes.{Appends};
-ghost use Rattle.pfl_script.specs.Answers.{answer_to, kept_answer, kept_bad, kept_command, Breaks, IsAfter};
+ghost use Rattle.pfl_script.specs.Answers.{answer_to, kept_answer, kept_bad, kept_command, IsAfter};
+ghost use Rattle.pfl_script.specs.inner.Answers.{Breaks};
 ghost use Rattle.pfl_script.specs.Readers.{IsWriteFault};
 
 use crate::fault::EngineFault;

@@ -2,7 +2,8 @@
 
 ghost use Rattle.std.specs.Prelude.{◌≡◌, ◌+◌, ◌<◌, ◌≤◌, ◌-◌, ◌^◌, min, false, Some, None, IfOk, IfErr, OnOk, OnErr, IfSome, ◌↔◌, IsTrue};
 ghost use Rattle.std.specs.Io.KnownBytes.{Keeps, IsAtEnd};
-ghost use Rattle.pfl_script.specs.Scans.{TakesByte, Gives};
+ghost use Rattle.pfl_script.specs.inner.Scans.{TakesByte};
+ghost use Rattle.pfl_script.specs.Scans.{Gives};
 ghost use Rattle.pfl_script.specs.Readers.{room, CountsTurns, IsReadFault, one_more, lines_after};
 
 use crate::fault::EngineFault;

@@ -5,7 +5,8 @@ ghost use Rattle.pfl_base.specs.Counts.{Counts};
 ghost use Rattle.pfl_rules.specs.Rules.{rule_fault, rule_set};
 ghost use Rattle.pfl_script.specs.Readers.{lines_after, room, CountsTurns};
 ghost use Rattle.pfl_script.specs.Scans.{Gives};
-ghost use Rattle.pfl_script.specs.Setups.{kept_words, nothing_set, with_rule, is_rule, CountsLines, Finishes, IsFinishStop, IsReadStop, IsRuleStop, IsSetupFault, IsTakeFault, ReadsSetup, ReadsSetupTo, Takes};
+ghost use Rattle.pfl_script.specs.Setups.{kept_words, nothing_set, with_rule, is_rule, CountsLines, Finishes, IsSetupFault, ReadsSetup, ReadsSetupTo};
+ghost use Rattle.pfl_script.specs.inner.Setups.{IsFinishStop, IsReadStop, IsRuleStop, IsTakeFault, Takes};
 
 use crate::fault::EngineFault;
 use crate::line::Line;

@@ -7,9 +7,10 @@ use Rattle.std.specs.Cmp.{IsTotalOrder, nat_cmp_total}
 use Rattle.std.proofs.Common.{cond, T, sym, ◌∙◌, ap, subst}
 use Rattle.std.proofs.lemmas.Cmp.{on_total, then_total}
 use Rattle.pfl_base.specs.Lists.{in_order, put_before}
-use Rattle.pfl_base.specs.Names.{name_cmp, names_total}
+use Rattle.pfl_base.specs.Names.{name_cmp}
+use Rattle.pfl_base.proofs.Names.{names_total}
 use Rattle.pfl_track.specs.declared.state.State.{State}
-use Rattle.pfl_table.specs.Expiries.{state_before}
+use Rattle.pfl_table.proofs.Expiries.{state_before}
 
 -- none of the list stands before x
 abbrev pub NoneBefore : {X : Type 0} → (X → X → Bool) → X → List X → Type 0

@@ -3,12 +3,13 @@ use Rattle.std.specs.Prelude.{◌≡◌, ℕ, List, [], refl}
 use Rattle.std.proofs.Common.{◌∙◌, sym, subst, arith}
 use Rattle.pfl_base.specs.Names.{name_cmp}
 use Rattle.pfl_edits.specs.Maps as maps
-use Rattle.pfl_edits.specs.Maps.{len-empty, get-empty}
+use Rattle.pfl_edits.proofs.Maps.{len-empty, get-empty}
 use Rattle.pfl_edits.specs.Ordered.{RowList}
-use Rattle.pfl_edits.specs.Rows.{some_is_none}
+use Rattle.pfl_edits.proofs.RowMaps.{some_is_none}
 use Rattle.pfl_table.specs.declared.row.Row.{Row}
-use Rattle.pfl_table.specs.Tables.{IsTable, AreStates, states_of-empty}
-use Rattle.pfl_table.specs.Kept.{IsKept, table_of}
+use Rattle.pfl_table.specs.Tables.{IsTable, AreStates}
+use Rattle.pfl_table.proofs.Tables.{states_of-empty}
+use Rattle.pfl_table.specs.inner.Kept.{IsKept, table_of}
 
 -- no states are states
 AreStates-empty : AreStates maps.empty

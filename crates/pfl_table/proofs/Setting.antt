@@ -4,14 +4,15 @@ use Rattle.std.specs.Option.{option_map}
 use Rattle.std.proofs.Common.{cond, ◌∙◌, ap, sym, subst, arith}
 use Rattle.std.proofs.lemmas.Bool.Decides.{nat_tests}
 use Rattle.pfl_base.specs.declared.state_name.StateName.{StateName}
-use Rattle.pfl_base.specs.Names.{names_total, names_exact}
+use Rattle.pfl_base.proofs.Names.{names_total, names_exact}
 use Rattle.pfl_edits.specs.Maps as maps
-use Rattle.pfl_edits.specs.Maps.{len-insert, len-remove}
-use Rattle.pfl_edits.specs.Places.{get-set_at_same, set_at-same}
+use Rattle.pfl_edits.proofs.Maps.{len-insert, len-remove}
+use Rattle.pfl_edits.proofs.Places.{get-set_at_same, set_at-same}
 use Rattle.pfl_track.specs.declared.state.State.{State}
 use Rattle.pfl_table.specs.declared.edit.TableEdit.{TableEdit}
 use Rattle.pfl_table.specs.declared.row.Row.{Row}
-use Rattle.pfl_table.specs.Tables.{Table, IsTable, AreStates, states_of, by_wire, by_stack, put_fault, row_with, with_row, edit_of, TableLeadsBack, edit_of-leads_back, get-states_of, states_of-with_row}
+use Rattle.pfl_table.specs.Tables.{Table, IsTable, AreStates, states_of, by_wire, by_stack, put_fault, row_with, with_row, edit_of, TableLeadsBack}
+use Rattle.pfl_table.proofs.Tables.{edit_of-leads_back, get-states_of, states_of-with_row}
 use Rattle.pfl_table.proofs.Apart.{OwnsKeys-unused, OwnsKeys-known, AreStates-with, AreStates-without}
 
 -- nothing keeps the state from being put

@@ -1,28 +1,26 @@
 -- The table of states: a map from names, with one state for each wire key and each stack key (pf(4)), and the edits of it.
-use Rattle.std.specs.Prelude.{◌≡◌, ◌≤◌, ℕ, Bool, false, ◌&&◌, ◌||◌, ◌==◌, nat_lt, nat_le, find, List, codes, [], ◌∷◌, map, Option, Some, None, is_some, if◌then◌else◌, refl}
+use Rattle.std.specs.Prelude.{◌≡◌, ◌≤◌, ℕ, Bool, false, ◌&&◌, ◌||◌, ◌==◌, nat_lt, nat_le, find, List, codes, Option, Some, None, is_some, if◌then◌else◌, refl}
 use Rattle.std.specs.List.{count_by, slice_get}
 use Rattle.std.specs.Option.{option_map, option_map_or}
 use Rattle.std.specs.Ordering.{is_lt}
 use Rattle.std.specs.Coded.{Coded, code_by, coded×, coded_ℕ}
-use Rattle.std.proofs.Common.{◌∙◌, ap, subst}
 use Rattle.pfl_base.specs.Lists.{in_order}
 use Rattle.pfl_base.specs.declared.direction.Dir.{Dir}
 use Rattle.pfl_base.specs.declared.direction.Dir.TheVariants.{Inbound, Outbound}
 use Rattle.pfl_base.specs.declared.flow.Key.{Key}
 use Rattle.pfl_base.specs.declared.state_name.StateName.{StateName}
 use Rattle.pfl_base.specs.Keys.{is_key}
-use Rattle.pfl_base.specs.Names.{name_cmp, names_total, names_exact, coded_state_name}
-use Rattle.pfl_edits.specs.Changes.{LeadsBack, LeadsBack-one, LeadsBothWays}
+use Rattle.pfl_base.specs.Names.{name_cmp, coded_state_name}
+use Rattle.pfl_edits.specs.Changes.{LeadsBack}
 use Rattle.pfl_edits.specs.Maps as maps
 use Rattle.pfl_edits.specs.Maps.{Map, set_at}
-use Rattle.pfl_edits.specs.Places.{part-both_ways, key-both_ways, get-set_at_same, set_at-back}
 use Rattle.pfl_track.specs.declared.state.State.{State}
 use Rattle.pfl_table.specs.declared.row.Row.{Row}
 use Rattle.pfl_table.specs.declared.fault.PutFault.{PutFault}
 use Rattle.pfl_table.specs.declared.fault.PutFault.TheVariants.{Full, NameInUse, WireInUse, StackInUse}
 use Rattle.pfl_table.specs.declared.edit.TableEdit.{TableEdit}
 use Rattle.pfl_table.specs.contracts.row.Row as row
-use Rattle.pfl_table.specs.Mapped.{map_values, map_values-empty, map_values-set_at, get-map_values, keys-map_values, len-map_values, values-map_values}
+use Rattle.pfl_table.specs.Mapped.{map_values}
 
 -- states by name
 abbrev pub States : Type 0
@@ -146,47 +144,3 @@ redone e t = with_row t e.name e.after
 -- the edits lead from one table to another and back
 abbrev pub TableLeadsBack : List TableEdit → Table → Table → Type 0
 TableLeadsBack = LeadsBack Finds IsTable put_back
-
--- an edit knows both values of its place
-pub table-both_ways : (e : TableEdit) → LeadsBothWays (FindsFormer e) (Finds e) (put_back e) (redone e)
-table-both_ways e =
-    part-both_ways (λ (t : Table). t.rows) (λ t m. record { limit = t.limit; rows = m }) (λ t m. refl) (λ t. refl) (λ t m n. refl)
-    (λ m. maps.get m e.name ≡ e.before) (λ m. maps.get m e.name ≡ e.after) (λ m. set_at m e.name e.before) (λ m. set_at m e.name e.after)
-    (key-both_ways names_total names_exact e.name e.before e.after)
-
--- the edit of what was set under a name leads back
-pub edit_of-leads_back : (t : Table) (name : StateName) (at : Option Row) → IsTable t → TableLeadsBack (edit_of t name at ∷ []) t (with_row t name at)
-edit_of-leads_back t name at is =
-    LeadsBack-one Finds IsTable put_back (edit_of t name at) t (with_row t name at)
-    (get-set_at_same names_total names_exact t.rows name at) is
-    (ap (λ m. record { limit = t.limit; rows = m }) (set_at-back names_total names_exact t.rows name (maps.get t.rows name) at refl))
-
--- ---- the states of a table
-
--- what stands under a name
-pub get-states_of : (t : Table) (name : StateName) → maps.get (states_of t) name ≡ option_map (λ r. r.state) (maps.get t.rows name)
-get-states_of t name = get-map_values name_cmp (λ r. r.state) t.rows name
-
--- a row that is set sets its state
-pub states_of-with_row : (t : Table) (name : StateName) (at : Option Row) → states_of (with_row t name at) ≡ set_at (states_of t) name (option_map (λ r. r.state) at)
-states_of-with_row t name at = map_values-set_at names_total names_exact (λ r. r.state) t.rows name at
-
--- as many states as rows
-pub len-states_of : (t : Table) → maps.len (states_of t) ≡ maps.len t.rows
-len-states_of t = len-map_values name_cmp (λ r. r.state) t.rows
-
--- in the order of the names, they are those of the rows
-pub values-states_of : (t : Table) → maps.values (states_of t) ≡ map (λ r. r.state) (maps.values t.rows)
-values-states_of t = values-map_values name_cmp (λ r. r.state) t.rows
-
--- their names are those of the rows
-pub keys-states_of : (t : Table) → maps.keys (states_of t) ≡ maps.keys t.rows
-keys-states_of t = keys-map_values name_cmp (λ r. r.state) t.rows
-
--- what makes a table is said of its states alone
-pub IsTable-states : (t : Table) → maps.len (states_of t) ≤ t.limit → AreStates (states_of t) → IsTable t
-IsTable-states t few are = record { few = subst (λ (n : ℕ). n ≤ t.limit) (len-states_of t) few; states = are }
-
--- a table without rows has none
-pub states_of-empty : (t : Table) → t.rows ≡ maps.empty → states_of t ≡ maps.empty
-states_of-empty t none = ap (map_values (λ r. r.state)) none ∙ map_values-empty name_cmp (λ r. r.state)

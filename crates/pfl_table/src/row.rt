@@ -1,7 +1,8 @@
 //! Rows of the table.
 
 ghost use Rattle.std.specs.Prelude.{◌≡◌};
-ghost use Rattle.pfl_base.specs.Names.{name_cmp, names_total, names_exact};
+ghost use Rattle.pfl_base.specs.Names.{name_cmp};
+ghost use Rattle.pfl_base.proofs.Names.{names_total, names_exact};
 ghost use Rattle.pfl_table.specs.Tables.{row_with};
 
 use pfl_base::StateName;

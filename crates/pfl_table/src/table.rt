@@ -31,7 +31,7 @@ impl<A: Allocator> Model for StateTable<A> {
 
     ghost coded = { coded_table };
 
-    ghost use Rattle.pfl_table.specs.Kept.{IsKept, table_of};
+    ghost use Rattle.pfl_table.specs.inner.Kept.{IsKept, table_of};
 
     ghost view = { λ t. table_of t.limit t.rows.list };
 
@@ -270,7 +270,8 @@ impl<A: Allocator + Copy> StateTable<A> {
 }
 
 impl<A: Allocator> Reversible for StateTable<A> {
-    ghost use Rattle.pfl_table.specs.Tables.{IsTable, Finds, FindsFormer, put_back, redone, table-both_ways};
+    ghost use Rattle.pfl_table.specs.Tables.{IsTable, Finds, FindsFormer, put_back, redone};
+    ghost use Rattle.pfl_table.specs.inner.BothWays.{table-both_ways};
 
     type Edit = TableEdit;
 

@@ -15,8 +15,11 @@ use Rattle.pfl_timeline.specs.declared.command.Command.TheVariants as command
 use Rattle.pfl_timeline.specs.declared.refused.Refused.{Refused}
 use Rattle.pfl_timeline.specs.declared.refused.Refused.TheVariants as refused
 use Rattle.pfl_timeline.specs.Commands.{replied, answered, with_branch, with_changed, extended, undone, at_cursor, step_answered, step_reply, back_reply, forward_reply, fork_reply, drop_reply, show_reply, step_command, back_command, forward_command, fork_command, drop_command, show_command, names_command, command_step}
-use Rattle.pfl_timeline.specs.Replies.{Reply, Replied, Stepped as StepReply, At, Shown, Names, Refused as Refusing, moved}
-use Rattle.pfl_timeline.specs.Rooted.{Rooted, shown, with_cursor, StandsIn, IsReplyOf}
+use Rattle.pfl_timeline.specs.Replies.{Reply, Replied, Stepped as StepReply, At, Shown, Names, Refused as Refusing}
+use Rattle.pfl_timeline.specs.inner.Replies.{moved}
+use Rattle.pfl_timeline.specs.Rooted.{Rooted, shown}
+use Rattle.pfl_timeline.specs.inner.Rooted.{with_cursor}
+use Rattle.pfl_timeline.proofs.Rooted.{StandsIn, IsReplyOf}
 use Rattle.pfl_timeline.specs.Timelines.{Branch, Timeline, standing, world_of}
 use Rattle.pfl_timeline.proofs.Refusals.{refusal_is}
 

@@ -8,7 +8,8 @@ use Rattle.pfl_world.specs.declared.event.Event.{Event}
 use Rattle.pfl_world.specs.Runs.{run}
 use Rattle.pfl_world.specs.WorldEdits.{Finds, put_back}
 use Rattle.pfl_world.specs.Worlds.{World, IsWorld}
-use Rattle.pfl_timeline.specs.Kept.{IsKept, edits_of, lists_of, before, rooted}
+use Rattle.pfl_timeline.specs.Kept.{IsKept, edits_of, before, rooted}
+use Rattle.pfl_timeline.specs.inner.Kept.{lists_of}
 use Rattle.pfl_timeline.proofs.Runs.{Change}
 
 -- one list behind another

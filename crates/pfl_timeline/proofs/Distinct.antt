@@ -5,7 +5,7 @@ use Rattle.std.proofs.Common.{cond, sym, ◌∙◌, ap, subst, arith, length-app
 use Rattle.std.proofs.lemmas.Bool.{both_ways}
 use Rattle.std.proofs.lemmas.List.{map-append}
 use Rattle.std.proofs.lemmas.Slice.Eq.{bytes_eq-Decides}
-use Rattle.pfl_edits.specs.Rows.{some_is_none}
+use Rattle.pfl_edits.proofs.RowMaps.{some_is_none}
 use Rattle.pfl_timeline.specs.Timelines.{Branch, same_name}
 
 -- a name is itself

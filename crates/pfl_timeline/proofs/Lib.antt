@@ -14,3 +14,5 @@ pub mod Forking
 pub mod Stepped
 pub mod Others
 pub mod Shows
+pub mod Rooted
+pub mod Summaries

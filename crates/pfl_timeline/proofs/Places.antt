@@ -7,7 +7,7 @@ use Rattle.std.proofs.lemmas.Bool.{leb-false}
 use Rattle.std.proofs.lemmas.List.{get_or_at, set_at, set-get_or, length-map, map-append, take_more}
 use Rattle.std.proofs.lemmas.List.Edits.{remove-append_right}
 use Rattle.std.proofs.lemmas.Iterator.Adapters.{position_from-zero}
-use Rattle.pfl_edits.specs.Rows.{some_is_none}
+use Rattle.pfl_edits.proofs.RowMaps.{some_is_none}
 use Rattle.pfl_world.specs.Runs.{run}
 use Rattle.pfl_world.specs.Worlds.{World, IsWorld}
 use Rattle.pfl_timeline.specs.Commands.{replied, with_branch, with_changed}
@@ -15,7 +15,8 @@ use Rattle.pfl_timeline.specs.Kept.{opening_of, timeline_of, AreKept}
 use Rattle.pfl_timeline.specs.Memory.{is_refusal, IsAccepted}
 use Rattle.pfl_timeline.specs.declared.refused.Refused.TheVariants as refused
 use Rattle.pfl_timeline.specs.Replies.{Reply, Replied, Refused as Refusing}
-use Rattle.pfl_timeline.specs.Rooted.{Rooted, shown, StandsIn, Accepts, IsReplyOf}
+use Rattle.pfl_timeline.specs.Rooted.{Rooted, shown}
+use Rattle.pfl_timeline.proofs.Rooted.{StandsIn, Accepts, IsReplyOf}
 use Rattle.pfl_timeline.specs.Timelines.{Branch, Timeline, IsBranch, IsTimeline, branch_of, main_name, same_name, standing, world_of}
 use Rattle.pfl_timeline.proofs.Distinct.{itself, differ, all_behind, others, one_goes}
 use Rattle.pfl_timeline.proofs.NewTimelines.{new_timeline-is}

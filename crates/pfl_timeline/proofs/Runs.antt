@@ -5,7 +5,8 @@ use Rattle.std.proofs.Common.{◌⊎◌, inl, inr, sym, ◌∙◌, ap, subst, le
 use Rattle.std.proofs.lemmas.List.{take-append-le, drop-append-le, take_more}
 use Rattle.std.proofs.lemmas.List.Sums.{fold_push}
 use Rattle.std.proofs.lemmas.Bool.{cases_lt}
-use Rattle.pfl_edits.specs.Changes.{Edits, back, Fits, back-append, Fits-append, Fits-front, Fits-rest}
+use Rattle.pfl_edits.specs.Changes.{Edits, back, Fits}
+use Rattle.pfl_edits.proofs.Leading.{back-append, Fits-append, Fits-front, Fits-rest}
 use Rattle.pfl_world.specs.declared.edit.WorldEdit.{WorldEdit}
 use Rattle.pfl_world.specs.declared.event.Event.{Event}
 use Rattle.pfl_world.specs.Events.{step}

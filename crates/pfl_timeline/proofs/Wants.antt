@@ -36,7 +36,8 @@ use Rattle.pfl_timeline.specs.Commands.{replied, answered, with_branch, undone, 
 use Rattle.pfl_timeline.specs.Laws.{NoReplyTellsWantOfMemory}
 use Rattle.pfl_timeline.specs.Memory.{is_refusal, IsAccepted, makes_something, Reads, StepMayWant, IsNotRefused, MayWantMemory}
 use Rattle.pfl_timeline.specs.Replies.{Reply, Replied, Forked, Removed, Shown, Refused as Refusing}
-use Rattle.pfl_timeline.specs.Rooted.{Rooted, shown, Accepts}
+use Rattle.pfl_timeline.specs.Rooted.{Rooted, shown}
+use Rattle.pfl_timeline.proofs.Rooted.{Accepts}
 use Rattle.pfl_timeline.specs.Timelines.{Branch, Timeline, branch_of, is_branch_name, same_name, world_of}
 use Rattle.pfl_timeline.specs.Kept.{timeline_of, AreKept}
 use Rattle.pfl_timeline.proofs.Asked.{asked_of, step-asks, is-forward, is-fork, is-show, is-names}

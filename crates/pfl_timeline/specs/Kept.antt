@@ -19,10 +19,6 @@ abbrev pub edits_of : {M : Type 0} → List (Edits (WorldEdit M)) → List (Worl
 edits_of [] = []
 edits_of (c ∷ cs) = c.list ++ edits_of cs
 
--- the edits of each change
-abbrev pub lists_of : {M : Type 0} → List (Edits (WorldEdit M)) → List (List (WorldEdit M))
-lists_of cs = map (λ c. c.list) cs
-
 -- the world from before the changes
 abbrev pub before : {M : Type 0} → List (Edits (WorldEdit M)) → World → World
 before cs w = back put_back (edits_of cs) w

@@ -1,5 +1,5 @@
 -- What a timeline answers (this project's profile).
-use Rattle.std.specs.Prelude.{ℕ, List, Option, Some, None}
+use Rattle.std.specs.Prelude.{ℕ, List}
 use Rattle.pfl_world.specs.Outcomes.{Outcome, told}
 use Rattle.pfl_world.specs.Worlds.{World}
 use Rattle.pfl_timeline.specs.declared.refused.Refused.{Refused as Refusal}
@@ -16,11 +16,6 @@ pub data Reply : Type 0 where
   Shown : List ℕ → ℕ → ℕ → World → Reply
   Names : List (List ℕ) → Reply
   Refused : Refusal → Reply
-
--- so many events stand after a way to another cursor, unless there is none
-abbrev pub moved : Refusal → Option ℕ → Reply
-moved why None = Refused why
-moved why (Some cursor) = At cursor
 
 -- what a reply of the code tells
 abbrev pub reply_of : {M : Type 0} → GivenReply M → Reply

@@ -5,7 +5,8 @@ ghost use Rattle.pfl_world.specs.Events.{step, IsEventRefusal};
 ghost use Rattle.pfl_world.specs.Outcomes.{told};
 ghost use Rattle.pfl_world.specs.Worlds.{World as Pair};
 ghost use Rattle.pfl_timeline.specs.Commands.{extended, undone, first_events};
-ghost use Rattle.pfl_timeline.specs.Rooted.{shown, with_cursor};
+ghost use Rattle.pfl_timeline.specs.Rooted.{shown};
+ghost use Rattle.pfl_timeline.specs.inner.Rooted.{with_cursor};
 ghost use Rattle.pfl_timeline.specs.Timelines.{IsBranch, is_branch_name, same_name};
 
 use crate::copying::copy_changes;

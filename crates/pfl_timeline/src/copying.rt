@@ -1,7 +1,7 @@
 //! Copies of what events changed.
 
 ghost use Rattle.std.specs.Prelude.{◌≡◌, map, IfOk};
-ghost use Rattle.pfl_timeline.specs.Kept.{lists_of};
+ghost use Rattle.pfl_timeline.specs.inner.Kept.{lists_of};
 
 use pfl_edits::{Change, InOrder, NoMemory};
 use pfl_world::{WorldChange, WorldEdit};

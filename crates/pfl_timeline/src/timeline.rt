@@ -4,7 +4,8 @@ ghost use Rattle.std.specs.Prelude.{◌≡◌, ◌≢◌, map, position, IfOk, O
 ghost use Rattle.std.specs.List.{AllByRecursion};
 ghost use Rattle.pfl_timeline.specs.Commands.{replied, step_command, back_command, forward_command, fork_refusal, fork_command, drop_command, show_command, names_command, command_step};
 ghost use Rattle.pfl_timeline.specs.Memory.{IsAccepted, MayWantMemory, StepMayWant};
-ghost use Rattle.pfl_timeline.specs.Replies.{reply_of, moved, Refused as Refusing};
+ghost use Rattle.pfl_timeline.specs.Replies.{reply_of, Refused as Refusing};
+ghost use Rattle.pfl_timeline.specs.inner.Replies.{moved};
 ghost use Rattle.pfl_timeline.specs.Timelines.{IsTimeline, new_timeline, same_name};
 
 use crate::branch::Branch;

@@ -5,3 +5,4 @@ pub mod Records
 pub mod Groups
 pub mod Loop
 pub mod Laws
+pub mod Reading

@@ -7,7 +7,7 @@ use Rattle.pfl_wire.specs.declared.action.Action.{Action}
 use Rattle.pfl_wire.specs.declared.message.Message.{Message}
 use Rattle.pfl_wire.specs.declared.fault.BadFrame.{BadFrame}
 use Rattle.pfl_wire.specs.Fields.{◌>>=◌, Read}
-use Rattle.pfl_wire.specs.Answers.{Joins, Keeps, left_by, kept_items, kept_lists}
+use Rattle.pfl_wire.specs.inner.Answers.{Joins, Keeps, left_by, kept_items, kept_lists}
 use Rattle.pfl_wire.specs.Records.{record_at}
 use Rattle.pfl_wire.specs.Reading.{records_at, group_at, groups_at}
 use Rattle.pfl_wire.proofs.Fields.{IsBytes}

@@ -4,7 +4,8 @@ use Rattle.pfl_wire.specs.declared.fault.BadFrame.TheVariants as bad
 use Rattle.pfl_wire.specs.declared.message.Message.TheVariants.{InsertAck}
 use Rattle.pfl_wire.specs.Frames.{Frame}
 use Rattle.pfl_wire.specs.Spelling.{spelling, record_bytes, group_bytes, name_bytes, number_bytes}
-use Rattle.pfl_wire.specs.Reading.{reading, computing}
+use Rattle.pfl_wire.specs.Reading.{reading}
+use Rattle.pfl_wire.proofs.Reading.{computing}
 
 abbrev print : List ℕ
 print = 0xd4 ∷ 0x1d ∷ 0x8c ∷ 0xd9 ∷ 0x8f ∷ 0x00 ∷ 0xb2 ∷ 0x04 ∷ 0xe9 ∷ 0x80 ∷ 0x09 ∷ 0x98 ∷ 0xec ∷ 0xf8 ∷ 0x42 ∷ 0x7e ∷ []

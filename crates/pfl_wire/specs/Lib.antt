@@ -6,3 +6,4 @@ pub mod Fields
 pub mod Records
 pub mod Reading
 pub mod Answers
+pub mod inner

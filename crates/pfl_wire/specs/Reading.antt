@@ -7,8 +7,8 @@ use Rattle.pfl_wire.specs.declared.fault.BadFrame.TheVariants as bad
 use Rattle.pfl_wire.specs.declared.message.Message.{Message}
 use Rattle.pfl_wire.specs.Actions.{action_with, record_len}
 use Rattle.pfl_wire.specs.Frames.{Frame}
-use Rattle.pfl_wire.specs.Fields.{◌>>=◌, Read, wanted, byte_at, number_at, pads_at, name_at, peer_at, address_at, end_at, ends_at, class_at}
-use Rattle.pfl_wire.specs.Records.{keys_at, state_at, update_at, clear_at, bulk_at, record_at}
+use Rattle.pfl_wire.specs.Fields.{◌>>=◌, Read, wanted, byte_at, number_at}
+use Rattle.pfl_wire.specs.Records.{record_at}
 
 -- n records of the action
 unfoldable pub records_at : Action → ℕ → List ℕ → Read (List Message)
@@ -65,8 +65,3 @@ reading bytes = do
   print ← header_at bytes
   groups ← groups_at (length print.1) print.1
   Ok (record { print = print.0; groups = groups.0 })
-
--- what reading needs to compute on literals
-unfoldable pub computing : ℕ
-unfolding number_at pads_at address_at name_at peer_at end_at ends_at class_at keys_at state_at update_at clear_at bulk_at record_at records_at group_at groups_at print_at header_at reading
-computing = 0

@@ -4,7 +4,8 @@ ghost use Rattle.std.specs.Prelude.{◌≡◌, List, [], length, IfOk, Ok, Some,
 ghost use Rattle.pfl_wire.specs.Frames.{Frame as FrameValue, lists};
 ghost use Rattle.pfl_wire.specs.Spelling.{Spells};
 ghost use Rattle.pfl_wire.specs.Reading.{is_counted, records_at, group_at, groups_at, print_at, header_at, reading};
-ghost use Rattle.pfl_wire.specs.Answers.{Gives, GivesKept, GivesFrame, Decodes, Joins, kept_items, kept_lists};
+ghost use Rattle.pfl_wire.specs.inner.Answers.{Gives, GivesKept, GivesFrame, Joins, kept_items, kept_lists};
+ghost use Rattle.pfl_wire.specs.Answers.{Decodes};
 
 use crate::action::Action;
 use crate::fault::{BadFrame, FrameFault};

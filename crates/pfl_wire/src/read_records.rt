@@ -1,7 +1,7 @@
 //! Records, read from the front of bytes.
 
 ghost use Rattle.std.specs.Prelude.{◌≡◌};
-ghost use Rattle.pfl_wire.specs.Answers.{Gives};
+ghost use Rattle.pfl_wire.specs.inner.Answers.{Gives};
 ghost use Rattle.pfl_wire.specs.Records.{key_with, keys_at, state_at, update_at, clear_at, bulk_at, record_at};
 
 use crate::action::Action;

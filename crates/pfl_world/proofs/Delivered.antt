@@ -28,13 +28,13 @@ use Rattle.pfl_world.specs.declared.edit.WorldEdit.{WorldEdit}
 use Rattle.pfl_world.specs.declared.edit.WorldEdit.TheVariants.{OfNode}
 use Rattle.pfl_world.specs.declared.event.Event.{Event}
 use Rattle.pfl_world.specs.declared.event.Event.TheVariants as event
-use Rattle.pfl_world.specs.Delivering.{bad_frame, IsTakingRefusal}
+use Rattle.pfl_world.specs.inner.Delivering.{bad_frame, IsTakingRefusal}
 use Rattle.pfl_world.specs.Events.{step, IsRefusalOf, IsReadable, IsDeliveryRefusal, IsEventRefusal}
 use Rattle.pfl_world.specs.Outcomes as outcome
 use Rattle.pfl_world.specs.Outcomes.{Outcome, Stepped}
 use Rattle.pfl_world.specs.Steps.{answered, frame_taken, broken_taken, read_taken, without, deliver_step}
 use Rattle.pfl_world.specs.Weights.{edits_for, read_work, deliver_work}
-use Rattle.pfl_world.specs.WorldEdits.{of_node}
+use Rattle.pfl_world.specs.inner.WorldEdits.{of_node}
 use Rattle.pfl_world.specs.Worlds.{World, node_at, with_node}
 use Rattle.pfl_world.proofs.Stepping.{accepted, refusal_of}
 

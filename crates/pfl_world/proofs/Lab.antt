@@ -13,6 +13,7 @@ use Rattle.pfl_base.specs.declared.node_id.NodeId.{NodeId}
 use Rattle.pfl_base.specs.declared.node_id.NodeId.TheVariants.{A}
 use Rattle.pfl_base.specs.declared.state_name.StateName.{StateName}
 use Rattle.pfl_edits.specs.Maps as maps
+use Rattle.pfl_edits.proofs.Maps as map_lemmas
 use Rattle.pfl_rules.specs.declared.rule.Rule.{Rule}
 use Rattle.pfl_rules.specs.declared.action.Action.TheVariants.{Pass}
 use Rattle.pfl_rules.specs.declared.rule_dir.RuleDir.TheVariants.{Out}
@@ -41,7 +42,7 @@ use Rattle.pfl_world.specs.Runs as runs
 use Rattle.pfl_world.specs.Steps as steps
 use Rattle.pfl_world.specs.Steps.{packet_step, flush_step, deliver_step, lose_step, repeat_step, cut_step, tick_step, purge_step, release_step, kill_step, clear_step, restart_step, turn_step, retry_step}
 use Rattle.pfl_wire.specs.Spelling as spelling
-use Rattle.pfl_wire.specs.Reading as reading
+use Rattle.pfl_wire.proofs.Reading as reading
 use Rattle.pfl_queue.specs.Taking as taking
 use Rattle.pfl_parts.specs.Changes as changes
 use Rattle.pfl_node.specs.Starting as starting
@@ -200,7 +201,7 @@ final w (e ∷ es) = final (world_after w (happens w e)) es
 
 -- what a run needs to compute on literals
 unfoldable pub computing : ℕ
-unfolding answers final happens maps.computing spelling.number_bytes spelling.name_bytes spelling.peer_bytes spelling.end_bytes spelling.key_bytes spelling.keys_bytes spelling.class_bytes spelling.state_bytes spelling.update_bytes spelling.record_bytes spelling.group_bytes spelling.spelling reading.computing taking.next_frame changes.changed changes.deleted changes.forgotten starting.started starting.judged packets.handled packets.packet_points receiving.taken flushing.frame_of flushing.flushed purging.purged purging.purge_points releasing.released_due clearing.cleared events.restarted turning.turn_of turning.turned retrying.retried_client steps.packet_step steps.flush_step steps.deliver_step steps.lose_step steps.repeat_step steps.cut_step steps.tick_step steps.purge_step steps.release_step steps.kill_step steps.clear_step steps.restart_step steps.turn_step steps.retry_step one.step runs.run delivering.cleared_by delivering.records_work
+unfolding answers final happens map_lemmas.computing spelling.number_bytes spelling.name_bytes spelling.peer_bytes spelling.end_bytes spelling.key_bytes spelling.keys_bytes spelling.class_bytes spelling.state_bytes spelling.update_bytes spelling.record_bytes spelling.group_bytes spelling.spelling reading.computing taking.next_frame changes.changed changes.deleted changes.forgotten starting.started starting.judged packets.handled packets.packet_points receiving.taken flushing.frame_of flushing.flushed purging.purged purging.purge_points releasing.released_due clearing.cleared events.restarted turning.turn_of turning.turned retrying.retried_client steps.packet_step steps.flush_step steps.deliver_step steps.lose_step steps.repeat_step steps.cut_step steps.tick_step steps.purge_step steps.release_step steps.kill_step steps.clear_step steps.restart_step steps.turn_step steps.retry_step one.step runs.run delivering.cleared_by delivering.records_work
 computing = 0
 
 -- what is pending at a node

@@ -4,7 +4,8 @@ use Rattle.std.specs.Result.{is_err}
 use Rattle.std.proofs.Common.{◌∙◌, ap, sym, subst}
 use Rattle.pfl_base.specs.declared.node_id.NodeId.{NodeId}
 use Rattle.pfl_base.specs.declared.node_id.NodeId.TheVariants.{A, B}
-use Rattle.pfl_edits.specs.Changes.{back, Fits, LeadsBack-embedded}
+use Rattle.pfl_edits.specs.Changes.{back, Fits}
+use Rattle.pfl_edits.proofs.Leading.{LeadsBack-embedded}
 use Rattle.pfl_parts.specs.declared.limits.Limits.{Limits}
 use Rattle.pfl_parts.specs.declared.edit.NodeEdit.{NodeEdit}
 use Rattle.pfl_parts.specs.declared.edit.NodeEdit.TheVariants.{OfState, OfQueue, OfHeld, Server, Client, Clock, NextId, Push, Count}
@@ -13,7 +14,8 @@ use Rattle.pfl_parts.specs.Edits.{NodeLeadsBack}
 use Rattle.pfl_parts.specs.Nodes.{Node, IsNode}
 use Rattle.pfl_world.specs.declared.edit.WorldEdit.{WorldEdit}
 use Rattle.pfl_world.specs.declared.edit.WorldEdit.TheVariants.{OfNode}
-use Rattle.pfl_world.specs.WorldEdits.{Finds, put_back, WorldLeadsBack, of_node}
+use Rattle.pfl_world.specs.WorldEdits.{Finds, put_back, WorldLeadsBack}
+use Rattle.pfl_world.specs.inner.WorldEdits.{of_node}
 use Rattle.pfl_world.specs.Worlds.{World, IsWorld, PartsAgree, node_at, with_node}
 
 -- no edit changes limits

@@ -16,7 +16,7 @@ use Rattle.pfl_link.specs.Links.{InFlight}
 use Rattle.pfl_world.specs.declared.edit.WorldEdit.{WorldEdit}
 use Rattle.pfl_world.specs.declared.edit.WorldEdit.TheVariants.{OfNode, OfLink}
 use Rattle.pfl_world.specs.declared.event.Event.{Event}
-use Rattle.pfl_world.specs.WorldEdits as edits
+use Rattle.pfl_world.specs.inner.WorldEdits as edits
 use Rattle.pfl_world.specs.Values.{Thing, AState, AMark, ARequest, AStatus, AClear, APacket, ANumber, Values, things, link_values, is_part, is_small, HoldsLittle, MayHold}
 
 few : {X : Type 0} (thing : X → Thing) → ((x : X) → is_part (thing x) ≡ true) → (x : Option X) → is_small (things thing x) ≡ true

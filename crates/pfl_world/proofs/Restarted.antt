@@ -6,7 +6,8 @@ use Rattle.std.proofs.lemmas.Bool.Decides.{nat_tests}
 use Rattle.pfl_base.specs.declared.node_id.NodeId.{NodeId}
 use Rattle.pfl_base.specs.declared.refusal.Refusal.{Refusal}
 use Rattle.pfl_base.specs.declared.refusal.Refusal.TheVariants.{CountFull}
-use Rattle.pfl_edits.specs.Changes.{Edits, LeadsBack-one}
+use Rattle.pfl_edits.specs.Changes.{Edits}
+use Rattle.pfl_edits.proofs.Leading.{LeadsBack-one}
 use Rattle.pfl_parts.specs.Nodes.{Node, greatest}
 use Rattle.pfl_node.specs.Events.{restarted}
 use Rattle.pfl_world.specs.declared.edit.WorldEdit.{WorldEdit}
@@ -19,7 +20,8 @@ use Rattle.pfl_world.specs.Outcomes.{Stepped}
 use Rattle.pfl_world.specs.Restarts.{RestartEdit}
 use Rattle.pfl_world.specs.Steps.{unless, restart_step}
 use Rattle.pfl_world.specs.Values.{HoldsNode, MayHold}
-use Rattle.pfl_world.specs.WorldEdits.{Finds, put_back, with_boot, WorldLeadsBack, edit-both_ways}
+use Rattle.pfl_world.specs.WorldEdits.{Finds, put_back, with_boot, WorldLeadsBack}
+use Rattle.pfl_world.specs.inner.BothWays.{edit-both_ways}
 use Rattle.pfl_world.specs.Worlds.{World, IsWorld, PartsAgree, node_at}
 use Rattle.pfl_world.proofs.Leads.{agrees_with}
 use Rattle.pfl_world.proofs.Stepping.{accepted}

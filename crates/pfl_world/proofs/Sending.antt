@@ -7,7 +7,8 @@ use Rattle.pfl_base.specs.declared.refusal.Refusal.TheVariants as refusal
 use Rattle.pfl_base.specs.declared.node_id.NodeId.{NodeId}
 use Rattle.pfl_base.specs.declared.node_id.NodeId.TheVariants.{A, B}
 use Rattle.pfl_base.specs.Nodes.{other_node}
-use Rattle.pfl_edits.specs.Changes.{Edits, back, Fits, LeadsBack-push}
+use Rattle.pfl_edits.specs.Changes.{Edits, back, Fits}
+use Rattle.pfl_edits.proofs.Leading.{LeadsBack-push}
 use Rattle.pfl_wire.specs.Spelling.{spelling}
 use Rattle.pfl_parts.specs.declared.edit.NodeEdit.{NodeEdit}
 use Rattle.pfl_node.specs.Flushing.{flushed, frame_of}
@@ -28,7 +29,8 @@ use Rattle.pfl_world.specs.Outcomes as outcome
 use Rattle.pfl_world.specs.Outcomes.{Stepped, told}
 use Rattle.pfl_world.specs.Steps.{answered, flush_refusal, sent_frame, flush_step}
 use Rattle.pfl_world.specs.Weights.{weight, flush_work}
-use Rattle.pfl_world.specs.WorldEdits.{Finds, put_back, WorldLeadsBack, of_node}
+use Rattle.pfl_world.specs.WorldEdits.{Finds, put_back, WorldLeadsBack}
+use Rattle.pfl_world.specs.inner.WorldEdits.{of_node}
 use Rattle.pfl_world.specs.Worlds.{World, IsWorld, node_at, with_node, with_link}
 use Rattle.pfl_world.proofs.Stepping.{accepted, refused_as}
 

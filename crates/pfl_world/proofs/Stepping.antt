@@ -18,7 +18,8 @@ use Rattle.pfl_node.specs.Stepping as stepping
 use Rattle.pfl_node.specs.Stepping.{NodeStepped, node_refusal, node_after, node_step}
 use Rattle.pfl_world.specs.declared.event.Event.{Event}
 use Rattle.pfl_world.specs.declared.event.Event.TheVariants as event
-use Rattle.pfl_world.specs.AtNode.{outcome_at, stepped_at, node_stepped}
+use Rattle.pfl_world.specs.AtNode.{outcome_at}
+use Rattle.pfl_world.specs.inner.AtNode.{stepped_at, node_stepped}
 use Rattle.pfl_world.specs.Events.{step, IsRefusalOf, IsEventRefusal}
 use Rattle.pfl_world.specs.Outcomes.{Outcome, Stepped}
 use Rattle.pfl_world.specs.Outcomes as outcome

@@ -1,7 +1,6 @@
 pub mod Worlds
 pub mod Faults
 pub mod Codes
-pub mod Lending
 pub mod Restarts
 pub mod WorldEdits
 pub mod Values
@@ -9,7 +8,7 @@ pub mod Outcomes
 pub mod Steps
 pub mod AtNode
 pub mod Events
-pub mod Delivering
 pub mod Runs
 pub mod Weights
 pub mod Laws
+pub mod inner

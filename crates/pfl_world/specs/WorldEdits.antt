@@ -1,17 +1,12 @@
 -- The edits of the pair: each names one place, its former value and its new one. A node that begins anew and the next boot count
 -- as one place. M is the allocator of the frames, of which nothing is said (this project's profile).
-use Rattle.std.specs.Prelude.{◌≡◌, ℕ, ◌+◌, List, map, refl}
-use Rattle.std.proofs.Common.{sym}
+use Rattle.std.specs.Prelude.{◌≡◌, ℕ, ◌+◌, List}
 use Rattle.pfl_base.specs.declared.node_id.NodeId.{NodeId}
-use Rattle.pfl_base.specs.declared.node_id.NodeId.TheVariants.{A, B}
-use Rattle.pfl_edits.specs.Changes.{LeadsBack, LeadsBothWays}
-use Rattle.pfl_edits.specs.Places.{part-both_ways}
-use Rattle.pfl_parts.specs.declared.edit.NodeEdit.{NodeEdit}
+use Rattle.pfl_edits.specs.Changes.{LeadsBack}
 use Rattle.pfl_parts.specs.Edits as nodes
 use Rattle.pfl_parts.specs.Nodes.{Node}
 use Rattle.pfl_node.specs.Events.{restarted}
 use Rattle.pfl_link.specs.LinkEdits as links
-use Rattle.pfl_link.specs.LinkEdits.{LinkEdit}
 use Rattle.pfl_world.specs.declared.edit.WorldEdit.{WorldEdit}
 use Rattle.pfl_world.specs.declared.edit.WorldEdit.TheVariants.{OfNode, OfLink, OfRestart}
 use Rattle.pfl_world.specs.Worlds.{World, IsWorld, node_at, with_node, with_link}
@@ -52,33 +47,3 @@ redone (OfRestart e) w = with_boot w e.node (restarted e.former e.boot) (e.boot 
 -- the edits, the oldest first, lead from one world to another and back
 abbrev pub WorldLeadsBack : {M : Type 0} → List (WorldEdit M) → World → World → Type 0
 WorldLeadsBack es = LeadsBack Finds IsWorld put_back es
-
--- the edits of a node, as those of the pair
-abbrev pub of_node : {M : Type 0} → NodeId → List NodeEdit → List (WorldEdit M)
-of_node id es = map (OfNode id) es
-
--- the edits of the link, as those of the pair
-abbrev pub of_link : {M : Type 0} → List LinkEdit → List (WorldEdit M)
-of_link es = map OfLink es
-
--- a node with the next boot leads both ways
-boot-both_ways : (id : NodeId) (before after : Node) (former next : ℕ) → LeadsBothWays (Boots id before former) (Boots id after next) (λ w. with_boot w id before former) (λ w. with_boot w id after next)
-boot-both_ways A before after former next = record {
-  put_back_finds = λ w is. record { node = refl; next = refl };
-  redone_finds = λ w is. record { node = refl; next = refl };
-  redone_put_back = λ w is. λ i. record { a = sym is.node i; b = w.b; link = w.link; next_boot = sym is.next i };
-  put_back_redone = λ w is. λ i. record { a = sym is.node i; b = w.b; link = w.link; next_boot = sym is.next i };
-}
-boot-both_ways B before after former next = record {
-  put_back_finds = λ w is. record { node = refl; next = refl };
-  redone_finds = λ w is. record { node = refl; next = refl };
-  redone_put_back = λ w is. λ i. record { a = w.a; b = sym is.node i; link = w.link; next_boot = sym is.next i };
-  put_back_redone = λ w is. λ i. record { a = w.a; b = sym is.node i; link = w.link; next_boot = sym is.next i };
-}
-
--- each edit leads both ways
-pub edit-both_ways : {M : Type 0} (e : WorldEdit M) → LeadsBothWays (FindsFormer e) (Finds e) (put_back e) (redone e)
-edit-both_ways (OfNode A e) = part-both_ways (λ (w : World). w.a) (λ w n. record w { a = n }) (λ w n. refl) (λ w. refl) (λ w n m. refl) _ _ _ _ (nodes.edit-both_ways e)
-edit-both_ways (OfNode B e) = part-both_ways (λ (w : World). w.b) (λ w n. record w { b = n }) (λ w n. refl) (λ w. refl) (λ w n m. refl) _ _ _ _ (nodes.edit-both_ways e)
-edit-both_ways (OfLink e) = part-both_ways (λ (w : World). w.link) (λ w l. record w { link = l }) (λ w l. refl) (λ w. refl) (λ w l m. refl) _ _ _ _ (links.edit-both_ways e)
-edit-both_ways (OfRestart e) = boot-both_ways e.node e.former (restarted e.former e.boot) e.boot (e.boot + 1)

@@ -3,7 +3,7 @@
 ghost use Rattle.std.specs.Prelude.{◌≡◌, ◌≤◌, Ok, IfOk, IfErr, OnErr, length};
 ghost use Rattle.std.specs.List.{AllByRecursion};
 ghost use Rattle.pfl_node.specs.Stepping.{node_weight};
-ghost use Rattle.pfl_world.specs.AtNode.{node_stepped};
+ghost use Rattle.pfl_world.specs.inner.AtNode.{node_stepped};
 ghost use Rattle.pfl_world.specs.Events.{IsRefusalOf};
 ghost use Rattle.pfl_world.specs.Outcomes.{told};
 ghost use Rattle.pfl_world.specs.Values.{HoldsLittle};

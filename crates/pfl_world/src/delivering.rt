@@ -6,7 +6,7 @@ ghost use Rattle.pfl_edits.specs.Changes.{Fits, back};
 ghost use Rattle.pfl_edits.specs.Maps as maps;
 ghost use Rattle.pfl_wire.specs.Reading.{reading};
 ghost use Rattle.pfl_receive.specs.Delivering.{frame_work};
-ghost use Rattle.pfl_world.specs.Delivering as delivering;
+ghost use Rattle.pfl_world.specs.inner.Delivering as delivering;
 ghost use Rattle.pfl_world.specs.Events.{IsRefusalOf, IsDeliveryRefusal};
 ghost use Rattle.pfl_world.specs.Outcomes.{told};
 ghost use Rattle.pfl_world.specs.Steps.{frame_taken, broken_taken, read_taken, without, deliver_step};

@@ -8,7 +8,8 @@ ghost use Rattle.pfl_parts.specs.Nodes.{IsNode};
 ghost use Rattle.pfl_link.specs.LinkEdits as links;
 ghost use Rattle.pfl_link.specs.Links.{IsLink};
 ghost use Rattle.pfl_world.specs.Values.{HoldsLittle};
-ghost use Rattle.pfl_world.specs.WorldEdits.{WorldLeadsBack, of_node, of_link};
+ghost use Rattle.pfl_world.specs.WorldEdits.{WorldLeadsBack};
+ghost use Rattle.pfl_world.specs.inner.WorldEdits.{of_node, of_link};
 ghost use Rattle.pfl_world.specs.Worlds.{node_at, with_node, with_link};
 
 use crate::edit::{WorldChange, WorldEdit};

@@ -42,7 +42,7 @@ impl<A: Allocator + Copy> Nodes<A> {
 }
 
 impl<A: Allocator> Nodes<A> {
-    ghost use Rattle.pfl_world.specs.Lending.{LendsNode};
+    ghost use Rattle.pfl_world.specs.inner.Lending.{LendsNode};
 
     /// Tells a proof what is true of each node. It does nothing.
     pub(crate) fn known(&self)

@@ -12,7 +12,8 @@ use std::alloc::Allocator;
 
 impl<A: Allocator> Reversible for World<A> {
     ghost use Rattle.pfl_world.specs.Worlds.{IsWorld};
-    ghost use Rattle.pfl_world.specs.WorldEdits.{Finds, FindsFormer, put_back, redone, edit-both_ways};
+    ghost use Rattle.pfl_world.specs.WorldEdits.{Finds, FindsFormer, put_back, redone};
+    ghost use Rattle.pfl_world.specs.inner.BothWays.{edit-both_ways};
 
     type Edit = WorldEdit<A>;
 

@@ -5,8 +5,8 @@ ghost use Rattle.std.specs.Prelude.{◌≡◌, ◌<◌, ◌^◌, [], ◌∷◌, 
 ghost use Rattle.pfl_edits.specs.Maps as maps;
 ghost use Rattle.pfl_node.specs.Flushing as flushing;
 ghost use Rattle.pfl_parts.specs.Nodes.{AreParts, IsPast};
-ghost use Rattle.pfl_node.specs.Sending as sending;
-ghost use Rattle.pfl_queue.specs.Fitting.{entry_bytes};
+ghost use Rattle.pfl_node.specs.inner.Sending as sending;
+ghost use Rattle.pfl_queue.specs.inner.Fitting.{entry_bytes};
 ghost use Rattle.pfl_wire.specs.Frames.{lists};
 ghost use Rattle.pfl_wire.specs.Spelling.{spelling};
 

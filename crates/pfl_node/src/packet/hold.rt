@@ -4,7 +4,7 @@ ghost use Rattle.std.specs.Prelude.{◌≡◌, ◌≤◌, ◌<◌, ◌+◌, None
 ghost use Rattle.pfl_defer.specs.Deferring as deferring;
 ghost use Rattle.pfl_edits.specs.Maps as maps;
 ghost use Rattle.pfl_parts.specs.Edits.{NodeExtends, total};
-ghost use Rattle.pfl_parts.specs.Kept.{MayReplace};
+ghost use Rattle.pfl_parts.specs.inner.Kept.{MayReplace};
 ghost use Rattle.pfl_parts.specs.Nodes.{Node as Whole};
 ghost use Rattle.pfl_node.specs.Starting as starting;
 ghost use Rattle.pfl_queue.specs.Queues.{most_numbers};

@@ -4,8 +4,8 @@ ghost use Rattle.std.specs.Prelude.{◌≡◌, ◌≤◌, ◌+◌, Some, true, s
 ghost use Rattle.pfl_base.specs.Keys.{key as flow_of};
 ghost use Rattle.pfl_base.specs.Packets.{IsPacket};
 ghost use Rattle.pfl_parts.specs.Edits.{NodeExtends, total};
-ghost use Rattle.pfl_node.specs.Carried.{Tried};
-ghost use Rattle.pfl_parts.specs.Kept.{MayStart};
+ghost use Rattle.pfl_node.specs.inner.Carried.{Tried};
+ghost use Rattle.pfl_parts.specs.inner.Kept.{MayStart};
 ghost use Rattle.pfl_parts.specs.Nodes.{Node as Whole, AreParts};
 ghost use Rattle.pfl_node.specs.Starting.{pass, drop as dropped};
 ghost use Rattle.pfl_node.specs.Starting as starting;

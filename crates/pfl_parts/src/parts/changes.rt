@@ -5,9 +5,10 @@ ghost use Rattle.std.specs.Prelude.{◌≡◌, ◌≤◌, ◌<◌, ◌+◌, true
 ghost use Rattle.pfl_edits.specs.Maps as maps;
 ghost use Rattle.pfl_parts.specs.Changes as to;
 ghost use Rattle.pfl_parts.specs.Edits.{NodeExtends, total};
-ghost use Rattle.pfl_parts.specs.Kept.{MayReplace};
+ghost use Rattle.pfl_parts.specs.inner.Kept.{MayReplace};
 ghost use Rattle.pfl_parts.specs.Nodes.{Node as Whole, is_overfull};
 ghost use Rattle.pfl_queue.specs.Queues.{most_numbers, kind_of};
+ghost use Rattle.pfl_parts.specs.Weights.{freed_edits, released_edits, changed_edits, taken_out_edits, forgotten_edits, deleted_edits};
 
 use crate::edit::{Counter, NodeEdit};
 use crate::parts::Parts;
@@ -21,10 +22,10 @@ use std::alloc::Allocator;
 impl<A: Allocator> Parts<A> {
     /// Lets the packet of a name go out, if one is held, and counts it.
     pub fn free(&mut self, name: StateName, change: &mut Change<NodeEdit, A>)
-        requires room { 2 ≤ change.old.spare }
+        requires room { freed_edits ≤ change.old.spare }
         requires countable { total self.old + change.old.spare ≤ most_numbers }
         ensures node { self.new ≡ to.freed self.old name }
-        ensures extends { NodeExtends 2 change.old change.new self.old self.new }
+        ensures extends { NodeExtends freed_edits change.old change.new self.old self.new }
     {
         if self.let_go(name, change) {
             self.count(Counter::Freed, change);
@@ -33,10 +34,10 @@ impl<A: Allocator> Parts<A> {
 
     /// Drops the packet of a name, if one is held, and counts it.
     pub fn lose(&mut self, name: StateName, change: &mut Change<NodeEdit, A>)
-        requires room { 2 ≤ change.old.spare }
+        requires room { freed_edits ≤ change.old.spare }
         requires countable { total self.old + change.old.spare ≤ most_numbers }
         ensures node { self.new ≡ to.lost self.old name }
-        ensures extends { NodeExtends 2 change.old change.new self.old self.new }
+        ensures extends { NodeExtends freed_edits change.old change.new self.old self.new }
     {
         if self.let_go(name, change) {
             self.count(Counter::Lost, change);
@@ -58,10 +59,10 @@ impl<A: Allocator> Parts<A> {
 
     /// Lets the packet of a name go out, if one is held, and its state waits no more.
     pub fn release(&mut self, name: StateName, change: &mut Change<NodeEdit, A>)
-        requires room { 3 ≤ change.old.spare }
+        requires room { released_edits ≤ change.old.spare }
         requires countable { total self.old + change.old.spare ≤ most_numbers }
         ensures node { self.new ≡ to.released self.old name }
-        ensures extends { NodeExtends 3 change.old change.new self.old self.new }
+        ensures extends { NodeExtends released_edits change.old change.new self.old self.new }
     {
         self.free(name, change);
         self.stop_waiting(name, change);
@@ -73,12 +74,12 @@ impl<A: Allocator> Parts<A> {
         state: State,
         change: &mut Change<NodeEdit, A>,
     ) -> Result<(), Overfull>
-        requires room { 3 ≤ change.old.spare }
+        requires room { changed_edits ≤ change.old.spare }
         requires countable { total self.old + change.old.spare ≤ most_numbers }
         requires known { MayReplace self.old state }
         ensures full { OnErr result (is_overfull (to.changed self.old state) ≡ true) }
         ensures node { OnOk result (self.new ≡ to.changed self.old state) }
-        ensures extends { NodeExtends 3 change.old change.new self.old self.new }
+        ensures extends { NodeExtends changed_edits change.old change.new self.old self.new }
     {
         self.known();
         let recent = self.is_recent(&state);
@@ -156,12 +157,12 @@ impl<A: Allocator> Parts<A> {
         state: &State,
         change: &mut Change<NodeEdit, A>,
     ) -> Result<(), Overfull>
-        requires room { 5 ≤ change.old.spare }
+        requires room { deleted_edits ≤ change.old.spare }
         requires countable { total self.old + change.old.spare ≤ most_numbers }
         requires stands { maps.get self.old.states state.now.name ≡ Some state.now }
         ensures full { OnErr result (is_overfull (to.deleted self.old state.now) ≡ true) }
         ensures node { OnOk result (self.new ≡ to.deleted self.old state.now) }
-        ensures extends { NodeExtends 5 change.old change.new self.old self.new }
+        ensures extends { NodeExtends deleted_edits change.old change.new self.old self.new }
     {
         self.known();
         self.lose(state.name(), change);
@@ -193,9 +194,9 @@ impl<A: Allocator> Parts<A> {
 
     /// Takes a name off its queue, and its state out.
     pub fn take_out(&mut self, name: StateName, change: &mut Change<NodeEdit, A>)
-        requires room { 2 ≤ change.old.spare }
+        requires room { taken_out_edits ≤ change.old.spare }
         ensures node { self.new ≡ to.unmark (to.without_state self.old name) name }
-        ensures extends { NodeExtends 2 change.old change.new self.old self.new }
+        ensures extends { NodeExtends taken_out_edits change.old change.new self.old self.new }
     {
         self.known();
         self.unmark(name, change);
@@ -204,10 +205,10 @@ impl<A: Allocator> Parts<A> {
 
     /// Drops the packet of a name, takes the name off its queue and its state out, and tells the peer nothing.
     pub fn forget(&mut self, name: StateName, change: &mut Change<NodeEdit, A>)
-        requires room { 4 ≤ change.old.spare }
+        requires room { forgotten_edits ≤ change.old.spare }
         requires countable { total self.old + change.old.spare ≤ most_numbers }
         ensures node { self.new ≡ to.forgotten self.old name }
-        ensures extends { NodeExtends 4 change.old change.new self.old self.new }
+        ensures extends { NodeExtends forgotten_edits change.old change.new self.old self.new }
     {
         self.lose(name, change);
         self.take_out(name, change);

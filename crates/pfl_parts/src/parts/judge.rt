@@ -3,7 +3,7 @@
 ghost use Rattle.std.specs.Prelude.{◌≡◌, ◌+◌, false, [], Ok, IfOk, IfErr, OnOk, OnErr, length, ◌<◌, ◌||◌, true};
 ghost use Rattle.pfl_edits.specs.Changes.{Fits, back};
 ghost use Rattle.pfl_parts.specs.Edits.{Finds, put_back};
-ghost use Rattle.pfl_parts.specs.Judging.{judged_as, judgement};
+ghost use Rattle.pfl_parts.specs.inner.Judging.{judged_as, judgement};
 ghost use Rattle.pfl_parts.specs.Nodes.{Node as Whole, AreParts, IsRefusal, is_overcounted, is_overfull};
 
 use crate::edit::NodeEdit;

@@ -6,6 +6,7 @@ ghost use Rattle.pfl_parts.specs.Changes as to;
 ghost use Rattle.pfl_parts.specs.Edits.{NodeExtends};
 ghost use Rattle.pfl_parts.specs.Nodes.{Node as Whole, is_overfull};
 ghost use Rattle.pfl_queue.specs.Queues.{is_requested};
+ghost use Rattle.pfl_parts.specs.Weights.{listed_edits};
 
 use crate::edit::NodeEdit;
 use crate::parts::Parts;
@@ -18,10 +19,10 @@ use std::alloc::Allocator;
 impl<A: Allocator> Parts<A> {
     /// Asks the peer for the state of a name, soon. Nothing is recorded where it is asked for already.
     pub fn ask(&mut self, name: StateName, change: &mut Change<NodeEdit, A>) -> Result<(), Overfull>
-        requires room { 2 ≤ change.old.spare }
+        requires room { listed_edits ≤ change.old.spare }
         ensures full { OnErr result (is_overfull (to.ask self.old name) ≡ true) }
         ensures node { OnOk result (self.new ≡ to.ask self.old name) }
-        ensures extends { NodeExtends 2 change.old change.new self.old self.new }
+        ensures extends { NodeExtends listed_edits change.old change.new self.old self.new }
     {
         let is_new = self.list_request(name, change)?;
         self.push_if(is_new, change);
@@ -34,10 +35,10 @@ impl<A: Allocator> Parts<A> {
         status: BulkStatus,
         change: &mut Change<NodeEdit, A>,
     ) -> Result<(), Overfull>
-        requires room { 2 ≤ change.old.spare }
+        requires room { listed_edits ≤ change.old.spare }
         ensures full { OnErr result (is_overfull (to.tell_status self.old status) ≡ true) }
         ensures node { OnOk result (self.new ≡ to.tell_status self.old status) }
-        ensures extends { NodeExtends 2 change.old change.new self.old self.new }
+        ensures extends { NodeExtends listed_edits change.old change.new self.old self.new }
     {
         self.list_status(status, change)?;
         self.push_if(true, change);
@@ -51,10 +52,10 @@ impl<A: Allocator> Parts<A> {
         bound: u64,
         change: &mut Change<NodeEdit, A>,
     ) -> Result<(), Overfull>
-        requires room { 2 ≤ change.old.spare }
+        requires room { listed_edits ≤ change.old.spare }
         ensures full { OnErr result (is_overfull (to.tell_clear self.old creator bound) ≡ true) }
         ensures node { OnOk result (self.new ≡ to.tell_clear self.old creator bound) }
-        ensures extends { NodeExtends 2 change.old change.new self.old self.new }
+        ensures extends { NodeExtends listed_edits change.old change.new self.old self.new }
     {
         self.list_clear(creator, bound, change)?;
         self.push_if(true, change);

@@ -6,7 +6,7 @@ ghost use Rattle.pfl_defer.specs.Deferring.{held_of, with_held};
 ghost use Rattle.pfl_edits.specs.Maps.{set_at};
 ghost use Rattle.pfl_parts.specs.Changes as to;
 ghost use Rattle.pfl_parts.specs.Edits.{NodeExtends, count_of, total, with_count};
-ghost use Rattle.pfl_parts.specs.Kept.{MayAdd, MayMark, MayReplace, expires_by, written};
+ghost use Rattle.pfl_parts.specs.inner.Kept.{MayAdd, MayMark, MayReplace, expires_by, written};
 ghost use Rattle.pfl_parts.specs.Nodes.{Node as Whole, IsGiven, AreParts, AskedAt, ServesSince, is_overfull, last_millisecond};
 ghost use Rattle.pfl_queue.specs.Queues.{most_numbers};
 

@@ -6,7 +6,7 @@ ghost use Rattle.pfl_edits.specs.Maps as maps;
 ghost use Rattle.pfl_parts.specs.Changes as to;
 ghost use Rattle.pfl_parts.specs.Edits.{NodeExtends};
 ghost use Rattle.pfl_parts.specs.Nodes.{Node as Whole};
-ghost use Rattle.pfl_parts.specs.Taking.{of_queue, taken_from};
+ghost use Rattle.pfl_parts.specs.inner.Taking.{of_queue, taken_from};
 ghost use Rattle.pfl_queue.specs.Taking.{next_frame};
 
 use crate::edit::NodeEdit;

@@ -7,7 +7,8 @@ use std::alloc::Allocator;
 
 impl<A: Allocator> Reversible for Parts<A> {
     ghost use Rattle.pfl_parts.specs.Nodes.{AreParts};
-    ghost use Rattle.pfl_parts.specs.Edits.{Finds, FindsFormer, put_back, redone, edit-both_ways};
+    ghost use Rattle.pfl_parts.specs.Edits.{Finds, FindsFormer, put_back, redone};
+    ghost use Rattle.pfl_parts.specs.inner.BothWays.{edit-both_ways};
 
     type Edit = NodeEdit;
 

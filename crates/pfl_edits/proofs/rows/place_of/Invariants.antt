@@ -1,5 +1,6 @@
 use Rattle.std.proofs.Common.{◌-◌, ◌≤◌, length, take, drop}
-use Rattle.pfl_edits.specs.Ordered.{IsBelow, IsAbove}
+use Rattle.pfl_edits.specs.Ordered.{IsBelow}
+use Rattle.pfl_edits.specs.inner.Ordered.{IsAbove}
 use Rattle.pfl_edits.proofs.rows.place_of.Given as goal
 
 abbrev pub invariant-loop-low : goal.invariant-loop-low

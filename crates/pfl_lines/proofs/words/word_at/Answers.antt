@@ -1,6 +1,7 @@
 use Rattle.std.proofs.Common.{◌≡◌, ◌-◌, Bool, true, List, [], ◌∷◌, ℕ, ◌⊎◌, inl, inr, length, take, drop, refl, sym, ap, subst, arith, length-drop, Ok}
 use Rattle.std.proofs.lemmas.List.{take_all}
-use Rattle.pfl_lines.specs.Words.{words, front, behind, begins_word}
+use Rattle.pfl_lines.specs.Words.{words, begins_word}
+use Rattle.pfl_lines.specs.inner.Words.{front, behind}
 use Rattle.pfl_lines.specs.Readings.{word_at}
 use Rattle.pfl_lines.proofs.Fronts.{words_first}
 use Rattle.pfl_lines.proofs.words.word_at.Goals as goal

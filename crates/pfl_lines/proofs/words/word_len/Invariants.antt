@@ -1,5 +1,5 @@
 use Rattle.std.proofs.Common.{◌≡◌, ◌++◌, take, drop}
-use Rattle.pfl_lines.specs.Words.{front, behind}
+use Rattle.pfl_lines.specs.inner.Words.{front, behind}
 use Rattle.pfl_lines.proofs.words.word_len.Given as goal
 
 abbrev pub invariant-loop-i : goal.invariant-loop-i

@@ -1,7 +1,7 @@
 use Rattle.std.proofs.Common.{◌∙◌, ap, sym, subst, Result, Err, arith}
 use Rattle.std.proofs.lemmas.Result.{err_from_is_err_and}
 use Rattle.pfl_base.specs.declared.refusal.Refusal.{Refusal}
-use Rattle.pfl_node.specs.Delivering.{Receives}
+use Rattle.pfl_node.specs.inner.Delivering.{Receives}
 use Rattle.pfl_node.proofs.Received.{wants-memory}
 use Rattle.pfl_node.proofs.receive.receive_apart.Goals as goal
 

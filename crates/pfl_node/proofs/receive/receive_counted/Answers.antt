@@ -2,8 +2,8 @@ use Rattle.std.proofs.Common.{ℕ, ◌∙◌, ap, refl, arith}
 use Rattle.pfl_edits.specs.Maps as maps
 use Rattle.pfl_table.specs.Tables.{States}
 use Rattle.pfl_parts.specs.declared.limits.Limits.{Limits}
-use Rattle.pfl_receive.specs.Delivering.{most_taken}
-use Rattle.pfl_node.specs.Room.{most_edits}
+use Rattle.pfl_receive.specs.inner.Delivering.{most_taken}
+use Rattle.pfl_node.specs.inner.Room.{most_edits}
 use Rattle.pfl_node.proofs.Ready.{begins}
 use Rattle.pfl_node.proofs.Received.{few-states, countable-apart, ready-again}
 use Rattle.pfl_node.proofs.receive.receive_counted.Goals as goal

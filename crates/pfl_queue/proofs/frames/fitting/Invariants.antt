@@ -1,7 +1,7 @@
 use Rattle.std.proofs.Common.{◌≡◌, ◌+◌, take, map}
 use Rattle.pfl_base.specs.Lists.{last_of}
 use Rattle.pfl_queue.specs.Taking.{entry_action}
-use Rattle.pfl_queue.specs.Fitting.{entry_bytes}
+use Rattle.pfl_queue.specs.inner.Fitting.{entry_bytes}
 use Rattle.pfl_queue.proofs.frames.fitting.Given as goal
 
 abbrev pub invariant-loop-i : goal.invariant-loop-i

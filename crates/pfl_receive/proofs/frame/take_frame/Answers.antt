@@ -4,7 +4,8 @@ use Rattle.std.specs.List.{fold}
 use Rattle.pfl_wire.specs.declared.message.Message.{Message}
 use Rattle.pfl_wire.specs.Frames.{lists}
 use Rattle.pfl_parts.specs.Edits.{NodeExtends}
-use Rattle.pfl_receive.specs.Delivering.{WentAll, all_of, records_work, same_rules, taken_points}
+use Rattle.pfl_receive.specs.inner.Delivering.{WentAll}
+use Rattle.pfl_receive.specs.Delivering.{all_of, records_work, same_rules, taken_points}
 use Rattle.pfl_receive.specs.Receiving.{taken}
 use Rattle.pfl_receive.proofs.frame.take_frame.Goals as goal
 

@@ -2,7 +2,7 @@ use Rattle.std.proofs.Common.{◌≡◌, List, None, subst}
 use Rattle.std.proofs.lemmas.Result.{err_from_is_err_and}
 use Rattle.pfl_rules.specs.declared.rule.Rule.{Rule}
 use Rattle.pfl_rules.specs.Rules.{rule_fault}
-use Rattle.pfl_script.specs.Setups.{IsRuleStop}
+use Rattle.pfl_script.specs.inner.Setups.{IsRuleStop}
 use Rattle.pfl_script.proofs.Setting.{finish-a, finish-b}
 use Rattle.pfl_script.proofs.setup.finish.Goals as goal
 

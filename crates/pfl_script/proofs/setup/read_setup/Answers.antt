@@ -2,7 +2,8 @@ use Rattle.std.proofs.Common.{arith, refl, ◌≡◌, ◌<◌, ◌+◌, Bool, Op
 use Rattle.std.proofs.lemmas.Result.{err_from_is_err_and}
 use Rattle.pfl_script.specs.Scans.{Kept, Gives}
 use Rattle.pfl_script.specs.Readers.{lines_after, room}
-use Rattle.pfl_script.specs.Setups.{Takes, kept_words}
+use Rattle.pfl_script.specs.inner.Setups.{Takes}
+use Rattle.pfl_script.specs.Setups.{kept_words}
 use Rattle.pfl_script.proofs.Setting.{Going-none, Going-more, Going-open, stops-taken, stops-finished, counts-read, counts-taken, counts-finished, on-ok, on-err}
 use Rattle.pfl_script.proofs.Turns.{Counts-begun, Counts-more}
 use Rattle.pfl_script.proofs.setup.read_setup.Goals as goal

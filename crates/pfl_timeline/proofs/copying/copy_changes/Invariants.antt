@@ -1,6 +1,6 @@
 use Rattle.std.specs.Prelude.{vec_len, vec_capacity}
 use Rattle.std.proofs.Common.{◌≡◌, ◌+◌, ◌≤◌, ◌++◌, length}
-use Rattle.pfl_timeline.specs.Kept.{lists_of}
+use Rattle.pfl_timeline.specs.inner.Kept.{lists_of}
 use Rattle.pfl_timeline.proofs.copying.copy_changes.Given as goal
 
 -- the changes that are copied and those that are left are all, and there is room for these

@@ -1,7 +1,7 @@
 use Rattle.std.proofs.Common.{arith, length, ◌<◌, ◌≡◌}
 use Rattle.std.proofs.lemmas.Result.{err_from_is_err_and}
 use Rattle.pfl_wire.specs.Reading.{groups_at}
-use Rattle.pfl_wire.specs.Answers.{kept_items, kept_lists}
+use Rattle.pfl_wire.specs.inner.Answers.{kept_items, kept_lists}
 use Rattle.pfl_wire.proofs.Loop.{Joins-lists, groups_shrink, groups_after, groups_go_on, groups_end, groups_done}
 use Rattle.pfl_wire.proofs.read_frame.read_groups.Goals as goal
 

@@ -1,6 +1,6 @@
 use Rattle.std.proofs.Common.{length}
 use Rattle.pfl_wire.specs.Reading.{groups_at}
-use Rattle.pfl_wire.specs.Answers.{kept_lists}
+use Rattle.pfl_wire.specs.inner.Answers.{kept_lists}
 use Rattle.pfl_wire.proofs.Fields.{IsBytes}
 use Rattle.pfl_wire.proofs.Loop.{Goes}
 use Rattle.pfl_wire.proofs.read_frame.read_groups.Given as goal

@@ -1,5 +1,5 @@
 use Rattle.pfl_wire.specs.Reading.{records_at}
-use Rattle.pfl_wire.specs.Answers.{kept_items}
+use Rattle.pfl_wire.specs.inner.Answers.{kept_items}
 use Rattle.pfl_wire.proofs.Loop.{records_go_on, records_end, records_done}
 use Rattle.pfl_wire.proofs.read_frame.read_records.Goals as goal
 

@@ -1,6 +1,6 @@
 use Rattle.std.proofs.Common.{◌-◌}
 use Rattle.pfl_wire.specs.Reading.{records_at}
-use Rattle.pfl_wire.specs.Answers.{kept_items}
+use Rattle.pfl_wire.specs.inner.Answers.{kept_items}
 use Rattle.pfl_wire.proofs.Loop.{Goes}
 use Rattle.pfl_wire.proofs.read_frame.read_records.Given as goal
 

@@ -1,6 +1,6 @@
 use Rattle.std.proofs.Common.{◌≡◌, ◌+◌, ◌++◌, length}
 use Rattle.std.specs.Vec.Iter.{into_iter_items}
-use Rattle.pfl_world.specs.WorldEdits.{of_node}
+use Rattle.pfl_world.specs.inner.WorldEdits.{of_node}
 use Rattle.pfl_world.proofs.lifting.record_all.Given as goal
 
 abbrev pub invariant-loop-edit : goal.invariant-loop-edit

@@ -1,4 +1,4 @@
-use Rattle.pfl_defer.specs.Kept.{with_room-has_room}
+use Rattle.pfl_defer.proofs.Kept.{with_room-has_room}
 use Rattle.pfl_defer.proofs.deferrals.Deferrals.hold.Goals as goal
 
 pub append-held-requires-clause-room : goal.append-held-requires-clause-room

@@ -1,7 +1,7 @@
 use Rattle.std.proofs.Common.{List, sym, subst}
 use Rattle.pfl_defer.specs.declared.Held.{Held}
 use Rattle.pfl_defer.specs.Deferring.{IsDeferrals}
-use Rattle.pfl_defer.specs.Kept.{no_deferrals-keeps}
+use Rattle.pfl_defer.proofs.Kept.{no_deferrals-keeps}
 use Rattle.pfl_defer.proofs.deferrals.Deferrals.new.Goals as goal
 
 pub invariant_of-result : goal.invariant_of-result

@@ -1,6 +1,5 @@
 use Rattle.std.proofs.Common.{length, sym, ◌∙◌, ap}
-use Rattle.pfl_edits.specs.Ordered.{Distinct-rising}
-use Rattle.pfl_edits.specs.Rows.{len-map_of}
+use Rattle.pfl_edits.proofs.RowMaps.{Distinct-rising, len-map_of}
 use Rattle.pfl_edits.proofs.rows.Rows.len.Goals as goal
 
 pub returns-clause-map : goal.returns-clause-map

@@ -1,7 +1,7 @@
 use Rattle.std.proofs.Common.{◌≡◌, refl, sym, subst, None}
 use Rattle.pfl_link.specs.Links.{Link}
 use Rattle.pfl_link.specs.Faults.{room_fault}
-use Rattle.pfl_link.specs.LinkEdits.{edit-leads_back}
+use Rattle.pfl_link.proofs.Leading.{edit-leads_back}
 use Rattle.pfl_link.proofs.Kept.{sent_kept, next_free}
 use Rattle.pfl_link.proofs.link.Link.add.Goals as goal
 

@@ -1,7 +1,7 @@
 use Rattle.std.proofs.Common.{◌≡◌, refl, sym, subst, ◌∙◌, Some}
 use Rattle.pfl_edits.specs.Maps as maps
 use Rattle.pfl_link.specs.Links.{Link}
-use Rattle.pfl_link.specs.LinkEdits.{edit-leads_back}
+use Rattle.pfl_link.proofs.Leading.{edit-leads_back}
 use Rattle.pfl_link.proofs.Kept.{cut_kept}
 use Rattle.pfl_link.proofs.link.Link.cut.Goals as goal
 

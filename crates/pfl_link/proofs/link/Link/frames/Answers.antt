@@ -1,5 +1,6 @@
 use Rattle.std.proofs.Common.{sym, ◌∙◌, ap, map}
-use Rattle.pfl_link.specs.Framed.{entry_of, entries-frames_of}
+use Rattle.pfl_link.specs.Framed.{entry_of}
+use Rattle.pfl_link.proofs.Framed.{entries-frames_of}
 use Rattle.pfl_link.proofs.link.Link.frames.Goals as goal
 
 pub returns : goal.returns

@@ -1,7 +1,7 @@
 use Rattle.std.proofs.Common.{◌≡◌, refl, sym, subst, ◌∙◌, ap, Some}
 use Rattle.pfl_edits.specs.Maps as maps
 use Rattle.pfl_link.specs.Links.{Link}
-use Rattle.pfl_link.specs.LinkEdits.{edit-leads_back}
+use Rattle.pfl_link.proofs.Leading.{edit-leads_back}
 use Rattle.pfl_link.proofs.Kept.{taken_kept, nothing_taken}
 use Rattle.pfl_link.proofs.link.Link.take.Goals as goal
 

@@ -2,7 +2,7 @@ use Rattle.std.proofs.Common.{◌∙◌, ap}
 use Rattle.std.specs.List.{flat_map}
 use Rattle.std.proofs.lemmas.List.{take_all}
 use Rattle.pfl_node.specs.Flushing.{messages_of}
-use Rattle.pfl_node.specs.Sending.{IsTold}
+use Rattle.pfl_node.specs.inner.Sending.{IsTold}
 use Rattle.pfl_node.proofs.Grouped.{told-at, messages-more}
 use Rattle.pfl_node.proofs.flush.frame.messages_of.Goals as goal
 

@@ -1,5 +1,5 @@
 use Rattle.std.proofs.Common.{◌∙◌, ap, sym, subst, arith}
-use Rattle.pfl_node.specs.Room.{most_edits}
+use Rattle.pfl_node.specs.inner.Room.{most_edits}
 use Rattle.pfl_parts.specs.Nodes.{Node, IsNode}
 use Rattle.pfl_parts.proofs.NewNodes.{new_node-is}
 use Rattle.pfl_node.proofs.node.Node.new.Goals as goal

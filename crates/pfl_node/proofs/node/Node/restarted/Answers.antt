@@ -1,5 +1,5 @@
 use Rattle.std.proofs.Common.{◌≡◌, ◌≤◌, ◌∙◌, ap, sym, subst, arith}
-use Rattle.pfl_node.specs.Room.{most_edits}
+use Rattle.pfl_node.specs.inner.Room.{most_edits}
 use Rattle.pfl_parts.specs.declared.limits.Limits.{Limits}
 use Rattle.pfl_parts.specs.Limits.{AreLimits}
 use Rattle.pfl_parts.specs.Nodes.{Node, is_overcounted, last_millisecond}

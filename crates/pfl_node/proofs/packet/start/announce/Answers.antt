@@ -1,7 +1,7 @@
 use Rattle.std.proofs.Common.{◌≡◌, Some, ◌∙◌, ap, sym, arith}
 use Rattle.std.proofs.lemmas.Result.{err_from_is_err_and}
-use Rattle.pfl_base.specs.Names.{names_total, names_exact}
-use Rattle.pfl_edits.specs.Places.{get-set_at_same}
+use Rattle.pfl_base.proofs.Names.{names_total, names_exact}
+use Rattle.pfl_edits.proofs.Places.{get-set_at_same}
 use Rattle.pfl_queue.specs.declared.Kind.TheVariants.{Insert}
 use Rattle.pfl_queue.specs.Queues.{Queue, pending}
 use Rattle.std.specs.Prelude.{nat_lt}

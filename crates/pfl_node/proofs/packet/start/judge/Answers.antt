@@ -2,7 +2,7 @@ use Rattle.std.proofs.Common.{◌≡◌, true, false, rules, ◌∙◌, ap, sym,
 use Rattle.std.specs.Prelude.{slice_get}
 use Rattle.pfl_rules.specs.declared.verdict.Verdict.{Verdict}
 use Rattle.pfl_rules.specs.Rules.{Rules, verdict}
-use Rattle.pfl_node.specs.Carried.{Tried}
+use Rattle.pfl_node.specs.inner.Carried.{Tried}
 use Rattle.pfl_node.specs.Starting.{Handled}
 use Rattle.pfl_node.proofs.Matched.{judged-fits}
 use Rattle.pfl_parts.proofs.Recording.{extends-more}

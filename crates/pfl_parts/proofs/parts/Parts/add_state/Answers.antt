@@ -3,12 +3,13 @@ use Rattle.std.specs.Option.{option_map}
 use Rattle.std.proofs.Common.{◌∙◌, ap, sym, subst}
 use Rattle.pfl_edits.specs.Maps as maps
 use Rattle.pfl_edits.specs.Maps.{set_at}
-use Rattle.pfl_edits.specs.Rows.{some_is_none}
+use Rattle.pfl_edits.proofs.RowMaps.{some_is_none}
 use Rattle.pfl_table.specs.declared.row.Row.{Row}
-use Rattle.pfl_table.specs.Tables.{states_of, row_with, edit_of, get-states_of}
+use Rattle.pfl_table.specs.Tables.{states_of, row_with, edit_of}
+use Rattle.pfl_table.proofs.Tables.{get-states_of}
 use Rattle.pfl_parts.specs.declared.edit.NodeEdit.TheVariants.{OfState}
 use Rattle.pfl_parts.specs.Edits.{NodeExtends}
-use Rattle.pfl_parts.specs.Kept.{expires_by, written}
+use Rattle.pfl_parts.specs.inner.Kept.{expires_by, written}
 use Rattle.pfl_parts.specs.Nodes.{Node, AreParts}
 use Rattle.pfl_parts.proofs.Recording.{recorded_as}
 use Rattle.pfl_parts.proofs.Stating.{addable, set-past, written-states, written-timely, whole-with}

@@ -2,7 +2,7 @@ use Rattle.std.proofs.Common.{◌<◌, ◌∙◌, ap, refl, sym, subst, arith}
 use Rattle.pfl_parts.specs.declared.edit.NodeEdit.TheVariants.{OfQueue}
 use Rattle.pfl_queue.specs.Edits.{marking}
 use Rattle.pfl_queue.specs.Queues.{most_numbers, room_fault}
-use Rattle.pfl_parts.specs.Kept.{MayMark}
+use Rattle.pfl_parts.specs.inner.Kept.{MayMark}
 use Rattle.pfl_parts.specs.Nodes.{Node}
 use Rattle.pfl_parts.proofs.Putting.{marked-node}
 use Rattle.pfl_parts.proofs.Recording.{recorded_as, extends-more, extends-none, full-marked, total-least}

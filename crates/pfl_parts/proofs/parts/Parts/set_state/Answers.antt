@@ -1,7 +1,7 @@
 use Rattle.std.proofs.Common.{◌∙◌, ap, sym, subst}
 use Rattle.pfl_edits.specs.Maps.{set_at}
 use Rattle.pfl_table.specs.Tables.{Table, states_of, row_with}
-use Rattle.pfl_parts.specs.Kept.{IsTimely}
+use Rattle.pfl_parts.specs.inner.Kept.{IsTimely}
 use Rattle.pfl_parts.specs.Nodes.{Node, AreParts}
 use Rattle.pfl_parts.proofs.Stating.{row_by, row-by, states-with, set-past, set-table, set-timely, whole-with}
 use Rattle.pfl_parts.proofs.parts.Parts.set_state.Goals as goal

@@ -1,6 +1,6 @@
 use Rattle.std.proofs.Common.{◌≡◌, ◌+◌, ◌++◌, length}
 use Rattle.std.specs.Vec.Iter.{into_iter_items}
-use Rattle.pfl_parts.specs.Taking.{of_queue}
+use Rattle.pfl_parts.specs.inner.Taking.{of_queue}
 use Rattle.pfl_parts.proofs.parts.taking.record_all.Given as goal
 
 abbrev pub invariant-loop-edit : goal.invariant-loop-edit

@@ -1,6 +1,7 @@
 use Rattle.std.proofs.Common.{[], ◌∷◌, sym, subst}
 use Rattle.pfl_queue.specs.Queues.{Queue}
-use Rattle.pfl_queue.specs.Edits.{QueueLeadsBack, redone-leads_back}
+use Rattle.pfl_queue.specs.Edits.{QueueLeadsBack}
+use Rattle.pfl_queue.proofs.Leading.{redone-leads_back}
 use Rattle.pfl_queue.proofs.queues.Pending.make.Goals as goal
 
 pub returns-clause-leads_back : goal.returns-clause-leads_back

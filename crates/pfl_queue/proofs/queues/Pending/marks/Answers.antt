@@ -1,6 +1,6 @@
 use Rattle.std.proofs.Common.{sym, ◌∙◌}
-use Rattle.pfl_base.specs.Names.{names_total}
-use Rattle.pfl_edits.specs.Ordered.{values-map_of}
+use Rattle.pfl_base.proofs.Names.{names_total}
+use Rattle.pfl_edits.proofs.RowMaps.{values-map_of}
 use Rattle.pfl_queue.proofs.queues.Pending.marks.Goals as goal
 
 pub returns : goal.returns

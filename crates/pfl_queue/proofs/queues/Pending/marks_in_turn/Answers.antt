@@ -1,9 +1,9 @@
 use Rattle.std.proofs.Common.{rules, List, ◌++◌, sym, ◌∙◌, ap, subst}
 use Rattle.std.specs.List.Sorted.{IsPermutation}
 use Rattle.std.proofs.lemmas.List.Sorted.{answers_always}
-use Rattle.pfl_base.specs.Names.{names_total}
+use Rattle.pfl_base.proofs.Names.{names_total}
 use Rattle.pfl_base.specs.Lists.{in_order}
-use Rattle.pfl_edits.specs.Ordered.{values-map_of}
+use Rattle.pfl_edits.proofs.RowMaps.{values-map_of}
 use Rattle.pfl_queue.specs.declared.Mark.{Mark}
 use Rattle.pfl_queue.specs.Queues.{Queue}
 use Rattle.pfl_queue.specs.Taking.{kind_place, mark_before}

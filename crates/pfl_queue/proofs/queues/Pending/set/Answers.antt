@@ -1,6 +1,6 @@
 use Rattle.std.proofs.Common.{subst}
-use Rattle.pfl_base.specs.Names.{names_total, names_exact}
-use Rattle.pfl_edits.specs.Places.{set_at-keyed}
+use Rattle.pfl_base.proofs.Names.{names_total, names_exact}
+use Rattle.pfl_edits.proofs.Places.{set_at-keyed}
 use Rattle.pfl_queue.specs.declared.edits.QueueEdit.{QueueEdit}
 use Rattle.pfl_queue.specs.Queues.{IsQueue}
 use Rattle.pfl_queue.specs.Edits.{redone}

@@ -1,6 +1,6 @@
 use Rattle.std.proofs.Common.{take, refl, sym, subst, arith}
 use Rattle.pfl_queue.specs.Kept.{queue_of}
-use Rattle.pfl_queue.specs.Parts.{lists_in_turn}
+use Rattle.pfl_queue.specs.inner.Parts.{lists_in_turn}
 use Rattle.pfl_queue.specs.Queues.{IsQueue}
 use Rattle.pfl_queue.proofs.Calls.{left_kept}
 use Rattle.pfl_queue.proofs.Listed.{listed_left}

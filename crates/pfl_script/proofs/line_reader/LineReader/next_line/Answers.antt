@@ -1,5 +1,5 @@
 use Rattle.std.proofs.Common.{arith, refl, ℕ, Some, Option, subst, ap, ◌∙◌, inl, inr, IfSome, ◌<◌}
-use Rattle.pfl_script.specs.Scans.{TakesByte}
+use Rattle.pfl_script.specs.inner.Scans.{TakesByte}
 use Rattle.pfl_script.specs.Readers.{room}
 use Rattle.pfl_script.proofs.Taking.{Reads-added, Reads-end, Reads-last, Reads-none, Reads-start}
 use Rattle.pfl_script.proofs.Turns.{CountsTurns-none, CountsTurns-then, CountsTurns-kept}

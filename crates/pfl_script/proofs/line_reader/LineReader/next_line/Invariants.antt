@@ -1,5 +1,6 @@
 use Rattle.std.proofs.Common.{◌≡◌, ◌<◌, ◌≤◌, ◌⊎◌}
-use Rattle.pfl_script.specs.Scans.{Reads, nothing}
+use Rattle.pfl_script.proofs.Scans.{Reads}
+use Rattle.pfl_script.specs.Scans.{nothing}
 use Rattle.pfl_script.specs.Readers.{room, CountsTurns}
 use Rattle.pfl_script.proofs.line_reader.LineReader.next_line.Given as goal
 

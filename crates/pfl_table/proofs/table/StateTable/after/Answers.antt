@@ -2,12 +2,13 @@ use Rattle.std.proofs.Common.{List, find, sym, ◌∙◌, ap}
 use Rattle.std.specs.List.{slice_get}
 use Rattle.std.specs.Option.{option_map}
 use Rattle.std.specs.Ordering.{is_lt}
-use Rattle.pfl_base.specs.Names.{name_cmp, names_total}
+use Rattle.pfl_base.specs.Names.{name_cmp}
+use Rattle.pfl_base.proofs.Names.{names_total}
 use Rattle.pfl_edits.specs.Maps as maps
-use Rattle.pfl_edits.specs.Ordered.{values-map_of}
+use Rattle.pfl_edits.proofs.RowMaps.{values-map_of}
 use Rattle.pfl_track.specs.declared.state.State.{State}
 use Rattle.pfl_table.specs.declared.row.Row.{Row}
-use Rattle.pfl_table.specs.Tables.{values-states_of}
+use Rattle.pfl_table.proofs.Tables.{values-states_of}
 use Rattle.pfl_table.proofs.Scanned.{find-map, first-filter}
 use Rattle.pfl_table.proofs.table.StateTable.after.Goals as goal
 

@@ -1,8 +1,8 @@
 use Rattle.std.proofs.Common.{map, sym, ◌∙◌, ap}
-use Rattle.pfl_base.specs.Names.{names_total}
-use Rattle.pfl_edits.specs.Ordered.{keys-map_of, values-map_of}
+use Rattle.pfl_base.proofs.Names.{names_total}
+use Rattle.pfl_edits.proofs.RowMaps.{keys-map_of, values-map_of}
 use Rattle.pfl_table.specs.declared.row.Row.{Row}
-use Rattle.pfl_table.specs.Tables.{keys-states_of, values-states_of}
+use Rattle.pfl_table.proofs.Tables.{keys-states_of, values-states_of}
 use Rattle.pfl_table.proofs.table.StateTable.as_slice.Goals as goal
 
 pub returns-clause-rows : goal.returns-clause-rows

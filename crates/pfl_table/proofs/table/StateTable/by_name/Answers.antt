@@ -1,7 +1,7 @@
 use Rattle.std.proofs.Common.{sym, ◌∙◌, ap}
 use Rattle.std.specs.Option.{option_map}
 use Rattle.pfl_table.specs.declared.row.Row.{Row}
-use Rattle.pfl_table.specs.Tables.{get-states_of}
+use Rattle.pfl_table.proofs.Tables.{get-states_of}
 use Rattle.pfl_table.proofs.table.StateTable.by_name.Goals as goal
 
 pub returns : goal.returns

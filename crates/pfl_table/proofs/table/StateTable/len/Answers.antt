@@ -1,5 +1,5 @@
 use Rattle.std.proofs.Common.{sym, ◌∙◌}
-use Rattle.pfl_table.specs.Tables.{len-states_of}
+use Rattle.pfl_table.proofs.Tables.{len-states_of}
 use Rattle.pfl_table.proofs.table.StateTable.len.Goals as goal
 
 pub returns-clause-states : goal.returns-clause-states

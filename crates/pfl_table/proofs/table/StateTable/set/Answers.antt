@@ -1,6 +1,7 @@
 use Rattle.std.proofs.Common.{◌∙◌, ap}
 use Rattle.pfl_edits.specs.Maps.{set_at}
-use Rattle.pfl_table.specs.Tables.{states_of, row_with, with_row, states_of-with_row}
+use Rattle.pfl_table.specs.Tables.{states_of, row_with, with_row}
+use Rattle.pfl_table.proofs.Tables.{states_of-with_row}
 use Rattle.pfl_table.proofs.Setting.{state_of_row_with}
 use Rattle.pfl_table.proofs.table.StateTable.set.Goals as goal
 

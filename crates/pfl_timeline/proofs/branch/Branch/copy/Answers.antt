@@ -1,7 +1,8 @@
 use Rattle.std.specs.Prelude.{refl}
 use Rattle.std.proofs.Common.{◌∙◌, ap}
 use Rattle.pfl_world.specs.Worlds.{World}
-use Rattle.pfl_timeline.specs.Kept.{lists_of, rooted}
+use Rattle.pfl_timeline.specs.inner.Kept.{lists_of}
+use Rattle.pfl_timeline.specs.Kept.{rooted}
 use Rattle.pfl_timeline.proofs.Runs.{kept_as, rooted_as}
 use Rattle.pfl_timeline.proofs.Copied.{kept-copied, rooted-copied}
 use Rattle.pfl_timeline.proofs.branch.Branch.copy.Goals as goal

@@ -1,6 +1,7 @@
 use Rattle.std.specs.Prelude.{refl, take}
 use Rattle.std.proofs.Common.{◌∙◌, ap, sym}
-use Rattle.pfl_timeline.specs.Rooted.{Rooted, with_cursor}
+use Rattle.pfl_timeline.specs.Rooted.{Rooted}
+use Rattle.pfl_timeline.specs.inner.Rooted.{with_cursor}
 use Rattle.pfl_timeline.proofs.Runs.{kept-front, kept_as, parts_as}
 use Rattle.pfl_timeline.proofs.branch.Branch.forked.Goals as goal
 

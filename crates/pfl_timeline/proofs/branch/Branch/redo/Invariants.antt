@@ -1,5 +1,5 @@
 use Rattle.std.specs.Prelude.{◌≡◌, ◌+◌}
-use Rattle.pfl_timeline.specs.Rooted.{with_cursor}
+use Rattle.pfl_timeline.specs.inner.Rooted.{with_cursor}
 use Rattle.pfl_timeline.proofs.branch.Branch.redo.Given as goal
 
 -- as many happened again as were counted

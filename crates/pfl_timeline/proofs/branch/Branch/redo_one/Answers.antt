@@ -1,6 +1,7 @@
 use Rattle.std.specs.Prelude.{◌+◌, ◌<◌, List, ◌∷◌, [], ◌++◌, length, get_or, refl}
 use Rattle.std.proofs.Common.{◌∙◌, ap, sym, subst}
-use Rattle.pfl_timeline.specs.Rooted.{Rooted, with_cursor}
+use Rattle.pfl_timeline.specs.Rooted.{Rooted}
+use Rattle.pfl_timeline.specs.inner.Rooted.{with_cursor}
 use Rattle.pfl_timeline.proofs.Runs.{Change, kept-again, again, kept_as, rooted_as}
 use Rattle.pfl_timeline.proofs.branch.Branch.redo_one.Goals as goal
 

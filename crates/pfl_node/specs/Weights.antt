@@ -1,0 +1,23 @@
+-- How many edits what an event does takes at most, beside those of the changes of a node's parts (this project's profile).
+use Rattle.std.specs.Prelude.{ℕ, ◌+◌}
+use Rattle.pfl_parts.specs.Weights.{listed_edits}
+
+-- what becomes of a packet: no more than an event about one state may take
+abbrev pub packet_edits : ℕ
+packet_edits = 24
+
+-- the clock goes on: no more than an event about no state may take
+abbrev pub ticked_edits : ℕ
+ticked_edits = 12
+
+-- a record is sent: its entry is taken out, and the updates of its state are counted anew
+abbrev pub sent_edits : ℕ
+sent_edits = 2
+
+-- a client asks for all states again, and keeps that it did
+abbrev pub retried_edits : ℕ
+retried_edits = listed_edits + 1
+
+-- a turn ends: the end is told, and the server keeps its place
+abbrev pub turned_edits : ℕ
+turned_edits = listed_edits + 1

@@ -1,0 +1,45 @@
+-- An edit of a node knows both values of its place.
+use Rattle.std.specs.Prelude.{◌≡◌, ℕ, refl}
+use Rattle.pfl_base.proofs.Names.{names_total, names_exact}
+use Rattle.pfl_edits.specs.Changes.{LeadsBothWays}
+use Rattle.pfl_edits.proofs.Places.{value-both_ways, part-both_ways, key-both_ways}
+use Rattle.pfl_queue.specs.inner.BothWays as queues
+use Rattle.pfl_defer.specs.inner.BothWays as deferrals
+use Rattle.pfl_parts.specs.declared.counters.Counters.{Counters}
+use Rattle.pfl_parts.specs.declared.edit.Counter.{Counter}
+use Rattle.pfl_parts.specs.declared.edit.Counter.TheVariants.{Passed, Blocked, Freed, Lost, Bad, Stale, Broken}
+use Rattle.pfl_parts.specs.declared.edit.NodeEdit.{NodeEdit}
+use Rattle.pfl_parts.specs.declared.edit.NodeEdit.TheVariants.{OfState, OfQueue, OfHeld, Server, Client, Clock, NextId, Push, Count}
+use Rattle.pfl_parts.specs.Edits.{count_of, with_count, Finds, FindsFormer, put_back, redone}
+use Rattle.pfl_parts.specs.Nodes.{Node}
+
+-- what stays of an edit, beside how it leads both ways
+both_ways-with : {S P : Type 0} {F G : S → Type 0} {p r : S → S} → LeadsBothWays F G p r → LeadsBothWays (λ s. F s × P) (λ s. G s × P) p r
+both_ways-with l = record {
+  put_back_finds = λ s is. (l.put_back_finds s is.0, is.1);
+  redone_finds = λ s is. (l.redone_finds s is.0, is.1);
+  redone_put_back = λ s is. l.redone_put_back s is.0;
+  put_back_redone = λ s is. l.put_back_redone s is.0;
+}
+
+-- one number of the counters leads both ways
+count-both_ways : (counter : Counter) (former new : ℕ) → LeadsBothWays (λ (c : Counters). count_of counter c ≡ former) (λ c. count_of counter c ≡ new) (λ c. with_count counter c former) (λ c. with_count counter c new)
+count-both_ways Passed former new = part-both_ways (λ (c : Counters). c.passed) (λ c k. record c { passed = k }) (λ c k. refl) (λ c. refl) (λ c k l. refl) _ _ _ _ (value-both_ways former new)
+count-both_ways Blocked former new = part-both_ways (λ (c : Counters). c.blocked) (λ c k. record c { blocked = k }) (λ c k. refl) (λ c. refl) (λ c k l. refl) _ _ _ _ (value-both_ways former new)
+count-both_ways Freed former new = part-both_ways (λ (c : Counters). c.freed) (λ c k. record c { freed = k }) (λ c k. refl) (λ c. refl) (λ c k l. refl) _ _ _ _ (value-both_ways former new)
+count-both_ways Lost former new = part-both_ways (λ (c : Counters). c.lost) (λ c k. record c { lost = k }) (λ c k. refl) (λ c. refl) (λ c k l. refl) _ _ _ _ (value-both_ways former new)
+count-both_ways Bad former new = part-both_ways (λ (c : Counters). c.bad) (λ c k. record c { bad = k }) (λ c k. refl) (λ c. refl) (λ c k l. refl) _ _ _ _ (value-both_ways former new)
+count-both_ways Stale former new = part-both_ways (λ (c : Counters). c.stale) (λ c k. record c { stale = k }) (λ c k. refl) (λ c. refl) (λ c k l. refl) _ _ _ _ (value-both_ways former new)
+count-both_ways Broken former new = part-both_ways (λ (c : Counters). c.broken) (λ c k. record c { broken = k }) (λ c k. refl) (λ c. refl) (λ c k l. refl) _ _ _ _ (value-both_ways former new)
+
+-- each edit leads both ways
+pub edit-both_ways : (e : NodeEdit) → LeadsBothWays (FindsFormer e) (Finds e) (put_back e) (redone e)
+edit-both_ways (OfState e) = part-both_ways (λ (n : Node). n.states) (λ n m. record n { states = m }) (λ n m. refl) (λ n. refl) (λ n m l. refl) _ _ _ _ (key-both_ways names_total names_exact e.name e.before e.after)
+edit-both_ways (OfQueue e) = both_ways-with (part-both_ways (λ (n : Node). n.queue) (λ n q. record n { queue = q }) (λ n q. refl) (λ n. refl) (λ n q r. refl) _ _ _ _ (queues.edit-both_ways e))
+edit-both_ways (OfHeld e) = part-both_ways (λ (n : Node). n.held) (λ n d. record n { held = d }) (λ n d. refl) (λ n. refl) (λ n d k. refl) _ _ _ _ (deferrals.edit-both_ways e)
+edit-both_ways (Server before after) = part-both_ways (λ (n : Node). n.server) (λ n s. record n { server = s }) (λ n s. refl) (λ n. refl) (λ n s t. refl) _ _ _ _ (value-both_ways before after)
+edit-both_ways (Client before after) = part-both_ways (λ (n : Node). n.client) (λ n c. record n { client = c }) (λ n c. refl) (λ n. refl) (λ n c k. refl) _ _ _ _ (value-both_ways before after)
+edit-both_ways (Clock before after) = part-both_ways (λ (n : Node). n.clock) (λ n c. record n { clock = c }) (λ n c. refl) (λ n. refl) (λ n c k. refl) _ _ _ _ (value-both_ways before after)
+edit-both_ways (NextId before after) = both_ways-with (part-both_ways (λ (n : Node). n.next_id) (λ n i. record n { next_id = i }) (λ n i. refl) (λ n. refl) (λ n i k. refl) _ _ _ _ (value-both_ways before after))
+edit-both_ways (Push before after) = part-both_ways (λ (n : Node). n.push) (λ n p. record n { push = p }) (λ n p. refl) (λ n. refl) (λ n p q. refl) _ _ _ _ (value-both_ways before after)
+edit-both_ways (Count counter before after) = both_ways-with (part-both_ways (λ (n : Node). n.counters) (λ n c. record n { counters = c }) (λ n c. refl) (λ n. refl) (λ n c k. refl) _ _ _ _ (count-both_ways counter before after))

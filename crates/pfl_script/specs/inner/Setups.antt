@@ -1,0 +1,40 @@
+-- What the parts of a setup stop at.
+use Rattle.std.specs.Prelude.{◌≡◌, Bool, true, false, Option, Some, Result, Ok, ℕ, Err, None}
+use Rattle.pfl_rules.specs.declared.fault.RuleFault.{RuleFault}
+use Rattle.pfl_rules.specs.Rules.{rule_fault}
+use Rattle.pfl_lines.specs.declared.fault.LineFault.{LineFault}
+use Rattle.pfl_lines.specs.declared.setup.SetupLine.{SetupLine}
+use Rattle.pfl_lines.specs.declared.setup.SetupLine.TheVariants as setup
+use Rattle.pfl_script.specs.declared.setup_fault.SetupFault.{SetupFault}
+use Rattle.pfl_script.specs.declared.setup_fault.SetupFault.TheVariants as fault
+use Rattle.pfl_script.specs.Setups.{Draft, set_by_said, goes_on, says_rule, first_rule_fault}
+use Rattle.pfl_script.specs.Readers.{Source}
+
+-- what a line was taken for: `opened` says that it is `open`
+abbrev pub Takes : Bool → Option (Result SetupLine LineFault) → Draft → Draft → Type 0
+Takes true s d e = (s ≡ Some (Ok setup.Open)) × (e ≡ d)
+Takes false s d e = (goes_on s ≡ true) × (e ≡ set_by_said d s)
+
+-- why line n was not taken
+abbrev pub IsTakeFault : SetupFault → ℕ → Option (Result SetupLine LineFault) → Type 0
+IsTakeFault (fault.Line m why) n s = (m ≡ n) × (s ≡ Some (Err why))
+IsTakeFault fault.NoMemory n s = says_rule s ≡ true
+IsTakeFault _ n s = ⊥
+
+-- why one node's rules of line n's setup are no rule set, where this is their first fault
+abbrev pub IsRuleStop : SetupFault → ℕ → Option RuleFault → Type 0
+IsRuleStop (fault.Rule m why) n first = (m ≡ n) × (first ≡ Some why)
+IsRuleStop fault.NoMemory n first = first ≡ None
+IsRuleStop _ n first = ⊥
+
+-- why line n's setup is none: the first fault of its rules, or no memory where node a's have none
+abbrev pub IsFinishStop : SetupFault → ℕ → Draft → Type 0
+IsFinishStop (fault.Rule m why) n d = (m ≡ n) × (first_rule_fault d ≡ Some why)
+IsFinishStop fault.NoMemory n d = rule_fault d.a ≡ None
+IsFinishStop _ n d = ⊥
+
+-- why no line came
+abbrev pub IsReadStop : SetupFault → Source → Type 0
+IsReadStop fault.Read s = s.failed ≡ true
+IsReadStop fault.TooManyTurns s = s.turns ≡ 16777216
+IsReadStop _ s = ⊥
