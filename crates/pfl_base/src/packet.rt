@@ -1,6 +1,6 @@
 //! Packets.
 
-ghost use Rattle.std.specs.Prelude.{◌≡◌, None, Some, MatchResult};
+ghost use Rattle.std.specs.Prelude.{◌≡◌, ◌≤◌, None, Some, IfSome, MatchResult};
 
 use crate::addr::End;
 use crate::fields::{BadPacket, PacketFields};
@@ -75,13 +75,6 @@ impl Packet {
         }
     }
 
-    /// Tells a proof what each packet keeps. It does nothing.
-    pub fn known(&self)
-        ensures { IsPacket self.now }
-    {
-        let _fields = &self.fields;
-    }
-
     /// The packet on its way back: its ends are exchanged. A node that it goes through in the other direction finds the
     /// same flow.
     pub fn exchanged(&self) -> Packet
@@ -108,7 +101,8 @@ impl Packet {
 
     /// What the packet was made from.
     pub fn fields(&self) -> PacketFields
-        ensures { result ≡ self.now }
+        ensures fields { result ≡ self.now }
+        ensures packet { IsPacket result }
     {
         let Packet { fields } = *self;
         fields
@@ -170,9 +164,10 @@ impl Packet {
         self.fields.len
     }
 
-    /// The window scale option (RFC 7323).
+    /// The window scale option (RFC 7323), at most 14.
     pub fn scale(&self) -> Option<u8>
-        ensures { result ≡ self.now.scale }
+        ensures scale { result ≡ self.now.scale }
+        ensures range { IfSome result (λ s. s ≤ 14) }
     {
         self.fields.scale
     }

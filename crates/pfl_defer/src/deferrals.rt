@@ -93,15 +93,9 @@ impl<A: Allocator> Deferrals<A> {
     /// The held packets, the oldest first.
     pub fn as_slice(&self) -> &[Held]
         ensures list { result.now ≡ self.now.list }
-    {
-        self.list.as_slice()
-    }
-
-    /// Tells a proof what is true of each list of held packets. It does nothing.
-    pub fn known(&self)
         ensures deferrals { IsDeferrals self.now }
     {
-        let _limit = &self.limit;
+        self.list.as_slice()
     }
 
     /// The held packet of the name.
@@ -129,7 +123,6 @@ impl<A: Allocator> Deferrals<A> {
     pub fn due(&self, now: Millis, defer_ms: Millis) -> &[Held]
         ensures due { result.now ≡ due self.now now defer_ms }
     {
-        self.known();
         let held = self.as_slice();
         &held[..held.partition_point(|held| held.is_due(now, defer_ms))]
     }
@@ -149,7 +142,6 @@ impl<A: Allocator> Deferrals<A> {
         ensures edit { option_map held_by result.1.released ≡ pushed_out self.old }
         ensures leads_back { DefersBack (edits_of result.1) self.old self.new }
     {
-        self.known();
         let released = self.push_out();
         let out = released.as_ref().map(DeferEdit::held);
         let held = self.append(name, packet, now);
@@ -199,6 +191,7 @@ impl<A: Allocator> Deferrals<A> {
         requires some { 0 < self.old.limit }
         ensures deferrals { self.new ≡ with_room self.old }
         ensures released { option_map held_by result ≡ pushed_out self.old }
+        ensures known { IsDeferrals self.old }
         ensures leads_back { DefersBack (option_to_list result) self.old self.new }
     {
         if self.list.len() < self.limit {

@@ -1,7 +1,9 @@
 pub mod Setting
 pub mod Sorted
 pub mod Undone
+pub mod Taped
 pub mod Leading
+pub mod Linking
 pub mod Maps
 pub mod Places
 pub mod RowMaps

@@ -75,6 +75,18 @@ impl<E, A: Allocator> Change<E, A> {
         self.edits.push(edit).unwrap();
     }
 
+    /// Appends the edits of another change, in room that was made.
+    pub(crate) fn append(&mut self, later: Self)
+        requires room { length later.list ≤ self.old.spare }
+        ensures list { self.new.list ≡ self.old.list ++ later.list }
+        ensures spare { self.new.spare + length later.list ≡ self.old.spare }
+    {
+        let mut edits = later.into_edits();
+        self.spare -= edits.len();
+        self.edits.append(&mut edits).unwrap();
+        edits.destroy_empty();
+    }
+
     /// How many edits there are.
     pub fn len(&self) -> usize
         ensures length { result ≡ length self.now.list }

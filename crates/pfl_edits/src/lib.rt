@@ -7,10 +7,12 @@ mod keyed;
 mod no_memory;
 mod reversible;
 mod rows;
+mod tapes;
 
 pub use changes::Change;
-pub use in_order::InOrder;
+pub use in_order::{InOrder, Node};
 pub use keyed::Keyed;
 pub use no_memory::NoMemory;
 pub use reversible::{Reversible, take_back, undo_all};
 pub use rows::Rows;
+pub use tapes::{Tape, undo_to};

@@ -48,7 +48,6 @@ impl<X: Keyed, A: Allocator> Rows<X, A> {
         ensures rows { result ≡ length self.now.list }
         ensures map { result ≡ maps.len (map_of X.order X.key self.now.list) }
     {
-        self.known();
         self.as_slice().len()
     }
 
@@ -62,6 +61,7 @@ impl<X: Keyed, A: Allocator> Rows<X, A> {
     /// The rows, in the order of their keys.
     pub fn as_slice(&self) -> &[X]
         ensures rows { result.now ≡ self.now.list }
+        ensures ordered { AreRows X.order X.key self.now }
     {
         self.rows.as_slice()
     }

@@ -104,7 +104,6 @@ impl<A: Allocator> Link<A> {
     pub fn frames(&self) -> InOrder<'_, Ticketed<A>>
         ensures frames { map entry_of result ≡ maps.entries self.now.frames }
     {
-        self.rows.known();
         InOrder::of(self.rows.as_slice())
     }
 
@@ -264,7 +263,6 @@ impl<A: Allocator + Copy> Link<A> {
         ensures same { IfOk result (λ copied. copied ≡ self.now) }
     {
         let mut rows = Rows::new(self.alloc, self.limit)?;
-        self.rows.known();
         for row in self.rows.as_slice() {
             rows.set(row.ticket(), Some(row.copy()?));
         }

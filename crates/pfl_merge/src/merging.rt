@@ -2,6 +2,7 @@
 
 ghost use Rattle.std.specs.Prelude.{◌≡◌};
 ghost use Rattle.pfl_merge.specs.Merging.{is_ahead as is_further, stale_source, stale_destination, stale_src as behind_src, stale_dst as behind_dst, last_use as used_last, merged};
+ghost use Rattle.pfl_track.specs.States.{IsState};
 ghost use Rattle.pfl_merge.specs.Laws.{Keeps, Rises, SourceInOrder, DestinationInOrder};
 
 use crate::merged::Merged;
@@ -63,6 +64,7 @@ pub fn last_use(remaining: u32, timeout: u32, now: Millis) -> Millis
 /// the last use go with them. `timeout` is the state's here, in seconds, for the received class.
 pub fn merge(held: &State, received: &Received, timeout: u32, now: Millis) -> Merged
     ensures merged { result ≡ merged held.now received.now timeout now }
+    ensures state { IsState result.state }
     ensures keeps { Keeps held.now result.state }
     ensures rises { Rises held.now result.state }
     ensures source_in_order { SourceInOrder held.now received.now result.state }

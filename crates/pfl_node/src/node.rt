@@ -43,7 +43,6 @@ impl<A: Allocator + Copy> Node<A> {
         requires limits { AreLimits limits }
         ensures new { IfOk result (λ n. n ≡ new_node limits rules creator 1 0) }
     {
-        rules.known();
         let parts = Parts::new(alloc, limits, rules, creator)?;
         let edits = Change::with_room(alloc, most_edits(&limits))?;
         Ok(Node {

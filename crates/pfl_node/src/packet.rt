@@ -59,7 +59,6 @@ fn handle<A: Allocator>(
     requires countable { total parts.old + change.old.spare ≤ most_numbers }
     ensures done { Handles result change.old change.new parts.old parts.new (handled parts.old dir packet.now) (packet_points parts.old dir packet.now) }
 {
-    packet.known();
     let Some(state) = parts.states().found(&key(packet, dir), dir).copied() else {
         let fate = judge(parts, dir, packet, change)?;
         return Ok((fate, parts.is_overcounted()));

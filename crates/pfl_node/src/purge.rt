@@ -49,7 +49,6 @@ fn purge<A: Allocator>(
     let mut count = 0;
     let mut overcounted = false;
     while let Some(state) = first_expired(parts) {
-        parts.known();
         parts.delete(&state, change)?;
         overcounted = any(overcounted, parts.is_overcounted());
         count += 1;
@@ -60,6 +59,7 @@ fn purge<A: Allocator>(
 /// Of the states that have expired, the first to expire.
 fn first_expired<A: Allocator>(parts: &Parts<A>) -> Option<State>
     ensures first { result ≡ slice_get (event.expired_states parts.now) 0 }
+    ensures parts { AreParts parts.now }
 {
     let row = parts.states().first_expiring()?;
     if row.expires <= parts.clock() {

@@ -47,7 +47,6 @@ fn release<A: Allocator>(parts: &mut Parts<A>, change: &mut Change<NodeEdit, A>)
 {
     let mut count = 0;
     while let Some(name) = first_due(parts) {
-        parts.known();
         parts.release(name, change);
         count += 1;
     }
@@ -57,6 +56,7 @@ fn release<A: Allocator>(parts: &mut Parts<A>, change: &mut Change<NodeEdit, A>)
 /// Of the packets whose time has come, the name of the oldest.
 fn first_due<A: Allocator>(parts: &Parts<A>) -> Option<StateName>
     ensures first { result ≡ slice_get (releasing.due_names parts.now) 0 }
+    ensures parts { AreParts parts.now }
 {
     let wait = u64::from(parts.limits().defer_ms);
     let held = parts.held().due(parts.clock(), wait).first()?;

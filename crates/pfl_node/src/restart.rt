@@ -4,7 +4,7 @@ ghost use Rattle.std.specs.Prelude.{◌≡◌, ◌≤◌, false, IfOk, OnOk};
 ghost use Rattle.pfl_bulk.specs.Bulk.{no_name, first_asked};
 ghost use Rattle.pfl_node.specs.Events as event;
 ghost use Rattle.pfl_parts.specs.Changes as to;
-ghost use Rattle.pfl_parts.specs.Nodes.{is_overfull, last_millisecond};
+ghost use Rattle.pfl_parts.specs.Nodes.{AreParts, is_overfull, last_millisecond};
 
 use crate::node::{Node, most_edits};
 use pfl_base::{Millis, StateName};
@@ -26,7 +26,6 @@ impl<A: Allocator + Copy> Node<A> {
         let rules = self.parts.rules().copy()?;
         let mut parts = Parts::new(self.alloc, limits, rules, boot)?;
         ask_first(self.alloc, &mut parts, self.clock())?;
-        parts.known();
         let edits = Change::with_room(self.alloc, most_edits(&limits))?;
         Ok(Node {
             alloc: self.alloc,
@@ -46,6 +45,7 @@ fn ask_first<A: Allocator + Copy>(
     requires within { clock ≤ last_millisecond }
     requires room { is_overfull (to.ask (record parts.old { clock = clock }) no_name) ≡ false }
     ensures node { OnOk result (parts.new ≡ record (to.ask (record parts.old { clock = clock }) no_name) { client = first_asked clock }) }
+    ensures parts { OnOk result (AreParts parts.new) }
 {
     let mut change = Change::with_room(alloc, 4)?;
     parts.set_clock(clock, &mut change);

@@ -20,7 +20,6 @@ impl<A: Allocator> Node<A> {
     fn tick_refusal(&self, ms: u64) -> Option<Refusal>
         ensures refusal { result ≡ event.tick_refusal self.now ms }
     {
-        self.known();
         if LAST_MILLISECOND - self.clock() < ms {
             Some(Refusal::ClockFull)
         } else {

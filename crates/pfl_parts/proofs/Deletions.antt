@@ -50,8 +50,8 @@ without-node n name is free =
     ])
 
 -- a name off its queue, and its state out
-pub taken_out-node : (n : Node) (name : StateName) → AreParts n → AreParts (without_state (unmark n name) name)
-taken_out-node n name is = without-node (unmark n name) name (unmarked-node n name is) (get-set_at_same names_total names_exact n.queue.marks name None)
+pub taken_out-node : (n : Node) (name : StateName) → AreParts (unmark n name) → AreParts (without_state (unmark n name) name)
+taken_out-node n name is = without-node (unmark n name) name is (get-set_at_same names_total names_exact n.queue.marks name None)
 
 -- ---- what is told
 

@@ -64,6 +64,7 @@ impl<A: Allocator + Copy> Parts<A> {
     pub fn new(alloc: A, limits: Limits, rules: RuleSet<A>, creator: u32) -> Result<Self, NoMemory>
         requires limits { AreLimits limits }
         ensures new { IfOk result (λ n. n ≡ new_node limits rules creator 1 0) }
+        ensures parts { IfOk result (λ n. AreParts n) }
     {
         rules.known();
         let table = StateTable::new(alloc, limits.states as usize)?;
@@ -108,7 +109,7 @@ impl<A: Allocator + Copy> Parts<A> {
 
 impl<A: Allocator> Parts<A> {
     /// Tells a proof what is true of the parts of each node. It does nothing.
-    pub fn known(&self)
+    fn known(&self)
         ensures parts { AreParts self.now }
     {
         let _clock = &self.clock;

@@ -1,5 +1,5 @@
 -- A frame with room for one record carries one, where something is pending.
-use Rattle.std.proofs.Common.{◌≡◌, ℕ, ◌+◌, ◌<◌, ◌≤◌, Bool, true, false, cond, List, [], ◌∷◌, ◌++◌, map, length, refl, sym, ◌∙◌, ap, subst, arith, nat_le}
+use Rattle.std.proofs.Common.{◌≡◌, ℕ, ◌<◌, ◌≤◌, Bool, true, false, cond, List, [], ◌∷◌, ◌++◌, map, length, refl, sym, ◌∙◌, ap, subst, arith, nat_le}
 use Rattle.std.specs.Prelude.{filter, unwrap_or}
 use Rattle.std.specs.List.{AllByRecursion, sum_by}
 use Rattle.std.proofs.lemmas.Bool.Decides.{nat_tests}
@@ -14,7 +14,6 @@ use Rattle.pfl_wire.specs.declared.action.Action.{Action}
 use Rattle.pfl_wire.specs.declared.action.Action.TheVariants as action
 use Rattle.pfl_queue.specs.declared.Entry.{Entry}
 use Rattle.pfl_queue.specs.declared.Entry.TheVariants.{Request, Status}
-use Rattle.pfl_queue.specs.declared.Mark.{Mark}
 use Rattle.pfl_queue.specs.inner.Fitting.{entry_bytes, longest}
 use Rattle.pfl_queue.specs.Queues.{Queue, pending}
 use Rattle.pfl_queue.specs.Taking.{mark_before, entry_of, clear_of, in_turn, next_frame, entry_action}
@@ -28,10 +27,15 @@ ones : {X : Type 0} (xs : List X) → sum_by (λ x. 1) xs ≡ length xs
 ones [] = refl
 ones (x ∷ xs) = omega (arith, sum_by-cons (λ y. 1) x xs, ones xs)
 
+pub marks-length : (q : Queue) → length (in_order mark_before (maps.values q.marks)) ≡ maps.len q.marks
+marks-length q =
+    let marks = in_order mark_before (maps.values q.marks) in
+    sym (ones marks) ∙ (order-sum mark_before (λ m. 1) (maps.values q.marks) ∙ (ones (maps.values q.marks) ∙ (length-map (entries q.marks) (λ e. e.1) ∙ sym (len-entries q.marks))))
+
 pub pending-in_turn : (q : Queue) → length (in_turn q) ≡ pending q
 pending-in_turn q =
     let marks = in_order mark_before (maps.values q.marks) in
-    let sorted : length marks ≡ maps.len q.marks = sym (ones marks) ∙ (order-sum mark_before (λ m. 1) (maps.values q.marks) ∙ (ones (maps.values q.marks) ∙ (length-map (entries q.marks) (λ e. e.1) ∙ sym (len-entries q.marks)))) in
+    let sorted = marks-length q in
     let clears = length-map q.clears clear_of in
     let statuses = length-map q.statuses Status in
     let requests = length-map q.requests Request in

@@ -1,7 +1,6 @@
 -- Marks that are sorted by kind and number are the marks in the order of frames.
 use Rattle.std.proofs.Common.{◌≡◌, ℕ, Bool, true, false, cond, ◌&&◌, ◌||◌, ◌==◌, nat_lt, List, [], ◌∷◌, Some, refl, sym, ◌∙◌, ap, arith}
 use Rattle.std.specs.List.{AllByRecursion}
-use Rattle.std.specs.List.Sorted.{IsPermutation, IsSortedByKey}
 use Rattle.std.specs.Ordering.{is_lt, nat_cmp, ordering_then, eq_by_cmp}
 use Rattle.std.specs.Cmp.{IsStrictWeakOrder, IsTotalOrder, nat_cmp_total}
 use Rattle.std.specs.declared.cmp.Ordering.{Ordering}
@@ -9,19 +8,16 @@ use Rattle.std.specs.declared.cmp.Ordering.TheVariants.{Less, Equal, Greater}
 use Rattle.std.proofs.lemmas.Bool.Decides.{nat_tests}
 use Rattle.std.proofs.lemmas.Cmp.{on_total, then_total}
 use Rattle.std.proofs.lemmas.List.Sorted.{ranks_by}
-use Rattle.pfl_base.specs.Lists.{in_order}
 use Rattle.pfl_base.specs.declared.state_name.StateName.{StateName}
 use Rattle.pfl_base.specs.Names.{name_cmp}
 use Rattle.pfl_base.proofs.Names.{names_total, names_exact}
 use Rattle.pfl_edits.specs.Maps as maps
 use Rattle.pfl_edits.specs.Maps.{Map}
-use Rattle.pfl_edits.specs.Ordered.{IsRising}
-use Rattle.pfl_edits.proofs.RowMaps.{Distinct-rising, row_at, Distinct, get-map_of, same_key, own_key, some_is_none}
+use Rattle.pfl_edits.proofs.RowMaps.{row_at, Distinct, get-map_of, same_key, own_key, some_is_none}
 use Rattle.pfl_edits.specs.Rows.{map_of}
 use Rattle.pfl_queue.specs.declared.Mark.{Mark}
 use Rattle.pfl_queue.specs.Queues.{Queue, IsQueue}
 use Rattle.pfl_queue.specs.Taking.{kind_place, mark_before}
-use Rattle.pfl_queue.proofs.Sorting.{sorted_in_order}
 
 -- by kind, and then by number
 abbrev pub turn_cmp : ℕ × ℕ → ℕ × ℕ → Ordering
@@ -55,7 +51,7 @@ before_order = record {
 one_turn : (a b c d : ℕ) → (nat_lt a b || ((a == b) && nat_lt c d)) ≡ false → (nat_lt b a || ((b == a) && nat_lt d c)) ≡ false → c ≡ d
 one_turn a b c d p q = grind (arith, nat_tests)
 
-abbrev named : Mark → StateName
+abbrev pub named : Mark → StateName
 named m = m.name
 
 -- each row stands in the map under its name
@@ -76,11 +72,11 @@ each_stands (x ∷ xs) d = (
       later ms all.1,
     )
 
-abbrev Stands : Queue → Mark → Type 0
+abbrev pub Stands : Queue → Mark → Type 0
 Stands q m = maps.get q.marks m.name ≡ Some m
 
-all_stand : (q : Queue) (rows : List Mark) → IsRising name_cmp named rows → map_of name_cmp named rows ≡ q.marks → AllByRecursion (Stands q) rows
-all_stand q rows r is = through rows (each_stands rows (Distinct-rising name_cmp named rows r))
+pub all_stand : (q : Queue) (rows : List Mark) → Distinct name_cmp named rows → map_of name_cmp named rows ≡ q.marks → AllByRecursion (Stands q) rows
+all_stand q rows d is = through rows (each_stands rows d)
   where
     through : (ms : List Mark) → AllByRecursion (λ m. row_at name_cmp named rows m.name ≡ Some m) ms → AllByRecursion (Stands q) ms
     through [] all = tt
@@ -92,8 +88,3 @@ exact q is m n p r a b =
     let one = is.one_number m.name n.name m n p r number in
     let both : Some m ≡ Some n = sym p ∙ (ap (maps.get q.marks) one ∙ r) in
     cc
-
-pub sorted_turns : (q : Queue) → IsQueue q → (rows : List Mark) → IsRising name_cmp named rows → map_of name_cmp named rows ≡ q.marks
-    → (sorted : List Mark) → IsPermutation rows sorted → IsSortedByKey (λ m. (kind_place m.kind, m.number)) turn_cmp sorted → sorted ≡ in_order mark_before rows
-sorted_turns q is rows r same sorted moved up =
-    sorted_in_order mark_before before_order (Stands q) (exact q is) earlier earlier_order (λ m n t. sym (same_order m n) ∙ t) rows sorted (all_stand q rows r same) moved up

@@ -1,19 +1,22 @@
 -- What is left where a frame took the first marks, and behind them the first of the lists.
-use Rattle.std.proofs.Common.{◌≡◌, ℕ, ◌+◌, ◌-◌, ◌<◌, zero, suc, List, [], ◌∷◌, ◌++◌, map, take, drop, length, get_or, refl, sym, ◌∙◌, ap, arith, add-one, append_assoc, take-take}
-use Rattle.std.specs.Prelude.{min}
+use Rattle.std.proofs.Common.{◌≡◌, ℕ, ◌+◌, ◌-◌, ◌<◌, ◌≤◌, zero, suc, List, [], ◌∷◌, ◌++◌, map, take, drop, length, get_or, refl, sym, ◌∙◌, ap, arith, add-one, take-take}
 use Rattle.std.proofs.Math.Seq.{take-suc}
-use Rattle.std.proofs.lemmas.List.{length-map, length-take, map-append, take-map, take_min, drop_min}
+use Rattle.std.proofs.lemmas.List.{drop-drop, length-take, take-map}
 use Rattle.pfl_base.specs.Lists.{in_order}
-use Rattle.pfl_edits.specs.Maps as maps
 use Rattle.pfl_base.specs.declared.state_name.StateName.{StateName}
+use Rattle.pfl_base.specs.Names.{name_cmp}
+use Rattle.pfl_edits.specs.Maps as maps
+use Rattle.pfl_edits.specs.Maps.{Map}
 use Rattle.pfl_wire.specs.declared.message.BulkStatus.{BulkStatus}
 use Rattle.pfl_queue.specs.declared.Cleared.{Cleared}
+use Rattle.pfl_queue.specs.declared.Kind.{Kind}
 use Rattle.pfl_queue.specs.declared.Entry.{Entry}
-use Rattle.pfl_queue.specs.declared.Entry.TheVariants.{Request, Status}
-use Rattle.pfl_queue.specs.inner.Parts.{lists_in_turn, first_of_each}
+use Rattle.pfl_queue.specs.declared.Entry.TheVariants.{Marked, Request, Status, Clear}
+use Rattle.pfl_queue.specs.inner.Parts.{first_of_each}
 use Rattle.pfl_queue.specs.declared.Mark.{Mark}
-use Rattle.pfl_queue.specs.Queues.{Queue, unmarked}
+use Rattle.pfl_queue.specs.Queues.{Queue}
 use Rattle.pfl_queue.specs.Taking.{mark_before, entry_of, clear_of, in_turn, gone, left_by}
+use Rattle.pfl_queue.proofs.Turned.{all_taken}
 
 -- one part after another
 pub left_by-append : (xs ys : List Entry) (q : Queue) → left_by q (xs ++ ys) ≡ left_by (left_by q xs) ys
@@ -27,94 +30,8 @@ take-append {X} (suc n) (x ∷ xs) ys =
     let on : n - length xs ≡ suc n - length (x ∷ xs) = omega arith in
     ap (λ (zs : List X). x ∷ zs) (take-append n xs ys ∙ ap (λ k. take n xs ++ take k ys) on)
 
-drop-one : {X : Type 0} (n : ℕ) (xs : List X) → drop n (drop 1 xs) ≡ drop (suc n) xs
-drop-one zero [] = refl
-drop-one (suc n) [] = refl
-drop-one n (x ∷ xs) = refl
-
-drop-taken : {X : Type 0} (n : ℕ) (xs : List X) → drop (length (take n xs)) xs ≡ drop n xs
-drop-taken n xs = ap (λ k. drop k xs) (length-take n xs) ∙ drop_min n xs
-
-requests_gone : (ns : List StateName) (q : Queue) → left_by q (map Request ns) ≡ record q { requests = drop (length ns) q.requests }
-requests_gone [] q = refl
-requests_gone (n ∷ ns) q =
-    requests_gone ns (record q { requests = drop 1 q.requests }) ∙ ap (λ (xs : List StateName). record q { requests = xs }) (drop-one (length ns) q.requests)
-
-statuses_gone : (ss : List BulkStatus) (q : Queue) → left_by q (map Status ss) ≡ record q { statuses = drop (length ss) q.statuses }
-statuses_gone [] q = refl
-statuses_gone (s ∷ ss) q =
-    statuses_gone ss (record q { statuses = drop 1 q.statuses }) ∙ ap (λ (xs : List BulkStatus). record q { statuses = xs }) (drop-one (length ss) q.statuses)
-
-clears_gone : (cs : List Cleared) (q : Queue) → left_by q (map clear_of cs) ≡ record q { clears = drop (length cs) q.clears }
-clears_gone [] q = refl
-clears_gone (c ∷ cs) q =
-    clears_gone cs (record q { clears = drop 1 q.clears }) ∙ ap (λ (xs : List Cleared). record q { clears = xs }) (drop-one (length cs) q.clears)
-
--- the entries of a list go before what stands behind it
-then_rest : {X : Type 0} (f : X → Entry) (xs : List X) (rest : List Entry) (n : ℕ) (q p : Queue) → left_by q (map f (take n xs)) ≡ p → left_by q (take n (map f xs ++ rest)) ≡ left_by p (take (n - length xs) rest)
-then_rest f xs rest n q p is =
-    ap (left_by q) (take-append n (map f xs) rest)
-    ∙ (left_by-append (take n (map f xs)) (take (n - length (map f xs)) rest) q
-    ∙ (ap (λ (es : List Entry). left_by (left_by q es) (take (n - length (map f xs)) rest)) (take-map f n xs)
-    ∙ (ap (λ (k : Queue). left_by k (take (n - length (map f xs)) rest)) is
-    ∙ ap (λ k. left_by p (take (n - k) rest)) (length-map xs f))))
-
--- what is left of each list
-abbrev without_first : Queue → ℕ → ℕ → ℕ → Queue
-without_first q n i j = record q { requests = drop n q.requests; statuses = drop i q.statuses; clears = drop j q.clears }
-
-lists_left : (q : Queue) (n : ℕ) → left_by q (take n (lists_in_turn q)) ≡ without_first q n (n - length q.requests) (n - length q.requests - length q.statuses)
-lists_left q n =
-    let i = n - length q.requests in
-    let j = i - length q.statuses in
-    let first = record q { requests = drop n q.requests } in
-    let second = record first { statuses = drop i q.statuses } in
-    then_rest Request q.requests (map Status q.statuses ++ map clear_of q.clears) n q first (requests_gone (take n q.requests) q ∙ ap (λ (xs : List StateName). record q { requests = xs }) (drop-taken n q.requests))
-    ∙ (then_rest Status q.statuses (map clear_of q.clears) i first second (statuses_gone (take i q.statuses) first ∙ ap (λ (xs : List BulkStatus). record first { statuses = xs }) (drop-taken i q.statuses))
-    ∙ (ap (left_by second) (take-map clear_of j q.clears)
-    ∙ (clears_gone (take j q.clears) second ∙ ap (λ (xs : List Cleared). record second { clears = xs }) (drop-taken j q.clears))))
-
--- the marks without these
-abbrev unmarked_all : List Mark → Queue → Queue
-unmarked_all [] q = q
-unmarked_all (m ∷ ms) q = unmarked_all ms (unmarked q m.name)
-
-marks_gone : (ms : List Mark) (q : Queue) → left_by q (map entry_of ms) ≡ unmarked_all ms q
-marks_gone [] q = refl
-marks_gone (m ∷ ms) q = marks_gone ms (unmarked q m.name)
-
-same_lists : (ms : List Mark) (q : Queue) → lists_in_turn (unmarked_all ms q) ≡ lists_in_turn q
-same_lists [] q = refl
-same_lists (m ∷ ms) q = same_lists ms (unmarked q m.name)
-
-pub listed_left : (q p : Queue) → p ≡ q → (n : ℕ) (rs : List StateName) → rs ≡ drop n p.requests → (i : ℕ) → i ≡ n - length p.requests → (ss : List BulkStatus) → ss ≡ drop i p.statuses
-    → (j : ℕ) → j ≡ i - length p.statuses → (cs : List Cleared) → cs ≡ drop j p.clears → record p { requests = rs; statuses = ss; clears = cs } ≡ left_by q (take n (lists_in_turn q))
-listed_left q p same n rs r i is ss s j js cs c =
-    ap (λ (xs : List StateName). record p { requests = xs; statuses = ss; clears = cs }) r
-    ∙ (ap (λ (xs : List BulkStatus). record p { requests = drop n p.requests; statuses = xs; clears = cs }) s
-    ∙ (ap (λ (xs : List Cleared). record p { requests = drop n p.requests; statuses = drop i p.statuses; clears = xs }) c
-    ∙ (ap (λ k. without_first p n k j) is ∙ (ap (λ k. without_first p n (n - length p.requests) k) (js ∙ ap (λ k. k - length p.statuses) is)
-    ∙ (sym (lists_left p n) ∙ ap (λ (k : Queue). left_by k (take n (lists_in_turn k))) same)))))
-
 abbrev behind_marks : List Mark → Queue → List Entry
 behind_marks ms q = map entry_of ms ++ map Request q.requests ++ map Status q.statuses ++ map clear_of q.clears
-
-in_parts : (ms : List Mark) (q : Queue) → behind_marks ms q ≡ map entry_of ms ++ lists_in_turn q
-in_parts ms q =
-    append_assoc (map entry_of ms ++ map Request q.requests) (map Status q.statuses) (map clear_of q.clears)
-    ∙ append_assoc (map entry_of ms) (map Request q.requests) (map Status q.statuses ++ map clear_of q.clears)
-
--- the first entries are the first marks, and behind all of them the first of the lists
-pub all_left : (q : Queue) (ms : List Mark) → ms ≡ in_order mark_before (maps.values q.marks) → (n i : ℕ) → i ≡ min n (length ms) → (p r : Queue) → p ≡ left_by q (map entry_of (take i ms))
-    → r ≡ left_by p (take (n - i) (lists_in_turn p)) → r ≡ left_by q (take n (in_turn q))
-all_left q ms turn n i taken p r marks lists =
-    let front : take i ms ≡ take n ms = ap (λ k. take k ms) taken ∙ take_min n ms in
-    let here : left_by q (map entry_of (take n ms)) ≡ p = ap (λ (xs : List Mark). left_by q (map entry_of xs)) (sym front) ∙ sym marks in
-    let kept : lists_in_turn p ≡ lists_in_turn q = ap lists_in_turn (marks ∙ marks_gone (take i ms) q) ∙ same_lists (take i ms) q in
-    let more : n - i ≡ n - length ms = omega (arith, taken) in
-    lists ∙ (ap (λ (es : List Entry). left_by p (take (n - i) es)) kept ∙ (ap (λ k. left_by p (take k (lists_in_turn q))) more
-    ∙ (sym (then_rest entry_of ms (lists_in_turn q) n q p here)
-    ∙ (ap (λ (es : List Entry). left_by q (take n es)) (sym (in_parts ms q)) ∙ ap (λ (xs : List Mark). left_by q (take n (behind_marks xs q))) turn))))
 
 -- The first of each part are enough for the first of all.
 
@@ -134,9 +51,59 @@ first_in_turn n ms q turn =
     same_front n _ _ _ _ (same_front n _ _ _ _ (same_front n _ _ _ _ (front_twice entry_of n ms) (front_twice Request n q.requests)) (front_twice Status n q.statuses)) (front_twice clear_of n q.clears)
     ∙ ap (λ (xs : List Mark). take n (behind_marks xs q)) turn
 
--- one mark more
-pub marks_next : (q : Queue) (ms : List Mark) (i : ℕ) (d : Mark) → i < length ms → (now next : Queue) → now ≡ left_by q (map entry_of (take i ms)) → next ≡ unmarked now (get_or ms i d).name → next ≡ left_by q (map entry_of (take (i + 1) ms))
-marks_next q ms i d within now next is gone_now =
-    rw (add-one, take-suc ms i d within)
-    (gone_now ∙ (ap (λ (p : Queue). unmarked p (get_or ms i d).name) is
-    ∙ (sym (left_by-append (map entry_of (take i ms)) (entry_of (get_or ms i d) ∷ []) q) ∙ ap (left_by q) (sym (map-append entry_of (take i ms) (get_or ms i d ∷ []))))))
+-- the first marks are enough for that
+pub first_bounded : (n : ℕ) (ms xs : List Mark) (q : Queue) → ms ≡ take n xs → first_of_each n ms q ≡ first_of_each n xs q
+first_bounded n ms xs q is =
+    ap (λ (ys : List Mark). map entry_of ys ++ map Request (take n q.requests) ++ map Status (take n q.statuses) ++ map clear_of (take n q.clears))
+    (ap (take n) is ∙ take-take n n xs (omega arith))
+
+-- ---- a frame's entries of a list are taken out at once
+
+-- the queues without so many of the first of each list
+abbrev pub without_first : Queue → ℕ → ℕ → ℕ → Queue
+without_first q requests statuses clears = record q { requests = drop requests q.requests; statuses = drop statuses q.statuses; clears = drop clears q.clears }
+
+-- one entry more
+entries_next : (q now : Queue) (es : List Entry) (i : ℕ) (d : Entry) → i < length es → left_by q (take i es) ≡ now → left_by q (take (i + 1) es) ≡ gone now (get_or es i d)
+entries_next q now es i d within is =
+    rw (add-one, take-suc es i d within)
+    (left_by-append (take i es) (get_or es i d ∷ []) q ∙ ap (λ (p : Queue). gone p (get_or es i d)) is)
+
+-- one more of a list
+gone_next : {X : Type 0} (n : ℕ) (xs : List X) → drop 1 (drop n xs) ≡ drop (n + 1) xs
+gone_next n xs = drop-drop 1 n xs
+
+-- the entries up to one are taken out but for those of the lists
+module _ (q now : Queue) (es : List Entry) (i : ℕ) (d : Entry) (within : i < length es) (r s c : ℕ) (is : left_by q (take i es) ≡ without_first now r s c) where
+  -- a name is off,
+  pub name_next : (kind : Kind) (number : ℕ) (name : StateName) → get_or es i d ≡ Marked kind number name → (marks : Map name_cmp Mark) → marks ≡ maps.remove now.marks name
+      → left_by q (take (i + 1) es) ≡ without_first (record now { marks = marks }) r s c
+  name_next kind number name here marks off =
+      entries_next q (without_first now r s c) es i d within is
+      ∙ (ap (gone (without_first now r s c)) here ∙ ap (λ (m : Map name_cmp Mark). without_first (record now { marks = m }) r s c) (sym off))
+
+  -- or one more of a list is counted
+  pub request_next : (name : StateName) → get_or es i d ≡ Request name → left_by q (take (i + 1) es) ≡ without_first now (r + 1) s c
+  request_next name here =
+      entries_next q (without_first now r s c) es i d within is
+      ∙ (ap (gone (without_first now r s c)) here ∙ ap (λ (xs : List StateName). record (without_first now r s c) { requests = xs }) (gone_next r now.requests))
+
+  pub status_next : (status : BulkStatus) → get_or es i d ≡ Status status → left_by q (take (i + 1) es) ≡ without_first now r (s + 1) c
+  status_next status here =
+      entries_next q (without_first now r s c) es i d within is
+      ∙ (ap (gone (without_first now r s c)) here ∙ ap (λ (xs : List BulkStatus). record (without_first now r s c) { statuses = xs }) (gone_next s now.statuses))
+
+  pub clear_next : (creator bound : ℕ) → get_or es i d ≡ Clear creator bound → left_by q (take (i + 1) es) ≡ without_first now r s (c + 1)
+  clear_next creator bound here =
+      entries_next q (without_first now r s c) es i d within is
+      ∙ (ap (gone (without_first now r s c)) here ∙ ap (λ (xs : List Cleared). record (without_first now r s c) { clears = xs }) (gone_next c now.clears))
+
+-- then as many of each list are taken out as were counted
+pub lists_gone : (q now : Queue) (es : List Entry) (n r s c : ℕ) → length es ≤ n → left_by q (take n es) ≡ without_first now r s c
+    → (requests : List StateName) → requests ≡ drop r now.requests → (statuses : List BulkStatus) → statuses ≡ drop s now.statuses → (clears : List Cleared) → clears ≡ drop c now.clears
+    → left_by q es ≡ record now { requests = requests; statuses = statuses; clears = clears }
+lists_gone q now es n r s c enough is requests one statuses two clears three =
+    ap (left_by q) (sym (all_taken n es enough)) ∙ (is
+    ∙ (ap (λ (xs : List StateName). record (without_first now r s c) { requests = xs }) (sym one)
+    ∙ (ap (λ (xs : List BulkStatus). record now { requests = requests; statuses = xs; clears = drop c now.clears }) (sym two)
+    ∙ ap (λ (xs : List Cleared). record now { requests = requests; statuses = statuses; clears = xs }) (sym three))))

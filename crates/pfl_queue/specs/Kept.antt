@@ -1,20 +1,19 @@
 -- How the fields of the pending queues stand for them. This project's profile.
 use Rattle.std.specs.Prelude.{◌≡◌, ◌≤◌, ℕ, List}
 use Rattle.pfl_base.specs.declared.state_name.StateName.{StateName}
-use Rattle.pfl_base.specs.Names.{name_cmp}
-use Rattle.pfl_edits.specs.Ordered.{RowList}
-use Rattle.pfl_edits.specs.Rows.{map_of}
+use Rattle.pfl_chains.specs.Lists.{Link}
 use Rattle.pfl_wire.specs.declared.message.BulkStatus.{BulkStatus}
 use Rattle.pfl_queue.specs.declared.Mark.{Mark}
 use Rattle.pfl_queue.specs.declared.Cleared.{Cleared}
+use Rattle.pfl_queue.specs.inner.Marked.{marks_of}
 use Rattle.pfl_queue.specs.Queues.{Queue, IsQueue}
 
 -- the queues that the fields stand for
-abbrev pub queue_of : ℕ → ℕ → RowList Mark → List StateName → List BulkStatus → List Cleared → Queue
-queue_of limit next marks requests statuses clears = record {
+abbrev pub queue_of : ℕ → ℕ → List (List (Link Mark)) → List StateName → List BulkStatus → List Cleared → Queue
+queue_of limit next lists requests statuses clears = record {
   limit = limit;
   next = next;
-  marks = map_of name_cmp (λ m. m.name) marks.list;
+  marks = marks_of lists;
   requests = requests;
   statuses = statuses;
   clears = clears;

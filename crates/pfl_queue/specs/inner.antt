@@ -2,4 +2,7 @@
 -- pair or of a timeline says any of it.
 pub mod BothWays
 pub mod Fitting
+pub mod Mapped
+pub mod Marked
 pub mod Parts
+pub mod Slots

@@ -1,9 +1,7 @@
 //! What a frame takes from the pending queues.
 ghost use Rattle.std.specs.Prelude.{◌≡◌, ◌≤◌, ◌+◌, ◌++◌, map, take, length, IfOk, OnErr, OnOk};
 ghost use Rattle.pfl_wire.specs.Actions.{record_len};
-ghost use Rattle.pfl_queue.specs.Taking.{mark_before, kind_action, entry_action, entry_of, clear_of, left_by, next_frame};
-ghost use Rattle.pfl_base.specs.Lists.{in_order};
-ghost use Rattle.pfl_edits.specs.Maps as maps;
+ghost use Rattle.pfl_queue.specs.Taking.{kind_action, entry_action, entry_of, clear_of, left_by, next_frame};
 ghost use Rattle.pfl_queue.specs.inner.Parts.{first_of_each};
 ghost use Rattle.pfl_queue.specs.Edits.{QueueLeadsBack, taking};
 ghost use Rattle.pfl_queue.specs.inner.Fitting.{added, longest};
@@ -161,13 +159,13 @@ impl<A: Allocator + Copy> Pending<A> {
         Ok(entries)
     }
 
-    /// The entries of the frame of at most `mtu` bytes that is next, where the marks stand in the order of frames.
-    fn frame_of(&self, marks: &[Mark], mtu: u32) -> Result<Vec<Entry, A>, NoMemory>
-        requires turn { marks.now ≡ in_order mark_before (maps.values self.now.marks) }
+    /// The entries of the frame of at most `mtu` bytes that is next.
+    fn frame_of(&self, mtu: u32) -> Result<Vec<Entry, A>, NoMemory>
         ensures frame { IfOk result (λ entries. entries.items ≡ next_frame self.now mtu) }
     {
         let most = mtu as usize / LEAST_RECORD_LEN;
-        let mut entries = self.first_of_each(marks, most)?;
+        let marks = self.first_marks(most)?;
+        let mut entries = self.first_of_each(&marks, most)?;
         entries.truncate(fitting(&entries, mtu));
         Ok(entries)
     }
@@ -184,13 +182,11 @@ impl<A: Allocator + Copy> Pending<A> {
         ensures one_each { IfOk result (λ r. length r.1.list ≡ length (next_frame self.old mtu)) }
         ensures leads_back { IfOk result (λ r. QueueLeadsBack r.1.list self.old self.new) }
     {
-        let marks = self.marks_in_turn()?;
-        let entries = self.frame_of(&marks, mtu)?;
+        let entries = self.frame_of(mtu)?;
         let mut change = Change::new(self.allocator());
         change.reserve(entries.len())?;
         record(&entries, &mut change);
-        self.known();
-        self.take_out(&marks, entries.len());
+        self.take_out(&entries);
         Ok((entries, change))
     }
 }

@@ -1,5 +1,5 @@
 //! Positions and fronts of lists.
-ghost use Rattle.std.specs.Prelude.{◌≡◌, ◌≤◌, ◌-◌, take, drop, length, vec_capacity};
+ghost use Rattle.std.specs.Prelude.{◌≡◌, ◌≤◌, take, drop, length, vec_capacity};
 ghost use Rattle.pfl_edits.specs.Places.{StandsAt, with_position};
 
 use std::alloc::Allocator;
@@ -34,13 +34,10 @@ pub fn first<X>(list: &[X], most: usize) -> &[X]
     &list[..most.min(list.len())]
 }
 
-/// Takes out the first entries, at most `count` of them, and gives how many there were too few.
-pub fn take_first<X: Copy, A: Allocator>(list: &mut Vec<X, A>, count: usize) -> usize
+/// Takes out the first entries, at most `count` of them.
+pub fn drop_first<X: Copy, A: Allocator>(list: &mut Vec<X, A>, count: usize)
     ensures list { list.new.items ≡ drop count list.old.items }
-    ensures more { result ≡ count - length list.old.items }
     ensures room { vec_capacity list.old ≤ vec_capacity list.new }
 {
-    let taken = count.min(list.len());
-    list.drain(..taken);
-    count - taken
+    list.drain(..count.min(list.len()));
 }

@@ -1,31 +1,42 @@
-//! Marks under their names, and the places of kinds in a frame.
+//! Marks under their names and in the order of their numbers, and the places of kinds in a frame.
 ghost use Rattle.std.specs.Prelude.{◌≡◌};
-ghost use Rattle.pfl_base.specs.Names.{name_cmp};
-ghost use Rattle.pfl_base.proofs.Names.{names_total, names_exact};
+ghost use Rattle.pfl_queue.specs.inner.Marked.{by_name_cmp, by_name_hash, by_name_total, by_name_exact};
 
 use crate::{Kind, Mark};
 use pfl_base::StateName;
-use pfl_edits::Keyed;
-use std::cmp::Ordering;
+use pfl_chains::Numbered;
+use pfl_hash::{Hashed, mix};
 
-impl Keyed for Mark {
-    type Key = StateName;
+/// A name, by which a mark is found.
+#[derive(Clone, Copy)]
+pub(crate) struct ByName(pub(crate) StateName);
 
-    ghost key = { λ mark. mark.name };
+impl Hashed for ByName {
+    ghost order = { by_name_cmp };
 
-    ghost order = { name_cmp };
+    ghost hash_of = { by_name_hash };
 
-    fn key(&self) -> StateName {
-        self.name
+    fn same(&self, other: &ByName) -> bool {
+        self.0 == other.0
     }
 
-    fn compare(a: StateName, b: StateName) -> Ordering {
-        a.compare(b)
+    fn hash(&self) -> u64 {
+        mix(mix(0, self.0.creator as u64), self.0.id)
     }
 
-    ghost total = { names_total };
+    ghost total = { by_name_total };
 
-    ghost exact = { names_exact };
+    ghost exact = { by_name_exact };
+}
+
+impl Numbered for Mark {
+    ghost use Rattle.pfl_queue.specs.inner.Marked.{mark_number};
+
+    ghost number = { mark_number };
+
+    fn number(&self) -> u64 {
+        self.number
+    }
 }
 
 impl Kind {

@@ -1,18 +1,18 @@
 //! The pending queues of a node.
-ghost use Rattle.std.specs.Prelude.{◌≡◌, ◌==◌, ◌≤◌, ◌<◌, [], ◌∷◌, List, map, take, IfOk, IfSome, IfErr, OnErr, OnOk, OnSome, IfNone, Some, None, is_some, nat_le, if◌then◌else◌};
+ghost use Rattle.std.specs.Prelude.{◌≡◌, ◌==◌, ◌≤◌, ◌<◌, [], ◌∷◌, take, IfOk, IfSome, IfErr, OnErr, OnOk, OnSome, IfNone, Some, None, is_some, nat_le, if◌then◌else◌};
 ghost use Rattle.pfl_edits.specs.Maps as maps;
 ghost use Rattle.pfl_queue.specs.Queues.{Queue, IsQueue, empty_queue, pending, kind_of, marked, unmarked, is_requested, requested, with_status, with_clear, most_numbers, is_counted_out, room_fault, mark_fault, list_fault, request_fault};
 ghost use Rattle.pfl_queue.specs.Laws.{NothingTwice};
 ghost use Rattle.pfl_base.specs.Lists.{in_order};
-ghost use Rattle.pfl_queue.specs.Taking.{mark_before, entry_of, in_turn, left_by};
-ghost use Rattle.pfl_queue.specs.inner.Parts.{lists_in_turn};
+ghost use Rattle.pfl_queue.specs.Taking.{mark_before, left_by};
 ghost use Rattle.pfl_queue.specs.Edits.{QueueLeadsBack, FindsFormer, redone, marking, unmarking, requesting, listing_status, listing_clear};
 
 use crate::edits::QueueEdit;
-use crate::lists::{first, set_position, take_first};
-use crate::{Cleared, Kind, Mark, QueueFault};
+use crate::lists::{drop_first, first, set_position};
+use crate::marked::Marks;
+use crate::{Cleared, Entry, Kind, Mark, QueueFault};
 use pfl_base::StateName;
-use pfl_edits::{InOrder, NoMemory, Reversible, Rows};
+use pfl_edits::{InOrder, NoMemory, Reversible};
 use pfl_wire::BulkStatus;
 use std::alloc::Allocator;
 use std::marker::Model;
@@ -26,7 +26,7 @@ const GREATEST_NUMBER: u64 = 4294967295;
 pub struct Pending<A: Allocator> {
     limit: usize,
     next: u64,
-    marks: Rows<Mark, A>,
+    marks: Marks<A>,
     requests: Vec<StateName, A>,
     statuses: Vec<BulkStatus, A>,
     clears: Vec<Cleared, A>,
@@ -42,27 +42,27 @@ impl<A: Allocator> Model for Pending<A> {
 
     ghost use Rattle.pfl_queue.specs.Kept.{queue_of, IsKept};
 
-    ghost view = { λ q. queue_of q.limit q.next q.marks q.requests.items q.statuses.items q.clears.items };
+    ghost view = { λ q. queue_of q.limit q.next q.marks.lists q.requests.items q.statuses.items q.clears.items };
 
-    ghost invariant = { λ q. IsKept (queue_of q.limit q.next q.marks q.requests.items q.statuses.items q.clears.items) q.marks.limit (vec_capacity q.requests) (vec_capacity q.statuses) (vec_capacity q.clears) };
+    ghost invariant = { λ q. IsKept (queue_of q.limit q.next q.marks.lists q.requests.items q.statuses.items q.clears.items) q.marks.limit (vec_capacity q.requests) (vec_capacity q.statuses) (vec_capacity q.clears) };
 }
 
 impl<A: Allocator + Copy> Pending<A> {
-    /// Nothing pending, and room for `limit` entries. The first number is 1.
+    /// Nothing pending, and room for `limit` entries. The first number is 1. There is no memory for more than 2³⁰.
     pub fn new(alloc: A, limit: usize) -> Result<Self, NoMemory>
         ensures empty { IfOk result (λ q. q ≡ empty_queue limit 1) }
     {
         Pending::new_at(alloc, limit, 1)
     }
 
-    /// Nothing pending, and room for `limit` entries. The first number is `next`.
+    /// Nothing pending, and room for `limit` entries. The first number is `next`. There is no memory for more than 2³⁰.
     pub fn new_at(alloc: A, limit: usize, next: u32) -> Result<Self, NoMemory>
         ensures empty { IfOk result (λ q. q ≡ empty_queue limit next) }
     {
         Ok(Pending {
             limit,
             next: next as u64,
-            marks: Rows::new(alloc, limit)?,
+            marks: Marks::new(alloc, limit)?,
             requests: Vec::with_capacity(alloc, limit)?,
             statuses: Vec::with_capacity(alloc, limit)?,
             clears: Vec::with_capacity(alloc, limit)?,
@@ -105,15 +105,6 @@ impl<A: Allocator> Pending<A> {
         ensures full { result ≡ nat_le self.now.limit (pending self.now) }
     {
         self.limit <= self.len()
-    }
-
-    /// The marks, in the order of their names.
-    pub fn marks(&self) -> InOrder<'_, Mark>
-        ensures marks { result ≡ maps.values self.now.marks }
-    {
-        let _limit = &self.limit;
-        self.marks.known();
-        InOrder::of(self.marks.as_slice())
     }
 
     /// The requests, in the order in which they were listed.
@@ -170,7 +161,7 @@ impl<A: Allocator> Pending<A> {
     pub fn mark_of(&self, name: StateName) -> Option<Mark>
         ensures mark { result ≡ maps.get self.now.marks name }
     {
-        self.marks.get(name).copied()
+        self.marks.get(name)
     }
 
     /// The queue that a name is on.
@@ -272,8 +263,7 @@ impl<A: Allocator> Pending<A> {
         ensures edit { IfSome result (λ e. e ≡ unmarking self.old name) }
         ensures leads_back { IfSome result (λ e. QueueLeadsBack (e ∷ []) self.old self.new) }
     {
-        self.known();
-        let mark = self.mark_of(name)?;
+        let mark = self.marks.get(name)?;
         let edit = QueueEdit::OfName {
             name,
             before: Some(mark),
@@ -376,32 +366,23 @@ impl<A: Allocator> Pending<A> {
         Ok(edit)
     }
 
-    /// Takes out the first `count` entries in the order of frames, where the marks stand in this order.
-    pub(crate) fn take_out(&mut self, marks: &[Mark], count: usize)
-        requires turn { marks.now ≡ in_order mark_before (maps.values self.old.marks) }
-        ensures left { self.new ≡ left_by self.old (take count (in_turn self.old)) }
+    /// Takes entries out: each name off its queue, and of each list as many of the first as there are entries of it, at once.
+    pub(crate) fn take_out(&mut self, entries: &[Entry])
+        ensures left { self.new ≡ left_by self.old entries.now }
+        ensures queue { IsQueue self.old }
     {
-        let taken = count.min(marks.len());
-        self.take_marks(&marks[..taken]);
-        self.take_listed(count - taken);
-    }
-
-    /// Takes the marks out.
-    fn take_marks(&mut self, marks: &[Mark])
-        ensures left { self.new ≡ left_by self.old (map entry_of marks.now) }
-    {
-        for mark in marks {
-            self.unmark(mark.name);
+        let (mut requests, mut statuses, mut clears) = (0, 0, 0);
+        for entry in entries {
+            match entry {
+                Entry::Marked { name, .. } => self.marks.remove(*name),
+                Entry::Request(_) => requests += 1,
+                Entry::Status(_) => statuses += 1,
+                Entry::Clear { .. } => clears += 1,
+            }
         }
-    }
-
-    /// Takes out the first `count` requests, statuses and clears, in this order, each list at once.
-    fn take_listed(&mut self, count: usize)
-        ensures left { self.new ≡ left_by self.old (take count (lists_in_turn self.old)) }
-    {
-        let count = take_first(&mut self.requests, count);
-        let count = take_first(&mut self.statuses, count);
-        take_first(&mut self.clears, count);
+        drop_first(&mut self.requests, requests);
+        drop_first(&mut self.statuses, statuses);
+        drop_first(&mut self.clears, clears);
     }
 
     /// Makes an edit that leads back.
@@ -411,7 +392,6 @@ impl<A: Allocator> Pending<A> {
         ensures made { self.new ≡ redone edit self.old }
         ensures leads_back { QueueLeadsBack (edit ∷ []) self.old self.new }
     {
-        self.known();
         self.set(edit);
     }
 
@@ -420,6 +400,7 @@ impl<A: Allocator> Pending<A> {
         requires found { FindsFormer edit self.old }
         requires allowed { IsQueue (redone edit self.old) }
         ensures set { self.new ≡ redone edit self.old }
+        ensures queue { IsQueue self.old }
     {
         match edit {
             QueueEdit::OfMark {
@@ -486,12 +467,15 @@ impl<A: Allocator + Copy> Pending<A> {
     pub fn marks_in_turn(&self) -> Result<Vec<Mark, A>, NoMemory>
         ensures turn { IfOk result (λ marks. marks.items ≡ in_order mark_before (maps.values self.now.marks)) }
     {
-        let alloc = self.allocator();
-        self.known();
-        self.marks.known();
-        let mut marks = Vec::with_capacity(alloc, self.marks.len())?;
-        marks.extend_from_slice(self.marks.as_slice())?;
-        marks.sort_unstable_by_key(|mark| (mark.kind.place(), mark.number));
+        let marks = self.first_marks(self.marks.len())?;
+        Ok(marks)
+    }
+
+    /// The first marks by kind and then by number, at most so many.
+    pub(crate) fn first_marks(&self, most: usize) -> Result<Vec<Mark, A>, NoMemory>
+        ensures first { IfOk result (λ marks. marks.items ≡ take most (in_order mark_before (maps.values self.now.marks))) }
+    {
+        let marks = self.marks.first(self.allocator(), most)?;
         Ok(marks)
     }
 

@@ -15,8 +15,7 @@ use Rattle.pfl_edits.specs.Maps as maps
 use Rattle.pfl_edits.specs.Maps.{entries_sorted}
 use Rattle.pfl_edits.proofs.Maps.{len-entries, len-remove, contains_key-keys}
 use Rattle.pfl_track.specs.declared.state.State.{State}
-use Rattle.pfl_table.specs.Tables.{States, AreStates}
-use Rattle.pfl_table.proofs.Apart.{AreStates-without}
+use Rattle.pfl_table.specs.Tables.{States}
 use Rattle.pfl_parts.specs.declared.edit.NodeEdit.{NodeEdit}
 use Rattle.pfl_parts.specs.Changes.{forgotten, is_held, count_lost, without_held}
 use Rattle.pfl_parts.specs.Edits.{NodeExtends}
@@ -154,16 +153,15 @@ cleared-none m creator bound o first none = ap (fold forgotten m) (empty (cleare
 
 -- m is what n was made to by some of its names, recorded in y
 pub record IsCleared (n m : Node) (creator bound : ℕ) (x y : Edits NodeEdit) : Type 0 where
-  pub states : AreStates m.states
   pub rest : clear_taken m creator bound ≡ clear_taken n creator bound
   pub paid : 4 * maps.len m.states + x.spare ≤ 4 * maps.len n.states + y.spare
   pub due : x.spare + 4 * length (cleared_names m creator bound) ≤ y.spare + 4 * length (cleared_names n creator bound)
   pub extends : NodeExtends (4 * length (cleared_names n creator bound)) x y n m
 
-pub cleared-first : (n : Node) (creator bound : ℕ) (x : Edits NodeEdit) → AreStates n.states → IsCleared n n creator bound x x
-cleared-first n creator bound x are =
+pub cleared-first : (n : Node) (creator bound : ℕ) (x : Edits NodeEdit) → IsCleared n n creator bound x x
+cleared-first n creator bound x =
     let none = extends-none x n in
-    record { states = are; rest = refl; paid = omega arith; due = omega arith; extends = record { spare = omega arith; room = none.room; counted = none.counted; leads_back = none.leads_back } }
+    record { rest = refl; paid = omega arith; due = omega arith; extends = record { spare = omega arith; room = none.room; counted = none.counted; leads_back = none.leads_back } }
 
 module _ (n m : Node) (creator bound : ℕ) (x y : Edits NodeEdit) (so : IsCleared n m creator bound x y) (name : StateName) (next : IsNext m creator bound name) where
   pub cleared-room : 4 * maps.len n.states ≤ x.spare → 4 ≤ y.spare
@@ -179,7 +177,6 @@ module _ (n m : Node) (creator bound : ℕ) (x y : Edits NodeEdit) (so : IsClear
       let one = next.one ∙ ap (λ (v : Node). length (cleared_names v creator bound) + 1) (sym same) in
       let now : x.spare + 4 * length (cleared_names k creator bound) ≤ z.spare + 4 * length (cleared_names n creator bound) = omega (arith, due, spare, one) in
       record {
-        states = subst (λ (v : Node). AreStates v.states) (sym same) (subst AreStates (sym (forgotten-states m name)) (AreStates-without m.states name so.states));
         rest = ap (λ (v : Node). clear_taken v creator bound) same ∙ (sym next.rest ∙ so.rest);
         paid = omega (arith, paid, spare, fewer);
         due = now;

@@ -2,7 +2,6 @@
 
 ghost use Rattle.std.specs.Prelude.{◌≡◌, ◌<◌};
 ghost use Rattle.pfl_parts.specs.Edits.{NodeExtends};
-ghost use Rattle.pfl_parts.specs.Nodes.{AreParts};
 ghost use Rattle.pfl_receive.specs.Receiving as receiving;
 
 use pfl_edits::Change;
@@ -17,7 +16,6 @@ pub(crate) fn take_status<A: Allocator>(
     change: &mut Change<NodeEdit, A>,
 )
     requires room { 0 < change.old.spare }
-    requires parts { AreParts parts.old }
     ensures node { parts.new ≡ receiving.status_taken parts.old status }
     ensures extends { NodeExtends 1 change.old change.new parts.old parts.new }
 {

@@ -7,6 +7,7 @@ ghost use Rattle.pfl_parts.specs.Nodes.{Node as Whole, AreParts, is_overfull};
 ghost use Rattle.pfl_queue.specs.Queues.{most_numbers, kind_of};
 ghost use Rattle.pfl_receive.specs.Receiving as receiving;
 ghost use Rattle.pfl_table.specs.Tables.{key_in_use as is_in_use};
+ghost use Rattle.pfl_track.specs.States.{IsState};
 
 use pfl_base::StateName;
 use pfl_edits::Change;
@@ -27,7 +28,6 @@ pub(crate) fn take_insertion<A: Allocator>(
 ) -> Result<(), Overfull>
     requires room { 3 ≤ change.old.spare }
     requires countable { total parts.old + change.old.spare ≤ most_numbers }
-    requires parts { AreParts parts.old }
     ensures full { OnErr result (is_overfull (receiving.insert_taken parts.old same_rules sent.now ack_wanted) ≡ true) }
     ensures node { OnOk result (parts.new ≡ receiving.insert_taken parts.old same_rules sent.now ack_wanted) }
     ensures extends { NodeExtends 3 change.old change.new parts.old parts.new }
@@ -37,7 +37,6 @@ pub(crate) fn take_insertion<A: Allocator>(
         return Ok(());
     }
     let state = imported(parts, sent, same_rules);
-    state.known();
     parts.add_state(state, change);
     if !ack_wanted {
         return Ok(());
@@ -50,6 +49,7 @@ pub(crate) fn take_insertion<A: Allocator>(
 /// The state may be taken over: its name and its keys are free, and there is room.
 fn can_import<A: Allocator>(parts: &Parts<A>, sent: &StateRecord) -> bool
     ensures can { result ≡ receiving.can_import parts.now sent.now }
+    ensures parts { AreParts parts.now }
 {
     let states = parts.states();
     let is_known = states.by_name(sent.name).is_some();
@@ -87,8 +87,8 @@ fn key_in_use<A: Allocator>(parts: &Parts<A>, keys: &KeyPair) -> bool
 fn imported<A: Allocator>(parts: &Parts<A>, sent: &StateRecord, same_rules: bool) -> State
     requires parts { AreParts parts.now }
     ensures state { result ≡ receiving.imported parts.now same_rules sent.now }
+    ensures known { IsState result }
 {
-    sent.keys.known();
     let rule = kept_rule(parts, same_rules, sent.rule);
     let timeout = parts.rules().timeout(rule, sent.class);
     let now = parts.clock();

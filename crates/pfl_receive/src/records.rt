@@ -37,7 +37,6 @@ pub fn take_record<A: Allocator>(
     ensures paid { OnOk result (IsPaid change.old change.new parts.old parts.new) }
     ensures extends { NodeExtends (record_edits + forgotten_edits * cleared_by parts.old message.now) change.old change.new parts.old parts.new }
 {
-    parts.known();
     match message {
         Message::Clear { creator, bound } => {
             take_clear(parts, *creator, *bound, change);

@@ -27,7 +27,6 @@ pub(crate) fn take_request<A: Allocator>(
 ) -> Result<(), Overfull>
     requires room { 3 ≤ change.old.spare }
     requires countable { total parts.old + change.old.spare ≤ most_numbers }
-    requires parts { AreParts parts.old }
     ensures full { OnErr result (is_overfull (receiving.request_taken parts.old name) ≡ true) }
     ensures node { OnOk result (parts.new ≡ receiving.request_taken parts.old name) }
     ensures extends { NodeExtends 3 change.old change.new parts.old parts.new }
@@ -49,7 +48,6 @@ fn serve<A: Allocator>(
 ) -> Result<(), Overfull>
     requires room { 3 ≤ change.old.spare }
     requires countable { total parts.old + change.old.spare ≤ most_numbers }
-    requires parts { AreParts parts.old }
     ensures full { OnErr result (is_overfull (receiving.bulk_taken parts.old) ≡ true) }
     ensures node { OnOk result (parts.new ≡ receiving.bulk_taken parts.old) }
     ensures extends { NodeExtends 3 change.old change.new parts.old parts.new }

@@ -27,7 +27,6 @@ pub(crate) fn take_update<A: Allocator>(
 ) -> Result<(), Overfull>
     requires room { 7 ≤ change.old.spare }
     requires countable { total parts.old + change.old.spare ≤ most_numbers }
-    requires parts { AreParts parts.old }
     ensures full { OnErr result (is_overfull (option_map_or (λ s. receiving.merge_taken parts.old s (receiving.of_state sent.now)) (maps.get parts.old.states sent.now.name) (receiving.insert_taken parts.old same_rules sent.now false)) ≡ true) }
     ensures node { OnOk result (parts.new ≡ option_map_or (λ s. receiving.merge_taken parts.old s (receiving.of_state sent.now)) (maps.get parts.old.states sent.now.name) (receiving.insert_taken parts.old same_rules sent.now false)) }
     ensures extends { NodeExtends 7 change.old change.new parts.old parts.new }
@@ -46,7 +45,6 @@ pub(crate) fn take_short_update<A: Allocator>(
 ) -> Result<(), Overfull>
     requires room { 7 ≤ change.old.spare }
     requires countable { total parts.old + change.old.spare ≤ most_numbers }
-    requires parts { AreParts parts.old }
     ensures full { OnErr result (is_overfull (option_map_or (λ s. receiving.merge_taken parts.old s (receiving.of_update sent.now)) (maps.get parts.old.states sent.now.name) (to.ask parts.old sent.now.name)) ≡ true) }
     ensures node { OnOk result (parts.new ≡ option_map_or (λ s. receiving.merge_taken parts.old s (receiving.of_update sent.now)) (maps.get parts.old.states sent.now.name) (to.ask parts.old sent.now.name)) }
     ensures extends { NodeExtends 7 change.old change.new parts.old parts.new }
@@ -74,7 +72,6 @@ fn take_merge<A: Allocator>(
 {
     let timeout = parts.rules().timeout(state.rule(), received.class);
     let merged = merge(state, received, timeout, parts.clock());
-    merged.state.known();
     parts.lose(state.name(), change);
     put_merged(parts, &merged, change)
 }

@@ -57,9 +57,6 @@ pub record SameKeys (s t : State) : Type 0 where
 pub SameKeys-itself : (s : State) → SameKeys s s
 SameKeys-itself s = record { name = refl; wire = refl; stack = refl }
 
-pub SameKeys-then : (s t u : State) → SameKeys s t → SameKeys t u → SameKeys s u
-SameKeys-then s t u f g = record { name = g.name ∙ f.name; wire = g.wire ∙ f.wire; stack = g.stack ∙ f.stack }
-
 either_false : (a b : Bool) → (a || b) ≡ false → (a ≡ false) × (b ≡ false)
 either_false true b e = true_is_false e
 either_false false b e = (refl, e)

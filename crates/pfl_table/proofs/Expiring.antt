@@ -126,13 +126,6 @@ module _ {X : Type 0} (before : X → X → Bool)
       | false ↦ λ e. none_passes x ys none.1 early
     ] refl
 
-    -- where the first does not pass, and what passes would stand before it, none passes
-    pub none_due : (xs : List X) (x : X) (rest : List X) → in_order before xs ≡ x ∷ rest → p x ≡ false → ((y : X) → p y ≡ true → before y x ≡ true)
-        → in_order before (filter p xs) ≡ []
-    none_due xs x rest is fails early =
-        let o : IsInOrder before (x ∷ rest) = subst (IsInOrder before) is (IsInOrder-in_order xs) in
-        in_order-filter xs ∙ (ap (filter p) is ∙ (ap (λ b. cond b (x ∷ filter p rest) (filter p rest)) fails ∙ none_passes x rest o.0 early))
-
   -- what is left without the first, in order; `other` is the test that it alone does not pass
   pub rest_in_order : (other : X → Bool) (xs : List X) (x : X) (rest : List X) → in_order before xs ≡ x ∷ rest → other x ≡ false → filter other rest ≡ rest
       → in_order before (filter other xs) ≡ rest
@@ -153,7 +146,7 @@ less_is Equal e = true_is_false (sym e)
 less_is Greater e = true_is_false (sym e)
 
 module _ {X : Type 0} (c : X → X → Ordering) (o : IsTotalOrder c) where
-  less-asymmetric : (x y : X) → is_lt (c x y) ≡ true → is_lt (c y x) ≡ false
+  pub less-asymmetric : (x y : X) → is_lt (c x y) ≡ true → is_lt (c y x) ≡ false
   less-asymmetric x y e = ap is_lt (o.antisymm y x ∙ ap ordering_reverse (less_is (c x y) e))
 
   less-passed_on : (x y z : X) → is_lt (c x y) ≡ true → is_lt (c x z) ≡ false → is_lt (c z y) ≡ true

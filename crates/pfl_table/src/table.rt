@@ -9,9 +9,9 @@ ghost use Rattle.pfl_table.specs.Tables.{Table, IsTable, TableLeadsBack, states_
 use crate::edit::TableEdit;
 use crate::fault::PutFault;
 use crate::row::{Row, row_with};
-use crate::scans::{count_of_rule, first_to_expire, row_of_stack, row_of_wire, state_of};
+use crate::stored::Stored;
 use pfl_base::{Dir, Key, StateName};
-use pfl_edits::{InOrder, NoMemory, Reversible, Rows};
+use pfl_edits::{InOrder, NoMemory, Reversible};
 use pfl_track::State;
 use std::alloc::Allocator;
 use std::marker::Model;
@@ -20,8 +20,7 @@ use std::marker::Model;
 /// Room for `limit` rows is made by `new` and `copy`.
 #[derive(Drop)]
 pub struct StateTable<A: Allocator> {
-    limit: usize,
-    rows: Rows<Row, A>,
+    stored: Stored<A>,
 }
 
 impl<A: Allocator> Model for StateTable<A> {
@@ -31,28 +30,20 @@ impl<A: Allocator> Model for StateTable<A> {
 
     ghost coded = { coded_table };
 
-    ghost use Rattle.pfl_table.specs.inner.Kept.{IsKept, table_of};
+    ghost use Rattle.pfl_table.specs.inner.Filed.{table_of};
+    ghost use Rattle.pfl_table.specs.Tables.{IsTable};
 
-    ghost view = { λ t. table_of t.limit t.rows.list };
+    ghost view = { λ t. table_of t.stored };
 
-    ghost invariant = { λ t. IsKept t.limit t.rows };
+    ghost invariant = { λ t. IsTable (table_of t.stored) };
 }
 
 impl<A: Allocator> StateTable<A> {
-    /// No states, and room for `limit` of them.
-    pub fn new(alloc: A, limit: usize) -> Result<Self, NoMemory>
-        ensures limit { IfOk result (λ t. t.limit ≡ limit) }
-        ensures empty { IfOk result (λ t. t.rows ≡ maps.empty) }
-    {
-        let rows = Rows::new(alloc, limit)?;
-        Ok(StateTable { limit, rows })
-    }
-
     /// What is true of each table.
     pub fn known(&self)
         ensures table { IsTable self.now }
     {
-        let _limit = &self.limit;
+        let _stored = &self.stored;
     }
 
     /// How many states there are.
@@ -60,14 +51,15 @@ impl<A: Allocator> StateTable<A> {
         ensures rows { result ≡ maps.len self.now.rows }
         ensures states { result ≡ maps.len (states_of self.now) }
     {
-        self.rows.len()
+        self.stored.known();
+        self.stored.len()
     }
 
     /// How many states there is room for.
     pub fn limit(&self) -> usize
         ensures limit { result ≡ self.now.limit }
     {
-        self.limit
+        self.stored.limit()
     }
 
     /// There is no room for another state.
@@ -75,7 +67,7 @@ impl<A: Allocator> StateTable<A> {
         ensures rows { result ≡ nat_le self.now.limit (maps.len self.now.rows) }
         ensures states { result ≡ nat_le self.now.limit (maps.len (states_of self.now)) }
     {
-        self.limit <= self.len()
+        self.limit() <= self.len()
     }
 
     /// The rows, in the order of the names.
@@ -84,24 +76,15 @@ impl<A: Allocator> StateTable<A> {
         ensures states { map (λ r. r.state) result ≡ maps.values (states_of self.now) }
         ensures names { map (λ r. r.state.name) result ≡ maps.keys (states_of self.now) }
     {
-        InOrder::of(self.as_slice())
-    }
-
-    /// The rows as they are kept.
-    fn as_slice(&self) -> &[Row]
-        ensures rows { result.now ≡ maps.values self.now.rows }
-        ensures states { map (λ r. r.state) result.now ≡ maps.values (states_of self.now) }
-        ensures names { map (λ r. r.state.name) result.now ≡ maps.keys (states_of self.now) }
-    {
-        self.rows.known();
-        self.rows.as_slice()
+        self.stored.known();
+        self.stored.iter()
     }
 
     /// The row of the state with the name.
     pub fn row(&self, name: StateName) -> Option<&Row>
         ensures row { option_copied result ≡ maps.get self.now.rows name }
     {
-        self.rows.get(name)
+        self.stored.by_name(name)
     }
 
     /// The state with the name.
@@ -115,14 +98,16 @@ impl<A: Allocator> StateTable<A> {
     pub fn by_wire(&self, key: &Key) -> Option<&State>
         ensures state { option_copied result ≡ by_wire (states_of self.now) key.now }
     {
-        state_of(row_of_wire(self.as_slice(), key))
+        self.stored.known();
+        state_of(self.stored.by_wire(key))
     }
 
     /// The state with the stack key.
     pub fn by_stack(&self, key: &Key) -> Option<&State>
         ensures state { option_copied result ≡ by_stack (states_of self.now) key.now }
     {
-        state_of(row_of_stack(self.as_slice(), key))
+        self.stored.known();
+        state_of(self.stored.by_stack(key))
     }
 
     /// The state of a packet with the key: of an inbound one by the wire key, of an outbound one by the stack key.
@@ -140,22 +125,24 @@ impl<A: Allocator> StateTable<A> {
         ensures row { option_copied result ≡ row_after self.now name }
         ensures state { option_map (λ r. r.state) (option_copied result) ≡ state_after (states_of self.now) name }
     {
-        self.rows.known();
-        self.rows.after(name).first()
+        self.stored.known();
+        self.stored.after(name)
     }
 
     /// The row that expires first: the one of least expiry, and among those the one of least name.
     pub fn first_expiring(&self) -> Option<&Row>
         ensures row { option_copied result ≡ first_expiring self.now }
     {
-        first_to_expire(self.as_slice())
+        self.stored.known();
+        self.stored.first_expiring()
     }
 
     /// How many states have the rule with this number.
     pub fn count_of_rule(&self, rule: u16) -> usize
         ensures count { result ≡ count_of_rule (states_of self.now) rule }
     {
-        count_of_rule(self.as_slice(), rule)
+        self.stored.known();
+        self.stored.count_of_rule(rule)
     }
 
     /// Adds a state that expires at this time, if nothing keeps it from being added. It takes no memory.
@@ -247,7 +234,7 @@ impl<A: Allocator> StateTable<A> {
         ensures edit { result ≡ edit_of self.old name at.now }
         ensures leads_back { TableLeadsBack (result ∷ []) self.old self.new }
     {
-        let before = self.rows.set(name, *at);
+        let before = self.stored.set(name, at);
         TableEdit {
             name,
             before,
@@ -257,15 +244,31 @@ impl<A: Allocator> StateTable<A> {
 }
 
 impl<A: Allocator + Copy> StateTable<A> {
+    /// No states, and room for `limit` of them.
+    pub fn new(alloc: A, limit: usize) -> Result<Self, NoMemory>
+        ensures limit { IfOk result (λ t. t.limit ≡ limit) }
+        ensures empty { IfOk result (λ t. t.rows ≡ maps.empty) }
+    {
+        let stored = Stored::new(alloc, limit)?;
+        Ok(StateTable { stored })
+    }
+
     /// An equal table, with room of its own.
     pub fn copy(&self) -> Result<Self, NoMemory>
         ensures same { IfOk result (λ copied. copied ≡ self.now) }
     {
-        let rows = self.rows.copy()?;
-        Ok(StateTable {
-            limit: self.limit,
-            rows,
-        })
+        let stored = self.stored.copy()?;
+        Ok(StateTable { stored })
+    }
+}
+
+/// The state of the row.
+fn state_of(row: Option<&Row>) -> Option<&State>
+    ensures { option_copied result ≡ option_map (λ r. r.state) (option_copied row.entry) }
+{
+    match row {
+        Some(row) => Some(&row.state),
+        None => None,
     }
 }
 

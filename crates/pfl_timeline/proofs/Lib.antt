@@ -1,7 +1,8 @@
 mod Worked
 mod NewTimelines
+pub mod Marks
 pub mod Runs
-pub mod Copied
+pub mod Recording
 pub mod Distinct
 pub mod Places
 pub mod Searched
@@ -15,4 +16,3 @@ pub mod Stepped
 pub mod Others
 pub mod Shows
 pub mod Rooted
-pub mod Summaries

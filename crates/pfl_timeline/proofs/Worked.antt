@@ -15,7 +15,7 @@ use Rattle.pfl_timeline.specs.Commands as commands
 use Rattle.pfl_timeline.specs.Commands.{step_command, back_command, forward_command, fork_command, drop_command, show_command, names_command}
 use Rattle.pfl_timeline.specs.Replies as reply
 use Rattle.pfl_timeline.specs.Replies.{Reply, Replied}
-use Rattle.pfl_timeline.proofs.Summaries.{summary}
+use Rattle.pfl_timeline.specs.Summaries.{summary}
 
 -- ---- commands, each by its own definition
 

@@ -1,8 +1,9 @@
 -- How what is kept stands for a branch and for a timeline. M is the allocator of the frames in edits, of which nothing is said
 -- (this project's profile).
-use Rattle.std.specs.Prelude.{◌≡◌, ◌≤◌, ℕ, false, List, [], ◌∷◌, ◌++◌, length, map, take, drop, Some, is_some, IsTrue}
+use Rattle.std.specs.Prelude.{◌≡◌, ◌≤◌, ℕ, false, List, [], ◌∷◌, length, get_or, map, take, Some, is_some, IsTrue}
 use Rattle.std.specs.List.{AllByRecursion}
-use Rattle.pfl_edits.specs.Changes.{Edits, back, Fits}
+use Rattle.pfl_edits.specs.Changes.{back, Fits}
+use Rattle.pfl_edits.specs.Tapes.{above}
 use Rattle.pfl_rules.specs.Rules.{Rules}
 use Rattle.pfl_world.specs.declared.edit.WorldEdit.{WorldEdit}
 use Rattle.pfl_world.specs.declared.event.Event.{Event}
@@ -12,29 +13,26 @@ use Rattle.pfl_world.specs.Worlds.{World, IsWorld, new_world}
 use Rattle.pfl_timeline.specs.Rooted.{Rooted}
 use Rattle.pfl_timeline.specs.Timelines.{Timeline, IsTimeline, is_branch_name}
 
--- ---- a branch: its world, its events, and one change for each event before the cursor
+-- ---- a branch: its world, its events, the tape of what those before the cursor changed, and a mark for each of these
 
--- the edits of all changes, the oldest first
-abbrev pub edits_of : {M : Type 0} → List (Edits (WorldEdit M)) → List (WorldEdit M)
-edits_of [] = []
-edits_of (c ∷ cs) = c.list ++ edits_of cs
+-- the branch that they stand for: it begins where the whole tape is taken back
+abbrev pub rooted : {M : Type 0} → List ℕ → World → List Event → List (WorldEdit M) → List ℕ → Rooted
+rooted name w events tape marks = record { opening = back put_back tape w; branch = record { name = name; events = events; cursor = length marks } }
 
--- the world from before the changes
-abbrev pub before : {M : Type 0} → List (Edits (WorldEdit M)) → World → World
-before cs w = back put_back (edits_of cs) w
+-- how long the tape was when the first k events stood; with all of them it is as long as it is
+abbrev pub mark_at : {E : Type 0} → List E → List ℕ → ℕ → ℕ
+mark_at tape marks k = get_or marks k (length tape)
 
--- the branch that they stand for: it begins where no change was made yet
-abbrev pub rooted : {M : Type 0} → List ℕ → World → List Event → List (Edits (WorldEdit M)) → Rooted
-rooted name w events cs = record { opening = before cs w; branch = record { name = name; events = events; cursor = length cs } }
-
--- the changes lead back from the world to an opening: without those from k on it is the world that the first k events give
-pub record IsKept {M : Type 0} (name : List ℕ) (w : World) (events : List Event) (cs : List (Edits (WorldEdit M))) : Type 0 where
+-- the marks lead back from the world to an opening: what is above the mark of k taken back, it is the world that the first k
+-- events give
+pub record IsKept {M : Type 0} (name : List ℕ) (w : World) (events : List Event) (tape : List (WorldEdit M)) (marks : List ℕ) : Type 0 where
   pub named : IsTrue (is_branch_name name)
-  pub opening : IsWorld (before cs w)
-  pub within : length cs ≤ length events
-  pub fits : Fits Finds IsWorld put_back (edits_of cs) w
-  pub each : (k : ℕ) → k ≤ length cs → run (before cs w) (take k events) ≡ Some (before (drop k cs) w)
-  pub whole : IsTrue (is_some (run (before cs w) events))
+  pub opening : IsWorld (back put_back tape w)
+  pub within : length marks ≤ length events
+  pub fits : Fits Finds IsWorld put_back tape w
+  pub rising : (j k : ℕ) → j ≤ k → mark_at tape marks j ≤ mark_at tape marks k
+  pub each : (k : ℕ) → k ≤ length marks → run (back put_back tape w) (take k events) ≡ Some (back put_back (above (mark_at tape marks k) tape) w)
+  pub whole : IsTrue (is_some (run (back put_back tape w) events))
 
 -- ---- a timeline: its branches
 

@@ -6,5 +6,6 @@ pub mod Memory
 pub mod Rooted
 pub mod Kept
 pub mod Codes
+pub mod Summaries
 pub mod Laws
 pub mod inner

@@ -9,24 +9,26 @@ ghost use Rattle.pfl_timeline.specs.Rooted.{shown};
 ghost use Rattle.pfl_timeline.specs.inner.Rooted.{with_cursor};
 ghost use Rattle.pfl_timeline.specs.Timelines.{IsBranch, is_branch_name, same_name};
 
-use crate::copying::copy_changes;
+use crate::copying::copy_tape;
 use crate::word::BranchWord;
 use pfl_base::Refusal;
-use pfl_edits::NoMemory;
-use pfl_world::{Event, Outcome, World, WorldChange};
+use pfl_edits::{NoMemory, Tape, undo_to};
+use pfl_world::{Event, Outcome, World, WorldTape};
 use std::alloc::Allocator;
 use std::marker::Model;
 
 /// A branch of a timeline: its events, and the world that those before its cursor give.
 ///
-/// The opening world is not kept: it is what taking all changes back would give.
+/// The opening world is not kept: it is what taking the whole tape back would give.
 #[derive(Drop)]
 pub struct Branch<A: Allocator> {
     name: BranchWord,
     world: World<A>,
     events: Vec<Event, A>,
-    /// What each event before the cursor changed.
-    changes: Vec<WorldChange<A>, A>,
+    /// What the events before the cursor changed, one after another.
+    tape: WorldTape<A>,
+    /// How long the tape was before each of them.
+    marks: Vec<usize, A>,
 }
 
 impl<A: Allocator> Model for Branch<A> {
@@ -39,45 +41,45 @@ impl<A: Allocator> Model for Branch<A> {
 
     ghost use Rattle.pfl_timeline.specs.Kept.{IsKept, rooted};
 
-    ghost view = { λ b. rooted b.name b.world b.events.items b.changes.items };
+    ghost view = { λ b. rooted b.name b.world b.events.items b.tape.list b.marks.items };
 
-    ghost invariant = { λ b. IsKept b.name b.world b.events.items b.changes.items };
+    ghost invariant = { λ b. IsKept b.name b.world b.events.items b.tape.list b.marks.items };
 }
 
-/// Makes room for one event more, and for what it changes.
+/// Makes room for one event more, and for its mark.
 fn make_room<A: Allocator>(
     events: &mut Vec<Event, A>,
-    changes: &mut Vec<WorldChange<A>, A>,
+    marks: &mut Vec<usize, A>,
 ) -> Result<(), NoMemory>
     ensures events { events.new.items ≡ events.old.items }
-    ensures changes { changes.new.items ≡ changes.old.items }
+    ensures marks { marks.new.items ≡ marks.old.items }
     ensures event_room { OnOk result (vec_len events.new < vec_capacity events.new) }
-    ensures change_room { OnOk result (vec_len changes.new < vec_capacity changes.new) }
+    ensures mark_room { OnOk result (vec_len marks.new < vec_capacity marks.new) }
 {
     events.reserve(1)?;
-    changes.reserve(1)?;
+    marks.reserve(1)?;
     Ok(())
 }
 
-/// Puts an event behind those that stand, in room that was made. Gives how many events were cut.
+/// Puts an event and its mark behind those that stand, in room that was made. Gives how many events were cut.
 fn put<A: Allocator>(
     events: &mut Vec<Event, A>,
-    changes: &mut Vec<WorldChange<A>, A>,
+    marks: &mut Vec<usize, A>,
     event: Event,
-    change: WorldChange<A>,
+    mark: usize,
 ) -> usize
-    requires within { length changes.old.items ≤ length events.old.items }
+    requires within { length marks.old.items ≤ length events.old.items }
     requires event_room { vec_len events.old < vec_capacity events.old }
-    requires change_room { vec_len changes.old < vec_capacity changes.old }
-    ensures events { events.new.items ≡ take (length changes.old.items) events.old.items ++ event ∷ [] }
-    ensures changes { changes.new.items ≡ changes.old.items ++ change ∷ [] }
-    ensures dropped { result ≡ length events.old.items - length changes.old.items }
+    requires mark_room { vec_len marks.old < vec_capacity marks.old }
+    ensures events { events.new.items ≡ take (length marks.old.items) events.old.items ++ event ∷ [] }
+    ensures marks { marks.new.items ≡ marks.old.items ++ mark ∷ [] }
+    ensures dropped { result ≡ length events.old.items - length marks.old.items }
 {
-    let cursor = changes.len();
+    let cursor = marks.len();
     let dropped = events.len() - cursor;
     events.truncate(cursor);
     events.push(event).unwrap();
-    changes.push(change).unwrap();
+    marks.push(mark).unwrap();
     dropped
 }
 
@@ -107,7 +109,7 @@ impl<A: Allocator> Branch<A> {
     pub fn cursor(&self) -> usize
         ensures cursor { result ≡ self.now.branch.cursor }
     {
-        self.changes.len()
+        self.marks.len()
     }
 
     /// The world that it shows: what the events before the cursor give.
@@ -124,23 +126,14 @@ impl<A: Allocator> Branch<A> {
         let _name = &self.name;
     }
 
-    /// Takes the newest of the events that stand back.
-    fn take_back_one(&mut self)
-        requires within { 0 < self.old.branch.cursor }
-        ensures branch { self.new ≡ with_cursor self.old (self.old.branch.cursor - 1) }
+    /// Takes events back until so many stand, the newest first.
+    fn take_back_to(&mut self, place: usize)
+        requires within { place ≤ self.old.branch.cursor }
+        ensures branch { self.new ≡ with_cursor self.old place }
     {
-        if let Some(change) = self.changes.pop() {
-            self.world.revert(change);
-        }
-    }
-
-    /// Takes the newest `n` of the events that stand back.
-    fn take_back(&mut self, n: usize)
-        requires within { n ≤ self.old.branch.cursor }
-        ensures branch { self.new ≡ with_cursor self.old (self.old.branch.cursor - n) }
-    {
-        for _ in 0..n {
-            self.take_back_one();
+        if place < self.marks.len() {
+            undo_to(&mut self.world, &mut self.tape, self.marks[place]);
+            self.marks.truncate(place);
         }
     }
 
@@ -157,7 +150,7 @@ impl<A: Allocator> Branch<A> {
         if cursor < n {
             return None;
         }
-        self.take_back(n);
+        self.take_back_to(cursor - n);
         Some(cursor - n)
     }
 }
@@ -173,7 +166,8 @@ impl<A: Allocator + Copy> Branch<A> {
             name,
             world,
             events: Vec::new(alloc),
-            changes: Vec::new(alloc),
+            tape: Tape::new(alloc),
+            marks: Vec::new(alloc),
         }
     }
 
@@ -188,14 +182,15 @@ impl<A: Allocator + Copy> Branch<A> {
         ensures opening { self.new.opening ≡ self.old.opening }
         ensures name { self.new.branch.name ≡ self.old.branch.name }
     {
-        match self.world.apply(event) {
+        let mark = self.tape.len();
+        match self.world.apply_on(event, &mut self.tape) {
             Err(refusal) => Err(refusal),
-            Ok((outcome, change)) => {
-                if make_room(&mut self.events, &mut self.changes).is_err() {
-                    self.world.revert(change);
+            Ok(outcome) => {
+                if make_room(&mut self.events, &mut self.marks).is_err() {
+                    undo_to(&mut self.world, &mut self.tape, mark);
                     return Err(Refusal::NoMemory);
                 }
-                let dropped = put(&mut self.events, &mut self.changes, *event, change);
+                let dropped = put(&mut self.events, &mut self.marks, *event, mark);
                 Ok((outcome, dropped))
             }
         }
@@ -208,10 +203,11 @@ impl<A: Allocator + Copy> Branch<A> {
         ensures unchanged { OnErr result (self.new ≡ self.old) }
     {
         let event = self.events[self.cursor()];
-        self.changes.reserve(1)?;
-        match self.world.apply(&event) {
-            Ok((_, change)) => {
-                self.changes.push(change).unwrap();
+        let mark = self.tape.len();
+        self.marks.reserve(1)?;
+        match self.world.apply_on(&event, &mut self.tape) {
+            Ok(_) => {
+                self.marks.push(mark).unwrap();
                 Ok(())
             }
             // The events of a branch were accepted where they stand, so only memory can be wanting.
@@ -226,9 +222,10 @@ impl<A: Allocator + Copy> Branch<A> {
         ensures branch { OnOk result (self.new ≡ with_cursor self.old (self.old.branch.cursor + n)) }
         ensures unchanged { OnErr result (self.new ≡ self.old) }
     {
-        for done in 0..n {
+        let cursor = self.cursor();
+        for _ in 0..n {
             if self.redo_one().is_err() {
-                self.take_back(done);
+                self.take_back_to(cursor);
                 return Err(NoMemory);
             }
         }
@@ -261,26 +258,28 @@ impl<A: Allocator + Copy> Branch<A> {
     {
         let cursor = self.cursor();
         if place < cursor {
-            self.take_back(cursor - place);
+            self.take_back_to(place);
             Ok(())
         } else {
             self.redo(place - cursor)
         }
     }
 
-    /// An equal branch, in memory of its own. It copies one world, and the changes that lead back from it.
+    /// An equal branch, in memory of its own. It copies one world, and the tape that leads back from it.
     fn copy(&self) -> Result<Branch<A>, NoMemory>
         ensures same { IfOk result (λ copied. copied ≡ self.now) }
     {
         let alloc = *self.events.allocator();
         let events = Vec::from_slice(alloc, &self.events)?;
-        let changes = copy_changes(alloc, &self.changes)?;
+        let marks = Vec::from_slice(alloc, &self.marks)?;
+        let tape = copy_tape(alloc, &self.tape)?;
         let world = self.world.copy()?;
         Ok(Branch {
             name: self.name,
             world,
             events,
-            changes,
+            tape,
+            marks,
         })
     }
 

@@ -1,10 +1,9 @@
 //! Copies of what events changed.
 
-ghost use Rattle.std.specs.Prelude.{◌≡◌, map, IfOk};
-ghost use Rattle.pfl_timeline.specs.inner.Kept.{lists_of};
+ghost use Rattle.std.specs.Prelude.{◌≡◌, IfOk};
 
-use pfl_edits::{Change, InOrder, NoMemory};
-use pfl_world::{WorldChange, WorldEdit};
+use pfl_edits::{NoMemory, Tape};
+use pfl_world::{WorldEdit, WorldTape};
 use std::alloc::Allocator;
 
 /// An equal edit, in memory of its own.
@@ -18,32 +17,17 @@ fn copy_edit<A: Allocator + Copy>(edit: &WorldEdit<A>) -> Result<WorldEdit<A>, N
     }
 }
 
-/// A change of equal edits, in memory of its own.
-fn copy_change<A: Allocator + Copy>(
+/// A tape of equal edits, in memory of its own.
+pub fn copy_tape<A: Allocator + Copy>(
     alloc: A,
-    change: &WorldChange<A>,
-) -> Result<WorldChange<A>, NoMemory>
-    ensures same { IfOk result (λ copied. copied.list ≡ change.now.list) }
+    tape: &WorldTape<A>,
+) -> Result<WorldTape<A>, NoMemory>
+    ensures same { IfOk result (λ copied. copied.list ≡ tape.now.list) }
 {
-    let mut copied = Change::with_room(alloc, change.len())?;
-    let mut edits = change.edits();
+    let mut copied = Tape::with_room(alloc, tape.len())?;
+    let mut edits = tape.edits();
     while let Some(edit) = edits.next() {
         copied.push(copy_edit(edit)?);
-    }
-    Ok(copied)
-}
-
-/// Changes of equal edits, in memory of their own.
-pub fn copy_changes<A: Allocator + Copy>(
-    alloc: A,
-    changes: &[WorldChange<A>],
-) -> Result<Vec<WorldChange<A>, A>, NoMemory>
-    ensures same { IfOk result (λ copied. lists_of copied.items ≡ lists_of changes.now) }
-{
-    let mut copied = Vec::with_capacity(alloc, changes.len())?;
-    let mut rest = InOrder::of(changes);
-    while let Some(change) = rest.next() {
-        copied.push(copy_change(alloc, change)?).unwrap();
     }
     Ok(copied)
 }

@@ -58,22 +58,23 @@ impl KeyPair {
     pub fn of_packet(packet: &Packet, dir: Dir, nat: Option<End>) -> Option<KeyPair>
         ensures { let fields : KeyFields = record { wire = wire_of (flow_of packet.now dir) nat; stack = flow_of packet.now dir } in result ≡ (if fits_family (flow_of packet.now dir) nat then Some fields else None) }
     {
-        packet.known();
         let stack = key(packet, dir);
         let wire = wire_key(&stack, nat);
         KeyPair::of(wire, stack)
     }
 
-    /// Tells a proof what the keys of each state keep. It does nothing.
-    pub fn known(&self)
-        ensures { AreKeys self.now.wire self.now.stack }
+    /// The pair of two keys that are known to be a state's.
+    pub(crate) fn with(fields: KeyFields) -> KeyPair
+        requires { AreKeys fields.wire fields.stack }
+        ensures { result ≡ fields }
     {
-        let _fields = &self.fields;
+        KeyPair { fields }
     }
 
     /// The flow as it is on the wire.
     pub fn wire(&self) -> Key
-        ensures { result ≡ self.now.wire }
+        ensures wire { result ≡ self.now.wire }
+        ensures keys { AreKeys self.now.wire self.now.stack }
     {
         self.fields.wire
     }

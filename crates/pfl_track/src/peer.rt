@@ -1,6 +1,6 @@
 //! Ends of connections.
 
-ghost use Rattle.std.specs.Prelude.{◌≡◌, Some, None, if◌then◌else◌};
+ghost use Rattle.std.specs.Prelude.{◌≡◌, ◌≤◌, Some, None, IfSome, if◌then◌else◌};
 
 use pfl_base::MAX_SCALE;
 use std::marker::Model;
@@ -81,16 +81,10 @@ impl Peer {
         Peer { fields }
     }
 
-    /// Tells a proof what each end keeps. It does nothing.
-    pub fn known(&self)
-        ensures { IsPeer self.now }
-    {
-        let _fields = &self.fields;
-    }
-
     /// What the end was made from.
     pub fn fields(&self) -> PeerFields
-        ensures { result ≡ self.now }
+        ensures fields { result ≡ self.now }
+        ensures peer { IsPeer result }
     {
         let Peer { fields } = *self;
         fields
@@ -105,7 +99,8 @@ impl Peer {
 
     /// The shift of its windows, at most 14, where it offered one (RFC 7323).
     pub fn scale(&self) -> Option<u8>
-        ensures { result ≡ self.now.scale }
+        ensures scale { result ≡ self.now.scale }
+        ensures range { IfSome result (λ s. s ≤ 14) }
     {
         self.fields.scale
     }

@@ -1,6 +1,7 @@
 //! How states begin.
 
 ghost use Rattle.std.specs.Prelude.{◌≡◌};
+ghost use Rattle.pfl_track.specs.States.{IsState};
 ghost use Rattle.pfl_track.specs.Tracking as meant;
 
 use crate::key_pair::KeyPair;
@@ -21,20 +22,16 @@ pub fn start_state(
     no_sync: bool,
     now: Millis,
 ) -> State
-    ensures { result ≡ meant.start_state name keys.wire keys.stack direction packet.now rule no_sync now }
+    ensures state { result ≡ meant.start_state name keys.wire keys.stack direction packet.now rule no_sync now }
+    ensures known { IsState result }
 {
-    keys.known();
-    let src = first_peer(packet);
-    let dst = Peer::silent();
-    src.known();
-    dst.known();
     State::with(StateFields {
         name,
         wire: keys.wire(),
         stack: keys.stack(),
         direction,
-        src,
-        dst,
+        src: first_peer(packet),
+        dst: Peer::silent(),
         class: first_class(packet.proto()),
         last: now,
         rule,
@@ -49,7 +46,6 @@ pub fn start_state(
 fn first_peer(packet: &Packet) -> Peer
     ensures { result ≡ meant.first_peer packet.now }
 {
-    packet.known();
     match packet.proto() {
         Proto::Tcp => Peer::with(PeerFields {
             level: SYN_SENT,

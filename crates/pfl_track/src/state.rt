@@ -1,7 +1,8 @@
 //! States of flows.
 
-ghost use Rattle.std.specs.Prelude.{◌≡◌, Some, None, if◌then◌else◌};
+ghost use Rattle.std.specs.Prelude.{◌≡◌, Some, None, IfSome, if◌then◌else◌};
 
+use crate::key_pair::{KeyFields, KeyPair};
 use crate::keys::are_keys;
 use crate::peer::Peer;
 use pfl_base::{Class, Dir, Key, Millis, StateName};
@@ -66,10 +67,9 @@ impl State {
 
     /// The state with these fields; none where its keys are of two protocols, or their ends not all of one family.
     pub fn of(fields: StateFields) -> Option<State>
-        ensures { result ≡ (if may_be_keys fields.wire fields.stack then Some fields else None) }
+        ensures made { result ≡ (if may_be_keys fields.wire fields.stack then Some fields else None) }
+        ensures state { IfSome result IsState }
     {
-        fields.src.known();
-        fields.dst.known();
         if are_keys(&fields.wire, &fields.stack) {
             Some(State { fields })
         } else {
@@ -119,6 +119,15 @@ impl State {
         ensures { result ≡ self.now.stack }
     {
         self.fields.stack
+    }
+
+    /// The two keys.
+    pub fn keys(&self) -> KeyPair
+        ensures wire { result.wire ≡ self.now.wire }
+        ensures stack { result.stack ≡ self.now.stack }
+    {
+        let StateFields { wire, stack, .. } = self.fields;
+        KeyPair::with(KeyFields { wire, stack })
     }
 
     /// Which way its first packet went.
@@ -217,7 +226,8 @@ impl State {
 
     /// The state that the peer last changed at this time.
     pub fn with_peer_change(&self, peer_change: Option<Millis>) -> State
-        ensures { result ≡ record self.now { peer_change = peer_change } }
+        ensures changed { result ≡ record self.now { peer_change = peer_change } }
+        ensures state { IsState result }
     {
         State {
             fields: StateFields {
@@ -231,8 +241,6 @@ impl State {
     pub fn with_ends(&self, src: Peer, dst: Peer) -> State
         ensures { result ≡ record self.now { src = src; dst = dst } }
     {
-        src.known();
-        dst.known();
         State {
             fields: StateFields {
                 src,
@@ -244,7 +252,8 @@ impl State {
 
     /// The state with this class, last used at this time.
     pub fn refreshed(&self, class: Class, last: Millis) -> State
-        ensures { result ≡ record self.now { class = class; last = last } }
+        ensures refreshed { result ≡ record self.now { class = class; last = last } }
+        ensures state { IsState result }
     {
         State {
             fields: StateFields {

@@ -103,7 +103,6 @@ fn at_level(end: &Peer, level: u8) -> Peer
     requires { level ≤ 10 }
     ensures { result ≡ record end.now { level = level } }
 {
-    end.known();
     Peer::with(PeerFields {
         level,
         ..end.fields()

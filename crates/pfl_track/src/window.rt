@@ -37,7 +37,6 @@ fn at_scale(scaled: bool, end: &Peer, window: u32) -> u32
     requires { window < 2 ^ 17 }
     ensures { result ≡ meant.at_scale scaled end.now window }
 {
-    end.known();
     if scaled {
         window << end.scale().unwrap_or(0)
     } else {
@@ -49,7 +48,6 @@ fn at_scale(scaled: bool, end: &Peer, window: u32) -> u32
 pub(crate) fn begun(sender: &Peer, receiver: &Peer, packet: &Packet) -> Peer
     ensures { result ≡ meant.begun sender.now receiver.now packet.now }
 {
-    packet.known();
     if sender.level() == 0 {
         let scale = if packet.flags().contains(TcpFlags::SYN) {
             packet.scale()
@@ -107,7 +105,6 @@ pub(crate) fn is_inside(sender: &Peer, receiver: &Peer, packet: &Packet) -> bool
 pub(crate) fn sender_after(sender: &Peer, packet: &Packet) -> Peer
     ensures { result ≡ meant.sender_after sender.now packet.now }
 {
-    sender.known();
     let former = sender.fields();
     let end = end_of(packet);
     Peer::with(PeerFields {
@@ -126,7 +123,6 @@ pub(crate) fn sender_after(sender: &Peer, packet: &Packet) -> Peer
 pub(crate) fn receiver_after(sender: &Peer, receiver: &Peer, packet: &Packet) -> Peer
     ensures { result ≡ meant.receiver_after sender.now receiver.now packet.now }
 {
-    receiver.known();
     let former = receiver.fields();
     Peer::with(PeerFields {
         level: receiver_level(packet, former.level),

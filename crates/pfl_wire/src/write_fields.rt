@@ -7,7 +7,7 @@ ghost use Rattle.pfl_wire.specs.Spelling.{number_bytes, name_bytes, peer_bytes, 
 
 use byteorder::{BigEndian, ByteOrder};
 use pfl_base::{Addr, Class, Dir, End, Key, StateName};
-use pfl_track::{KeyPair, Peer};
+use pfl_track::{KeyPair, Peer, PeerFields};
 use std::alloc::{AllocError, Allocator};
 
 pub fn put_byte<A: Allocator>(out: &mut Vec<u8, A>, byte: u8) -> Result<(), AllocError>
@@ -78,12 +78,18 @@ pub fn put_peer<A: Allocator>(out: &mut Vec<u8, A>, peer: Peer) -> Result<(), Al
     ensures written { OnOk result (out.new.items ≡ out.old.items ++ peer_bytes peer) }
     ensures fits { OnOk result (FitsPeer peer) }
 {
-    peer.known();
-    put_byte(out, peer.level())?;
-    put_byte(out, peer.scale().unwrap_or(255))?;
-    put_u16(out, peer.window())?;
-    put_u32(out, peer.lo())?;
-    put_u32(out, peer.hi())
+    let PeerFields {
+        level,
+        scale,
+        window,
+        lo,
+        hi,
+    } = peer.fields();
+    put_byte(out, level)?;
+    put_byte(out, scale.unwrap_or(255))?;
+    put_u16(out, window)?;
+    put_u32(out, lo)?;
+    put_u32(out, hi)
 }
 
 /// An address, 16 bytes in either family.
@@ -127,7 +133,6 @@ pub fn put_keys<A: Allocator>(out: &mut Vec<u8, A>, keys: &KeyPair) -> Result<()
     ensures written { OnOk result (out.new.items ≡ out.old.items ++ keys_bytes keys.now) }
     ensures fits { OnOk result (FitsKeys keys.now) }
 {
-    keys.known();
     put_key(out, keys.wire())?;
     put_key(out, keys.stack())
 }

@@ -13,3 +13,4 @@ pub mod Restarted
 pub mod Ranges
 pub mod LimitFaults
 pub mod Little
+pub mod OnTapes

@@ -2,7 +2,7 @@
 
 use crate::restart_edit::RestartEdit;
 use pfl_base::NodeId;
-use pfl_edits::Change;
+use pfl_edits::{Change, Tape};
 use pfl_link::LinkEdit;
 use pfl_parts::NodeEdit;
 use std::alloc::Allocator;
@@ -20,3 +20,6 @@ pub enum WorldEdit<A: Allocator> {
 
 /// What an event changed, by which it can be taken back.
 pub type WorldChange<A> = Change<WorldEdit<A>, A>;
+
+/// What many events changed, one after another, by which the newest can be taken back.
+pub type WorldTape<A> = Tape<WorldEdit<A>, A>;

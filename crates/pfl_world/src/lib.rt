@@ -15,10 +15,11 @@ mod nodes;
 mod outcome;
 mod restart_edit;
 mod restarting;
+mod taping;
 mod undoing;
 mod world;
 
-pub use edit::{WorldChange, WorldEdit};
+pub use edit::{WorldChange, WorldEdit, WorldTape};
 pub use event::Event;
 pub use fault::WorldFault;
 pub use laws::new_worlds_are_worlds;

@@ -7,9 +7,6 @@ use pfl_timeline::{BranchWord, Command, Timeline};
 use pfl_world::Event;
 use std::alloc::{Allocator, Global};
 
-/// The bytes that the change of a tick takes.
-const A_TICK: usize = 704;
-
 /// What is seen of a timeline whose commands wanted memory.
 #[derive(Clone, Copy, PartialEq)]
 struct Seen {
@@ -107,38 +104,50 @@ fn over(
     shown(&timeline, wanting)
 }
 
-/// Room for the pair and for two ticks.
-const TWO_TICKS: usize = EDITS + 11264;
+/// Room for the pair and for four ticks: with the fifth the tape of the branch has to grow.
+const FOUR_TICKS: usize = EDITS + 17_408;
+
+/// Room for the pair and for a node more, and bytes that leave no room for that node.
+const ONE_NODE: usize = 2 * EDITS;
+
+const LESS_THAN_A_NODE: usize = 20_000;
 
 #[test]
 fn want_of_memory_changes_nothing(rt: HostRuntime) {
-    let ticks = [tick(), tick(), tick()];
-    let ticked = over(rt.alloc(), TWO_TICKS, &[], 0, &ticks);
-    assert!(rt; ticked == one_branch(1, 2, 2, 10));
-    let undone = over(rt.alloc(), TWO_TICKS, &ticks, 0, &[back(2)]);
-    assert!(rt; undone == one_branch(0, 2, 0, 0));
+    let ticks = [tick(), tick(), tick(), tick(), tick()];
+    let ticked = over(rt.alloc(), FOUR_TICKS, &[], 0, &ticks);
+    assert!(rt; ticked == one_branch(1, 4, 4, 20));
+    let undone = over(rt.alloc(), FOUR_TICKS, &ticks, 0, &[back(4)]);
+    assert!(rt; undone == one_branch(0, 4, 0, 0));
 }
 
 #[test]
 fn a_branch_wants_memory(rt: HostRuntime) {
     // Room for the pair, and not for a branch.
-    assert!(rt; over(rt.alloc(), EDITS + 2048, &[], 0, &[]) == None);
+    assert!(rt; over(rt.alloc(), EDITS + 5376, &[], 0, &[]) == None);
     // Room for an empty branch, and not for an event without edits, nor for a copy of the pair.
     let branch = BranchWord::main();
     let purge = step(Event::Purge { node: NodeId::A });
     let commands = [purge, Command::Show { branch }];
-    let seen = over(rt.alloc(), EDITS + 2560, &[], 0, &commands);
+    let seen = over(rt.alloc(), EDITS + 6144, &[], 0, &commands);
     assert!(rt; seen == one_branch(2, 0, 0, 0));
 }
 
 #[test]
 fn want_of_memory_in_the_middle_of_a_way_forward_leaves_the_branch(rt: HostRuntime) {
-    let undone = [tick(), tick(), back(2)];
-    // There is room for one of the two ticks.
-    let both = over(rt.alloc(), TWO_TICKS, &undone, A_TICK, &[forward(2)]);
+    let restart = step(Event::Restart { node: NodeId::A });
+    let undone = [tick(), restart, back(2)];
+    // There is room for the tick, and none for the node that begins anew.
+    let both = over(
+        rt.alloc(),
+        ONE_NODE,
+        &undone,
+        LESS_THAN_A_NODE,
+        &[forward(2)],
+    );
     assert!(rt; both == one_branch(1, 2, 0, 0));
     let commands = [forward(2), forward(1)];
-    let one = over(rt.alloc(), TWO_TICKS, &undone, A_TICK, &commands);
+    let one = over(rt.alloc(), ONE_NODE, &undone, LESS_THAN_A_NODE, &commands);
     assert!(rt; one == one_branch(1, 2, 1, 5));
 }
 
@@ -155,6 +164,6 @@ fn fork() -> Option<Command> {
 #[test]
 fn want_of_memory_makes_no_branch(rt: HostRuntime) {
     let fork = fork().unwrap_or(tick());
-    let seen = over(rt.alloc(), TWO_TICKS, &[tick()], 0, &[fork]);
+    let seen = over(rt.alloc(), FOUR_TICKS, &[tick()], 0, &[fork]);
     assert!(rt; seen == one_branch(1, 1, 1, 5));
 }

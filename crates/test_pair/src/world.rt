@@ -103,8 +103,8 @@ fn want_of_memory_makes_no_pair(rt: HostRuntime) {
 fn want_of_memory_changes_nothing(rt: HostRuntime) {
     let refused = Ok((Err(Refusal::NoMemory), Some(NoMemory), 0));
     // Room for the pair alone, then for a node's edit too, then for the pair's edit too.
-    assert!(rt; over(rt.alloc(), EDITS + 2048) == refused);
-    assert!(rt; over(rt.alloc(), EDITS + 4096) == refused);
+    assert!(rt; over(rt.alloc(), EDITS + 4608) == refused);
+    assert!(rt; over(rt.alloc(), EDITS + 6656) == refused);
     let told = Ok((Ok(Outcome::Clock(5)), Some(NoMemory), 5));
-    assert!(rt; over(rt.alloc(), EDITS + 8192) == told);
+    assert!(rt; over(rt.alloc(), EDITS + 10752) == told);
 }

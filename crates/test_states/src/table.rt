@@ -3,7 +3,7 @@ ghost use Rattle.std.specs.Prelude.{◌≡◌, OnOk};
 
 use linked_list_allocator::LocalHeap;
 use pfl_base::{Addr, Class, Dir, End, Key, Proto, StateName};
-use pfl_edits::{NoMemory, Reversible};
+use pfl_edits::Reversible;
 use pfl_table::{PutFault, Row, StateTable};
 use pfl_track::{Peer, State, StateFields};
 use std::alloc::{Allocator, Global};
@@ -53,17 +53,30 @@ fn id_of(row: Option<&Row>) -> Option<u64> {
     Some(row?.state.name().id)
 }
 
-/// A table of three states: the first has other keys on the wire, and the second and third expire at one time.
-fn three(alloc: Global) -> Option<StateTable<Global>> {
-    let mut table = StateTable::new(alloc, 3).ok()?;
+/// Puts three states: the first has other keys on the wire, and the second and third expire at one time.
+fn put_three<A: Allocator>(table: &mut StateTable<A>) -> Option<()> {
     table.put(state(3, 1003, 1003, 1)?, 100).ok()?;
     table.put(state(1, 4001, 1001, 0)?, 200).ok()?;
     table.put(state(2, 1002, 1002, 0)?, 100).ok()?;
-    Some(table)
+    Some(())
+}
+
+/// A table of three states. (It is dropped in one place, since each drop of a table takes long to prove.)
+fn three(alloc: Global) -> Option<StateTable<Global>> {
+    let mut table = StateTable::new(alloc, 3).ok()?;
+    match put_three(&mut table) {
+        Some(()) => Some(table),
+        None => None,
+    }
 }
 
 /// Why a state of this id and of these ports is not put.
-fn fault(table: &mut StateTable<Global>, id: u64, wire: u16, stack: u16) -> Option<PutFault> {
+fn fault<A: Allocator>(
+    table: &mut StateTable<A>,
+    id: u64,
+    wire: u16,
+    stack: u16,
+) -> Option<PutFault> {
     let state = state(id, wire, stack, 0)?;
     table.put(state, 60).err()
 }
@@ -110,6 +123,10 @@ fn walks_by_rising_name(rt: HostRuntime) -> Result<(), Fail> {
     let table = three(rt.alloc()).ok_or("no table")?;
     for (below, wanted) in [(0, Some(1)), (1, Some(2)), (2, Some(3)), (3, None)] {
         assert!(rt; id_of(table.after(name(below))) == wanted);
+    }
+    let mut rows = table.iter();
+    for wanted in [Some(1), Some(2), Some(3), None] {
+        assert!(rt; id_of(rows.next()) == wanted);
     }
     Ok(())
 }
@@ -174,8 +191,8 @@ fn expiry(table: &StateTable<Global>, id: u64) -> Option<u64> {
 
 #[test]
 fn takes_edits_back(rt: HostRuntime) -> Result<(), Fail> {
-    let mut table = three(rt.alloc()).ok_or("no table")?;
     let fourth = state(4, 1004, 1004, 0).ok_or("no state")?;
+    let mut table = three(rt.alloc()).ok_or("no table")?;
     assert!(rt; take_and_undo(&mut table, name(2)).is_some());
     assert!(rt; change_and_undo(&mut table, name(2), 7).is_some());
     assert!(rt; expiry(&table, 2) == Some(100));
@@ -191,25 +208,32 @@ fn wants_memory(rt: HostRuntime) {
     assert!(rt; StateTable::new(rt.alloc(), usize::MAX).is_err());
 }
 
-/// A table of one state, with room for two.
-fn one<A: Allocator>(alloc: A) -> Option<StateTable<A>> {
-    let mut table = StateTable::new(alloc, 2).ok()?;
+/// How many tables of a state there are once one is copied: one where there is no memory for the copy, and it keeps its state.
+fn copied<A: Allocator + Copy>(table: &mut StateTable<A>) -> Option<u32> {
     table.put(state(1, 1000, 1000, 0)?, 60).ok()?;
-    Some(table)
+    let tables = if table.copy().is_ok() { 2 } else { 1 };
+    table.by_name(name(1))?;
+    Some(tables)
 }
 
-/// Why there is no copy over a heap of so many bytes, and how many states the table has then.
-fn uncopied(alloc: Global, bytes: usize) -> Option<(Option<NoMemory>, usize)> {
+/// How many tables of a state fit a heap of so many bytes, of one and its copy.
+fn tables(alloc: Global, bytes: usize) -> Option<u32> {
     let heap = LocalHeap::new(alloc, bytes).ok()?;
-    let table = one(&heap)?;
-    let fault = table.copy().err();
-    Some((fault, table.len()))
+    match StateTable::new(&heap, 2) {
+        Ok(mut table) => copied(&mut table),
+        Err(_) => Some(0),
+    }
 }
 
 #[test]
-fn a_copy_without_memory_changes_nothing(rt: HostRuntime) {
-    // Room for one list of two rows.
-    assert!(rt; uncopied(rt.alloc(), 1024) == Some((Some(NoMemory), 1)));
+fn each_part_wants_memory(rt: HostRuntime) {
+    let mut before = 0;
+    for step in 8..512 {
+        let fit = tables(rt.alloc(), step * 16).unwrap_or(3);
+        assert!(rt; before <= fit);
+        before = fit;
+    }
+    assert!(rt; before == 2);
 }
 
 /// The fault prints so.

@@ -14,7 +14,7 @@ use pfl_base::StateName;
 use pfl_edits::NoMemory;
 use pfl_parts::Parts;
 use pfl_queue::{Entry, Kind};
-use pfl_track::{KeyPair, State};
+use pfl_track::State;
 use pfl_wire::{Action, Frame, Message, StateRecord, UpdateRecord, encode};
 use std::alloc::{AllocError, Allocator};
 
@@ -24,11 +24,11 @@ pub(crate) fn bytes_of<A: Allocator + Copy>(
     alloc: A,
     entries: &[Entry],
 ) -> Result<Vec<u8, A>, NoMemory>
+    requires parts { AreParts parts.now }
     requires told { AllByRecursion (sending.IsTold parts.now) entries.now }
     requires short { entry_bytes entries.now < 2 ^ 16 }
     ensures bytes { IfOk result (λ v. v.items ≡ spelling (sending.frame_with parts.now entries.now)) }
 {
-    parts.known();
     let groups = groups_of(parts, alloc, entries)?;
     let frame = Frame::new(parts.rules().print(), groups);
     encode(alloc, &frame)
@@ -91,7 +91,6 @@ fn told_of<A: Allocator>(parts: &Parts<A>, kind: Kind, name: StateName) -> Messa
     requires told { sending.HasState parts.now kind name }
     ensures message { flushing.told parts.now kind name ≡ result ∷ [] }
 {
-    parts.known();
     match kind {
         Kind::Insert => Message::Insert(state_record(parts, standing(parts, name))),
         Kind::InsertAck => Message::InsertAck(name),
@@ -105,6 +104,7 @@ fn told_of<A: Allocator>(parts: &Parts<A>, kind: Kind, name: StateName) -> Messa
 fn standing<A: Allocator>(parts: &Parts<A>, name: StateName) -> &State
     requires stands { IsSome (maps.get parts.now.states name) }
     ensures state { maps.get parts.now.states name ≡ Some result.now }
+    ensures parts { AreParts parts.now }
 {
     match parts.states().by_name(name) {
         Some(state) => state,
@@ -119,7 +119,7 @@ fn state_record<A: Allocator>(parts: &Parts<A>, state: &State) -> StateRecord
 {
     StateRecord {
         name: state.name(),
-        keys: keys_of(state),
+        keys: state.keys(),
         direction: state.direction(),
         ack_wanted: state.ack_wanted(),
         src: state.src(),
@@ -149,22 +149,10 @@ fn remaining<A: Allocator>(parts: &Parts<A>, state: &State) -> u32
     requires past { IsPast parts.now state.now.last }
     ensures seconds { result ≡ flushing.remaining parts.now state.now }
 {
-    parts.known();
+    let now = parts.clock();
     let timeout = parts.rules().timeout(state.rule(), state.class());
-    let left = state.expiry(timeout).saturating_sub(parts.clock());
+    let left = state.expiry(timeout).saturating_sub(now);
     (left / 1000) as u32
-}
-
-/// The keys of a state.
-fn keys_of(state: &State) -> KeyPair
-    ensures wire { result.wire ≡ state.now.wire }
-    ensures stack { result.stack ≡ state.now.stack }
-{
-    state.known();
-    match KeyPair::of(state.wire(), state.stack()) {
-        Some(keys) => keys,
-        None => unreachable!(),
-    }
 }
 
 /// How many of the entries in front are told by the action.

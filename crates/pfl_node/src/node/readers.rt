@@ -1,9 +1,9 @@
 //! What is read of a node.
 
-ghost use Rattle.std.specs.Prelude.{◌≡◌, Some};
+ghost use Rattle.std.specs.Prelude.{◌≡◌, ◌≤◌, Some};
 ghost use Rattle.pfl_base.specs.declared.state_name.StateName.{StateName};
 ghost use Rattle.pfl_edits.specs.Maps as maps;
-ghost use Rattle.pfl_parts.specs.Nodes.{expiry_at};
+ghost use Rattle.pfl_parts.specs.Nodes.{expiry_at, last_millisecond};
 ghost use Rattle.pfl_table.specs.Tables.{states_of};
 ghost use Rattle.pfl_table.specs.declared.row.Row.{Row};
 
@@ -72,6 +72,7 @@ impl<A: Allocator> Node<A> {
     /// Its clock, in milliseconds.
     pub fn clock(&self) -> Millis
         ensures clock { result ≡ self.now.clock }
+        ensures within { result ≤ last_millisecond }
     {
         self.parts.clock()
     }

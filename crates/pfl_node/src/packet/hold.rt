@@ -5,7 +5,7 @@ ghost use Rattle.pfl_defer.specs.Deferring as deferring;
 ghost use Rattle.pfl_edits.specs.Maps as maps;
 ghost use Rattle.pfl_parts.specs.Edits.{NodeExtends, total};
 ghost use Rattle.pfl_parts.specs.inner.Kept.{MayReplace};
-ghost use Rattle.pfl_parts.specs.Nodes.{Node as Whole};
+ghost use Rattle.pfl_parts.specs.Nodes.{Node as Whole, AreParts};
 ghost use Rattle.pfl_node.specs.Starting as starting;
 ghost use Rattle.pfl_queue.specs.Queues.{most_numbers};
 
@@ -35,12 +35,12 @@ pub(crate) fn hold_back<A: Allocator>(
 ) -> Fate
     requires room { 6 ≤ change.old.spare }
     requires countable { total parts.old + change.old.spare ≤ most_numbers }
+    requires parts { AreParts parts.old }
     requires stands { maps.get parts.old.states state.name ≡ Some state }
     requires fresh { deferring.held_of parts.old.held state.name ≡ None }
     ensures step { record { fate = result; node = parts.new } ≡ starting.hold (starting.with_room parts.old) state packet.now }
     ensures extends { NodeExtends 6 change.old change.new parts.old parts.new }
 {
-    parts.known();
     let waiting = state.with_ack_wanted(true);
     make_room(parts, change);
     hold(parts, waiting, packet, change)
@@ -76,7 +76,6 @@ fn hold<A: Allocator>(
 {
     let name = waiting.name();
     parts.keep(name, packet, change);
-    parts.known();
     parts.replace_state(waiting, change);
     parts.push_if(true, change);
     Fate::Held(name)

@@ -11,7 +11,7 @@ ghost use Rattle.pfl_node.specs.Starting.{pass, drop as dropped};
 ghost use Rattle.pfl_node.specs.Starting as starting;
 ghost use Rattle.pfl_queue.specs.Queues.{most_numbers};
 ghost use Rattle.pfl_table.specs.Tables.{key_in_use as is_in_use};
-ghost use Rattle.pfl_track.specs.Keys.{fits_family};
+ghost use Rattle.pfl_track.specs.Keys.{AreKeys, fits_family};
 
 use crate::fate::{Fate, Reason};
 use crate::packet::hold::{hold_back, is_deferred};
@@ -73,7 +73,6 @@ fn start<A: Allocator>(
     let Some(keys) = KeyPair::of_packet(packet, dir, rule.nat) else {
         unreachable!();
     };
-    keys.known();
     if key_in_use(parts, &keys) {
         return Ok(drop_packet(parts, Reason::Key, change));
     }
@@ -103,6 +102,7 @@ fn is_at_max<A: Allocator>(parts: &Parts<A>, number: u16, rule: &Rule) -> bool
 /// A state has one of the two keys.
 fn key_in_use<A: Allocator>(parts: &Parts<A>, keys: &KeyPair) -> bool
     ensures used { result ≡ is_in_use parts.now.states keys.now.wire keys.now.stack }
+    ensures keys { AreKeys keys.now.wire keys.now.stack }
 {
     parts.states().by_wire(&keys.wire()).is_some()
         || parts.states().by_stack(&keys.stack()).is_some()
@@ -128,10 +128,10 @@ fn announce<A: Allocator>(
 ) -> Result<Fate, Overfull>
     requires room { 9 ≤ change.old.spare }
     requires countable { total parts.old + change.old.spare ≤ most_numbers }
+    requires parts { AreParts parts.old }
     requires known { MayStart parts.old state }
     ensures done { Tried 9 result change.old change.new parts.old parts.new (starting.announced (starting.with_new parts.old state) state dir packet.now) }
 {
-    parts.known();
     let name = state.name();
     put_new(parts, state, change);
     if state.no_sync() {

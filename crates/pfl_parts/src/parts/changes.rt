@@ -6,7 +6,7 @@ ghost use Rattle.pfl_edits.specs.Maps as maps;
 ghost use Rattle.pfl_parts.specs.Changes as to;
 ghost use Rattle.pfl_parts.specs.Edits.{NodeExtends, total};
 ghost use Rattle.pfl_parts.specs.inner.Kept.{MayReplace};
-ghost use Rattle.pfl_parts.specs.Nodes.{Node as Whole, is_overfull};
+ghost use Rattle.pfl_parts.specs.Nodes.{Node as Whole, AreParts, is_overfull};
 ghost use Rattle.pfl_queue.specs.Queues.{most_numbers, kind_of};
 ghost use Rattle.pfl_parts.specs.Weights.{freed_edits, released_edits, changed_edits, taken_out_edits, forgotten_edits, deleted_edits};
 
@@ -50,7 +50,6 @@ impl<A: Allocator> Parts<A> {
         ensures node { self.new ≡ to.not_waiting self.old name }
         ensures extends { NodeExtends 1 change.old change.new self.old self.new }
     {
-        self.known();
         let Some(state) = self.table.by_name(name).copied() else {
             return;
         };
@@ -81,7 +80,6 @@ impl<A: Allocator> Parts<A> {
         ensures node { OnOk result (self.new ≡ to.changed self.old state) }
         ensures extends { NodeExtends changed_edits change.old change.new self.old self.new }
     {
-        self.known();
         let recent = self.is_recent(&state);
         if state.no_sync() {
             self.replace_state(state, change);
@@ -102,7 +100,6 @@ impl<A: Allocator> Parts<A> {
         ensures node { OnOk result (self.new ≡ to.told self.old state) }
         ensures extends { NodeExtends 2 change.old change.new self.old self.new }
     {
-        self.known();
         let name = state.name();
         if self.is_untold(name) {
             self.replace_state(state.with_updates(0), change);
@@ -119,7 +116,6 @@ impl<A: Allocator> Parts<A> {
         ensures node { self.new ≡ to.counted self.old state }
         ensures extends { NodeExtends 2 change.old change.new self.old self.new }
     {
-        self.known();
         match state.wire().proto {
             Proto::Tcp => {
                 let updates = state.updates().saturating_add(1);
@@ -164,7 +160,6 @@ impl<A: Allocator> Parts<A> {
         ensures node { OnOk result (self.new ≡ to.deleted self.old state.now) }
         ensures extends { NodeExtends deleted_edits change.old change.new self.old self.new }
     {
-        self.known();
         self.lose(state.name(), change);
         self.tell_deletion(state, change)
     }
@@ -182,7 +177,6 @@ impl<A: Allocator> Parts<A> {
         ensures node { OnOk result (self.new ≡ to.deletion_told (to.without_state self.old state.now.name) state.now) }
         ensures extends { NodeExtends 3 change.old change.new self.old self.new }
     {
-        self.known();
         let name = state.name();
         let told = self.is_deletion_told(state);
         self.take_out(name, change);
@@ -198,7 +192,6 @@ impl<A: Allocator> Parts<A> {
         ensures node { self.new ≡ to.unmark (to.without_state self.old name) name }
         ensures extends { NodeExtends taken_out_edits change.old change.new self.old self.new }
     {
-        self.known();
         self.unmark(name, change);
         self.take_state(name, change);
     }
@@ -217,6 +210,7 @@ impl<A: Allocator> Parts<A> {
     /// The peer is told of the deletion of the state.
     fn is_deletion_told(&self, state: &State) -> bool
         ensures told { result ≡ (not (to.is_insert (kind_of self.now.queue state.now.name)) && not state.now.no_sync) }
+        ensures parts { AreParts self.now }
     {
         !is_insert(self.queue.kind_of(state.name())) && !state.no_sync()
     }

@@ -30,7 +30,6 @@ impl<A: Allocator> Parts<A> {
         ensures node { self.new ≡ to.put_state self.old state }
         ensures extends { NodeExtends 1 change.old change.new self.old self.new }
     {
-        self.known();
         let expires = self.expiry(&state);
         let Ok(edit) = self.table.put(state, expires) else {
             unreachable!();
@@ -45,7 +44,6 @@ impl<A: Allocator> Parts<A> {
         ensures node { self.new ≡ to.put_state self.old state }
         ensures extends { NodeExtends 1 change.old change.new self.old self.new }
     {
-        self.known();
         let expires = self.expiry(&state);
         let Some(edit) = self.table.change(state, expires) else {
             unreachable!();
@@ -60,7 +58,6 @@ impl<A: Allocator> Parts<A> {
         ensures node { self.new ≡ to.without_state self.old name }
         ensures extends { NodeExtends 1 change.old change.new self.old self.new }
     {
-        self.known();
         let Some((_, edit)) = self.table.take(name) else {
             return;
         };
@@ -107,6 +104,7 @@ impl<A: Allocator> Parts<A> {
         requires may { MayMark self.old name kind }
         ensures full { OnErr result (is_overfull (to.mark self.old name kind) ≡ true) }
         ensures node { OnOk result (self.new ≡ to.mark self.old name kind) }
+        ensures parts { OnOk result (AreParts self.new) }
         ensures extends { NodeExtends 1 change.old change.new self.old self.new }
     {
         match self.queue.mark_on(name, kind) {
@@ -120,6 +118,7 @@ impl<A: Allocator> Parts<A> {
     pub fn unmark(&mut self, name: StateName, change: &mut Change<NodeEdit, A>)
         requires room { 0 < change.old.spare }
         ensures node { self.new ≡ to.unmark self.old name }
+        ensures parts { AreParts self.new }
         ensures extends { NodeExtends 1 change.old change.new self.old self.new }
     {
         let Some(edit) = self.queue.unmark(name) else {
@@ -238,6 +237,7 @@ impl<A: Allocator> Parts<A> {
         requires room { 0 < change.old.spare }
         requires past { AskedAt self.old client }
         ensures node { self.new ≡ record self.old { client = client } }
+        ensures parts { AreParts self.new }
         ensures extends { NodeExtends 1 change.old change.new self.old self.new }
     {
         let before = self.client;

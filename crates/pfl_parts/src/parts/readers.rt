@@ -1,9 +1,9 @@
 //! What is read of the parts of a node.
 
-ghost use Rattle.std.specs.Prelude.{◌≡◌, Some};
+ghost use Rattle.std.specs.Prelude.{◌≡◌, ◌≤◌, Some};
 ghost use Rattle.pfl_base.specs.declared.state_name.StateName.{StateName};
 ghost use Rattle.pfl_edits.specs.Maps as maps;
-ghost use Rattle.pfl_parts.specs.Nodes.{expiry_at};
+ghost use Rattle.pfl_parts.specs.Nodes.{AreParts, expiry_at, last_millisecond};
 ghost use Rattle.pfl_table.specs.Tables.{states_of};
 ghost use Rattle.pfl_table.specs.declared.row.Row.{Row};
 
@@ -35,6 +35,7 @@ impl<A: Allocator> Parts<A> {
 
     /// Its states, each with the time at which it expires, in milliseconds.
     pub fn states(&self) -> &StateTable<A>
+        ensures parts { AreParts self.now }
         ensures states { states_of result.now ≡ self.now.states }
         ensures limit { result.now.limit ≡ self.now.limits.states }
         ensures expires { (name : StateName) (row : Row) → maps.get result.now.rows name ≡ Some row → row.expires ≡ expiry_at self.now row.state }
@@ -51,6 +52,7 @@ impl<A: Allocator> Parts<A> {
 
     /// The packets that it holds until its peer knows of their states.
     pub fn held(&self) -> &Deferrals<A>
+        ensures parts { AreParts self.now }
         ensures held { result.now ≡ self.now.held }
     {
         &self.held
@@ -73,6 +75,7 @@ impl<A: Allocator> Parts<A> {
     /// Its clock, in milliseconds.
     pub fn clock(&self) -> Millis
         ensures clock { result ≡ self.now.clock }
+        ensures within { result ≤ last_millisecond }
     {
         self.clock
     }

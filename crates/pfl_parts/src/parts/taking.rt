@@ -5,7 +5,7 @@ ghost use Rattle.std.specs.Prelude.{◌≡◌, ◌≤◌, ◌<◌, ◌+◌, ◌+
 ghost use Rattle.pfl_edits.specs.Maps as maps;
 ghost use Rattle.pfl_parts.specs.Changes as to;
 ghost use Rattle.pfl_parts.specs.Edits.{NodeExtends};
-ghost use Rattle.pfl_parts.specs.Nodes.{Node as Whole};
+ghost use Rattle.pfl_parts.specs.Nodes.{Node as Whole, AreParts};
 ghost use Rattle.pfl_parts.specs.inner.Taking.{of_queue, taken_from};
 ghost use Rattle.pfl_queue.specs.Taking.{next_frame};
 
@@ -25,6 +25,7 @@ impl<A: Allocator + Copy> Parts<A> {
         requires room { length (next_frame self.old.queue self.old.limits.mtu) ≤ change.old.spare }
         ensures entries { IfOk result (λ es. es.items ≡ next_frame self.old.queue self.old.limits.mtu) }
         ensures node { OnOk result (self.new ≡ taken_from self.old) }
+        ensures parts { OnOk result (AreParts self.new) }
         ensures extends { NodeExtends (length (next_frame self.old.queue self.old.limits.mtu)) change.old change.new self.old self.new }
     {
         let mtu = self.limits.mtu;
@@ -41,7 +42,6 @@ impl<A: Allocator> Parts<A> {
         ensures node { self.new ≡ option_map_or (λ s. to.put_state self.old (record s { updates = 0 })) (maps.get self.old.states name) self.old }
         ensures extends { NodeExtends 1 change.old change.new self.old self.new }
     {
-        self.known();
         let Some(state) = self.table.by_name(name).copied() else {
             return;
         };

@@ -6,10 +6,6 @@ use Rattle.pfl_queue.specs.declared.Mark.{Mark}
 use Rattle.pfl_queue.specs.Queues.{Queue}
 use Rattle.pfl_queue.specs.Taking.{clear_of, entry_of}
 
--- requests, statuses and clears, as they were listed
-abbrev pub lists_in_turn : Queue → List Entry
-lists_in_turn q = map Request q.requests ++ (map Status q.statuses ++ map clear_of q.clears)
-
 -- the first of these marks, and of the requests, statuses and clears: at most n of each
 abbrev pub first_of_each : ℕ → List Mark → Queue → List Entry
 first_of_each n ms q = map entry_of (take n ms) ++ map Request (take n q.requests) ++ map Status (take n q.statuses) ++ map clear_of (take n q.clears)

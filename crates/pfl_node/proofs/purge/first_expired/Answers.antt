@@ -17,7 +17,7 @@ returns-in_err-row g c =
     let by : ExpireBy (expires_by n.rules) c.states.result.now = record { each = c.states.ensures.expires } in
     let first = first-row (expires_by n.rules) n.clock c.states.result.now by ∙ ap (option_and_then (λ (r : Row). if nat_le r.expires n.clock then Some r.state else None)) (sym c.in_err-row.ensures.row) in
     let whole = ap (λ (states : States). slice_get (expired_states (record n { states = states })) 0) c.states.ensures.states in
-    record { first = c.from_residual.ensures ∙ (sym first ∙ whole) }
+    record { first = c.from_residual.ensures ∙ (sym first ∙ whole); parts = c.states.ensures.parts }
 
 pub returns-then-row-clock : goal.returns-then-row-clock
 returns-then-row-clock g c =
@@ -26,7 +26,7 @@ returns-then-row-clock g c =
     let first = first-row (expires_by n.rules) n.clock c.states.result.now by ∙ ap (option_and_then (λ (r : Row). if nat_le r.expires n.clock then Some r.state else None)) (sym c.in_ok-row.ensures.row) in
     let whole = ap (λ (states : States). slice_get (expired_states (record n { states = states })) 0) c.states.ensures.states in
     let due : nat_le c.in_ok-row.row.now.expires n.clock ≡ true = grind (arith, nat_tests, c.clock.ensures.clock, c.if-row-clock.true) in
-    record { first = sym (first ∙ ap (λ b. if b then Some c.in_ok-row.row.now.state else None) due) ∙ whole }
+    record { first = sym (first ∙ ap (λ b. if b then Some c.in_ok-row.row.now.state else None) due) ∙ whole; parts = c.states.ensures.parts }
 
 pub returns-else-row-clock : goal.returns-else-row-clock
 returns-else-row-clock g c =
@@ -35,4 +35,4 @@ returns-else-row-clock g c =
     let first = first-row (expires_by n.rules) n.clock c.states.result.now by ∙ ap (option_and_then (λ (r : Row). if nat_le r.expires n.clock then Some r.state else None)) (sym c.in_ok-row.ensures.row) in
     let whole = ap (λ (states : States). slice_get (expired_states (record n { states = states })) 0) c.states.ensures.states in
     let late : nat_le c.in_ok-row.row.now.expires n.clock ≡ false = grind (arith, nat_tests, c.clock.ensures.clock, c.if-row-clock.false) in
-    record { first = sym (first ∙ ap (λ b. if b then Some c.in_ok-row.row.now.state else None) late) ∙ whole }
+    record { first = sym (first ∙ ap (λ b. if b then Some c.in_ok-row.row.now.state else None) late) ∙ whole; parts = c.states.ensures.parts }

@@ -10,7 +10,7 @@ pub delete-requires : goal.delete-requires
 delete-requires g c =
     let so = c.loop-state.invariant in
     let first = sym c.first_expired.ensures.first ∙ c.in-Some.is in
-    let next = next-is _ _ _ _ _ _ c.in-Some.state c.known.ensures.parts so first in
+    let next = next-is _ _ _ _ _ _ c.in-Some.state c.first_expired.ensures.parts so first in
     let counted = so.extends.counted in
     record { room = next.room; countable = omega (arith, counted, c.requires.countable); stands = next.stands }
 
@@ -19,21 +19,21 @@ returns-in_err-delete-clause-went g c =
     let p = err_from_is_err_and c.from_residual.result c.from_residual.ensures.1 in
     let so = c.loop-state.invariant in
     let first = sym c.first_expired.ensures.first ∙ c.in-Some.is in
-    let next = next-is _ _ _ _ _ _ c.in-Some.state c.known.ensures.parts so first in
+    let next = next-is _ _ _ _ _ _ c.in-Some.state c.first_expired.ensures.parts so first in
     rw p.1 (purged-full _ _ _ _ _ _ so c.in-Some.state next c.in_err-delete.ensures.full)
 
 pub returns-in_err-delete-clause-extends : goal.returns-in_err-delete-clause-extends
 returns-in_err-delete-clause-extends g c =
     let so = c.loop-state.invariant in
     let first = sym c.first_expired.ensures.first ∙ c.in-Some.is in
-    let next = next-is _ _ _ _ _ _ c.in-Some.state c.known.ensures.parts so first in
+    let next = next-is _ _ _ _ _ _ c.in-Some.state c.first_expired.ensures.parts so first in
     purged-stops _ _ _ _ _ _ so c.in-Some.state next _ _ c.delete.ensures.extends
 
 pub overflow_add-count : goal.overflow_add-count
 overflow_add-count g c =
     let so = c.loop-state.invariant in
     let first = sym c.first_expired.ensures.first ∙ c.in-Some.is in
-    let next = next-is _ _ _ _ _ _ c.in-Some.state c.known.ensures.parts so first in
+    let next = next-is _ _ _ _ _ _ c.in-Some.state c.first_expired.ensures.parts so first in
     let few = counted-few _ _ _ _ _ _ so c.in-Some.state next in
     omega (arith, few)
 
@@ -41,14 +41,14 @@ pub loop-state-preserved : goal.loop-state-preserved
 loop-state-preserved g c =
     let so = c.loop-state.invariant in
     let first = sym c.first_expired.ensures.first ∙ c.in-Some.is in
-    let next = next-is _ _ _ _ _ _ c.in-Some.state c.known.ensures.parts so first in
+    let next = next-is _ _ _ _ _ _ c.in-Some.state c.first_expired.ensures.parts so first in
     rw c.any-overcounted.ensures (purged-more _ _ _ _ _ _ so c.in-Some.state next _ _ _ c.in_ok-delete.ensures.node c.delete.ensures.extends c.is_overcounted.ensures.room c.is_overcounted.ensures.counted)
 
 pub loop-state-smaller : goal.loop-state-smaller
 loop-state-smaller g c =
     let so = c.loop-state.invariant in
     let first = sym c.first_expired.ensures.first ∙ c.in-Some.is in
-    let next = next-is _ _ _ _ _ _ c.in-Some.state c.known.ensures.parts so first in
+    let next = next-is _ _ _ _ _ _ c.in-Some.state c.first_expired.ensures.parts so first in
     rw c.in_ok-delete.ensures.node (fewer _ _ _ _ _ _ so c.in-Some.state next)
 
 pub returns : goal.returns

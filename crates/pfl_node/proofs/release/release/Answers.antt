@@ -9,7 +9,7 @@ pub release-requires : goal.release-requires
 release-requires g c =
     let so = c.loop-name.invariant in
     let first = sym c.first_due.ensures.first ∙ c.in-Some.is in
-    let next = next-due _ _ _ _ _ c.in-Some.name c.known.ensures.parts so first in
+    let next = next-due _ _ _ _ _ c.in-Some.name c.first_due.ensures.parts so first in
     let counted = so.extends.counted in
     record { room = next.room; countable = omega (arith, counted, c.requires.countable) }
 
@@ -17,7 +17,7 @@ pub overflow_add-count : goal.overflow_add-count
 overflow_add-count g c =
     let so = c.loop-name.invariant in
     let first = sym c.first_due.ensures.first ∙ c.in-Some.is in
-    let next = next-due _ _ _ _ _ c.in-Some.name c.known.ensures.parts so first in
+    let next = next-due _ _ _ _ _ c.in-Some.name c.first_due.ensures.parts so first in
     let few = counted-few _ _ _ _ _ so c.in-Some.name next in
     omega (arith, few)
 
@@ -25,14 +25,14 @@ pub loop-name-preserved : goal.loop-name-preserved
 loop-name-preserved g c =
     let so = c.loop-name.invariant in
     let first = sym c.first_due.ensures.first ∙ c.in-Some.is in
-    let next = next-due _ _ _ _ _ c.in-Some.name c.known.ensures.parts so first in
+    let next = next-due _ _ _ _ _ c.in-Some.name c.first_due.ensures.parts so first in
     released-more _ _ _ _ _ so c.in-Some.name next _ _ c.release.ensures.node c.release.ensures.extends
 
 pub loop-name-smaller : goal.loop-name-smaller
 loop-name-smaller g c =
     let so = c.loop-name.invariant in
     let first = sym c.first_due.ensures.first ∙ c.in-Some.is in
-    let next = next-due _ _ _ _ _ c.in-Some.name c.known.ensures.parts so first in
+    let next = next-due _ _ _ _ _ c.in-Some.name c.first_due.ensures.parts so first in
     rw c.release.ensures.node (fewer-due _ _ _ _ _ so c.in-Some.name next)
 
 pub returns : goal.returns

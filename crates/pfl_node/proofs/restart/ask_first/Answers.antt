@@ -32,4 +32,5 @@ pub returns : goal.returns
 returns g c =
     record {
       node = rw (c.set_client.ensures.node, c.first_asked.ensures.client, c.in-Ok.ensures.node, c.set_clock.ensures.node) refl;
+      parts = c.set_client.ensures.parts;
     }

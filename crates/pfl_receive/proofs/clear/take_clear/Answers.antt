@@ -3,7 +3,7 @@ use Rattle.pfl_receive.proofs.Cleared.{cleared-first, cleared-room, cleared-more
 use Rattle.pfl_receive.proofs.clear.take_clear.Goals as goal
 
 pub loop-name-init : goal.loop-name-init
-loop-name-init g c = cleared-first c.args.parts.now c.args.creator c.args.bound c.args.change.now c.requires.states
+loop-name-init g c = cleared-first c.args.parts.now c.args.creator c.args.bound c.args.change.now
 
 pub forget-requires : goal.forget-requires
 forget-requires g c =

@@ -8,8 +8,8 @@ pub add_state-requires-clause-parts : goal.add_state-requires-clause-parts
 add_state-requires-clause-parts g c =
     let n = c.args.parts.now in
     let may = may-import n c.args.sent.now _ c.can_import.ensures.can c.if-not-can_import.false in
-    let is = subst IsState c.imported-state.ensures.state c.known.ensures in
-    rw c.imported-state.ensures.state (imported-node n c.args.same_rules c.args.sent.now c.requires.parts may is)
+    let is = subst IsState c.imported-state.ensures.state c.imported-state.ensures.known in
+    rw c.imported-state.ensures.state (imported-node n c.args.same_rules c.args.sent.now c.can_import.ensures.parts may is)
 
 pub add_state-requires-clause-may : goal.add_state-requires-clause-may
 add_state-requires-clause-may g c =

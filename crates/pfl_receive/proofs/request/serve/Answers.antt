@@ -11,7 +11,7 @@ set_server-requires-clause-past g c =
     let n = c.args.parts.now in
     let same = c.start-server.ensures.server ∙ (λ i. started (c.server.ensures.server i) (nat_lt 0 c.len-has_states.result) (c.clock.ensures.clock i)) in
     let clocks = ap (λ (m : Node). m.clock) c.in_ok-tell_status.ensures.node in
-    subst (ServesSince c.tell_status.new.self) (sym same) (started-past n c.tell_status.new.self (nat_lt 0 c.len-has_states.result) c.requires.parts clocks)
+    subst (ServesSince c.tell_status.new.self) (sym same) (started-past n c.tell_status.new.self (nat_lt 0 c.len-has_states.result) c.states.ensures.parts clocks)
 
 pub returns-in_err-tell_status-clause-extends : goal.returns-in_err-tell_status-clause-extends
 returns-in_err-tell_status-clause-extends g c = extends-more 2 3 _ _ _ _ (omega arith) c.tell_status.ensures.extends

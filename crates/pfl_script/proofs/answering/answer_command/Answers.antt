@@ -1,10 +1,13 @@
 use Rattle.std.proofs.Common.{take, ap, sym, subst, inl}
 use Rattle.std.specs.Io.KnownBytes.{Appends}
 use Rattle.std.proofs.lemmas.Result.{IfErr-weaker}
-use Rattle.pfl_script.proofs.Pieces.{any-err}
+use Rattle.pfl_script.proofs.Pieces.{any-err, any-ok}
 use Rattle.pfl_timeline.specs.Replies.{Reply}
 use Rattle.pfl_script.specs.Replies.{reply_text}
 use Rattle.pfl_script.proofs.answering.answer_command.Goals as goal
+
+pub returns-clause-timeline : goal.returns-clause-timeline
+returns-clause-timeline g c = any-ok c.write_reply.result _ (sym (ap (λ r. r.timeline) c.in-Ok.ensures.step))
 
 pub returns-clause-breaks : goal.returns-clause-breaks
 returns-clause-breaks g c = IfErr-weaker c.write_reply.result _ _ (λ _ part.

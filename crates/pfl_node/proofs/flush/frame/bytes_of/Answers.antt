@@ -4,4 +4,4 @@ use Rattle.pfl_node.proofs.flush.frame.bytes_of.Goals as goal
 
 pub encode-requires : goal.encode-requires
 encode-requires g c =
-    can-be-sent c.args.parts.now c.known.ensures.parts c.args.entries.now c.requires.told c.requires.short c.new-frame.result (c.new-frame.ensures.groups ∙ c.in_ok-groups.ensures.groups)
+    can-be-sent c.args.parts.now c.requires.parts c.args.entries.now c.requires.told c.requires.short c.new-frame.result (c.new-frame.ensures.groups ∙ c.in_ok-groups.ensures.groups)

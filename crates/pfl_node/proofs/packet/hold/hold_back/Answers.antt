@@ -13,14 +13,14 @@ pub hold-requires-clause-known : goal.hold-requires-clause-known
 hold-requires-clause-known g c =
     let n = c.args.parts.now in
     let s = c.args.state in
-    rw c.make_room.ensures.node (rw c.with_ack_wanted-waiting.ensures (wanted-may (with_room n) s true (room-may n s c.known.ensures.parts c.requires.stands)))
+    rw c.make_room.ensures.node (rw c.with_ack_wanted-waiting.ensures (wanted-may (with_room n) s true (room-may n s c.requires.parts c.requires.stands)))
 
 pub hold-requires-clause-free : goal.hold-requires-clause-free
-hold-requires-clause-free g c = rw c.make_room.ensures.node (room-made c.args.parts.now c.args.state.name c.known.ensures.parts c.requires.fresh).free
+hold-requires-clause-free g c = rw c.make_room.ensures.node (room-made c.args.parts.now c.args.state.name c.requires.parts c.requires.fresh).free
 
 pub hold-requires-clause-fresh : goal.hold-requires-clause-fresh
 hold-requires-clause-fresh g c =
-    rw c.make_room.ensures.node (rw c.with_ack_wanted-waiting.ensures (room-made c.args.parts.now c.args.state.name c.known.ensures.parts c.requires.fresh).fresh)
+    rw c.make_room.ensures.node (rw c.with_ack_wanted-waiting.ensures (room-made c.args.parts.now c.args.state.name c.requires.parts c.requires.fresh).fresh)
 
 pub returns-clause-step : goal.returns-clause-step
 returns-clause-step g c =

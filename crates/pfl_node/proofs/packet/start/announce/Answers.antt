@@ -40,7 +40,7 @@ returns-in_err-mark g c =
     let s = c.args.state in
     let m = with_new c.args.parts.now s in
     let told = sym c.no_sync.ensures ∙ c.if-no_sync.false in
-    let queue = announced-queue m s c.args.dir c.args.packet.now c.known.ensures.parts.deferrals told in
+    let queue = announced-queue m s c.args.dir c.args.packet.now c.requires.parts.deferrals told in
     let same : mark c.put_new.new.parts c.name-name.result Insert ≡ mark m s.name Insert = λ i. mark (c.put_new.ensures.node i) (c.name-name.ensures i) Insert in
     record {
       done = rw p.1 (record {
@@ -57,7 +57,7 @@ hold_back-requires-clause-stands g c =
 
 pub hold_back-requires-clause-fresh : goal.hold_back-requires-clause-fresh
 hold_back-requires-clause-fresh g c =
-    rw c.in_ok-mark.ensures.node (rw c.put_new.ensures.node (fresh-held c.args.parts.now c.args.state c.known.ensures.parts c.requires.known))
+    rw c.in_ok-mark.ensures.node (rw c.put_new.ensures.node (fresh-held c.args.parts.now c.args.state c.requires.parts c.requires.known))
 
 pub returns-then-is_deferred : goal.returns-then-is_deferred
 returns-then-is_deferred g c =

@@ -51,9 +51,9 @@ announce-requires-clause-known g c =
     let full = c.is_full.ensures.states ∙ (λ i. nat_le (c.states.ensures.limit i) (maps.len (c.states.ensures.states i))) in
     let clock = c.clock.ensures.clock in
     let name = c.next_name-name.ensures.name in
-    let same = c.start_state-state.ensures ∙ (λ i. start_state (name i) c.in-Some.keys.wire c.in-Some.keys.stack c.args.dir p (Some c.args.number) r.no_sync (clock i)) in
+    let same = c.start_state-state.ensures.state ∙ (λ i. start_state (name i) c.in-Some.keys.wire c.in-Some.keys.stack c.args.dir p (Some c.args.number) r.no_sync (clock i)) in
     subst (MayStart n) (sym same)
-    (new-starts n c.in-Some.keys.wire c.in-Some.keys.stack c.args.dir p c.args.number r r.no_sync c.requires.packet c.known.ensures (sym c.key_in_use.ensures.used ∙ c.if-key_in_use.false) (sym full ∙ c.if-is_full.false) c.requires.stands)
+    (new-starts n c.in-Some.keys.wire c.in-Some.keys.stack c.args.dir p c.args.number r r.no_sync c.requires.packet c.key_in_use.ensures.keys (sym c.key_in_use.ensures.used ∙ c.if-key_in_use.false) (sym full ∙ c.if-is_full.false) c.requires.stands)
 
 pub returns : goal.returns
 returns g c =
@@ -65,7 +65,7 @@ returns g c =
     let used : key_in_use n.states (wire_key (key p c.args.dir) r.nat) (key p c.args.dir) ≡ false = ap (λ (k : KeyFields). key_in_use n.states k.wire k.stack) (sym keys) ∙ (sym c.key_in_use.ensures.used ∙ c.if-key_in_use.false) in
     let clock = c.clock.ensures.clock in
     let name = c.next_name-name.ensures.name in
-    let same : c.start_state-state.result ≡ new_state n c.args.dir p c.args.number r = c.start_state-state.ensures ∙ (λ i. start_state (name i) ((keys i).wire) ((keys i).stack) c.args.dir p (Some c.args.number) r.no_sync (clock i)) in
+    let same : c.start_state-state.result ≡ new_state n c.args.dir p c.args.number r = c.start_state-state.ensures.state ∙ (λ i. start_state (name i) ((keys i).wire) ((keys i).stack) c.args.dir p (Some c.args.number) r.no_sync (clock i)) in
     let why = started-new n c.args.dir p c.args.number r (sym c.is_at_max.ensures.most ∙ c.if-is_at_max.false) (sym full ∙ c.if-is_full.false) used in
     let whole = ap (λ (s : State). announced (with_new n s) s c.args.dir p) same ∙ sym why in
     record { done = subst (λ (h : Handled). Tried 9 c.announce.result c.args.change.now c.announce.new.change n c.announce.new.parts h) whole c.announce.ensures.done }

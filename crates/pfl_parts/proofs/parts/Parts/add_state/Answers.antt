@@ -52,4 +52,4 @@ returns-clause-extends g c =
     let former : maps.get n.states s.name ≡ option_map (λ (r : Row). r.state) (maps.get t.rows s.name) = ap (λ (m : Node). maps.get m.states s.name) (sym c.self.view_is) ∙ get-states_of t s.name in
     let wrote = OfState (written (edit_of t s.name (row_with (Some s) c.expiry-expires.result))) in
     subst (λ (m : Node). NodeExtends 1 c.args.change.now c.push.new.self n m) (sym whole)
-    (recorded_as _ _ n (OfState c.state_edit.result) wrote (ap OfState (c.state_edit.ensures ∙ ap written c.in-Ok.ensures.edit)) c.known.ensures.parts former tt c.push.ensures.list c.push.ensures.spare)
+    (recorded_as _ _ n (OfState c.state_edit.result) wrote (ap OfState (c.state_edit.ensures ∙ ap written c.in-Ok.ensures.edit)) (subst AreParts c.self.view_is c.self.invariant.1) former tt c.push.ensures.list c.push.ensures.spare)

@@ -1,10 +1,10 @@
-use Rattle.std.proofs.Common.{◌≡◌, None, Some, ◌∙◌, ap, sym}
+use Rattle.std.proofs.Common.{◌≡◌, None, Some, ◌∙◌, ap, sym, subst}
 use Rattle.std.proofs.Common.{arith}
 use Rattle.std.specs.Option.{option_map_or}
 use Rattle.pfl_edits.specs.Maps as maps
 use Rattle.pfl_track.specs.declared.state.State.{State}
 use Rattle.pfl_parts.specs.Changes.{put_state}
-use Rattle.pfl_parts.specs.Nodes.{Node}
+use Rattle.pfl_parts.specs.Nodes.{Node, AreParts}
 use Rattle.pfl_parts.proofs.Deferred.{stands-may}
 use Rattle.pfl_parts.proofs.Telling.{updates-may}
 use Rattle.pfl_parts.proofs.parts.Parts.clear_updates.Goals as goal
@@ -23,7 +23,7 @@ replace_state-requires-clause-may g c =
     let n = c.args.self.now in
     let s = c.in-Some.state in
     let at : maps.get n.states c.args.name ≡ Some s = ap (λ (m : Node). maps.get m.states c.args.name) (sym c.self.view_is) ∙ (sym c.by_name.ensures.state ∙ (sym c.copied.ensures ∙ c.in-Some.is)) in
-    let is = c.known.ensures.parts in
+    let is = subst AreParts c.self.view_is c.self.invariant.1 in
     rw c.with_updates.ensures (updates-may n s 0 (omega arith) (stands-may n c.args.name s is at))
 
 pub returns-clause-node : goal.returns-clause-node

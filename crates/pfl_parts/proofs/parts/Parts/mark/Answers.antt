@@ -32,3 +32,11 @@ invariant_of-self-2 g c =
 pub returns-clause-extends : goal.returns-clause-extends
 returns-clause-extends g c =
     rw (← c.self.view_is) (rw c.in-Ok.ensures.marked (recorded_as _ _ _ (OfQueue c.in-Ok.edit) (OfQueue (marking c.self.inside.queue c.args.name c.args.kind)) (ap OfQueue c.in-Ok.ensures.edit) c.self.invariant.1 ((refl, refl), λ h. omega arith) (omega arith) c.push.ensures.list c.push.ensures.spare))
+
+pub returns-clause-parts : goal.returns-clause-parts
+returns-clause-parts g c =
+    let least = (total-least c.args.self.now).1 in
+    let same = ap (λ (m : Node). m.queue.next) c.self.view_is in
+    let number : c.self.inside.queue.next < most_numbers = omega (arith, least, same, c.requires.countable, c.requires.room) in
+    let may = subst (λ (m : Node). MayMark m c.args.name c.args.kind) (sym c.self.view_is) c.requires.may in
+    rw c.in-Ok.ensures.marked (marked-node _ c.args.name c.args.kind c.self.invariant.1 may c.in-Ok.ensures.no_fault number)

@@ -19,4 +19,6 @@ invariant_of-result g c =
     )
 
 pub returns : goal.returns
-returns g c = record { new = made_new c.args.limits c.args.rules c.in_ok-table.table c.in_ok-queue.queue c.in_ok-held.held c.none.result c.args.creator c.in_ok-table.ensures.empty c.in_ok-queue.ensures.empty c.in_ok-held.ensures.empty c.none.ensures }
+returns g c =
+    let same = made_new c.args.limits c.args.rules c.in_ok-table.table c.in_ok-queue.queue c.in_ok-held.held c.none.result c.args.creator c.in_ok-table.ensures.empty c.in_ok-queue.ensures.empty c.in_ok-held.ensures.empty c.none.ensures in
+    record { new = same; parts = subst AreParts (sym same) (new_node-is c.args.limits c.args.rules c.args.creator 1 0 c.requires.limits c.known.ensures (omega arith) (omega arith)).parts }

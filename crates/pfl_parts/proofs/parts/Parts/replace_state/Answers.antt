@@ -23,7 +23,7 @@ invariant_of-self g c =
     let now = written-states t c.change.new.self s.name (Some s) c.expiry-expires.result c.in-Some.ensures.changed ∙ ap (λ (m : Node). set_at m.states s.name (Some s)) c.self.view_is in (
       written-timely c.self.inside.limits c.self.inside.rules t c.change.new.self s.name (Some s) c.expiry-expires.result c.self.invariant.0
           (c.expiry-expires.ensures.expiry ∙ ap (λ (m : Node). expires_by m.rules s) (sym c.self.view_is)) c.in-Some.ensures.changed,
-      subst AreParts (sym (whole-with _ n (states_of c.change.new.self) (set_at n.states s.name (Some s)) c.self.view_is now)) (replaced-node n s c.known.ensures.parts c.requires.may),
+      subst AreParts (sym (whole-with _ n (states_of c.change.new.self) (set_at n.states s.name (Some s)) c.self.view_is now)) (replaced-node n s (subst AreParts c.self.view_is c.self.invariant.1) c.requires.may),
     )
 
 pub returns-clause-node : goal.returns-clause-node
@@ -43,4 +43,4 @@ returns-clause-extends g c =
     let former : maps.get n.states s.name ≡ option_map (λ (r : Row). r.state) (maps.get t.rows s.name) = ap (λ (m : Node). maps.get m.states s.name) (sym c.self.view_is) ∙ get-states_of t s.name in
     let wrote = OfState (written (edit_of t s.name (row_with (Some s) c.expiry-expires.result))) in
     subst (λ (m : Node). NodeExtends 1 c.args.change.now c.push.new.self n m) (sym whole)
-    (recorded_as _ _ n (OfState c.state_edit.result) wrote (ap OfState (c.state_edit.ensures ∙ ap written c.in-Some.ensures.edit)) c.known.ensures.parts former tt c.push.ensures.list c.push.ensures.spare)
+    (recorded_as _ _ n (OfState c.state_edit.result) wrote (ap OfState (c.state_edit.ensures ∙ ap written c.in-Some.ensures.edit)) (subst AreParts c.self.view_is c.self.invariant.1) former tt c.push.ensures.list c.push.ensures.spare)

@@ -12,3 +12,8 @@ invariant_of-self g c =
 
 pub returns-clause-extends : goal.returns-clause-extends
 returns-clause-extends g c = rw (← c.self.view_is) (recorded _ _ _ (Client c.self.inside.client c.args.client) c.self.invariant.1 refl tt c.push.ensures.list c.push.ensures.spare)
+
+pub returns-clause-parts : goal.returns-clause-parts
+returns-clause-parts g c =
+    let past = subst (λ (m : Node). AskedAt m c.args.client) (sym c.self.view_is) c.requires.past in
+    keeps_client _ c.args.client c.self.invariant.1 past

@@ -1,7 +1,7 @@
-use Rattle.std.proofs.Common.{◌≡◌, None, Some, false, ◌∙◌, ap, sym}
+use Rattle.std.proofs.Common.{◌≡◌, None, Some, false, ◌∙◌, ap, sym, subst}
 use Rattle.pfl_edits.specs.Maps as maps
 use Rattle.pfl_parts.specs.Changes.{put_state}
-use Rattle.pfl_parts.specs.Nodes.{Node}
+use Rattle.pfl_parts.specs.Nodes.{Node, AreParts}
 use Rattle.pfl_parts.proofs.Deferred.{stands-may, wanted-may, not_waiting-some, not_waiting-none}
 use Rattle.pfl_parts.proofs.parts.Parts.stop_waiting.Goals as goal
 
@@ -16,7 +16,7 @@ replace_state-requires-clause-may g c =
     let n = c.args.self.now in
     let s = c.in-Some.state in
     let at : maps.get n.states c.args.name ≡ Some s = ap (λ (m : Node). maps.get m.states c.args.name) (sym c.self.view_is) ∙ (sym c.by_name.ensures.state ∙ (sym c.copied.ensures ∙ c.in-Some.is)) in
-    let is = c.known.ensures.parts in
+    let is = subst AreParts c.self.view_is c.self.invariant.1 in
     rw c.with_ack_wanted.ensures (wanted-may n s false (stands-may n c.args.name s is at))
 
 pub returns-clause-node : goal.returns-clause-node

@@ -11,3 +11,7 @@ pub returns-clause-extends : goal.returns-clause-extends
 returns-clause-extends g c =
     let e = c.in_ok-entries.ensures in
     rw (← c.self.view_is) (rw e.left (taken-extends _ _ _ _ c.in_ok-entries.taken.list c.self.invariant.1 refl e.edits e.one_each c.record_all.ensures.list c.record_all.ensures.spare))
+
+pub returns-clause-parts : goal.returns-clause-parts
+returns-clause-parts g c =
+    rw c.in_ok-entries.ensures.left (left-node (next_frame c.self.inside.queue c.self.inside.limits.mtu) _ c.self.invariant.1)

@@ -49,4 +49,4 @@ returns-clause-extends g c =
     let whole = whole-with _ n (states_of c.take.new.self) (set_at n.states name None) c.self.view_is now in
     let former : maps.get n.states name ≡ option_map (λ (r : Row). r.state) (maps.get t.rows name) = ap (λ (m : Node). maps.get m.states name) (sym c.self.view_is) ∙ get-states_of t name in
     subst (λ (m : Node). NodeExtends 1 c.args.change.now c.push.new.self n m) (sym whole)
-    (recorded_as _ _ n (OfState c.state_edit.result) (OfState (written (edit_of t name None))) (ap OfState (c.state_edit.ensures ∙ ap written c.in-Some.ensures.edit)) c.known.ensures.parts former tt c.push.ensures.list c.push.ensures.spare)
+    (recorded_as _ _ n (OfState c.state_edit.result) (OfState (written (edit_of t name None))) (ap OfState (c.state_edit.ensures ∙ ap written c.in-Some.ensures.edit)) (subst AreParts c.self.view_is c.self.invariant.1) former tt c.push.ensures.list c.push.ensures.spare)

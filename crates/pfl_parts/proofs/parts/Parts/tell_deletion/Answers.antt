@@ -16,7 +16,7 @@ returns-then-not-told-clause-node g c =
     let s = c.args.state.now in
     let untold : c.is_deletion_told-told.result ≡ false = search rules in
     let out = c.take_out.ensures.node ∙ ap (λ name. to.unmark (to.without_state n name) name) c.name-name.ensures in
-    out ∙ sym (gone-untold n s c.known.ensures.parts c.requires.stands (sym c.is_deletion_told-told.ensures.told ∙ untold))
+    out ∙ sym (gone-untold n s c.is_deletion_told-told.ensures.parts c.requires.stands (sym c.is_deletion_told-told.ensures.told ∙ untold))
 
 pub returns-then-not-told-clause-extends : goal.returns-then-not-told-clause-extends
 returns-then-not-told-clause-extends g c = extends-more 2 3 _ _ _ _ (omega arith) c.take_out.ensures.extends
@@ -27,7 +27,7 @@ mark-requires-clause-may g c =
     let s = c.args.state.now in
     let m = to.unmark (to.without_state n s.name) s.name in
     let gone = get-set_at_same names_total names_exact n.states s.name None in
-    rw c.take_out.ensures.node (rw c.name-name.ensures (gone-may m s.name gone (c.known.ensures.parts.each s.name s c.requires.stands).given))
+    rw c.take_out.ensures.node (rw c.name-name.ensures (gone-may m s.name gone (c.is_deletion_told-told.ensures.parts.each s.name s c.requires.stands).given))
 
 pub returns-clause-full : goal.returns-clause-full
 returns-clause-full g c =

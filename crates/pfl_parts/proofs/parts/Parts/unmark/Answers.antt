@@ -11,3 +11,6 @@ invariant_of-self-2 g c = (c.self.invariant.0, rw c.unmark.ensures.unmarked (unm
 pub returns-clause-extends : goal.returns-clause-extends
 returns-clause-extends g c =
     rw (← c.self.view_is) (rw c.unmark.ensures.unmarked (recorded_as _ _ _ (OfQueue c.in-Some.edit) (OfQueue (unmarking c.self.inside.queue c.args.name)) (ap OfQueue c.in-Some.ensures.edit) c.self.invariant.1 (refl, tt) tt c.push.ensures.list c.push.ensures.spare))
+
+pub returns-clause-parts : goal.returns-clause-parts
+returns-clause-parts g c = rw c.unmark.ensures.unmarked (unmarked-node _ c.args.name c.self.invariant.1)

@@ -6,4 +6,4 @@ use Rattle.pfl_script.proofs.state_lines.PeerWordsDisplay.fmt.Goals as goal
 pub returns-clause-writes : goal.returns-clause-writes
 unfolding peer_text
 returns-clause-writes g c plain done =
-    has_written_of_eq _ _ _ _ _ (rw (c.of_u8-scale.ensures, c.fields-level.ensures) (simp append_assoc refl)) (c.write.ensures.writes plain done)
+    has_written_of_eq _ _ _ _ _ (rw (c.of_u8-scale.ensures, c.fields-level.ensures.fields) (simp append_assoc refl)) (c.write.ensures.writes plain done)

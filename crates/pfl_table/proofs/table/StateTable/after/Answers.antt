@@ -1,22 +1,19 @@
-use Rattle.std.proofs.Common.{List, find, sym, ◌∙◌, ap}
-use Rattle.std.specs.List.{slice_get}
+use Rattle.std.proofs.Common.{find, sym, ◌∙◌, ap}
 use Rattle.std.specs.Option.{option_map}
 use Rattle.std.specs.Ordering.{is_lt}
 use Rattle.pfl_base.specs.Names.{name_cmp}
-use Rattle.pfl_base.proofs.Names.{names_total}
 use Rattle.pfl_edits.specs.Maps as maps
-use Rattle.pfl_edits.proofs.RowMaps.{values-map_of}
 use Rattle.pfl_track.specs.declared.state.State.{State}
 use Rattle.pfl_table.specs.declared.row.Row.{Row}
 use Rattle.pfl_table.proofs.Tables.{values-states_of}
-use Rattle.pfl_table.proofs.Scanned.{find-map, first-filter}
+use Rattle.pfl_table.proofs.Scanned.{find-map}
+use Rattle.pfl_table.proofs.Viewed.{values-rows_of}
 use Rattle.pfl_table.proofs.table.StateTable.after.Goals as goal
 
 pub returns-clause-row : goal.returns-clause-row
 returns-clause-row g c =
     let above = λ (r : Row). is_lt (name_cmp c.args.name r.state.name) in
-    rw (← c.self.view_is) (c.first.ensures.value ∙ (ap (λ (rows : List Row). slice_get rows 0) c.after.ensures.above
-    ∙ (first-filter above _ ∙ ap (find above) (sym (values-map_of names_total (λ (r : Row). r.state.name) _ c.known.ensures.rows.rising)))))
+    rw (← c.self.view_is) (c.after.ensures.row ∙ ap (find above) (sym (values-rows_of _ c.known.ensures.filed.rising)))
 
 pub returns-clause-state : goal.returns-clause-state
 returns-clause-state g c =

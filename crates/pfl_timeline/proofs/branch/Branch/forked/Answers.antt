@@ -9,8 +9,8 @@ pub invariant_of-branch : goal.invariant_of-branch
 invariant_of-branch g c =
     let view = c.branch.view_is ∙ c.in_ok-move_to.ensures.branch ∙ ap (λ (r : Rooted). with_cursor r c.args.place) c.in_ok-branch.ensures.same in
     let cursor = ap (λ (r : Rooted). r.branch.cursor) view in
-    kept_as _ _ _ _ _ _ _ refl (c.truncate.ensures.items ∙ ap (λ n. take n c.branch.inside.events.items) (sym cursor)) refl
-    (kept-front _ _ _ _ _ c.requires.named c.branch.invariant)
+    kept_as _ _ _ _ _ _ _ _ _ refl (c.truncate.ensures.items ∙ ap (λ n. take n c.branch.inside.events.items) (sym cursor)) refl refl
+    (kept-front _ _ _ _ _ _ c.requires.named c.branch.invariant)
 
 pub returns : goal.returns
 returns g c =

@@ -1,4 +1,4 @@
-use Rattle.std.specs.Prelude.{List, length, refl}
+use Rattle.std.specs.Prelude.{◌≡◌, ◌<◌, ℕ, List, length, refl}
 use Rattle.std.proofs.Common.{◌∙◌, ap, arith, subst, sym}
 use Rattle.std.proofs.lemmas.Bool.{ltb-false}
 use Rattle.pfl_timeline.specs.declared.refused.Refused.TheVariants as refused
@@ -39,10 +39,14 @@ returns-in_err-reserve-clause-unchanged g c = anyway _ (ap timeline_of c.in_err-
 pub invariant_of-self : goal.invariant_of-self
 invariant_of-self g c = subst AreKept (sym c.in_err-reserve.ensures.items) c.self.invariant
 
+-- a lemma of its own, so that few hypotheses are in reach
+still-below : (i rows slice len after : ℕ) → i < rows → slice ≡ rows → slice ≡ len → after ≡ len → i < after
+still-below i rows slice len after l e f g = omega (arith, l, e, f, g)
+
 pub index-requires-2 : goal.index-requires-2
 index-requires-2 g c =
     let place = placed c.args.from.now _ _ _ c.in-Some.ensures.place c.deref.ensures.value in
-    omega (arith, below c.args.from.now _ _ place, ap length c.in_ok-reserve.ensures.items, c.in_ok-reserve.ensures.len)
+    still-below _ _ _ _ _ (below c.args.from.now _ _ place) (ap length c.deref.ensures.value) c.deref.ensures.len c.in_ok-reserve.ensures.len
 
 pub forked-requires : goal.forked-requires
 forked-requires g c =

@@ -22,3 +22,14 @@ returns g c = record {
       (sym (all_names _ _ _ c.loop-branch-test.false c.loop-branch.invariant.names
       ∙ ap (λ (t : Timeline). map (λ b. b.name) t.branches) (ap timeline_of c.deref-branch-items.ensures.value ∙ c.self.view_is)));
 }
+
+pub unwrap-requires : goal.unwrap-requires
+unwrap-requires g c =
+    c.push.ensures.succeeds (omega (arith, c.loop-branch.invariant.room, c.loop-branch.invariant.many, c.loop-branch-test.true))
+
+pub loop-branch-init : goal.loop-branch-init
+loop-branch-init g c = record {
+  names = c.in_ok-names.ensures.items;
+  room = omega (arith, c.in_ok-names.ensures.capacity, c.len.ensures, c.deref-branch-items.ensures.len);
+  many = c.in_ok-names.ensures.len;
+}

@@ -1,0 +1,12 @@
+pub mod Links
+pub mod Paths
+pub mod Walked
+pub mod Unlinked
+pub mod Inserted
+pub mod Kept
+pub mod Valued
+pub mod Entries
+pub mod Views
+pub mod Made
+pub mod Ordered
+pub mod Places

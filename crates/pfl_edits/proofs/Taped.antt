@@ -1,0 +1,21 @@
+-- A tape below and above a mark.
+use Rattle.std.proofs.Common.{◌≡◌, ℕ, ◌+◌, ◌<◌, ◌≤◌, List, [], ◌∷◌, ◌++◌, length, ◌∙◌, ap, arith, length-append}
+use Rattle.std.proofs.lemmas.List.{take-append-le, drop-append-le}
+use Rattle.pfl_edits.specs.Tapes.{above, below}
+
+-- xs are the edits of a tape: ys, and e as the newest
+module _ {E : Type 0} (xs ys : List E) (e : E) (is : xs ≡ ys ++ e ∷ []) where
+  pub length_newest : length xs ≡ length ys + 1
+  length_newest = ap length is ∙ length-append ys (e ∷ [])
+
+  module _ (m : ℕ) (under : m < length xs) where
+    within : m ≤ length ys
+    within = omega (arith, length_newest)
+
+    -- the newest is above a mark under the length
+    pub above_newest : above m xs ≡ above m ys ++ e ∷ []
+    above_newest = ap (above m) is ∙ drop-append-le m ys (e ∷ []) within
+
+    -- and not below it
+    pub below_newest : below m xs ≡ below m ys
+    below_newest = ap (below m) is ∙ take-append-le m ys (e ∷ []) within

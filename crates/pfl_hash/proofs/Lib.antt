@@ -1,0 +1,7 @@
+pub mod Closing
+pub mod Entries
+pub mod Fields
+pub mod Found
+pub mod Free
+pub mod Reached
+pub mod Sound

@@ -1,0 +1,11 @@
+use Rattle.std.proofs.Common.{sym, ◌∙◌, ap}
+use Rattle.pfl_edits.specs.Maps as maps
+use Rattle.pfl_edits.proofs.Maps.{len-entries}
+use Rattle.pfl_hash.proofs.Entries.{entry_map-entries}
+use Rattle.pfl_hash.proofs.hash_index.HashIndex.len.Goals as goal
+
+pub returns-clause-entries : goal.returns-clause-entries
+returns-clause-entries g c = rw (← c.self.view_is) (c.self.invariant.count ∙ len-entries _)
+
+pub returns-clause-map : goal.returns-clause-map
+returns-clause-map g c = rw (← c.self.view_is) (c.self.invariant.count ∙ ap maps.len (sym (entry_map-entries _ _)))

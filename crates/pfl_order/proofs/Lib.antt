@@ -1,0 +1,7 @@
+pub mod Changing
+pub mod Entries
+pub mod Filling
+pub mod Mapping
+pub mod Searching
+pub mod Sorted
+pub mod Standing

@@ -1,0 +1,105 @@
+-- Marks at slots: a list of each kind, in which the numbers rise, and the slot of each name. No contract of a public call cites
+-- this.
+use Rattle.std.specs.Prelude.{◌≡◌, ◌≢◌, ℕ, ◌<◌, List, [], ◌∷◌, ◌++◌, length, map, Some}
+use Rattle.std.specs.declared.cmp.Ordering.{Ordering}
+use Rattle.std.specs.Ordering.{on}
+use Rattle.std.specs.Cmp.{IsTotalOrder}
+use Rattle.std.specs.FinMap.{IsAntisymmetric}
+use Rattle.std.proofs.Common.{ap}
+use Rattle.std.proofs.lemmas.Cmp.{on_total}
+use Rattle.pfl_base.specs.declared.state_name.StateName.{StateName}
+use Rattle.pfl_base.specs.Names.{name_cmp}
+use Rattle.pfl_base.proofs.Names.{names_total, names_exact}
+use Rattle.pfl_edits.specs.Maps as maps
+use Rattle.pfl_edits.specs.Maps.{Map}
+use Rattle.pfl_edits.specs.Rows.{map_of}
+use Rattle.pfl_edits.proofs.RowMaps.{Distinct}
+use Rattle.pfl_chains.specs.Lists.{Link, Lists, links_of}
+use Rattle.pfl_chains.specs.Order.{IsRising}
+use Rattle.pfl_hash.specs.Entries.{EntryList}
+use Rattle.pfl_hash.specs.Hashes.{mixed}
+use Rattle.pfl_queue.specs.declared.Mark.{Mark}
+use Rattle.pfl_queue.specs.declared.marks.ByName.{ByName}
+use Rattle.pfl_queue.specs.inner.Slots.{IsIndex}
+use Rattle.pfl_queue.specs.Taking.{kind_place}
+
+-- ---- what the index goes by
+
+-- the key that a mark stands under: its name
+abbrev pub by_name : Mark → ByName
+by_name m = record { 0 = m.name }
+
+-- the order of these keys is that of names
+abbrev pub by_name_cmp : ByName → ByName → Ordering
+by_name_cmp = on (λ n. n.0) name_cmp
+
+-- the hash of a name mixes its creator and its id
+abbrev pub by_name_hash : ByName → ℕ
+by_name_hash n = mixed (mixed 0 n.0.creator) n.0.id
+
+-- the order is total,
+pub by_name_total : IsTotalOrder by_name_cmp
+by_name_total = on_total (λ n. n.0) names_total
+
+-- and names that compare as equal are one
+pub by_name_exact : IsAntisymmetric by_name_cmp
+by_name_exact a b e = ap (λ (n : StateName). record { 0 = n }) (names_exact a.0 b.0 e)
+
+-- ---- marks at slots
+
+-- the slot of a link,
+abbrev pub slot_of_link : Link Mark → ℕ
+slot_of_link l = l.slot
+
+-- its mark,
+abbrev pub mark_of_link : Link Mark → Mark
+mark_of_link l = l.value
+
+-- the name of a mark,
+abbrev pub mark_name : Mark → StateName
+mark_name m = m.name
+
+-- and its queueing number
+abbrev pub mark_number : Mark → ℕ
+mark_number m = m.number
+
+-- the links of all lists, one list after another
+abbrev pub all_links : {V : Type 0} → List (List (Link V)) → List (Link V)
+all_links [] = []
+all_links (links ∷ lists) = links ++ all_links lists
+
+-- the marks, kind after kind
+abbrev pub listed : List (List (Link Mark)) → List Mark
+listed lists = map mark_of_link (all_links lists)
+
+-- the marks by their names
+abbrev pub marks_of : List (List (Link Mark)) → Map name_cmp Mark
+marks_of lists = map_of name_cmp mark_name (listed lists)
+
+-- each of these marks is of the kind with this place
+abbrev pub AreOfKind : ℕ → List (Link Mark) → Type 0
+AreOfKind k [] = Unit {0}
+AreOfKind k (x ∷ links) = (kind_place x.value.kind ≡ k) × AreOfKind k links
+
+-- the marks stand in the list of their kind, in the order of their numbers, and the index has the slot of each
+pub record AreMarked (c : Lists Mark) (names : EntryList ByName ℕ) : Type 0 where
+  pub five : length c.lists ≡ 5
+  pub kinds : (k : ℕ) → k < 5 → AreOfKind k (links_of c k)
+  pub rising : (k : ℕ) → k < 5 → IsRising mark_number (links_of c k)
+  pub index : IsIndex by_name_cmp by_name (all_links c.lists) (maps.from_sorted names.list)
+  pub room : names.limit ≡ c.limit
+
+-- what is true of all marks at slots
+pub record AreInTurn (c : Lists Mark) : Type 0 where
+  pub five : length c.lists ≡ 5
+  pub kinds : (k : ℕ) → k < 5 → AreOfKind k (links_of c k)
+  pub rising : (k : ℕ) → k < 5 → IsRising mark_number (links_of c k)
+  pub apart : Distinct name_cmp mark_name (listed c.lists)
+
+-- no mark has this number
+abbrev pub IsNew : Map name_cmp Mark → ℕ → Type 0
+IsNew marks number = (n : StateName) (k : Mark) → maps.get marks n ≡ Some k → k.number ≢ number
+
+-- marks of one number have one name
+abbrev pub AreApart : Map name_cmp Mark → Type 0
+AreApart marks = (n o : StateName) (m k : Mark) → maps.get marks n ≡ Some m → maps.get marks o ≡ Some k → m.number ≡ k.number → n ≡ o

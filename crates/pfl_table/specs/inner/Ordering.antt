@@ -1,0 +1,108 @@
+-- What the indexes of a table go by, and in which order.
+use Rattle.std.specs.Prelude.{ℕ, ◌+◌, ◌*◌, ◌/◌, ◌%◌, ◌^◌, List, [], ◌∷◌, slice_index_or, if◌then◌else◌}
+use Rattle.std.specs.declared.cmp.Ordering.{Ordering}
+use Rattle.std.specs.Ordering.{nat_cmp, on, then_cmp}
+use Rattle.std.specs.Cmp.{IsTotalOrder, nat_cmp_total}
+use Rattle.std.specs.Cmp.Lexicographic.{slice_cmp}
+use Rattle.std.specs.FinMap.{IsAntisymmetric, nat_cmp-IsAntisymmetric, slice_cmp-IsAntisymmetric}
+use Rattle.std.proofs.Common.{ap}
+use Rattle.std.proofs.lemmas.Cmp.{on_total, then_total, nat_list_cmp_total}
+use Rattle.std.proofs.lemmas.Map.Lookups.{exact_pairs, exact_unsigned}
+use Rattle.pfl_base.specs.declared.addr.Addr.{Addr}
+use Rattle.pfl_base.specs.declared.addr.Addr.TheVariants.{V4, V6}
+use Rattle.pfl_base.specs.declared.flow.Key.{Key}
+use Rattle.pfl_base.specs.declared.state_name.StateName.{StateName}
+use Rattle.pfl_base.specs.Ends.{is_v4, proto_number}
+use Rattle.pfl_base.specs.Names.{name_cmp}
+use Rattle.pfl_base.proofs.Names.{names_total, names_exact}
+use Rattle.pfl_hash.specs.Hashes.{mixed}
+use Rattle.pfl_table.specs.declared.keys.ByName.{ByName}
+use Rattle.pfl_table.specs.declared.keys.Flow.{Flow}
+use Rattle.pfl_table.specs.declared.keys.Expiry.{Expiry}
+use Rattle.pfl_table.specs.declared.row.Row.{Row}
+
+-- ---- names
+
+abbrev pub by_name : Row → ByName
+by_name r = record { 0 = r.state.name }
+
+abbrev pub by_name_cmp : ByName → ByName → Ordering
+by_name_cmp = on (λ n. n.0) name_cmp
+
+abbrev pub by_name_hash : ByName → ℕ
+by_name_hash n = mixed (mixed 0 n.0.creator) n.0.id
+
+pub by_name_total : IsTotalOrder by_name_cmp
+by_name_total = on_total (λ n. n.0) names_total
+
+pub by_name_exact : IsAntisymmetric by_name_cmp
+by_name_exact a b e = ap (λ (n : StateName). record { 0 = n }) (names_exact a.0 b.0 e)
+
+-- ---- flows
+
+abbrev pub number_of : Addr → ℕ
+number_of (V4 n) = n
+number_of (V6 n) = n
+
+abbrev pub version_of : Addr → ℕ
+version_of a = if is_v4 a then 4 else 6
+
+-- the numbers of a key
+abbrev pub flow_of : Key → Flow
+flow_of k = record {
+  far = number_of k.far.addr;
+  near = number_of k.near.addr;
+  far_port = k.far.port;
+  near_port = k.near.port;
+  far_version = version_of k.far.addr;
+  near_version = version_of k.near.addr;
+  proto = proto_number k.proto;
+}
+
+abbrev pub numbers_of : Flow → List ℕ
+numbers_of f = f.far ∷ f.near ∷ f.far_port ∷ f.near_port ∷ f.far_version ∷ f.near_version ∷ f.proto ∷ []
+
+abbrev of_numbers : List ℕ → Flow
+of_numbers ns = record {
+  far = slice_index_or ns 0 0;
+  near = slice_index_or ns 1 0;
+  far_port = slice_index_or ns 2 0;
+  near_port = slice_index_or ns 3 0;
+  far_version = slice_index_or ns 4 0;
+  near_version = slice_index_or ns 5 0;
+  proto = slice_index_or ns 6 0;
+}
+
+abbrev pub flow_cmp : Flow → Flow → Ordering
+flow_cmp = on numbers_of (slice_cmp nat_cmp)
+
+pub flow_total : IsTotalOrder flow_cmp
+flow_total = on_total numbers_of nat_list_cmp_total
+
+pub flow_exact : IsAntisymmetric flow_cmp
+flow_exact f g e = ap of_numbers (slice_cmp-IsAntisymmetric nat_cmp-IsAntisymmetric (numbers_of f) (numbers_of g) e)
+
+-- the halves of a number
+abbrev pub halves : ℕ → ℕ × ℕ
+halves n = (n / 2 ^ 64, n % 2 ^ 64)
+
+abbrev pub flow_hash : Flow → ℕ
+flow_hash f =
+    mixed (mixed (mixed (mixed (mixed 0 (halves f.far).0) (halves f.far).1) (halves f.near).0) (halves f.near).1)
+    ((f.far_port * 2 ^ 16 + f.near_port) * 2 ^ 8 + f.proto)
+
+-- ---- expiries
+
+abbrev pub expiry_of : Row → Expiry
+expiry_of r = record { time = r.expires; name = r.state.name }
+
+-- by expiry, then by name
+abbrev pub expiry_cmp : Expiry → Expiry → Ordering
+expiry_cmp = then_cmp (on (λ e. e.time) nat_cmp) (on (λ e. e.name) name_cmp)
+
+pub expiry_total : IsTotalOrder expiry_cmp
+expiry_total = then_total (on_total (λ e. e.time) nat_cmp_total) (on_total (λ e. e.name) names_total)
+
+pub expiry_exact : IsAntisymmetric expiry_cmp
+expiry_exact a b e =
+    ap (λ (p : ℕ × StateName). record { time = p.0; name = p.1 }) (exact_pairs nat_cmp name_cmp exact_unsigned names_exact (a.time, a.name) (b.time, b.name) e)

@@ -1,0 +1,160 @@
+//! What the indexes of a table go by.
+
+ghost use Rattle.std.specs.Prelude.{◌≡◌};
+ghost use Rattle.pfl_table.specs.inner.Ordering.{by_name_cmp, by_name_hash, by_name_total, by_name_exact, flow_of, number_of as address_number, version_of as address_version, halves as halves_of, flow_cmp, flow_hash, flow_total, flow_exact, expiry_cmp, expiry_total, expiry_exact, expiry_of};
+
+use crate::row::Row;
+use pfl_base::{Addr, Key, StateName};
+use pfl_hash::{Hashed, mix};
+use pfl_order::Ordered;
+use std::cmp::Ordering;
+
+/// How many ports there are.
+const PORTS: u64 = 1 << 16;
+
+/// How many protocols there are.
+const PROTOS: u64 = 1 << 8;
+
+/// A name, by which a row is filed.
+#[derive(Clone, Copy)]
+pub(crate) struct ByName(pub(crate) StateName);
+
+impl Hashed for ByName {
+    ghost order = { by_name_cmp };
+
+    ghost hash_of = { by_name_hash };
+
+    fn same(&self, other: &ByName) -> bool {
+        self.0 == other.0
+    }
+
+    fn hash(&self) -> u64 {
+        mix(mix(0, self.0.creator as u64), self.0.id)
+    }
+
+    ghost total = { by_name_total };
+
+    ghost exact = { by_name_exact };
+}
+
+impl Ordered for ByName {
+    ghost order = { by_name_cmp };
+
+    fn compare(self, other: ByName) -> Ordering {
+        self.0.compare(other.0)
+    }
+
+    ghost total = { by_name_total };
+
+    ghost exact = { by_name_exact };
+}
+
+/// The numbers that make a flow, in no more room than they need.
+#[derive(Clone, Copy, PartialEq, Eq)]
+pub(crate) struct Flow {
+    far: u128,
+    near: u128,
+    far_port: u16,
+    near_port: u16,
+    far_version: u8,
+    near_version: u8,
+    proto: u8,
+}
+
+impl Flow {
+    /// The numbers of a key.
+    pub(crate) fn of(key: &Key) -> Flow
+        ensures { result ≡ flow_of key.now }
+    {
+        Flow {
+            far: number_of(key.far.addr),
+            near: number_of(key.near.addr),
+            far_port: key.far.port,
+            near_port: key.near.port,
+            far_version: version_of(key.far.addr),
+            near_version: version_of(key.near.addr),
+            proto: key.proto.number(),
+        }
+    }
+}
+
+/// An address as a number.
+fn number_of(addr: Addr) -> u128
+    ensures { result ≡ address_number addr }
+{
+    match addr {
+        Addr::V4(number) => number as u128,
+        Addr::V6(number) => number,
+    }
+}
+
+/// The version of an address.
+fn version_of(addr: Addr) -> u8
+    ensures { result ≡ address_version addr }
+{
+    if addr.is_v4() { 4 } else { 6 }
+}
+
+impl Hashed for Flow {
+    ghost order = { flow_cmp };
+
+    ghost hash_of = { flow_hash };
+
+    fn same(&self, other: &Flow) -> bool {
+        *self == *other
+    }
+
+    fn hash(&self) -> u64 {
+        let (far, far_rest) = halves(self.far);
+        let (near, near_rest) = halves(self.near);
+        let ends = mix(mix(mix(mix(0, far), far_rest), near), near_rest);
+        let ports = (self.far_port as u64 * PORTS + self.near_port as u64) * PROTOS
+            + self.proto as u64;
+        mix(ends, ports)
+    }
+
+    ghost total = { flow_total };
+
+    ghost exact = { flow_exact };
+}
+
+/// The two halves of a number.
+fn halves(number: u128) -> (u64, u64)
+    ensures { result ≡ halves_of number }
+{
+    ((number >> 64) as u64, (number % (1 << 64)) as u64)
+}
+
+/// When a row expires, and its name.
+#[derive(Clone, Copy)]
+pub(crate) struct Expiry {
+    pub(crate) time: u64,
+    pub(crate) name: StateName,
+}
+
+impl Expiry {
+    /// The expiry of a row.
+    pub(crate) fn of(row: &Row) -> Expiry
+        ensures { result ≡ expiry_of row.now }
+    {
+        Expiry {
+            time: row.expires,
+            name: row.state.name(),
+        }
+    }
+}
+
+impl Ordered for Expiry {
+    ghost order = { expiry_cmp };
+
+    fn compare(self, other: Expiry) -> Ordering {
+        match self.time.cmp(&other.time) {
+            Ordering::Equal => self.name.compare(other.name),
+            apart => apart,
+        }
+    }
+
+    ghost total = { expiry_total };
+
+    ghost exact = { expiry_exact };
+}
