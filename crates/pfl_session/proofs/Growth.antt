@@ -1,0 +1,120 @@
+-- A command makes each branch longer by one event at most.
+use Rattle.std.specs.Prelude.{◌≡◌, ◌≤◌, ℕ, zero, suc, ◌+◌, ◌-◌, Bool, true, false, not, nat_lt, nat_le, List, [], ◌∷◌, ◌++◌, length, map, filter, find, take, Option, Some, None, Result, Ok, Err, refl, if◌then◌else◌}
+use Rattle.std.specs.List.{AllByRecursion}
+use Rattle.std.specs.Option.{option_map_or}
+use Rattle.std.proofs.Common.{cond, sym, ◌∙◌, ap, subst, arith, length-append}
+use Rattle.pfl_parts.specs.Nodes.{refused_by}
+use Rattle.pfl_world.specs.declared.event.Event.{Event}
+use Rattle.pfl_world.specs.Events.{step}
+use Rattle.pfl_world.specs.Worlds.{World}
+use Rattle.pfl_timeline.specs.declared.command.Command.{Command}
+use Rattle.pfl_timeline.specs.declared.command.Command.TheVariants as command
+use Rattle.pfl_timeline.specs.declared.refused.Refused.{Refused}
+use Rattle.pfl_timeline.specs.declared.refused.Refused.TheVariants as refused
+use Rattle.pfl_timeline.specs.Commands.{replied, answered, with_branch, with_changed, extended, undone, at_cursor, step_answered, step_reply, back_reply, forward_reply, first_events, fork_refusal, fork_reply, drop_reply, show_reply, step_command, back_command, forward_command, fork_command, drop_command, show_command, names_command, command_step}
+use Rattle.pfl_timeline.specs.Replies.{Reply, Replied, Forked, Removed, Shown, Refused as Refusing}
+use Rattle.pfl_timeline.specs.Timelines.{Branch, Timeline, branch_of, same_name, standing, world_of}
+use Rattle.pfl_session.specs.Totals.{HasFewEvents}
+
+length-front : {X : Type 0} (k : ℕ) (xs : List X) → length (take k xs) ≤ length xs
+length-front zero xs = omega arith
+length-front (suc k) [] = omega arith
+length-front (suc k) (x ∷ xs) = let h = length-front k xs in omega arith
+
+abbrev Few : ℕ → Branch → Type 0
+Few n b = length b.events ≤ n
+
+pub all_weaker : {X : Type 0} (P Q : X → Type 0) → ((x : X) → P x → Q x) → (xs : List X) → AllByRecursion P xs → AllByRecursion Q xs
+all_weaker P Q weaker [] all = tt
+all_weaker P Q weaker (x ∷ xs) all = (weaker x all.0, all_weaker P Q weaker xs all.1)
+
+pub all_behind : {X : Type 0} (P : X → Type 0) (xs : List X) (x : X) → AllByRecursion P xs → P x → AllByRecursion P (xs ++ x ∷ [])
+all_behind P [] x all is = (is, tt)
+all_behind P (y ∷ xs) x all is = (all.0, all_behind P xs x all.1 is)
+
+-- what holds of all holds of the one that is found
+found_is : (P : Branch → Type 0) (p : Branch → Bool) (bs : List Branch) (b : Branch) → AllByRecursion P bs → find p bs ≡ Some b → P b
+found_is P p [] b all is = absurd cc
+found_is P p (c ∷ cs) b all is =
+    elim (p c) as (λ t. cond t (Some c) (find p cs) ≡ Some b → P b) [
+      | true ↦ λ here. let same : c ≡ b = cc in subst P same all.0
+      | false ↦ λ later. found_is P p cs b all.1 later
+    ] is
+
+all_put : (P : Branch → Type 0) (b : Branch) (bs : List Branch) → P b → AllByRecursion P bs → AllByRecursion P (map (λ c. if same_name c.name b.name then b else c) bs)
+all_put P b [] is all = tt
+all_put P b (c ∷ cs) is all =
+    let here : P (if same_name c.name b.name then b else c) = elim (same_name c.name b.name) as (λ t. P (if t then b else c)) [ true ↦ is | false ↦ all.0 ] in
+    (here, all_put P b cs is all.1)
+
+all_kept : (P : Branch → Type 0) (p : Branch → Bool) (bs : List Branch) → AllByRecursion P bs → AllByRecursion P (filter p bs)
+all_kept P p [] all = tt
+all_kept P p (c ∷ cs) all =
+    elim (p c) as (λ t. AllByRecursion P (cond t (c ∷ filter p cs) (filter p cs))) [
+      | true ↦ (all.0, all_kept P p cs all.1)
+      | false ↦ all_kept P p cs all.1
+    ]
+
+pub more_room : (n m : ℕ) (t : Timeline) → n ≤ m → HasFewEvents n t → HasFewEvents m t
+more_room n m t le few = all_weaker (Few n) (Few m) (λ b h. omega (arith, h, le)) t.branches few
+
+module _ (t : Timeline) (n : ℕ) (few : HasFewEvents n t) where
+  roomy : HasFewEvents (n + 1) t
+  roomy = more_room n (n + 1) t (omega arith) few
+
+  abbrev Grown : Replied → Type 0
+  Grown done = HasFewEvents (n + 1) done.timeline
+
+  changed : (b : Branch) → Few (n + 1) b → HasFewEvents (n + 1) (with_changed t b)
+  changed b is = all_put (Few (n + 1)) b t.branches is roomy
+
+  answered_grown : (o : Option Refused) (done : Replied) → Grown done → Grown (answered t o done)
+  answered_grown None done is = is
+  answered_grown (Some r) done is = roomy
+
+  named_grown : (name : List ℕ) (done : Branch → Replied) → ((b : Branch) → Few n b → Grown (done b)) → Grown (with_branch t name done)
+  named_grown name done grow =
+      elim (branch_of t name) as (λ o. branch_of t name ≡ o → Grown (option_map_or done o (replied t (Refusing refused.NoBranch)))) [
+        | None ↦ λ _. roomy
+        | Some b ↦ λ here. grow b (found_is (Few n) (λ c. same_name c.name name) t.branches b few here)
+      ] refl
+
+  longer : (b : Branch) (e : Event) → Few n b → Few (n + 1) (extended b e)
+  longer b e is = omega (arith, is, length-append (take b.cursor b.events) (e ∷ []), length-front b.cursor b.events)
+
+  step_grown : (e : Event) (b : Branch) → Few n b → Grown (step_reply t e b)
+  step_grown e b is =
+      elim (world_of t b) as (λ o. Grown (option_map_or (λ w. step_answered t b e (step w e)) o (replied t (Refusing refused.NoBranch)))) [
+        | None ↦ roomy
+        | Some w ↦
+            elim (step w e) as (λ r. Grown (step_answered t b e r)) [
+              | Ok s ↦ changed (extended b e) (longer b e is)
+              | Err why ↦ roomy
+            ]
+      ]
+
+  show_grown : (b : Branch) → Grown (show_reply t b)
+  show_grown b =
+      elim (world_of t b) as (λ o. Grown (option_map_or (λ w. replied t (Shown b.name (length b.events) b.cursor w)) o (replied t (Refusing refused.NoBranch)))) [
+        | None ↦ roomy
+        | Some w ↦ roomy
+      ]
+
+  moved_grown : (b : Branch) (cursor : ℕ) → Few n b → Grown (at_cursor t b cursor)
+  moved_grown b cursor is = changed (record b { cursor = cursor }) (omega (arith, is))
+
+  pub command-grows : (c : Command) → HasFewEvents (n + 1) (command_step t c).timeline
+  unfolding command_step step_command back_command forward_command fork_command drop_command show_command names_command
+  command-grows (command.Step name e) = named_grown name (step_reply t e) (step_grown e)
+  command-grows (command.Back name k) = named_grown name (back_reply t k) (λ b is. answered_grown (refused_by ((nat_lt b.cursor k, refused.TooFarBack) ∷ [])) (at_cursor t b (b.cursor - k)) (moved_grown b (b.cursor - k) is))
+  command-grows (command.Forward name k) = named_grown name (forward_reply t k) (λ b is. answered_grown (refused_by ((nat_lt (undone b) k, refused.NothingForward) ∷ [])) (at_cursor t b (b.cursor + k)) (moved_grown b (b.cursor + k) is))
+  command-grows (command.Fork from k name) =
+      named_grown from (fork_reply t k name)
+      (λ b is. answered_grown (fork_refusal t k name b) (replied (record t { branches = t.branches ++ first_events k name b ∷ [] }) Forked) (all_behind (Few (n + 1)) t.branches (first_events k name b) roomy (omega (arith, is, length-front k b.events))))
+  command-grows (command.Drop name) = named_grown name (drop_reply t) (λ b _. answered_grown (refused_by ((nat_le (length t.branches) 1, refused.LastBranch) ∷ [])) (replied (record t { branches = filter (λ c. not (same_name c.name b.name)) t.branches }) Removed) (all_kept (Few (n + 1)) (λ c. not (same_name c.name b.name)) t.branches roomy))
+  command-grows (command.Show name) = named_grown name (show_reply t) (λ b _. show_grown b)
+  command-grows command.Names = roomy
+
+-- ... and so the timeline after it
+pub grown : (t u : Timeline) (n m : ℕ) (c : Command) (r : Reply) → HasFewEvents n t → command_step t c ≡ replied u r → n + 1 ≤ m → HasFewEvents m u
+grown t u n m c r few step le = more_room (n + 1) m u le (subst (HasFewEvents (n + 1)) (ap (λ (d : Replied). d.timeline) step) (command-grows t n few c))

@@ -1,0 +1,66 @@
+-- A command whose reply is of no fixed size changes nothing.
+use Rattle.std.specs.Prelude.{◌≡◌, ℕ, ◌-◌, ◌+◌, Bool, true, false, List, [], ◌∷◌, ◌++◌, map, filter, not, length, nat_lt, nat_le, Option, Some, None, Result, Ok, Err, IsTrue, refl}
+use Rattle.std.specs.Option.{option_map_or}
+use Rattle.std.proofs.Common.{sym, ◌∙◌, ap, subst}
+use Rattle.std.proofs.lemmas.Bool.{both_ways}
+use Rattle.pfl_parts.specs.Nodes.{refused_by}
+use Rattle.pfl_world.specs.declared.event.Event.{Event}
+use Rattle.pfl_world.specs.Events.{step}
+use Rattle.pfl_world.specs.Worlds.{World}
+use Rattle.pfl_timeline.specs.declared.command.Command.{Command}
+use Rattle.pfl_timeline.specs.declared.command.Command.TheVariants as command
+use Rattle.pfl_timeline.specs.declared.refused.Refused.{Refused}
+use Rattle.pfl_timeline.specs.declared.refused.Refused.TheVariants as refused
+use Rattle.pfl_timeline.specs.Commands.{replied, answered, with_branch, with_changed, extended, undone, at_cursor, step_answered, step_reply, back_reply, forward_reply, first_events, fork_refusal, fork_reply, drop_reply, show_reply, step_command, back_command, forward_command, fork_command, drop_command, show_command, names_command, command_step}
+use Rattle.pfl_timeline.specs.Replies.{Reply, Replied, Forked, Removed, Shown, Refused as Refusing}
+use Rattle.pfl_timeline.specs.Timelines.{Branch, Timeline, branch_of, same_name, world_of}
+use Rattle.pfl_session.specs.Listings.{is_listing}
+
+-- it changes nothing where it replies so
+abbrev Keeps : Timeline → Replied → Type 0
+Keeps t done = IsTrue (is_listing done.reply) → done.timeline ≡ t
+
+-- a refusal, or what keeps
+answered_keeps : (t : Timeline) (o : Option Refused) (done : Replied) → Keeps t done → Keeps t (answered t o done)
+answered_keeps t None done is = is
+answered_keeps t (Some r) done is = λ _. refl
+
+named_keeps : (t : Timeline) (name : List ℕ) (done : Branch → Replied) → ((b : Branch) → Keeps t (done b)) → Keeps t (with_branch t name done)
+named_keeps t name done is =
+    elim (branch_of t name) as (λ o. Keeps t (option_map_or done o (replied t (Refusing refused.NoBranch)))) [
+      | None ↦ λ _. refl
+      | Some b ↦ is b
+    ]
+
+step_keeps : (t : Timeline) (e : Event) (b : Branch) → Keeps t (step_reply t e b)
+step_keeps t e b =
+    elim (world_of t b) as (λ o. Keeps t (option_map_or (λ w. step_answered t b e (step w e)) o (replied t (Refusing refused.NoBranch)))) [
+      | None ↦ λ _. refl
+      | Some w ↦
+          elim (step w e) as (λ r. Keeps t (step_answered t b e r)) [
+            | Ok s ↦ λ is. absurd (both_ways false refl is)
+            | Err why ↦ λ _. refl
+          ]
+    ]
+
+show_keeps : (t : Timeline) (b : Branch) → Keeps t (show_reply t b)
+show_keeps t b =
+    elim (world_of t b) as (λ o. Keeps t (option_map_or (λ w. replied t (Shown b.name (length b.events) b.cursor w)) o (replied t (Refusing refused.NoBranch)))) [
+      | None ↦ λ _. refl
+      | Some w ↦ λ _. refl
+    ]
+
+keeps : (t : Timeline) (c : Command) → Keeps t (command_step t c)
+unfolding command_step step_command back_command forward_command fork_command drop_command show_command names_command
+keeps t (command.Step name e) = named_keeps t name (step_reply t e) (step_keeps t e)
+keeps t (command.Back name n) = named_keeps t name (back_reply t n) (λ b. answered_keeps t (refused_by ((nat_lt b.cursor n, refused.TooFarBack) ∷ [])) (at_cursor t b (b.cursor - n)) (λ is. absurd (both_ways false refl is)))
+keeps t (command.Forward name n) = named_keeps t name (forward_reply t n) (λ b. answered_keeps t (refused_by ((nat_lt (undone b) n, refused.NothingForward) ∷ [])) (at_cursor t b (b.cursor + n)) (λ is. absurd (both_ways false refl is)))
+keeps t (command.Fork from k name) = named_keeps t from (fork_reply t k name) (λ b. answered_keeps t (fork_refusal t k name b) (replied (record t { branches = t.branches ++ first_events k name b ∷ [] }) Forked) (λ is. absurd (both_ways false refl is)))
+keeps t (command.Drop name) = named_keeps t name (drop_reply t) (λ b. answered_keeps t (refused_by ((nat_le (length t.branches) 1, refused.LastBranch) ∷ [])) (replied (record t { branches = filter (λ c. not (same_name c.name b.name)) t.branches }) Removed) (λ is. absurd (both_ways false refl is)))
+keeps t (command.Show name) = named_keeps t name (show_reply t) (show_keeps t)
+keeps t command.Names = λ _. refl
+
+-- the timeline after a command whose reply is so
+pub listing-keeps : (t u : Timeline) (c : Command) (r : Reply) → command_step t c ≡ replied u r → IsTrue (is_listing r) → u ≡ t
+listing-keeps t u c r is listing =
+    ap (λ (d : Replied). d.timeline) (sym is) ∙ keeps t c (subst (λ (d : Replied). IsTrue (is_listing d.reply)) (sym is) listing)

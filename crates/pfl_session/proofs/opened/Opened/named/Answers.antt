@@ -1,0 +1,42 @@
+use Rattle.std.proofs.Common.{◌≡◌, ◌+◌, ◌≤◌, List, [], length, refl, ap, sym, subst, ◌∙◌, arith}
+use Rattle.std.specs.List.{AllByRecursion}
+use Rattle.atomic_table.specs.Seated.{TableId}
+use Rattle.pfl_timeline.specs.Timelines.{Timeline}
+use Rattle.pfl_session.specs.declared.entry.Entry.{Entry}
+use Rattle.pfl_session.specs.Journals.{IsLegal, replay, history, counts_of}
+use Rattle.pfl_session.specs.Labs.{Setup}
+use Rattle.pfl_session.specs.Passes.{IsPassOf}
+use Rattle.pfl_session.proofs.Growth.{more_room}
+use Rattle.pfl_session.proofs.Seatings.{passes-of}
+use Rattle.pfl_session.proofs.opened.Opened.named.Goals as goal
+
+pub invariant_of-desk : goal.invariant_of-desk
+invariant_of-desk g c =
+    let is = c.self.invariant in
+    let js = c.self.inside.journal.items in
+    let none : js ≡ [] = is.1 in
+    let publisher : c.self.inside.publisher ≡ g.J.Which.publisher = ap (λ (s : Setup). s.publisher) c.self.view_is ∙ c.requires.tables.0 in
+    let tallies : c.self.inside.tallies.items ≡ g.J.Which.tallies = ap (λ (s : Setup). s.tallies) c.self.view_is ∙ c.requires.tables.1 in
+    let opening : c.self.inside.timeline ≡ g.J.Which.opening = ap (λ (s : Setup). s.opening) c.self.view_is ∙ c.requires.opening.0 in
+    let limit : c.self.inside.limit ≡ g.J.Which.limit = ap (λ (s : Setup). s.limit) c.self.view_is ∙ c.requires.opening.1 in
+    let empty = ap (λ (l : List (Entry g.row.A.Denot)). length l) none in
+    let small = is.7 in (
+      (c.self.inside.writer, refl, is.2 ∙ publisher, is.3 ∙ ap (λ (t : Timeline). history t js) opening),
+      is.4 ∙ ap (λ (ts : List TableId). counts_of 1 ts js) tallies,
+      record {
+        legal = subst (IsLegal g.J.Which.opening) (sym none) tt;
+        timeline_is = opening ∙ sym (ap (replay g.J.Which.opening) none);
+        few = more_room 4294967295 (length js + 4294967295) c.self.inside.timeline (omega arith) is.6;
+        bound_is = limit;
+        short = omega (arith, empty);
+        small = omega (arith, limit, small);
+      },
+    )
+
+pub returns-clause-lab : goal.returns-clause-lab
+returns-clause-lab g c =
+    let ps = c.self.inside.passes.items in
+    let publisher : c.self.inside.publisher ≡ g.J.Which.publisher = ap (λ (s : Setup). s.publisher) c.self.view_is ∙ c.requires.tables.0 in
+    let tallies : c.self.inside.tallies.items ≡ g.J.Which.tallies = ap (λ (s : Setup). s.tallies) c.self.view_is ∙ c.requires.tables.1 in
+    subst (λ (ts : List TableId). AllByRecursion (IsPassOf g.J.Which.publisher ts) ps) tallies
+    (subst (λ (p : TableId). AllByRecursion (IsPassOf p c.self.inside.tallies.items) ps) publisher (passes-of c.self.inside.publisher _ c.self.inside.tallies.items ps c.self.invariant.5))

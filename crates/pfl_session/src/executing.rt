@@ -1,0 +1,56 @@
+//! Commands whose reply is kept in an entry.
+
+ghost use Rattle.std.specs.Prelude.{◌≡◌, IfOk, OnErr, IsTrue};
+ghost use Rattle.pfl_timeline.specs.Commands.{command_step, replied};
+ghost use Rattle.pfl_timeline.specs.Replies.{reply_of};
+ghost use Rattle.pfl_session.specs.Listings.{is_listing};
+
+use crate::entry::Entry;
+use pfl_edits::NoMemory;
+use pfl_timeline::{Command, Reply, Timeline};
+use std::alloc::Allocator;
+
+/// An equal reply. It wants memory only for what shows a branch, or names the branches.
+fn copy_reply<A: Allocator + Copy>(reply: &Reply<A>) -> Result<Reply<A>, NoMemory>
+    ensures same { IfOk result (λ copied. reply_of copied ≡ reply_of reply.now) }
+    ensures memory { OnErr result (IsTrue (is_listing (reply_of reply.now))) }
+{
+    Ok(match reply {
+        Reply::Stepped { outcome, dropped } => Reply::Stepped {
+            outcome: *outcome,
+            dropped: *dropped,
+        },
+        Reply::At(cursor) => Reply::At(*cursor),
+        Reply::Forked => Reply::Forked,
+        Reply::Removed => Reply::Removed,
+        Reply::Shown {
+            name,
+            events,
+            cursor,
+            world,
+        } => Reply::Shown {
+            name: *name,
+            events: *events,
+            cursor: *cursor,
+            world: world.copy()?,
+        },
+        Reply::Names(names) => Reply::Names(Vec::from_slice(*names.allocator(), names)?),
+        Reply::Refused(why) => Reply::Refused(*why),
+    })
+}
+
+/// Executes a command of a session, and gives its reply with the entry that keeps it. Where there is no memory, nothing
+/// changes: a reply that wants memory for its copy comes of a command that changes nothing.
+pub(crate) fn execute<A: Allocator + Copy>(
+    timeline: &mut Timeline<A>,
+    session: u32,
+    command: &Command,
+) -> Result<(Reply<A>, Entry<A>), NoMemory>
+    ensures step { IfOk result (λ r. command_step timeline.old command.now ≡ replied timeline.new (reply_of r.0)) }
+    ensures entry { IfOk result (λ r. (r.1.session ≡ session) × (r.1.command ≡ command.now) × (reply_of r.1.reply ≡ reply_of r.0)) }
+    ensures unchanged { OnErr result (timeline.new ≡ timeline.old) }
+{
+    let reply = timeline.command(*command)?;
+    let kept = copy_reply(&reply)?;
+    Ok((reply, Entry::new(session, *command, kept)))
+}

@@ -1,0 +1,32 @@
+//! Sessions of several people over one timeline.
+//!
+//! The timeline, the journal of all commands and the writer's seat of the publisher stand under one lock. A session asks a
+//! command under it: the command is executed, its entry is appended and its revision published under one hold, and the
+//! session's pass has then seen the journal up to its own entry. Whoever only reads waits for nobody: a revision comes whole
+//! from the publisher, and is never older than what the pass has seen.
+//!
+//! Each session's entries are counted twice: in a half that stands under the lock and in a half that its pass has. The halves
+//! count together, so a pass knows that what it has seen holds each call of its own, and no other one.
+#![tactic(auto)]
+
+mod counts;
+mod desk;
+mod entry;
+mod executing;
+mod fault;
+mod lab;
+mod laws;
+mod mark;
+mod opened;
+mod pass;
+mod revision;
+mod which;
+
+pub use entry::{Closed, Entry};
+pub use fault::{AskFault, LabFault};
+pub use lab::Lab;
+pub use laws::{journals_are_commands, revisions_show_timelines};
+pub use mark::Mark;
+pub use opened::Opened;
+pub use pass::Pass;
+pub use which::Which;
