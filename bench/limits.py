@@ -1,0 +1,49 @@
+"""What the machine takes for what no program of this kind goes without, in microseconds."""
+import array
+import os
+import time
+
+REPLY = b"step pass 1.12345 dropped 0\n"
+WRITES = 200_000
+LOOKUPS = 1_000_000
+# 32 MiB: far more than a processor keeps near, about as much as the states of a full table take.
+FAR = 1 << 22
+NEAR = 1 << 9
+
+
+def microseconds(work, many):
+    start = time.process_time()
+    work(many)
+    return (time.process_time() - start) / many * 1e6
+
+
+def write_of_a_reply():
+    """A write of a reply to a file in memory, with what the interpreter takes for a call, some 0.05 microseconds."""
+    file = os.memfd_create("replies")
+
+    def work(many):
+        for _ in range(many):
+            os.write(file, REPLY)
+
+    try:
+        return microseconds(work, WRITES)
+    finally:
+        os.close(file)
+
+
+def chase(size):
+    """Microseconds a look-up, each of which has to wait for the one before; the places follow no order."""
+    places = array.array("Q", ((at * 2_862_933 + 3_037_493) % size for at in range(size)))
+
+    def work(many):
+        at = 0
+        for _ in range(many):
+            at = places[at]
+
+    work(min(size, LOOKUPS))
+    return microseconds(work, LOOKUPS)
+
+
+def cache_miss():
+    """What a look-up far away takes longer than one that is near."""
+    return chase(FAR) - chase(NEAR)

@@ -1,0 +1,282 @@
+"""The loads of the benchmark: commands, each with the reply that it has to get, made from a seed.
+
+A load is a function that gives its parts in order. A part that is named is measured; the others prepare. Replies are computed
+here and not asked of the program, so that a load that does not do what it is meant to do is seen.
+"""
+import random
+
+MOST_STATES = 65536
+MTU = 1500
+FRAME_HEADER, GROUP_HEADER = 20, 4
+STATE_RECORD, SHORT_RECORD, NAME_RECORD = 124, 44, 12
+FRAMES_IN_FLIGHT = 256
+ONE_LOST_IN = 10
+EXPIRED_MS = 60_000
+ROUNDS = 5
+FORKS = 3
+SETUP = (
+    f"set states {MOST_STATES}",
+    f"set queue {MOST_STATES}",
+    f"set frames {FRAMES_IN_FLIGHT}",
+    f"set mtu {MTU}",
+    "rule a pass out",
+    "rule b pass out",
+    "open",
+)
+
+
+class Part:
+    """Commands of one kind, and the lines that they have to be answered by."""
+
+    def __init__(self, what=None):
+        self.what, self.lines, self.replies = what, [], []
+
+    def ask(self, line, *replies):
+        self.lines.append(line)
+        self.replies += replies
+
+
+class Pair:
+    """What was told to the pair so far, as far as replies depend on it; its states are flows of UDP through node a."""
+
+    def __init__(self, states, commands, chance):
+        self.states, self.commands, self.chance = states, commands, chance
+        self.cursor, self.next_id, self.next_ticket, self.clock = 0, 1, 1, 0
+        self.flows = [self.ends(at, 53) for at in chance.sample(range(1 << 24), states)]
+
+    def ends(self, at, port):
+        """The near end of a flow, which no other flow has, and its far end."""
+        near = f"10.{at >> 16}.{at >> 8 & 255}.{at & 255}:{self.chance.randint(1024, 65535)}"
+        return near, f"192.0.2.{self.chance.randint(1, 254)}:{port}"
+
+    def step(self, part, event, outcome, dropped=0):
+        part.ask(f"step main {event}", f"step {outcome} dropped {dropped}")
+        self.cursor += 1
+
+    def begin(self, first, last, what=None):
+        """A packet of each of some new flows, in order."""
+        part = Part(what)
+        for near, far in self.flows[first:last]:
+            self.step(part, f"packet a out udp {near} {far} 40", f"pass 1.{self.next_id}")
+            self.next_id += 1
+        return part
+
+    def fill(self):
+        return self.begin(0, self.states)
+
+    def hit(self, flows, what=None):
+        """A packet of each of some flows that stand, in either direction."""
+        part = Part(what)
+        for flow in flows:
+            near, far = self.flows[flow]
+            ends = self.chance.choice((f"in udp {far} {near}", f"out udp {near} {far}"))
+            self.step(part, f"packet a {ends} 80", f"pass 1.{flow + 1}")
+        return part
+
+    def any_flows(self):
+        return self.chance.choices(range(self.states), k=self.commands)
+
+    def back(self, part):
+        self.cursor -= 1
+        part.ask("back main 1", f"at {self.cursor}")
+
+    def forward(self, part):
+        self.cursor += 1
+        part.ask("forward main 1", f"at {self.cursor}")
+
+
+def replies(pair):
+    """What any command costs: a line that is passed over, and one that is answered and does nothing else."""
+    yield pair.fill()
+    passed = Part("a line that is passed over")
+    for _ in range(pair.commands):
+        passed.ask("# This line has about as many bytes as the one of a packet of UDP has.")
+    passed.ask("names", "names main")
+    yield passed
+    names = Part("`names`, a reply and nothing else")
+    for _ in range(pair.commands):
+        names.ask("names", "names main")
+    yield names
+
+
+def flows(pair):
+    """New flows, from none to all."""
+    most = pair.states * 9 // 10
+    yield pair.begin(0, most, "a new flow, the first nine tenths")
+    yield pair.begin(most, pair.states, "a new flow, the last tenth")
+
+
+def hits(pair):
+    """Packets of states whose insertion is queued."""
+    yield pair.fill()
+    yield pair.hit(pair.any_flows(), "a hit")
+
+
+def ticks(pair):
+    yield pair.fill()
+    part = Part("a tick")
+    for _ in range(pair.commands):
+        pair.clock += 1
+        pair.step(part, "tick a 1", f"clock {pair.clock}")
+    yield part
+
+
+def undo(pair):
+    """Hits, undone one by one and then done again one by one."""
+    yield pair.fill()
+    yield pair.hit(pair.any_flows())
+    undone, redone = Part("the undo of a hit"), Part("the redo of a hit")
+    for _ in range(pair.commands):
+        pair.back(undone)
+    for _ in range(pair.commands):
+        pair.forward(redone)
+    yield undone
+    yield redone
+
+
+def segments(near, far, chance):
+    """The packets of a connection of TCP, from the handshake to the end that closed last."""
+    own, other = chance.randrange(1 << 32), chance.randrange(1 << 32)
+
+    def segment(is_out, flags, sent, seen, length=0):
+        sequence, acknowledged = (own + sent, other + seen) if is_out else (other + sent, own + seen)
+        acknowledged = acknowledged % (1 << 32) if "A" in flags else 0
+        ends = f"out tcp {near} {far}" if is_out else f"in tcp {far} {near}"
+        return f"packet a {ends} {flags} {sequence % (1 << 32)} {acknowledged} 65535 {length}"
+
+    yield segment(True, "S", 0, 0)
+    yield segment(False, "SA", 0, 1)
+    yield segment(True, "A", 1, 1)
+    yield segment(True, "PA", 1, 1, 100)
+    yield segment(False, "PA", 1, 101, 1000)
+    yield segment(True, "FA", 101, 1001)
+    yield segment(False, "FA", 1001, 102)
+    yield segment(True, "A", 102, 1002)
+
+
+def connections(pair):
+    """Connections from handshake to close, each tenth of the states a closed one that the next of its ports takes the place of."""
+    ports = max(1, pair.states // 10)
+    yield pair.begin(0, pair.states - ports)
+    ends = [pair.ends(at, 80) for at in pair.chance.sample(range(1 << 24), ports)]
+    # (the ports of every connection but the first few have a closed state, so the table is full all the while)
+    for what, many in ((None, ports), ("a packet of a connection", max(1, pair.commands // 8))):
+        part = Part(what)
+        for connection in range(many):
+            for event in segments(*ends[connection % ports], pair.chance):
+                pair.step(part, event, f"pass 1.{pair.next_id}")
+            pair.next_id += 1
+        yield part
+
+
+class Sender:
+    """What a node has to tell the other, by batches of frames that are in flight together."""
+
+    def __init__(self, pair, node, record):
+        self.pair, self.node, self.size = pair, node, record
+        self.most = (MTU - FRAME_HEADER - GROUP_HEADER) // record
+
+    def frames(self, told):
+        """What each frame of a batch tells, batch by batch."""
+        frames = [told[at : at + self.most] for at in range(0, len(told), self.most)]
+        return [frames[at : at + FRAMES_IN_FLIGHT] for at in range(0, len(frames), FRAMES_IN_FLIGHT)]
+
+    def send(self, told, what, taken):
+        """Flushes all, and delivers or loses each frame, in any order; `taken` gets what is delivered."""
+        for batch in self.frames(told):
+            flushed, fates = Part(f"a flush of {what}"), {}
+            for frame in batch:
+                ticket = self.pair.next_ticket
+                self.pair.next_ticket += 1
+                length = FRAME_HEADER + GROUP_HEADER + self.size * len(frame)
+                self.pair.step(flushed, f"flush {self.node}", f"sent {ticket} {length}")
+                fates[ticket] = frame
+            yield flushed
+            yield from self.decide(fates, what, taken)
+
+    def decide(self, fates, what, taken):
+        delivered, lost = Part(f"a delivery of {what}"), Part("a loss")
+        for ticket in self.pair.chance.sample(list(fates), len(fates)):
+            if self.pair.chance.randrange(ONE_LOST_IN) == 0:
+                self.pair.step(lost, f"lose {ticket}", "lost")
+            else:
+                self.pair.step(delivered, f"deliver {ticket}", f"taken {len(fates[ticket])}")
+                taken += fates[ticket]
+        yield delivered
+        yield lost
+
+
+def frames(pair):
+    """Node a tells b of all its states and of updates; b asks for those that it never got. One frame in ten is lost."""
+    yield pair.fill()
+    known, updated, asked, came = [], [], [], []
+    yield from Sender(pair, "a", STATE_RECORD).send(list(range(pair.states)), "11 new states", known)
+    hits_of = pair.chance.sample(range(pair.states), min(pair.states, pair.commands))
+    yield pair.hit(hits_of, "a hit that queues an update")
+    yield from Sender(pair, "a", SHORT_RECORD).send(hits_of, "33 updates", updated)
+    unknown = set(range(pair.states)).difference(known)
+    wanted = [flow for flow in updated if flow in unknown]
+    yield from Sender(pair, "b", NAME_RECORD).send(wanted, "123 requests", asked)
+    yield from Sender(pair, "a", STATE_RECORD).send(asked, "11 states asked for", came)
+
+
+def purges(pair):
+    """All states expire and are purged, and that is undone."""
+    yield pair.fill()
+    expired = Part()
+    pair.step(expired, f"tick a {EXPIRED_MS}", f"clock {EXPIRED_MS}")
+    yield expired
+    for at in range(ROUNDS):
+        purged, undone = Part("a purge of all"), Part("the undo of a purge of all")
+        pair.step(purged, "purge a", f"purged {pair.states}", min(at, 1))
+        pair.back(undone)
+        yield purged
+        yield undone
+
+
+def shown(pair):
+    """The lines of a pair that has seen a packet of each of its flows and nothing else."""
+    many = pair.states
+    yield f"branch main events {many} cursor {many}"
+    yield f"node a clock 0 boot 1 id {many + 1} seq {many + 1} push 0 serve - sync -"
+    yield f"count a {many} 0 0 0 0 0 0"
+    by_name = list(enumerate(pair.flows, 1))
+    for at, (near, far) in by_name:
+        yield f"state a 1.{at} udp out {far} {near} {far} {near} 1 - 0 0 0 0 - 0 0 0 udp.first 0 0 - 0 -"
+    for at, _ in by_name:
+        yield f"queue a ins {at} 1.{at}"
+    yield "node b clock 0 boot 2 id 1 seq 1 push 0 serve - sync -"
+    yield "count b 0 0 0 0 0 0 0"
+    yield "link next 1 boot 3"
+    yield "end"
+
+
+def shows(pair):
+    yield pair.fill()
+    part, lines = Part("a show"), list(shown(pair))
+    for _ in range(ROUNDS):
+        part.ask("show main", *lines)
+    yield part
+
+
+def forks(pair):
+    """Branches of all events so far, which are dropped again."""
+    yield pair.fill()
+    forked, removed = Part("a fork of all events"), Part("a drop")
+    for at in range(FORKS):
+        forked.ask(f"fork main {pair.cursor} {'abc'[at]}", "forked")
+        removed.ask(f"drop {'abc'[at]}", "removed")
+    yield forked
+    yield removed
+
+
+LOADS = {it.__name__: it for it in (replies, flows, hits, ticks, undo, connections, frames, purges, shows, forks)}
+
+
+def parts(load, states, commands, seed):
+    """The parts of a load, the setup first."""
+    setup = Part()
+    setup.lines += SETUP
+    yield setup
+    pair = Pair(states, commands, random.Random(f"{seed} {load} {states}"))
+    yield from (it for it in LOADS[load](pair) if it.lines)

@@ -1,0 +1,53 @@
+"""The table of costs: a row for each kind of command, and for each number of states its figures."""
+import sys
+
+
+def figure(value):
+    """About three digits that count."""
+    places = 4 if value < 0.0995 else 2 if value < 9.995 else 1 if value < 99.95 else 0
+    return f"{value:,.{places}f}"
+
+
+class Table:
+    """What each kind of command took, by the number of states, in the order in which it was measured."""
+
+    def __init__(self, states):
+        self.states, self.rows = states, {}
+
+    def put(self, load, what, states, cost):
+        self.rows.setdefault((load, what), {})[states] = cost
+        told = f"{self.each(cost)} µs, {self.all(cost)} s, {self.most(cost)} MB, {self.kept(cost)} bytes kept"
+        print(f"bench: {load} at {states:,}: {what}: {cost.commands:,} at {told}", file=sys.stderr, flush=True)
+
+    def text(self):
+        many = [f"{it:,}" for it in self.states]
+        heads = [f"{what} {it}" for what in ("µs a command at", "seconds at", "MB at") for it in many]
+        lines = [self.line("Load", "Command", *heads, f"bytes kept at {many[-1]}"), "|---" * (len(heads) + 3) + "|"]
+        for (load, what), costs in self.rows.items():
+            cells = [self.cell(show, costs.get(it)) for show in (self.each, self.all, self.most) for it in self.states]
+            lines.append(self.line(load, what, *cells, self.cell(self.kept, costs.get(self.states[-1]))))
+        return "\n".join(lines) + "\n"
+
+    @staticmethod
+    def line(*cells):
+        return f"| {' | '.join(cells)} |"
+
+    @staticmethod
+    def cell(show, cost):
+        return "–" if cost is None else show(cost)
+
+    @staticmethod
+    def each(cost):
+        return ("> " if cost.is_late else "") + figure(cost.seconds * 1e6 / max(1, cost.commands))
+
+    @staticmethod
+    def all(cost):
+        return ("> " if cost.is_late else "") + figure(cost.seconds)
+
+    @staticmethod
+    def most(cost):
+        return figure(cost.most / 1e6)
+
+    @staticmethod
+    def kept(cost):
+        return f"{max(0, cost.kept) // max(1, cost.commands):,}"
