@@ -8,5 +8,4 @@ pub mod Valued
 pub mod Entries
 pub mod Views
 pub mod Made
-pub mod Ordered
 pub mod Places

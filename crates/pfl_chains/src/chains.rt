@@ -1,11 +1,8 @@
 //! Lists linked in both directions by slot numbers, in room that was made at once.
 ghost use Rattle.std.specs.Prelude.{◌≡◌, ◌↔◌, ◌+◌, ◌<◌, ◌≤◌, ◌^◌, [], ◌∷◌, ◌++◌, IfOk, IfSome, IsNone, IsTrue, length, map, replicate, vec_capacity};
 ghost use Rattle.pfl_chains.specs.Lists.{AreLists, Place, Gap, StandsIn, link, value_of, links_of, with_links, count_of, first_slot, last_slot};
-ghost use Rattle.pfl_chains.specs.Order.{IsRising, HasNone, InsertsInOrder};
-ghost use Rattle.pfl_chains.specs.inner.Gaps.{OrderedGap};
 ghost use Rattle.pfl_chains.specs.inner.Rings.{HasRoom, Takes, slot_of};
 
-use crate::numbered::Numbered;
 use crate::rings::Rings;
 use pfl_edits::{InOrder, NoMemory};
 use std::alloc::Allocator;
@@ -215,42 +212,6 @@ impl<V: Copy, A: Allocator> Chains<V, A> {
         ensures lists { AreLists self.now }
     {
         let _ = &self.limit;
-    }
-}
-
-impl<V: Copy + Numbered, A: Allocator> Chains<V, A> {
-    /// Puts a link into a list whose numbers rise, at the place of its number. Gives its slot, which no list had.
-    ///
-    /// It looks for the place from the list's end.
-    pub fn insert_in_order(&mut self, list: usize, value: V) -> usize
-        requires list { list < length self.old.lists }
-        requires room { count_of self.old.lists < self.old.limit }
-        requires rising { IsRising V.number (links_of self.old list) }
-        requires new { HasNone V.number (V.number value) (links_of self.old list) }
-        ensures inserted { InsertsInOrder V.number (links_of self.old list) (links_of self.new list) (link result value) }
-        ensures others { self.new ≡ with_links self.old list (links_of self.new list) }
-        ensures fresh { Place self.old result → ⊥ }
-    {
-        let behind = self.place_of(list, value.number());
-        self.insert_after(list, behind, value)
-    }
-
-    /// Behind which slot a number belongs: None is in front of the list's first link.
-    fn place_of(&self, list: usize, number: u64) -> Option<usize>
-        requires list { list < length self.now.lists }
-        requires rising { IsRising V.number (links_of self.now list) }
-        requires new { HasNone V.number number (links_of self.now list) }
-        ensures gap { OrderedGap V.number number self.now list result }
-    {
-        self.known();
-        let mut behind = self.last(list);
-        while let Some(slot) = behind {
-            if self.value(slot).number() < number {
-                break;
-            }
-            behind = self.previous(slot);
-        }
-        behind
     }
 }
 

@@ -15,16 +15,19 @@ use Rattle.pfl_edits.proofs.Places.{get-set_at_same, get-set_at_other, set_at-se
 use Rattle.pfl_edits.specs.Rows.{map_of}
 use Rattle.pfl_edits.proofs.RowMaps.{row_at, Distinct, get-map_of, len-map_of, map_of-between, map_of-without, some_is_none}
 use Rattle.pfl_chains.specs.Lists.{Link, link, Lists, Place, links_of, with_links, count_of}
-use Rattle.pfl_chains.specs.Order.{IsRising, HasNone as NoNumber, InsertsInOrder}
-use Rattle.pfl_chains.proofs.Places.{length-with_links, IsRising-without}
+use Rattle.pfl_chains.proofs.Places.{length-with_links}
 use Rattle.pfl_hash.specs.Entries.{EntryList}
+use Rattle.pfl_order.specs.Entries.{EntryList as TurnList}
 use Rattle.pfl_queue.specs.declared.Kind.{Kind}
 use Rattle.pfl_queue.specs.declared.Kind.TheVariants.{Insert, InsertAck, Update, UpdateShort, Delete}
 use Rattle.pfl_queue.specs.declared.Mark.{Mark}
 use Rattle.pfl_queue.specs.declared.marks.ByName.{ByName}
+use Rattle.pfl_queue.specs.declared.marks.Turn.{Turn}
+use Rattle.pfl_queue.specs.inner.Rising.{IsRising, HasNone as NoNumber, InsertsInOrder, OrderedGap}
 use Rattle.pfl_queue.specs.inner.Slots.{IsIndex, HasNone, key_of}
-use Rattle.pfl_queue.specs.inner.Marked.{by_name, by_name_cmp, by_name_total, by_name_exact, slot_of_link, mark_of_link, mark_name, mark_number, all_links, listed, marks_of, AreOfKind, AreInTurn, AreMarked, IsNew, AreApart}
+use Rattle.pfl_queue.specs.inner.Marked.{by_name, by_name_cmp, by_name_total, by_name_exact, slot_of_link, mark_of_link, mark_name, mark_number, turn_of, turn_cmp, turn_total, turn_exact, all_links, listed, marks_of, AreOfKind, AreInTurn, AreOrdered, AreMarked, IsNew, AreApart}
 use Rattle.pfl_queue.specs.Taking.{kind_place}
+use Rattle.pfl_queue.proofs.Gaps.{IsRising-without, gap-ordered}
 use Rattle.pfl_queue.proofs.Linked.{key_of_row, found-stands, stands-found, others-none, index-get}
 use Rattle.pfl_queue.proofs.Indexed.{index-new, gained, lost}
 use Rattle.pfl_queue.proofs.Joined.{count-all, around, place, each_list}
@@ -70,8 +73,8 @@ apart-marks [] d = tt
 apart-marks (x ∷ links) d = (no-mark links x.value.name d.0, apart-marks links d.1)
 
 -- the marks stand in turn
-pub marked-turn : (c : Lists Mark) (names : EntryList ByName ℕ) → AreMarked c names → AreInTurn c
-marked-turn c names kept = record { five = kept.five; kinds = kept.kinds; rising = kept.rising; apart = apart-marks (all_links c.lists) kept.index.apart }
+pub marked-turn : (c : Lists Mark) (names : EntryList ByName ℕ) (order : TurnList Turn ℕ) → AreMarked c names order → AreInTurn c
+marked-turn c names order kept = record { five = kept.ordered.five; kinds = kept.ordered.kinds; rising = kept.ordered.rising; apart = apart-marks (all_links c.lists) kept.index.apart }
 
 -- a mark more, and one less
 marks-with : (f : List (Link Mark)) (x : Link Mark) (b : List (Link Mark)) → row_at name_cmp mark_name (map mark_of_link (f ++ b)) x.value.name ≡ None
@@ -99,7 +102,7 @@ pub record NamePlace (c : Lists Mark) (slot : ℕ) (name : StateName) : Type 0 w
   pub is : row_at name_cmp (key_of mark_name) (all_links c.lists) name ≡ Some (link slot at.value)
   pub named : at.value.name ≡ name
 
-module _ (c : Lists Mark) (names : EntryList ByName ℕ) (kept : AreMarked c names) where
+module _ (c : Lists Mark) (names : EntryList ByName ℕ) (order : TurnList Turn ℕ) (kept : AreMarked c names order) where
   -- as many marks as links
   pub len-marks : maps.len (marks_of c.lists) ≡ count_of c.lists
   len-marks =
@@ -149,24 +152,33 @@ kind-with : (k : ℕ) (f : List (Link Mark)) (x : Link Mark) (b : List (Link Mar
 kind-with k [] x b is all = (is, all)
 kind-with k (y ∷ f) x b is all = (all.0, kind-with k f x b is all.1)
 
-module _ (c new : Lists Mark) (names now : EntryList ByName ℕ) (kept : AreMarked c names) (name : StateName) (slot : ℕ) (p : NamePlace c slot name)
+module _ (c new : Lists Mark) (names : EntryList ByName ℕ) (order : TurnList Turn ℕ) (kept : AreMarked c names order) (name : StateName) (slot : ℕ) (p : NamePlace c slot name)
     (gone : new ≡ with_links c p.at.list (p.at.front ++ p.at.back)) where
   abbrev gone_link : Link Mark
   gone_link = link slot p.at.value
 
-  pub marked-less : maps.from_sorted {R = by_name_cmp} now.list ≡ maps.remove (maps.from_sorted {R = by_name_cmp} names.list) (record { 0 = name }) → now.limit ≡ names.limit → AreMarked new now
-  marked-less fewer limit =
+  pub marked-less : (now : EntryList ByName ℕ) → maps.from_sorted {R = by_name_cmp} now.list ≡ maps.remove (maps.from_sorted {R = by_name_cmp} names.list) (record { 0 = name }) → now.limit ≡ names.limit
+      → (turns : TurnList Turn ℕ) (turn : Turn) → turn ≡ turn_of p.at.value → maps.from_sorted {R = turn_cmp} turns.list ≡ maps.remove (maps.from_sorted {R = turn_cmp} order.list) turn → turns.limit ≡ order.limit
+      → AreMarked new now turns
+  marked-less now fewer limit turns turn its less_turns turns_limit =
       let at = p.at in
       let a = around c.lists at.list at.front at.back at.within in
       let index = subst (λ (ls : List (Link Mark)). IsIndex by_name_cmp by_name ls (maps.from_sorted names.list)) (a.was (gone_link ∷ []) at.split) kept.index in
       let less = lost by_name_total by_name_exact by_name a.before a.behind slot at.value (maps.from_sorted names.list) (maps.from_sorted now.list) (record { 0 = name }) (named_key name at.value p.named) fewer index in
-      let there : at.list < 5 = omega (arith, at.within, kept.five) in
-      subst (λ (d : Lists Mark). AreMarked d now) (sym gone) (record {
-        five = length-with_links c at.list (at.front ++ at.back) ∙ kept.five;
-        kinds = each_list AreOfKind 5 c at.list (at.front ++ at.back) at.within (kind-without at.list at.front gone_link at.back (subst (AreOfKind at.list) at.split (kept.kinds at.list there))) kept.kinds;
-        rising = each_list (λ k ls. IsRising mark_number ls) 5 c at.list (at.front ++ at.back) at.within (IsRising-without mark_number at.front gone_link at.back (subst (IsRising mark_number) at.split (kept.rising at.list there))) kept.rising;
+      let in_order = subst (λ (ls : List (Link Mark)). IsIndex turn_cmp turn_of ls (maps.from_sorted order.list)) (a.was (gone_link ∷ []) at.split) kept.ordered.turns in
+      let in_less = lost turn_total turn_exact turn_of a.before a.behind slot at.value (maps.from_sorted order.list) (maps.from_sorted turns.list) turn its less_turns in_order in
+      let were = kept.ordered in
+      let there : at.list < 5 = omega (arith, at.within, were.five) in
+      subst (λ (d : Lists Mark). AreMarked d now turns) (sym gone) (record {
+        ordered = record {
+          five = length-with_links c at.list (at.front ++ at.back) ∙ were.five;
+          kinds = each_list AreOfKind 5 c at.list (at.front ++ at.back) at.within (kind-without at.list at.front gone_link at.back (subst (AreOfKind at.list) at.split (were.kinds at.list there))) were.kinds;
+          rising = each_list (λ k ls. IsRising mark_number ls) 5 c at.list (at.front ++ at.back) at.within (IsRising-without mark_number at.front gone_link at.back (subst (IsRising mark_number) at.split (were.rising at.list there))) were.rising;
+          turns = subst (λ (ls : List (Link Mark)). IsIndex turn_cmp turn_of ls (maps.from_sorted turns.list)) (sym (a.now [])) in_less;
+        };
         index = subst (λ (ls : List (Link Mark)). IsIndex by_name_cmp by_name ls (maps.from_sorted now.list)) (sym (a.now [])) less;
         room = limit ∙ kept.room;
+        order_room = turns_limit ∙ kept.order_room;
       })
 
   pub marks-less : marks_of new.lists ≡ maps.remove (marks_of c.lists) name
@@ -186,13 +198,18 @@ module _ (c new : Lists Mark) (names now : EntryList ByName ℕ) (kept : AreMark
 abbrev pub empty_five : (V : Type 0) → List (List (Link V))
 empty_five V = [] ∷ [] ∷ [] ∷ [] ∷ [] ∷ []
 
-pub marked-none : (limit : ℕ) (c : Lists Mark) (names : EntryList ByName ℕ) → c.limit ≡ limit → c.lists ≡ empty_five Mark → names.limit ≡ limit → names.list ≡ [] → AreMarked c names
-marked-none limit c names same lists room none = record {
-  five = ap length lists;
-  kinds = λ k h. subst (AreOfKind k) (sym (each k)) tt;
-  rising = λ k h. subst (IsRising mark_number) (sym (each k)) tt;
+pub marked-none : (limit : ℕ) (c : Lists Mark) (names : EntryList ByName ℕ) (order : TurnList Turn ℕ) → c.limit ≡ limit → c.lists ≡ empty_five Mark → names.limit ≡ limit → names.list ≡ [] → order.limit ≡ limit → order.list ≡ []
+    → AreMarked c names order
+marked-none limit c names order same lists room none order_room no_turn = record {
+  ordered = record {
+    five = ap length lists;
+    kinds = λ k h. subst (AreOfKind k) (sym (each k)) tt;
+    rising = λ k h. subst (IsRising mark_number) (sym (each k)) tt;
+    turns = subst (λ (ls : List (List (Link Mark))). IsIndex turn_cmp turn_of (all_links ls) (maps.from_sorted order.list)) (sym lists) (index-new turn_total turn_exact turn_of order.list no_turn);
+  };
   index = subst (λ (ls : List (List (Link Mark))). IsIndex by_name_cmp by_name (all_links ls) (maps.from_sorted names.list)) (sym lists) (index-new by_name_total by_name_exact by_name names.list none);
   room = room ∙ sym same;
+  order_room = order_room ∙ sym same;
 }
   where
     of_five : (k : ℕ) → get_or (empty_five Mark) k [] ≡ []
@@ -206,48 +223,89 @@ marked-none limit c names same lists room none = record {
     each : (k : ℕ) → links_of c k ≡ []
     each k = ap (λ (ls : List (List (Link Mark))). get_or ls k []) lists ∙ of_five k
 
--- nothing was there
-pub marks-same : (c : Lists Mark) (names : EntryList ByName ℕ) → AreMarked c names → (now : EntryList ByName ℕ) → maps.from_sorted {R = by_name_cmp} now.list ≡ maps.from_sorted {R = by_name_cmp} names.list → now.limit ≡ names.limit
-    → AreMarked c now
-marks-same c names kept now same limit = record {
-  five = kept.five;
-  kinds = kept.kinds;
-  rising = kept.rising;
-  index = subst (IsIndex by_name_cmp by_name (all_links c.lists)) (sym same) kept.index;
-  room = limit ∙ kept.room;
-}
-
 -- where the index had no slot nothing was taken off
-pub removed-none : (c : Lists Mark) (names : EntryList ByName ℕ) → AreMarked c names → (now : EntryList ByName ℕ) (name : StateName) → None ≡ maps.get (maps.from_sorted {R = by_name_cmp} names.list) (record { 0 = name })
-    → maps.from_sorted {R = by_name_cmp} now.list ≡ maps.remove (maps.from_sorted {R = by_name_cmp} names.list) (record { 0 = name }) → now.limit ≡ names.limit → AreMarked c now
-removed-none c names kept now name none is limit =
-    marks-same c names kept now (is ∙ set_at-same by_name_total by_name_exact (maps.from_sorted names.list) (record { 0 = name }) None (sym none)) limit
+pub removed-none : (c : Lists Mark) (names : EntryList ByName ℕ) (order : TurnList Turn ℕ) → AreMarked c names order → (now : EntryList ByName ℕ) (name : StateName) → None ≡ maps.get (maps.from_sorted {R = by_name_cmp} names.list) (record { 0 = name })
+    → maps.from_sorted {R = by_name_cmp} now.list ≡ maps.remove (maps.from_sorted {R = by_name_cmp} names.list) (record { 0 = name }) → now.limit ≡ names.limit → AreMarked c now order
+removed-none c names order kept now name none is limit =
+    let same = is ∙ set_at-same by_name_total by_name_exact (maps.from_sorted names.list) (record { 0 = name }) None (sym none) in
+    record {
+      ordered = kept.ordered;
+      index = subst (IsIndex by_name_cmp by_name (all_links c.lists)) (sym same) kept.index;
+      room = limit ∙ kept.room;
+      order_room = kept.order_room;
+    }
 
-pub none-less : (c : Lists Mark) (names : EntryList ByName ℕ) → AreMarked c names → (name : StateName) → None ≡ maps.get (maps.from_sorted {R = by_name_cmp} names.list) (record { 0 = name }) → marks_of c.lists ≡ maps.remove (marks_of c.lists) name
-none-less c names kept name none = sym (set_at-same names_total names_exact (marks_of c.lists) name None (no-name c names kept name none))
+pub none-less : (c : Lists Mark) (names : EntryList ByName ℕ) (order : TurnList Turn ℕ) → AreMarked c names order → (name : StateName) → None ≡ maps.get (maps.from_sorted {R = by_name_cmp} names.list) (record { 0 = name })
+    → marks_of c.lists ≡ maps.remove (marks_of c.lists) name
+none-less c names order kept name none = sym (set_at-same names_total names_exact (marks_of c.lists) name None (no-name c names order kept name none))
+
+-- ---- a number that no mark has
+
+module _ (c : Lists Mark) (names : EntryList ByName ℕ) (order : TurnList Turn ℕ) (kept : AreMarked c names order) where
+  -- a link's mark stands under its name
+  stands-marked : (f : List (Link Mark)) (x : Link Mark) (b : List (Link Mark)) → all_links c.lists ≡ f ++ x ∷ b → maps.get (marks_of c.lists) x.value.name ≡ Some x.value
+  stands-marked f x b was =
+      let apart = subst (Distinct by_name_cmp (key_of by_name)) was kept.index.apart in
+      let found = ap (λ (ls : List (Link Mark)). row_at by_name_cmp (key_of by_name) ls (by_name x.value)) was ∙ stands-found by_name_total by_name_exact by_name f x b apart in
+      get-marks_of c.lists x.value.name ∙ ap (option_map mark_of_link) (sym (by_name-found (all_links c.lists) x.value.name) ∙ found)
+
+  none_numbered : (n : ℕ) (links : List (Link Mark)) → ((f : List (Link Mark)) (x : Link Mark) (b : List (Link Mark)) → links ≡ f ++ x ∷ b → x.value.number ≢ n) → NoNumber mark_number n links
+  none_numbered n [] out = tt
+  none_numbered n (x ∷ links) out = (
+    out [] x links refl,
+    none_numbered n links (λ f y b is. out (x ∷ f) y b (ap (λ (ls : List (Link Mark)). x ∷ ls) is)),
+  )
+
+  -- no link of a list has it,
+  pub new-number : (k n : ℕ) → k < length c.lists → IsNew (marks_of c.lists) n → NoNumber mark_number n (links_of c k)
+  new-number k n within fresh = none_numbered n (links_of c k) (λ f x b is.
+      let a = around c.lists k f b within in
+      fresh x.value.name x.value (stands-marked a.before x a.behind (a.was (x ∷ []) is)))
+
+  -- and no turn is that of a mark with it
+  pub no-turn : (mark : Mark) → IsNew (marks_of c.lists) mark.number → HasNone turn_cmp turn_of (all_links c.lists) (turn_of mark)
+  no-turn mark fresh = through (row_at turn_cmp (key_of turn_of) (all_links c.lists) (turn_of mark)) refl
+    where
+      through : (at : Option (Link Mark)) → row_at turn_cmp (key_of turn_of) (all_links c.lists) (turn_of mark) ≡ at → at ≡ None
+      through None e = refl
+      through (Some l) e =
+          let s = found-stands turn_cmp turn_of (all_links c.lists) (turn_of mark) l e in
+          let same = key_of_row turn_total turn_exact (key_of turn_of) (all_links c.lists) (turn_of mark) l e in
+          absurd (fresh l.value.name l.value (stands-marked s.front (link l.slot l.value) s.back s.split) (ap (λ (t : Turn). t.number) same))
 
 -- ---- a mark comes
 
-module _ (c new : Lists Mark) (names now : EntryList ByName ℕ) (kept : AreMarked c names) (mark : Mark) (k slot : ℕ) (its : k ≡ kind_place mark.kind) (here : k < length c.lists)
+module _ (c new : Lists Mark) (names : EntryList ByName ℕ) (order : TurnList Turn ℕ) (kept : AreMarked c names order) (mark : Mark) (k slot : ℕ) (its : k ≡ kind_place mark.kind) (here : k < length c.lists)
     (put : InsertsInOrder mark_number (links_of c k) (links_of new k) (link slot mark)) (come : new ≡ with_links c k (links_of new k))
     (off : maps.get (marks_of c.lists) mark.name ≡ None) where
   come_to : new ≡ with_links c k (put.front ++ link slot mark ∷ put.back)
   come_to = come ∙ ap (with_links c k) put.is
 
-  pub marked-more : maps.from_sorted {R = by_name_cmp} now.list ≡ maps.insert (maps.from_sorted {R = by_name_cmp} names.list) (record { 0 = mark.name }) slot → now.limit ≡ names.limit → AreMarked new now
-  marked-more more limit =
+  pub marked-more : IsNew (marks_of c.lists) mark.number
+      → (now : EntryList ByName ℕ) → maps.from_sorted {R = by_name_cmp} now.list ≡ maps.insert (maps.from_sorted {R = by_name_cmp} names.list) (record { 0 = mark.name }) slot → now.limit ≡ names.limit
+      → (turns : TurnList Turn ℕ) (turn : Turn) → turn ≡ turn_of mark → maps.from_sorted {R = turn_cmp} turns.list ≡ maps.insert (maps.from_sorted {R = turn_cmp} order.list) turn slot → turns.limit ≡ order.limit
+      → AreMarked new now turns
+  marked-more fresh now more limit turns turn the_turn more_turns turns_limit =
       let a = around c.lists k put.front put.back here in
       let was : all_links c.lists ≡ a.before ++ a.behind = a.was [] put.was in
       let index = subst (λ (ls : List (Link Mark)). IsIndex by_name_cmp by_name ls (maps.from_sorted names.list)) was kept.index in
       let none = subst (λ (ls : List (Link Mark)). HasNone by_name_cmp by_name ls (by_name mark)) was (no-link c.lists mark.name off) in
       let with_it = gained by_name_total by_name_exact by_name a.before a.behind slot mark (maps.from_sorted names.list) (maps.from_sorted now.list) (record { 0 = mark.name }) refl more index none in
+      let in_order = subst (λ (ls : List (Link Mark)). IsIndex turn_cmp turn_of ls (maps.from_sorted order.list)) was kept.ordered.turns in
+      let no_turn = subst (λ (ls : List (Link Mark)). HasNone turn_cmp turn_of ls (turn_of mark)) was (no-turn c names order kept mark fresh) in
+      let with_turn = gained turn_total turn_exact turn_of a.before a.behind slot mark (maps.from_sorted order.list) (maps.from_sorted turns.list) turn the_turn more_turns in_order no_turn in
       let links = put.front ++ link slot mark ∷ put.back in
-      subst (λ (d : Lists Mark). AreMarked d now) (sym come_to) (record {
-        five = length-with_links c k links ∙ kept.five;
-        kinds = each_list AreOfKind 5 c k links here (kind-with k put.front (link slot mark) put.back (sym its) (subst (AreOfKind k) put.was (kept.kinds k (omega (arith, here, kept.five))))) kept.kinds;
-        rising = each_list (λ j ls. IsRising mark_number ls) 5 c k links here (subst (IsRising mark_number) put.is put.rising) kept.rising;
+      let were = kept.ordered in
+      subst (λ (d : Lists Mark). AreMarked d now turns) (sym come_to) (record {
+        ordered = record {
+          five = length-with_links c k links ∙ were.five;
+          kinds = each_list AreOfKind 5 c k links here (kind-with k put.front (link slot mark) put.back (sym its) (subst (AreOfKind k) put.was (were.kinds k (omega (arith, here, were.five))))) were.kinds;
+          rising = each_list (λ j ls. IsRising mark_number ls) 5 c k links here (subst (IsRising mark_number) put.is put.rising) were.rising;
+          turns = subst (λ (ls : List (Link Mark)). IsIndex turn_cmp turn_of ls (maps.from_sorted turns.list)) (sym (a.now (link slot mark ∷ []))) with_turn;
+        };
         index = subst (λ (ls : List (Link Mark)). IsIndex by_name_cmp by_name ls (maps.from_sorted now.list)) (sym (a.now (link slot mark ∷ []))) with_it;
         room = limit ∙ kept.room;
+        order_room = turns_limit ∙ kept.order_room;
       })
 
   pub marks-more : marks_of new.lists ≡ maps.insert (marks_of c.lists) mark.name mark
@@ -261,8 +319,8 @@ module _ (c new : Lists Mark) (names now : EntryList ByName ℕ) (kept : AreMark
       ∙ ap (λ (ls : List (Link Mark)). maps.insert (map_of name_cmp mark_name (map mark_of_link ls)) mark.name mark) (sym was)))
 
 -- there is a list of each kind
-pub kind-within : (c : Lists Mark) (names : EntryList ByName ℕ) → AreMarked c names → (kind : Kind) (k : ℕ) → k ≡ kind_place kind → k < length c.lists
-kind-within c names kept kind k is = omega (arith, is, at_most_four kind, kept.five)
+pub kind-within : (c : Lists Mark) (order : TurnList Turn ℕ) → AreOrdered c order → (kind : Kind) (k : ℕ) → k ≡ kind_place kind → k < length c.lists
+kind-within c order are kind k is = omega (arith, is, at_most_four kind, are.five)
   where
     at_most_four : (kind : Kind) → kind_place kind ≤ 4
     at_most_four Insert = omega arith
@@ -271,21 +329,15 @@ kind-within c names kept kind k is = omega (arith, is, at_most_four kind, kept.f
     at_most_four UpdateShort = omega arith
     at_most_four Delete = omega arith
 
--- no link of a list has a number that no mark has
-none_numbered : (n : ℕ) (links : List (Link Mark)) → ((f : List (Link Mark)) (x : Link Mark) (b : List (Link Mark)) → links ≡ f ++ x ∷ b → x.value.number ≢ n) → NoNumber mark_number n links
-none_numbered n [] out = tt
-none_numbered n (x ∷ links) out = (
-  out [] x links refl,
-  none_numbered n links (λ f y b is. out (x ∷ f) y b (ap (λ (ls : List (Link Mark)). x ∷ ls) is)),
-)
-
-pub new-number : (c : Lists Mark) (names : EntryList ByName ℕ) → AreMarked c names → (k n : ℕ) → k < length c.lists → IsNew (marks_of c.lists) n → NoNumber mark_number n (links_of c k)
-new-number c names kept k n within fresh = none_numbered n (links_of c k) (λ f x b is.
-    let a = around c.lists k f b within in
-    let was : all_links c.lists ≡ a.before ++ x ∷ a.behind = a.was (x ∷ []) is in
-    let apart = subst (Distinct by_name_cmp (key_of by_name)) was kept.index.apart in
-    let found = ap (λ (ls : List (Link Mark)). row_at by_name_cmp (key_of by_name) ls (by_name x.value)) was ∙ stands-found by_name_total by_name_exact by_name a.before x a.behind apart in
-    fresh x.value.name x.value (get-marks_of c.lists x.value.name ∙ ap (option_map mark_of_link) (sym (by_name-found (all_links c.lists) x.value.name) ∙ found)))
+-- a mark that was put where its turn belongs
+pub put-turn : (c new : Lists Mark) (order : TurnList Turn ℕ) → AreOrdered c order → (mark : Mark) (t : Turn) → t ≡ turn_of mark → (behind : Option ℕ) (gap : OrderedGap mark_number t.number c t.kind behind) (slot : ℕ)
+    → new ≡ with_links c t.kind (gap.front ++ link slot mark ∷ gap.back)
+    → InsertsInOrder mark_number (links_of c (kind_place mark.kind)) (links_of new (kind_place mark.kind)) (link slot mark) × (new ≡ with_links c (kind_place mark.kind) (links_of new (kind_place mark.kind)))
+put-turn c new order are mark t is behind gap slot put =
+    let here = kind-within c order are mark.kind t.kind (ap (λ (u : Turn). u.kind) is) in
+    let rising = are.rising t.kind (omega (arith, here, are.five)) in
+    let done = gap-ordered mark_number t.number c new t.kind behind gap here rising (link slot mark) (sym (ap (λ (u : Turn). u.number) is)) put in
+    subst (λ (u : Turn). InsertsInOrder mark_number (links_of c u.kind) (links_of new u.kind) (link slot mark) × (new ≡ with_links c u.kind (links_of new u.kind))) is done
 
 -- ---- what is set under a name
 

@@ -15,13 +15,13 @@ use Rattle.pfl_edits.proofs.Maps.{entries-empty}
 use Rattle.pfl_edits.proofs.Places.{get-set_at_same, set_at-back}
 use Rattle.pfl_edits.specs.Rows.{map_of}
 use Rattle.pfl_edits.proofs.RowMaps.{Distinct, get-map_of, some_is_none}
-use Rattle.pfl_chains.specs.Lists.{Link, link, Lists, Place, links_of, with_links, first_slot}
-use Rattle.pfl_chains.specs.Order.{IsAbove, IsRising, InsertsInOrder}
-use Rattle.pfl_chains.proofs.Places.{links_of-same}
+use Rattle.pfl_chains.specs.Lists.{Link, link, Lists, Place, links_of, first_slot}
 use Rattle.pfl_queue.specs.declared.Mark.{Mark}
 use Rattle.pfl_queue.specs.inner.Marked.{mark_of_link, mark_name, mark_number, all_links, listed, marks_of, AreOfKind, AreInTurn}
+use Rattle.pfl_queue.specs.inner.Rising.{IsAbove, IsRising}
 use Rattle.pfl_queue.specs.Queues.{Queue, IsQueue}
 use Rattle.pfl_queue.specs.Taking.{kind_place, mark_before}
+use Rattle.pfl_queue.proofs.Gaps.{above_lower}
 use Rattle.pfl_queue.proofs.InTurn.{Stands, before_order, exact, all_stand}
 use Rattle.pfl_queue.proofs.Sorting.{Rises, order-sum, order-all, order-rises, same_rising}
 use Rattle.pfl_queue.proofs.Values.{values_stand, sum_without}
@@ -202,10 +202,6 @@ walk-full c kind most old now next w full =
 
 -- ---- a number that is below those of a list
 
-above_lower : (n m : ℕ) (links : List (Link Mark)) → n < m → IsAbove mark_number m links → IsAbove mark_number n links
-above_lower n m [] less above = tt
-above_lower n m (x ∷ links) less above = (omega (arith, less, above.0), above_lower n m links less above.1)
-
 -- the first link of a list
 pub record First (c : Lists Mark) (kind slot : ℕ) : Type 0 where
   pub at : Place c slot
@@ -225,7 +221,7 @@ pub first-above : (c : Lists Mark) (kind slot n : ℕ) (f : First c kind slot) �
 first-above c kind slot n f rising v is less =
     let r = subst (IsRising mark_number) f.split rising in
     let lower : n < f.at.value.number = omega (arith, less, ap mark_number is) in
-    subst (IsAbove mark_number n) (sym f.split) (lower, above_lower n f.at.value.number f.at.back lower r.0)
+    subst (IsAbove mark_number n) (sym f.split) (lower, above_lower mark_number n f.at.value.number f.at.back lower r.0)
 
 pub none-above : (c : Lists Mark) (kind n : ℕ) → None ≡ first_slot (links_of c kind) → IsAbove mark_number n (links_of c kind)
 none-above c kind n is = through (links_of c kind) is
@@ -233,12 +229,3 @@ none-above c kind n is = through (links_of c kind) is
     through : (links : List (Link Mark)) → None ≡ first_slot links → IsAbove mark_number n links
     through [] found = tt
     through (x ∷ links) found = absurd (some_is_none x.slot (sym found))
-
--- a mark that is put in front
-pub put-first : (c new : Lists Mark) (kind slot : ℕ) (mark : Mark) → kind < length c.lists → IsRising mark_number (links_of c kind) → IsAbove mark_number mark.number (links_of c kind) → new ≡ with_links c kind (link slot mark ∷ links_of c kind)
-    → InsertsInOrder mark_number (links_of c kind) (links_of new kind) (link slot mark) × (new ≡ with_links c kind (links_of new kind))
-put-first c new kind slot mark h rising above is =
-    let links : links_of new kind ≡ link slot mark ∷ links_of c kind = ap (λ (d : Lists Mark). links_of d kind) is ∙ links_of-same c kind (link slot mark ∷ links_of c kind) h in (
-      record { front = []; back = links_of c kind; was = refl; is = links; rising = subst (IsRising mark_number) (sym links) (above, rising) },
-      is ∙ ap (with_links c kind) (sym links),
-    )

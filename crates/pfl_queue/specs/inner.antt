@@ -5,4 +5,5 @@ pub mod Fitting
 pub mod Mapped
 pub mod Marked
 pub mod Parts
+pub mod Rising
 pub mod Slots

@@ -1,17 +1,19 @@
-//! Marks at slots: a list of each kind, in the order of the numbers, and the slot of each name.
+//! Marks at slots: a list of each kind, in the order of the numbers, and the slot of each name and of each turn.
 ghost use Rattle.std.specs.Prelude.{◌≡◌, [], ◌++◌, ◌<◌, ◌≤◌, IfOk, IfSome, IsTrue, None, OnOk, length, map, take};
 ghost use Rattle.pfl_chains.specs.Lists.{count_of, link, links_of, with_links};
-ghost use Rattle.pfl_chains.specs.Order.{HasNone, InsertsInOrder, IsAbove, IsRising};
 ghost use Rattle.pfl_edits.specs.Maps as maps;
 ghost use Rattle.pfl_edits.specs.Maps.{set_at};
-ghost use Rattle.pfl_queue.specs.inner.Marked.{AreApart, AreInTurn, IsNew, listed, mark_number, mark_of_link, marks_of};
+ghost use Rattle.pfl_queue.specs.inner.Marked.{AreApart, AreInTurn, AreOrdered, IsNew, listed, mark_number, mark_of_link, marks_of};
+ghost use Rattle.pfl_queue.specs.inner.Rising.{HasNone, InsertsInOrder, IsAbove, IsBelow, IsRising, OrderedGap};
+ghost use Rattle.pfl_queue.specs.Taking.{kind_place};
 
 use crate::Mark;
-use crate::marks::ByName;
+use crate::marks::{ByName, Turn};
 use pfl_base::StateName;
 use pfl_chains::Chains;
 use pfl_edits::NoMemory;
 use pfl_hash::HashIndex;
+use pfl_order::OrderedMap;
 use std::alloc::{AllocError, Allocator};
 use std::marker::Model;
 
@@ -21,12 +23,13 @@ const KINDS: usize = 5;
 /// The most marks that there can be room for.
 const MOST: usize = 1 << 30;
 
-/// Marks at slots: a list of each kind, in the order of the numbers, and the slot of each name. All room is made by `new`
-/// and by `copy`.
+/// Marks at slots: a list of each kind, in the order of the numbers, and the slot of each name and of each turn, so that
+/// where a mark belongs is found in time in the logarithm of what stands. All room is made by `new` and by `copy`.
 #[derive(Drop)]
 pub(crate) struct Marks<A: Allocator> {
     queues: Chains<Mark, A>,
     names: HashIndex<ByName, usize, A>,
+    order: OrderedMap<Turn, usize, A>,
 }
 
 impl<A: Allocator> Model for Marks<A> {
@@ -38,7 +41,7 @@ impl<A: Allocator> Model for Marks<A> {
 
     ghost view = { λ m. m.queues };
 
-    ghost invariant = { λ m. AreMarked m.queues m.names };
+    ghost invariant = { λ m. AreMarked m.queues m.names m.order };
 }
 
 impl<A: Allocator + Copy> Marks<A> {
@@ -52,7 +55,12 @@ impl<A: Allocator + Copy> Marks<A> {
         }
         let queues = Chains::new(alloc, KINDS, limit)?;
         let names = HashIndex::new(alloc, limit)?;
-        Ok(Marks { queues, names })
+        let order = OrderedMap::new(alloc, limit)?;
+        Ok(Marks {
+            queues,
+            names,
+            order,
+        })
     }
 
     /// The same marks, with room of their own.
@@ -61,7 +69,12 @@ impl<A: Allocator + Copy> Marks<A> {
     {
         let queues = self.queues.copy()?;
         let names = self.names.copy()?;
-        Ok(Marks { queues, names })
+        let order = self.order.copy()?;
+        Ok(Marks {
+            queues,
+            names,
+            order,
+        })
     }
 }
 
@@ -106,7 +119,8 @@ impl<A: Allocator> Marks<A> {
     {
         match self.names.remove(ByName(name)) {
             Some(slot) => {
-                let _gone = self.queues.remove(slot);
+                let gone = self.queues.remove(slot);
+                self.order.remove(Turn::of(&gone));
             }
             None => {}
         }
@@ -120,9 +134,9 @@ impl<A: Allocator> Marks<A> {
         ensures marks { marks_of self.new.lists ≡ maps.insert (marks_of self.old.lists) mark.name mark }
         ensures limit { self.new.limit ≡ self.old.limit }
     {
-        let kind = mark.kind.place() as usize;
-        let slot = put_in_order(&mut self.queues, kind, mark);
+        let slot = put_in_order(&mut self.queues, &self.order, mark);
         self.names.insert(ByName(mark.name), slot);
+        self.order.insert(Turn::of(&mark), slot);
     }
 }
 
@@ -138,20 +152,42 @@ impl<A: Allocator + Copy> Marks<A> {
     }
 }
 
-/// Puts a mark into a list, at the place of its number. Gives its slot, which no list had. It looks at the list's front,
-/// where marks belong that a frame had taken, and then from its end.
-fn put_in_order<A: Allocator>(queues: &mut Chains<Mark, A>, kind: usize, mark: Mark) -> usize
-    requires kind { kind < length queues.old.lists }
+/// Puts a mark into the list of its kind, at the place of its number. Gives its slot, which no list had.
+fn put_in_order<A: Allocator>(
+    queues: &mut Chains<Mark, A>,
+    order: &OrderedMap<Turn, usize, A>,
+    mark: Mark,
+) -> usize
+    requires ordered { AreOrdered queues.old order.now }
     requires room { count_of queues.old.lists < queues.old.limit }
-    requires rising { IsRising mark_number (links_of queues.old kind) }
-    requires new { HasNone mark_number mark.number (links_of queues.old kind) }
-    ensures inserted { InsertsInOrder mark_number (links_of queues.old kind) (links_of queues.new kind) (link result mark) }
-    ensures others { queues.new ≡ with_links queues.old kind (links_of queues.new kind) }
+    requires new { HasNone mark_number mark.number (links_of queues.old (kind_place mark.kind)) }
+    ensures inserted { InsertsInOrder mark_number (links_of queues.old (kind_place mark.kind)) (links_of queues.new (kind_place mark.kind)) (link result mark) }
+    ensures others { queues.new ≡ with_links queues.old (kind_place mark.kind) (links_of queues.new (kind_place mark.kind)) }
 {
-    if belongs_first(queues, kind, mark.number) {
-        return queues.insert_after(kind, None, mark);
+    let turn = Turn::of(&mark);
+    let behind = place_of(queues, order, turn);
+    queues.insert_after(turn.kind, behind, mark)
+}
+
+/// Behind which slot of its list a turn belongs: None is in front of the first. The list's ends are looked at before the
+/// order is searched: marks that a frame had taken belong in front, and a new mark at the end.
+fn place_of<A: Allocator>(
+    queues: &Chains<Mark, A>,
+    order: &OrderedMap<Turn, usize, A>,
+    turn: Turn,
+) -> Option<usize>
+    requires ordered { AreOrdered queues.now order.now }
+    requires kind { turn.kind < length queues.now.lists }
+    requires new { HasNone mark_number turn.number (links_of queues.now turn.kind) }
+    ensures gap { OrderedGap mark_number turn.number queues.now turn.kind result }
+{
+    if belongs_first(queues, turn.kind, turn.number) {
+        return None;
     }
-    queues.insert_in_order(kind, mark)
+    if belongs_last(queues, turn.kind, turn.number) {
+        return queues.last(turn.kind);
+    }
+    behind(queues, order, turn)
 }
 
 /// A number is below those of a list.
@@ -163,6 +199,43 @@ fn belongs_first<A: Allocator>(queues: &Chains<Mark, A>, kind: usize, number: u6
     match queues.first(kind) {
         Some(slot) => number < queues.value(slot).number,
         None => true,
+    }
+}
+
+/// A number is above those of a list.
+fn belongs_last<A: Allocator>(queues: &Chains<Mark, A>, kind: usize, number: u64) -> bool
+    requires kind { kind < length queues.now.lists }
+    requires rising { IsRising mark_number (links_of queues.now kind) }
+    ensures last { IsTrue result → IsBelow mark_number number (links_of queues.now kind) }
+{
+    match queues.last(kind) {
+        Some(slot) => queues.value(slot).number < number,
+        None => true,
+    }
+}
+
+/// Behind which slot of its list a turn belongs, by the first turn above it: that is of the same list, or else the turn
+/// belongs at the list's end.
+fn behind<A: Allocator>(
+    queues: &Chains<Mark, A>,
+    order: &OrderedMap<Turn, usize, A>,
+    turn: Turn,
+) -> Option<usize>
+    requires ordered { AreOrdered queues.now order.now }
+    requires kind { turn.kind < length queues.now.lists }
+    requires new { HasNone mark_number turn.number (links_of queues.now turn.kind) }
+    ensures gap { OrderedGap mark_number turn.number queues.now turn.kind result }
+{
+    order.known();
+    match order.after(turn) {
+        Some((above, next)) => {
+            if above.kind == turn.kind {
+                queues.previous(next)
+            } else {
+                queues.last(turn.kind)
+            }
+        }
+        None => queues.last(turn.kind),
     }
 }
 

@@ -1,11 +1,12 @@
-//! Marks under their names and in the order of their numbers, and the places of kinds in a frame.
+//! What marks are found by: their names, and their turns in a frame.
 ghost use Rattle.std.specs.Prelude.{◌≡◌};
-ghost use Rattle.pfl_queue.specs.inner.Marked.{by_name_cmp, by_name_hash, by_name_total, by_name_exact};
+ghost use Rattle.pfl_queue.specs.inner.Marked.{by_name_cmp, by_name_hash, by_name_total, by_name_exact, turn_cmp, turn_total, turn_exact, turn_of};
 
 use crate::{Kind, Mark};
 use pfl_base::StateName;
-use pfl_chains::Numbered;
 use pfl_hash::{Hashed, mix};
+use pfl_order::Ordered;
+use std::cmp::Ordering;
 
 /// A name, by which a mark is found.
 #[derive(Clone, Copy)]
@@ -29,14 +30,38 @@ impl Hashed for ByName {
     ghost exact = { by_name_exact };
 }
 
-impl Numbered for Mark {
-    ghost use Rattle.pfl_queue.specs.inner.Marked.{mark_number};
+/// A mark's turn in a frame: by the place of its kind, and then by its number.
+#[derive(Clone, Copy)]
+pub(crate) struct Turn {
+    pub(crate) kind: usize,
+    pub(crate) number: u64,
+}
 
-    ghost number = { mark_number };
-
-    fn number(&self) -> u64 {
-        self.number
+impl Turn {
+    /// The turn of a mark.
+    pub(crate) fn of(mark: &Mark) -> Turn
+        ensures turn { result ≡ turn_of mark.now }
+    {
+        Turn {
+            kind: mark.kind.place() as usize,
+            number: mark.number,
+        }
     }
+}
+
+impl Ordered for Turn {
+    ghost order = { turn_cmp };
+
+    fn compare(self, other: Turn) -> Ordering {
+        match self.kind.cmp(&other.kind) {
+            Ordering::Equal => self.number.cmp(&other.number),
+            apart => apart,
+        }
+    }
+
+    ghost total = { turn_total };
+
+    ghost exact = { turn_exact };
 }
 
 impl Kind {

@@ -1,26 +1,17 @@
 //! Lists linked by slots: each call once, a link that goes back to its place, and want of memory.
-ghost use Rattle.std.specs.Prelude.{◌≡◌, ◌∷◌, ◌++◌, ◌<◌, length};
-ghost use Rattle.pfl_chains.specs.Lists.{Place, link, links_of, with_links};
-ghost use Rattle.pfl_chains.specs.Order.{IsRising};
+ghost use Rattle.std.specs.Prelude.{◌≡◌, ◌∷◌, ◌++◌};
+ghost use Rattle.pfl_chains.specs.Lists.{Place, link, with_links};
 
 use linked_list_allocator::LocalHeap;
-use pfl_chains::{Chains, Numbered};
+use pfl_chains::Chains;
 use std::alloc::{Allocator, Global};
 use std::test::*;
 use test_devices::Refusing;
 
-/// A value whose number is itself.
+/// A value that is a number.
 #[derive(Clone, Copy)]
 struct Entry {
     number: u64,
-}
-
-impl Numbered for Entry {
-    ghost number = { λ e. e.number };
-
-    fn number(&self) -> u64 {
-        self.number
-    }
 }
 
 /// The numbers of a list, from its first link to its last.
@@ -70,28 +61,23 @@ fn links_keep_their_order(rt: HostRuntime) -> Result<(), Fail> {
     Ok(())
 }
 
-/// Takes a link out of a list in order, and puts it back by its number. It then stands where it stood.
-fn put_back<V: Copy + Numbered, A: Allocator>(
-    chains: &mut Chains<V, A>,
-    list: usize,
-    slot: usize,
-) -> usize
-    requires list { list < length chains.old.lists }
+/// Takes a link out of a list, and puts it back behind the one that stood before it. It then stands where it stood.
+fn put_back<V: Copy, A: Allocator>(chains: &mut Chains<V, A>, list: usize, slot: usize) -> usize
     requires stands { (at : Place chains.old slot) × (at.list ≡ list) }
-    requires rising { IsRising V.number (links_of chains.old list) }
-    ensures back { (at : Place chains.old slot) → chains.new ≡ with_links chains.old list (at.front ++ link result at.value ∷ at.back) }
+    ensures back { (at : Place chains.old slot) → chains.new ≡ with_links chains.old at.list (at.front ++ link result at.value ∷ at.back) }
 {
     chains.known();
+    let behind = chains.previous(slot);
     let entry = chains.remove(slot);
-    chains.insert_in_order(list, entry)
+    chains.insert_after(list, behind, entry)
 }
 
 #[test]
-fn a_number_goes_back_to_its_place(rt: HostRuntime) -> Result<(), Fail> {
+fn a_link_goes_back_to_its_place(rt: HostRuntime) -> Result<(), Fail> {
     let mut chains = Chains::new(rt.alloc(), 1, 2)?;
-    chains.insert_in_order(0, Entry { number: 7 });
+    chains.push_back(0, Entry { number: 7 });
     assert!(rt; 0 < chains.lists() && !chains.is_full());
-    let four = chains.insert_in_order(0, Entry { number: 4 });
+    let four = chains.insert_after(0, None, Entry { number: 4 });
     let copied = chains.copy()?;
     assert!(rt; chains.value(four).number == 4);
     put_back(&mut chains, 0, four);

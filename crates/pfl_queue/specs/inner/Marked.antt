@@ -1,12 +1,13 @@
--- Marks at slots: a list of each kind, in which the numbers rise, and the slot of each name. No contract of a public call cites
--- this.
+-- Marks at slots: a list of each kind, in which the numbers rise, and the slot of each name and of each turn. No contract of a
+-- public call cites this.
 use Rattle.std.specs.Prelude.{◌≡◌, ◌≢◌, ℕ, ◌<◌, List, [], ◌∷◌, ◌++◌, length, map, Some}
 use Rattle.std.specs.declared.cmp.Ordering.{Ordering}
-use Rattle.std.specs.Ordering.{on}
-use Rattle.std.specs.Cmp.{IsTotalOrder}
+use Rattle.std.specs.Ordering.{nat_cmp, on, then_cmp}
+use Rattle.std.specs.Cmp.{IsTotalOrder, nat_cmp_total}
 use Rattle.std.specs.FinMap.{IsAntisymmetric}
 use Rattle.std.proofs.Common.{ap}
-use Rattle.std.proofs.lemmas.Cmp.{on_total}
+use Rattle.std.proofs.lemmas.Cmp.{on_total, then_total}
+use Rattle.std.proofs.lemmas.Map.Lookups.{exact_pairs, exact_unsigned}
 use Rattle.pfl_base.specs.declared.state_name.StateName.{StateName}
 use Rattle.pfl_base.specs.Names.{name_cmp}
 use Rattle.pfl_base.proofs.Names.{names_total, names_exact}
@@ -15,15 +16,17 @@ use Rattle.pfl_edits.specs.Maps.{Map}
 use Rattle.pfl_edits.specs.Rows.{map_of}
 use Rattle.pfl_edits.proofs.RowMaps.{Distinct}
 use Rattle.pfl_chains.specs.Lists.{Link, Lists, links_of}
-use Rattle.pfl_chains.specs.Order.{IsRising}
 use Rattle.pfl_hash.specs.Entries.{EntryList}
 use Rattle.pfl_hash.specs.Hashes.{mixed}
+use Rattle.pfl_order.specs.Entries.{EntryList as TurnList}
 use Rattle.pfl_queue.specs.declared.Mark.{Mark}
 use Rattle.pfl_queue.specs.declared.marks.ByName.{ByName}
+use Rattle.pfl_queue.specs.declared.marks.Turn.{Turn}
+use Rattle.pfl_queue.specs.inner.Rising.{IsRising}
 use Rattle.pfl_queue.specs.inner.Slots.{IsIndex}
 use Rattle.pfl_queue.specs.Taking.{kind_place}
 
--- ---- what the index goes by
+-- ---- what the indexes go by
 
 -- the key that a mark stands under: its name
 abbrev pub by_name : Mark → ByName
@@ -44,6 +47,23 @@ by_name_total = on_total (λ n. n.0) names_total
 -- and names that compare as equal are one
 pub by_name_exact : IsAntisymmetric by_name_cmp
 by_name_exact a b e = ap (λ (n : StateName). record { 0 = n }) (names_exact a.0 b.0 e)
+
+-- the turn of a mark: the place of its kind, and its number
+abbrev pub turn_of : Mark → Turn
+turn_of m = record { kind = kind_place m.kind; number = m.number }
+
+-- by kind, and then by number
+abbrev pub turn_cmp : Turn → Turn → Ordering
+turn_cmp = then_cmp (on (λ t. t.kind) nat_cmp) (on (λ t. t.number) nat_cmp)
+
+-- the order is total,
+pub turn_total : IsTotalOrder turn_cmp
+turn_total = then_total (on_total (λ t. t.kind) nat_cmp_total) (on_total (λ t. t.number) nat_cmp_total)
+
+-- and turns that compare as equal are one
+pub turn_exact : IsAntisymmetric turn_cmp
+turn_exact a b e =
+    ap (λ (p : ℕ × ℕ). record { kind = p.0; number = p.1 }) (exact_pairs nat_cmp nat_cmp exact_unsigned exact_unsigned (a.kind, a.number) (b.kind, b.number) e)
 
 -- ---- marks at slots
 
@@ -81,13 +101,19 @@ abbrev pub AreOfKind : ℕ → List (Link Mark) → Type 0
 AreOfKind k [] = Unit {0}
 AreOfKind k (x ∷ links) = (kind_place x.value.kind ≡ k) × AreOfKind k links
 
--- the marks stand in the list of their kind, in the order of their numbers, and the index has the slot of each
-pub record AreMarked (c : Lists Mark) (names : EntryList ByName ℕ) : Type 0 where
+-- the marks stand in the list of their kind, in the order of their numbers, and the map has the slot of each turn
+pub record AreOrdered (c : Lists Mark) (order : TurnList Turn ℕ) : Type 0 where
   pub five : length c.lists ≡ 5
   pub kinds : (k : ℕ) → k < 5 → AreOfKind k (links_of c k)
   pub rising : (k : ℕ) → k < 5 → IsRising mark_number (links_of c k)
+  pub turns : IsIndex turn_cmp turn_of (all_links c.lists) (maps.from_sorted order.list)
+
+-- besides, the index has the slot of each name, and there is as much room for names and turns as for marks
+pub record AreMarked (c : Lists Mark) (names : EntryList ByName ℕ) (order : TurnList Turn ℕ) : Type 0 where
+  pub ordered : AreOrdered c order
   pub index : IsIndex by_name_cmp by_name (all_links c.lists) (maps.from_sorted names.list)
   pub room : names.limit ≡ c.limit
+  pub order_room : order.limit ≡ c.limit
 
 -- what is true of all marks at slots
 pub record AreInTurn (c : Lists Mark) : Type 0 where
