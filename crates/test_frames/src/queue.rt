@@ -223,5 +223,5 @@ fn wanting_over(alloc: Global, bytes: usize) -> Option<([Option<NoMemory>; 3], u
 #[test]
 fn want_of_memory_changes_nothing(rt: HostRuntime) {
     let each = [Some(NoMemory), Some(NoMemory), Some(NoMemory)];
-    assert!(rt; wanting_over(rt.alloc(), 1600) == Some((each, 6, 7)));
+    assert!(rt; wanting_over(rt.alloc(), 2048) == Some((each, 6, 7)));
 }
