@@ -2,12 +2,15 @@
 
 ghost use Rattle.std.specs.Prelude.{◌≡◌, IfOk};
 ghost use Rattle.std.specs.Borrow.{sem};
-ghost use Rattle.pfl_parts.specs.Nodes.{IsNode};
+ghost use Rattle.pfl_parts.specs.Limits.{AreLimits};
+ghost use Rattle.pfl_parts.specs.Nodes.{IsNode, new_node};
 ghost use Rattle.pfl_world.specs.Worlds.{of_name};
 
 use pfl_base::NodeId;
 use pfl_edits::NoMemory;
 use pfl_node::Node;
+use pfl_parts::Limits;
+use pfl_rules::RuleSet;
 use std::alloc::Allocator;
 use std::marker::Model;
 
@@ -30,6 +33,22 @@ impl<A: Allocator> Model for Nodes<A> {
 }
 
 impl<A: Allocator + Copy> Nodes<A> {
+    /// The nodes of a pair before any event, with a rule set each. Their first boots have the numbers 1 and 2.
+    pub(crate) fn new(
+        alloc: A,
+        limits: Limits,
+        rules_a: RuleSet<A>,
+        rules_b: RuleSet<A>,
+    ) -> Result<Self, NoMemory>
+        requires limits { AreLimits limits }
+        ensures a { IfOk result (λ ns. ns.a ≡ new_node limits rules_a 1 1 0) }
+        ensures b { IfOk result (λ ns. ns.b ≡ new_node limits rules_b 2 1 0) }
+    {
+        let a = Node::new(alloc, limits, rules_a, 1)?;
+        let b = Node::new(alloc, limits, rules_b, 2)?;
+        Ok(Nodes { a, b })
+    }
+
     /// Equal nodes, with memory of their own.
     pub(crate) fn copy(&self) -> Result<Self, NoMemory>
         ensures same { IfOk result (λ copied. copied ≡ self.now) }

@@ -65,12 +65,12 @@ impl<A: Allocator + Copy> World<A> {
         requires limits { AreLimits limits }
         ensures new { IfOk result (λ w. w ≡ new_world limits rules_a rules_b) }
     {
-        let a = Node::new(alloc, limits, rules_a, 1)?;
-        let b = Node::new(alloc, limits, rules_b, 2)?;
+        // The link comes first: where the nodes find no memory, it is all that has to be given back.
         let link = Link::new(alloc, limits.frames as usize)?;
+        let nodes = Nodes::new(alloc, limits, rules_a, rules_b)?;
         Ok(World {
             alloc,
-            nodes: Nodes { a, b },
+            nodes,
             link,
             next_boot: 3,
         })
@@ -80,10 +80,12 @@ impl<A: Allocator + Copy> World<A> {
     pub fn copy(&self) -> Result<Self, NoMemory>
         ensures same { IfOk result (λ copied. copied ≡ self.now) }
     {
+        let link = self.link.copy_all()?;
+        let nodes = self.nodes.copy()?;
         Ok(World {
             alloc: self.alloc,
-            nodes: self.nodes.copy()?,
-            link: self.link.copy_all()?,
+            nodes,
+            link,
             next_boot: self.next_boot,
         })
     }
