@@ -1,5 +1,5 @@
 //! Entries one after another, wherever they are kept.
-ghost use Rattle.std.specs.Prelude.{◌≡◌, [], ◌∷◌, MatchOption};
+ghost use Rattle.std.specs.Prelude.{◌≡◌, [], ◌∷◌, ◌++◌, MatchOption};
 ghost use Rattle.std.specs.Iterator.{YieldsFirstRef, item_count};
 ghost use Rattle.pfl_edits.specs.Linked.{entries_from, next_of as next_in};
 
@@ -22,6 +22,7 @@ pub struct Node {
 #[derive(Drop)]
 pub struct InOrder<'a, X> {
     rest: &'a [X],
+    back: &'a [X],
     linked: Option<Linked<'a, X>>,
 }
 
@@ -31,7 +32,7 @@ impl<'a, X> Model for InOrder<'a, X> {
 
     ghost Value = { List X };
 
-    ghost view = { λ entries. entries.rest.now ++ unwrap_or entries.linked [] };
+    ghost view = { λ entries. entries.rest.now ++ entries.back.now ++ unwrap_or entries.linked [] };
 }
 
 impl<'a, X> InOrder<'a, X> {
@@ -39,8 +40,16 @@ impl<'a, X> InOrder<'a, X> {
     pub fn of(entries: &'a [X]) -> InOrder<'a, X>
         ensures entries { result ≡ entries.now }
     {
+        InOrder::of_slices(entries, &entries[..0])
+    }
+
+    /// The entries of two slices, one after the other: those of a queue, say, whose room is a ring.
+    pub fn of_slices(front: &'a [X], back: &'a [X]) -> InOrder<'a, X>
+        ensures entries { result ≡ front.now ++ back.now }
+    {
         InOrder {
-            rest: entries,
+            rest: front,
+            back,
             linked: None,
         }
     }
@@ -57,6 +66,7 @@ impl<'a, X> InOrder<'a, X> {
         };
         InOrder {
             rest: &values[..0],
+            back: &values[..0],
             linked: Some(linked),
         }
     }
@@ -72,6 +82,10 @@ impl<'a, X> Iterator for InOrder<'a, X> {
     fn next(&mut self) -> Option<&'a X> {
         if let Some((first, others)) = self.rest.split_first() {
             self.rest = others;
+            return Some(first);
+        }
+        if let Some((first, others)) = self.back.split_first() {
+            self.back = others;
             return Some(first);
         }
         let (first, others) = self.linked.take()?.step()?;

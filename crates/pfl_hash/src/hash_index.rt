@@ -148,7 +148,7 @@ impl<K: Hashed, V: Copy, A: Allocator> HashIndex<K, V, A> {
         self.set(key, None)
     }
 
-    /// Lets what stands under one key stand under another.
+    /// Lets what stands under one key stand under another, in the place of what stood there.
     pub fn rename(&mut self, was: K, key: K)
         ensures renamed { entry_map K.order self.new.list ≡ renamed K.order (entry_map K.order self.old.list) was key }
         ensures limit { self.new.limit ≡ self.old.limit }

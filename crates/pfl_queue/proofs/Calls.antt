@@ -1,11 +1,12 @@
 -- Whatever is called, the queues are queues.
-use Rattle.std.proofs.Common.{◌≡◌, true, false, List, [], ◌∷◌, ◌++◌, Some, None, is_some, refl, arith}
+use Rattle.std.proofs.Common.{◌≡◌, true, false, List, [], ◌∷◌, ◌++◌, Some, None, is_some, nat_lt, refl, arith}
 use Rattle.std.specs.Prelude.{if◌then◌else◌}
 use Rattle.std.specs.List.{fold}
+use Rattle.std.proofs.lemmas.Bool.Decides.{nat_tests}
 use Rattle.pfl_queue.specs.declared.Entry.{Entry}
-use Rattle.pfl_queue.specs.Queues.{Queue, IsQueue, marked, is_requested, with_status, with_clear, mark_fault, list_fault}
+use Rattle.pfl_queue.specs.Queues.{Queue, IsQueue, marked, is_requested, with_status, with_clear, room_fault, most_numbers, mark_fault, list_fault}
 use Rattle.pfl_queue.specs.Taking.{gone, left_by, next_frame}
-use Rattle.pfl_queue.specs.Laws.{Call, Marking, Unmarking, Asking, Telling, Clearing, Sending, called, NothingTwice, NothingTwiceAfterCalls}
+use Rattle.pfl_queue.specs.Laws.{Call, Marking, MarkingOn, Unmarking, Asking, Telling, Clearing, Sending, called, NothingTwice, NothingTwiceAfterCalls}
 use Rattle.pfl_queue.proofs.Keeping.{empty_kept, has_room, has_number, marked_kept, unmarked_kept, request_kept, status_kept, clear_kept, gone_kept}
 use Rattle.pfl_queue.proofs.Values.{one_name_each, one_number_each}
 
@@ -16,6 +17,13 @@ left_kept (e ∷ es) q is = left_kept es (gone q e) (gone_kept q is e)
 called_kept : (q : Queue) → IsQueue q → (c : Call) → IsQueue (called q c)
 called_kept q is (Marking name kind) = elim (mark_fault q name) as (λ o. mark_fault q name ≡ o → IsQueue (if is_some o then q else marked q name kind)) [
   | None ↦ λ free. marked_kept q is name kind (has_room q name free) (has_number q name free)
+  | Some fault ↦ λ free. is
+] refl
+called_kept q is (MarkingOn name kind) = elim (room_fault q name) as (λ o. room_fault q name ≡ o → IsQueue (if is_some o then q else if nat_lt q.next most_numbers then marked q name kind else q)) [
+  | None ↦ λ free. elim (nat_lt q.next most_numbers) as (λ b. nat_lt q.next most_numbers ≡ b → IsQueue (if b then marked q name kind else q)) [
+    | true ↦ λ low. marked_kept q is name kind free (grind (arith, nat_tests))
+    | false ↦ λ high. is
+  ] refl
   | Some fault ↦ λ free. is
 ] refl
 called_kept q is (Unmarking name) = unmarked_kept q is name

@@ -15,7 +15,7 @@ use Rattle.pfl_queue.specs.declared.Mark.{Mark}
 use Rattle.pfl_queue.specs.Edits.{FindsFormer, Finds, redone, put_back, QueueLeadsBack, taking}
 use Rattle.pfl_queue.proofs.Leading.{redone-leads_back}
 use Rattle.pfl_queue.specs.Queues.{Queue, IsQueue, unmarked}
-use Rattle.pfl_queue.specs.Taking.{mark_before, entry_of, clear_of, in_turn, gone, left_by}
+use Rattle.pfl_queue.specs.Taking.{mark_before, entry_of, clear_of, in_turn, gone, left_by, next_frame}
 use Rattle.pfl_queue.specs.inner.Fitting.{longest}
 use Rattle.pfl_queue.specs.Laws.{FramesTakeFromTheFront}
 use Rattle.pfl_queue.proofs.Fitting.{next_frame-longest}
@@ -144,7 +144,8 @@ module _ (q : Queue) (is : IsQueue q) (e : Entry) (rest : List Entry) where
 pub first_found : (q : Queue) → IsQueue q → (e : Entry) (rest : List Entry) → in_turn q ≡ e ∷ rest → FindsFormer (taking e) q
 first_found q is e rest turn = found_mark q is e rest (in_order mark_before (maps.values q.marks)) refl turn
 
-without_first : {X : Type 0} (xs : List X) → remove xs 0 ≡ drop 1 xs
+-- a list without its first entry
+pub without_first : {X : Type 0} (xs : List X) → remove xs 0 ≡ drop 1 xs
 without_first [] = refl
 without_first (x ∷ xs) = refl
 
@@ -161,6 +162,12 @@ next_stays q (Request name) = refl
 next_stays q (Status status) = refl
 next_stays q (Clear creator bound) = refl
 
+limit_stays : (q : Queue) (e : Entry) → (gone q e).limit ≡ q.limit
+limit_stays q (Marked kind number name) = refl
+limit_stays q (Request name) = refl
+limit_stays q (Status status) = refl
+limit_stays q (Clear creator bound) = refl
+
 -- the edits of the first entries lead back from what they leave
 pub frame_leads_back : (es : List Entry) (q : Queue) → IsQueue q → (rest : List Entry) → es ++ rest ≡ in_turn q → QueueLeadsBack (map taking es) q (left_by q es)
 frame_leads_back [] q is rest turn = LeadsBack-none Finds IsQueue put_back q
@@ -175,9 +182,18 @@ all_gone : (es : List Entry) (q : Queue) → IsQueue q → (rest : List Entry) �
 all_gone [] q is rest turn = sym turn
 all_gone (e ∷ es) q is rest turn = all_gone es (gone q e) (gone_kept q is e) rest (sym (front_gone q is e (es ++ rest) (sym turn)))
 
+-- taking entries out leaves the room and the next number
+all_stay : (es : List Entry) (q : Queue) → ((left_by q es).limit ≡ q.limit) × ((left_by q es).next ≡ q.next)
+all_stay [] q = (refl, refl)
+all_stay (e ∷ es) q = let later = all_stay es (gone q e) in (later.0 ∙ limit_stays q e, later.1 ∙ next_stays q e)
+
 pub frames_take_from_the_front : FramesTakeFromTheFront
 frames_take_from_the_front q mtu is =
     let begins = longest_begins (in_turn q) mtu in
     let frame = next_frame-longest q mtu in
-    ap (λ es. es ++ in_turn (left_by q es)) frame
-    ∙ (ap (λ ys. longest (in_turn q) mtu ++ ys) (all_gone (longest (in_turn q) mtu) q is begins.rest begins.is) ∙ begins.is)
+    let same = all_stay (next_frame q mtu) q in (
+      ap (λ es. es ++ in_turn (left_by q es)) frame
+          ∙ (ap (λ ys. longest (in_turn q) mtu ++ ys) (all_gone (longest (in_turn q) mtu) q is begins.rest begins.is) ∙ begins.is),
+      same.0,
+      same.1,
+    )

@@ -54,7 +54,8 @@ none_passes : (p : StateName → Bool) (names : List StateName) → list_any p n
 none_passes p [] e = tt
 none_passes p (n ∷ names) e = let both = either (p n) (list_any p names) e in (both.0, none_passes p names both.1)
 
-same_other_way : (a b : StateName) → is_name a b ≡ is_name b a
+-- a name is another, whichever is asked of which
+pub same_other_way : (a b : StateName) → is_name a b ≡ is_name b a
 same_other_way a b = elim (is_name a b) as (λ t. is_name a b ≡ t → t ≡ is_name b a) [
   | true ↦ λ t. sym (is_name-itself b a (sym (is_name-same a b t)))
   | false ↦ λ t. elim (is_name b a) as (λ u. is_name b a ≡ u → false ≡ u) [

@@ -1,4 +1,4 @@
--- The slots of values by a key of each, when a value comes or goes.
+-- What an index has of values, by a key of each, when a value comes or goes.
 use Rattle.std.specs.Prelude.{◌≡◌, ℕ, true, false, List, [], ◌∷◌, ◌++◌, length, Some, None, refl}
 use Rattle.std.specs.Option.{option_map}
 use Rattle.std.specs.declared.cmp.Ordering.{Ordering}
@@ -14,7 +14,7 @@ use Rattle.pfl_chains.specs.Lists.{Link}
 use Rattle.pfl_chains.proofs.Places.{Stands}
 use Rattle.pfl_queue.specs.inner.Mapped.{map_values}
 use Rattle.pfl_queue.proofs.Mapped.{get-map_values, len-map_values, map_values-set_at, map_values-empty}
-use Rattle.pfl_queue.specs.inner.Slots.{key_of, slots_of, IsIndex, HasNone}
+use Rattle.pfl_queue.specs.inner.Slots.{key_of, IsIndexOf, IsIndex, HasNone}
 
 module _ {K X : Type 0} {R : K → K → Ordering} (o : IsTotalOrder R) (exact : IsAntisymmetric R) (key : X → K) where
   -- a row that a scan finds has the key
@@ -57,21 +57,53 @@ module _ {V K : Type 0} (R : K → K → Ordering) (key : V → K) where
         | false ↦ λ is. stands-later x l.slot links l.value (found-stands links q l is)
       ] e
 
-module _ {V K : Type 0} {R : K → K → Ordering} (o : IsTotalOrder R) (exact : IsAntisymmetric R) (key : V → K) where
-  get-slots_of : (links : List (Link V)) (q : K) → maps.get (slots_of R key links) q ≡ option_map (λ l. l.slot) (row_at R (key_of key) links q)
-  get-slots_of links q = get-map_values R (λ (l : Link V). l.slot) (map_of R (key_of key) links) q ∙ ap (option_map (λ (l : Link V). l.slot)) (get-map_of o exact (key_of key) links q)
+-- An index of values, by a key of each: `made` says what it has of each.
+module _ {X K Y : Type 0} {R : K → K → Ordering} (o : IsTotalOrder R) (exact : IsAntisymmetric R) (key : X → K) (made : X → Y) where
+  -- what it finds
+  pub made-get : (xs : List X) (m : Map R Y) (q : K) → IsIndexOf R key made xs m → maps.get m q ≡ option_map made (row_at R key xs q)
+  made-get xs m q i =
+      ap (λ (n : Map R Y). maps.get n q) i.is ∙ (get-map_values R made (map_of R key xs) q ∙ ap (option_map made) (get-map_of o exact key xs q))
 
+  -- it is as long as the values are many
+  pub made-len : (xs : List X) (m : Map R Y) → IsIndexOf R key made xs m → maps.len m ≡ length xs
+  made-len xs m i = ap maps.len i.is ∙ (len-map_values R made (map_of R key xs) ∙ len-map_of o exact key xs i.apart)
+
+  -- no values
+  pub made-empty : IsIndexOf R key made [] maps.empty
+  made-empty = record { is = sym (map_values-empty R made); apart = tt }
+
+  -- a value more
+  pub made-with : (front : List X) (x : X) (back : List X) (m : Map R Y) → IsIndexOf R key made (front ++ back) m → row_at R key (front ++ back) (key x) ≡ None
+      → IsIndexOf R key made (front ++ x ∷ back) (maps.insert m (key x) (made x))
+  made-with front x back m i none = record {
+    is = ap (λ (n : Map R Y). maps.insert n (key x) (made x)) i.is
+        ∙ sym (ap (map_values made) (map_of-between o exact key front x back none) ∙ map_values-set_at o exact made (map_of R key (front ++ back)) (key x) (Some x));
+    apart = Distinct-between o exact key front x back i.apart none;
+  }
+
+  -- a value less
+  pub made-without : (front : List X) (x : X) (back : List X) (m : Map R Y) → IsIndexOf R key made (front ++ x ∷ back) m → IsIndexOf R key made (front ++ back) (maps.remove m (key x))
+  made-without front x back m i =
+      let less = Distinct-without o exact key front x back i.apart in
+      record {
+        is = ap (λ (n : Map R Y). maps.remove n (key x)) i.is
+            ∙ sym (ap (map_values made) (map_of-without o exact key front x back less.0) ∙ map_values-set_at o exact made (map_of R key (front ++ x ∷ back)) (key x) None);
+        apart = less.1;
+      }
+
+-- An index of slots.
+module _ {V K : Type 0} {R : K → K → Ordering} (o : IsTotalOrder R) (exact : IsAntisymmetric R) (key : V → K) where
   -- what an index finds
   pub index-get : (links : List (Link V)) (m : Map R ℕ) (q : K) → IsIndex R key links m → maps.get m q ≡ option_map (λ l. l.slot) (row_at R (key_of key) links q)
-  index-get links m q i = ap (λ (n : Map R ℕ). maps.get n q) i.slots ∙ get-slots_of links q
+  index-get = made-get o exact (key_of key) (λ l. l.slot)
 
   -- it is as long as the rows are many
   pub index-len : (links : List (Link V)) (m : Map R ℕ) → IsIndex R key links m → maps.len m ≡ length links
-  index-len links m i = ap maps.len i.slots ∙ (len-map_values R (λ (l : Link V). l.slot) (map_of R (key_of key) links) ∙ len-map_of o exact (key_of key) links i.apart)
+  index-len = made-len o exact (key_of key) (λ l. l.slot)
 
   -- no rows
   pub index-empty : IsIndex R key [] maps.empty
-  index-empty = record { slots = sym (map_values-empty R (λ (l : Link V). l.slot)); apart = tt }
+  index-empty = made-empty o exact (key_of key) (λ l. l.slot)
 
   -- a row that stands there is found by its key
   pub stands-found : (front : List (Link V)) (l : Link V) (back : List (Link V)) → Distinct R (key_of key) (front ++ l ∷ back) → row_at R (key_of key) (front ++ l ∷ back) (key l.value) ≡ Some l
@@ -86,20 +118,8 @@ module _ {V K : Type 0} {R : K → K → Ordering} (o : IsTotalOrder R) (exact :
   -- a row more
   pub index-with : (front : List (Link V)) (l : Link V) (back : List (Link V)) (m : Map R ℕ) → IsIndex R key (front ++ back) m → HasNone R key (front ++ back) (key l.value)
       → IsIndex R key (front ++ l ∷ back) (maps.insert m (key l.value) l.slot)
-  index-with front l back m i none = record {
-    slots = ap (λ (n : Map R ℕ). maps.insert n (key l.value) l.slot) i.slots
-        ∙ sym (ap (map_values (λ (k : Link V). k.slot)) (map_of-between o exact (key_of key) front l back none)
-        ∙ map_values-set_at o exact (λ (k : Link V). k.slot) (map_of R (key_of key) (front ++ back)) (key l.value) (Some l));
-    apart = Distinct-between o exact (key_of key) front l back i.apart none;
-  }
+  index-with = made-with o exact (key_of key) (λ l. l.slot)
 
   -- a row less
   pub index-without : (front : List (Link V)) (l : Link V) (back : List (Link V)) (m : Map R ℕ) → IsIndex R key (front ++ l ∷ back) m → IsIndex R key (front ++ back) (maps.remove m (key l.value))
-  index-without front l back m i =
-      let less = Distinct-without o exact (key_of key) front l back i.apart in
-      record {
-        slots = ap (λ (n : Map R ℕ). maps.remove n (key l.value)) i.slots
-            ∙ sym (ap (map_values (λ (k : Link V). k.slot)) (map_of-without o exact (key_of key) front l back less.0)
-            ∙ map_values-set_at o exact (λ (k : Link V). k.slot) (map_of R (key_of key) (front ++ l ∷ back)) (key l.value) None);
-        apart = less.1;
-      }
+  index-without = made-without o exact (key_of key) (λ l. l.slot)

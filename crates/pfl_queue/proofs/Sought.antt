@@ -124,7 +124,7 @@ module _ (c : Lists Mark) (order : TurnList Turn ℕ) (are : AreOrdered c order)
       let links = all_links c.lists in
       let listed : order.list ≡ map entry_of links =
       sym (entries-from_sorted turn_cmp order.list sorted)
-      ∙ (ap maps.entries are.turns.slots
+      ∙ (ap maps.entries are.turns.is
       ∙ (entries-map_values turn_cmp slot_of_link (map_of turn_cmp its_turn links)
       ∙ (ap (map (at_value slot_of_link)) (entries-map_of turn_total its_turn links (all_rise 0 c.lists from_first)) ∙ entries-of links))) in
       ap (find (λ (e : Turn × ℕ). is_lt (turn_cmp t e.0))) listed ∙ find-entry (λ e. is_lt (turn_cmp t e.0)) links

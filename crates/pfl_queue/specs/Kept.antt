@@ -19,10 +19,10 @@ queue_of limit next lists requests statuses clears = record {
   clears = clears;
 }
 
--- there is room for `limit` marks and for as many entries of each list, and the fields stand for queues
+-- there is room for `limit` marks and requests, and for as many statuses and clears, and the fields stand for queues
 pub record IsKept (q : Queue) (marks requests statuses clears : ℕ) : Type 0 where
   pub marks_room : marks ≡ q.limit
-  pub requests_room : q.limit ≤ requests
+  pub requests_room : requests ≡ q.limit
   pub statuses_room : q.limit ≤ statuses
   pub clears_room : q.limit ≤ clears
   pub queue : IsQueue q

@@ -1,5 +1,5 @@
 -- Laws of the pending queues, in their own words (pfsync(4); the numbers are this project's profile).
-use Rattle.std.specs.Prelude.{◌≡◌, ◌≢◌, ◌≤◌, ◌<◌, ◌==◌, ℕ, List, [], ◌∷◌, ◌++◌, map, Some, None, is_some, if◌then◌else◌}
+use Rattle.std.specs.Prelude.{◌≡◌, ◌≢◌, ◌≤◌, ◌<◌, ◌==◌, ℕ, List, [], ◌∷◌, ◌++◌, map, Some, None, is_some, nat_lt, if◌then◌else◌}
 use Rattle.std.specs.List.{fold, IsDistinct}
 use Rattle.pfl_base.specs.declared.state_name.StateName.{StateName}
 use Rattle.pfl_base.specs.Names.{is_name}
@@ -10,21 +10,23 @@ use Rattle.pfl_queue.specs.declared.Kind.{Kind}
 use Rattle.pfl_queue.specs.declared.Mark.{Mark}
 use Rattle.pfl_queue.specs.declared.edits.QueueEdit.TheVariants.{OfName}
 use Rattle.pfl_queue.specs.Edits.{Finds, put_back}
-use Rattle.pfl_queue.specs.Queues.{Queue, IsQueue, pending, empty_queue, marked, unmarked, requested, with_status, with_clear, mark_fault, request_fault, list_fault}
+use Rattle.pfl_queue.specs.Queues.{Queue, IsQueue, pending, empty_queue, marked, unmarked, requested, with_status, with_clear, room_fault, most_numbers, mark_fault, request_fault, list_fault}
 use Rattle.pfl_queue.specs.Taking.{in_turn, next_frame, left_by}
 
--- a call that changes the pending queues
+-- a call that lists something, takes a name off or sends a frame
 pub data Call : Type 0 where
   Marking : StateName → Kind → Call
+  MarkingOn : StateName → Kind → Call
   Unmarking : StateName → Call
   Asking : StateName → Call
   Telling : BulkStatus → Call
   Clearing : ℕ → ℕ → Call
   Sending : ℕ → Call
 
--- the queues after a call: one that is refused changes nothing
+-- the queues after a call: one that is refused changes nothing, nor does a marking past all numbers, which may not be asked for
 abbrev pub called : Queue → Call → Queue
 called q (Marking name kind) = if is_some (mark_fault q name) then q else marked q name kind
+called q (MarkingOn name kind) = if is_some (room_fault q name) then q else if nat_lt q.next most_numbers then marked q name kind else q
 called q (Unmarking name) = unmarked q name
 called q (Asking name) = if is_some (request_fault q name) then q else requested q name
 called q (Telling status) = if is_some (list_fault q) then q else with_status q status
@@ -42,9 +44,11 @@ pub record NothingTwice (q : Queue) : Type 0 where
 abbrev pub NothingTwiceAfterCalls : Type 0
 NothingTwiceAfterCalls = (limit next : ℕ) (calls : List Call) → next ≤ 4294967295 → NothingTwice (fold called (empty_queue limit next) calls)
 
--- a frame takes from the front of what is pending and skips nothing, and what it does not carry is still pending
+-- a frame takes from the front of what is pending and skips nothing; what it does not carry is still pending, and the room and the
+-- next number are as they were
 abbrev pub FramesTakeFromTheFront : Type 0
-FramesTakeFromTheFront = (q : Queue) (mtu : ℕ) → IsQueue q → next_frame q mtu ++ in_turn (left_by q (next_frame q mtu)) ≡ in_turn q
+FramesTakeFromTheFront = (q : Queue) (mtu : ℕ) → IsQueue q
+    → (next_frame q mtu ++ in_turn (left_by q (next_frame q mtu)) ≡ in_turn q) × ((left_by q (next_frame q mtu)).limit ≡ q.limit) × ((left_by q (next_frame q mtu)).next ≡ q.next)
 
 -- a mark that was taken off fits queues that have room, where its name is off and its former number was given and stands nowhere
 abbrev pub FormerMarksGoBack : Type 0

@@ -61,7 +61,7 @@ one_action a b = action_number a == action_number b
 abbrev pub bytes_of : List Action → ℕ
 bytes_of actions = 20 + sum_by (λ group. 4 + sum_by record_len group) (neighbours one_action actions)
 
--- the longest prefix of what is pending whose frame has at most mtu bytes
+-- the longest prefix of what is pending whose frame has at most mtu bytes; there is none where not even a frame without records fits
 unfoldable pub next_frame : Queue → ℕ → List Entry
 next_frame q mtu = unwrap_or (last_of (filter (λ es. nat_le (bytes_of (map entry_action es)) mtu) (prefixes (in_turn q)))) []
 

@@ -6,7 +6,6 @@ ghost use Rattle.pfl_queue.specs.inner.Parts.{first_of_each};
 ghost use Rattle.pfl_queue.specs.Edits.{QueueLeadsBack, taking};
 ghost use Rattle.pfl_queue.specs.inner.Fitting.{added, longest};
 
-use crate::lists::first;
 use crate::{Cleared, Entry, Kind, Mark, Pending, QueueEdit};
 use pfl_edits::{Change, NoMemory};
 use pfl_wire::Action;
@@ -141,20 +140,19 @@ impl From<Cleared> for Entry {
 }
 
 impl<A: Allocator + Copy> Pending<A> {
-    /// The first marks, requests, statuses and clears, in this order, at most so many of each.
+    /// These marks, and the first requests, statuses and clears, in this order: at most so many of each.
     fn first_of_each(&self, marks: &[Mark], most: usize) -> Result<Vec<Entry, A>, NoMemory>
         ensures first { IfOk result (λ entries. entries.items ≡ first_of_each most marks.now self.now) }
     {
-        let marks = first(marks, most);
         let requests = self.first_requests(most);
         let statuses = self.first_statuses(most);
         let clears = self.first_clears(most);
         let entries = marks
             .iter()
             .map(|mark| Entry::from(*mark))
-            .chain(requests.iter().map(|name| Entry::Request(*name)))
-            .chain(statuses.iter().map(|status| Entry::Status(*status)))
-            .chain(clears.iter().map(|cleared| Entry::from(*cleared)))
+            .chain(requests.map(|name| Entry::Request(*name)))
+            .chain(statuses.map(|status| Entry::Status(*status)))
+            .chain(clears.map(|cleared| Entry::from(*cleared)))
             .collect(self.allocator())?;
         Ok(entries)
     }
@@ -186,6 +184,7 @@ impl<A: Allocator + Copy> Pending<A> {
         let mut change = Change::new(self.allocator());
         change.reserve(entries.len())?;
         record(&entries, &mut change);
+        self.known();
         self.take_out(&entries);
         Ok((entries, change))
     }

@@ -1,20 +1,24 @@
 //! The pending queues of a node.
 ghost use Rattle.std.specs.Prelude.{◌≡◌, ◌==◌, ◌≤◌, ◌<◌, [], ◌∷◌, take, IfOk, IfSome, IfErr, OnErr, OnOk, OnSome, IfNone, Some, None, is_some, nat_le, if◌then◌else◌};
+ghost use Rattle.std.specs.VecDeque.Iter.{deque_iter_rest};
 ghost use Rattle.pfl_edits.specs.Maps as maps;
 ghost use Rattle.pfl_queue.specs.Queues.{Queue, IsQueue, empty_queue, pending, kind_of, marked, unmarked, is_requested, requested, with_status, with_clear, most_numbers, is_counted_out, room_fault, mark_fault, list_fault, request_fault};
 ghost use Rattle.pfl_queue.specs.Laws.{NothingTwice};
 ghost use Rattle.pfl_base.specs.Lists.{in_order};
-ghost use Rattle.pfl_queue.specs.Taking.{mark_before, left_by};
+ghost use Rattle.pfl_queue.specs.Taking.{mark_before, gone, left_by};
 ghost use Rattle.pfl_queue.specs.Edits.{QueueLeadsBack, FindsFormer, redone, marking, unmarking, requesting, listing_status, listing_clear};
 
 use crate::edits::QueueEdit;
-use crate::lists::{drop_first, first, set_position};
+use crate::lists::{copied, first, in_order as in_order_of, set_position};
 use crate::marked::Marks;
+use crate::requests::Requests;
 use crate::{Cleared, Entry, Kind, Mark, QueueFault};
 use pfl_base::StateName;
 use pfl_edits::{InOrder, NoMemory, Reversible};
 use pfl_wire::BulkStatus;
 use std::alloc::Allocator;
+use std::collections::VecDeque;
+use std::collections::vec_deque::Iter;
 use std::marker::Model;
 
 /// The greatest queueing number that an event may end with as the next one.
@@ -27,13 +31,13 @@ pub struct Pending<A: Allocator> {
     limit: usize,
     next: u64,
     marks: Marks<A>,
-    requests: Vec<StateName, A>,
-    statuses: Vec<BulkStatus, A>,
-    clears: Vec<Cleared, A>,
+    requests: Requests<A>,
+    statuses: VecDeque<BulkStatus, A>,
+    clears: VecDeque<Cleared, A>,
 }
 
 impl<A: Allocator> Model for Pending<A> {
-    ghost use Rattle.std.specs.Prelude.{vec_capacity};
+    ghost use Rattle.std.specs.VecDeque.{deque_capacity};
     ghost use Rattle.pfl_queue.specs.Queues.{Queue, coded_queue};
 
     ghost Value = { Queue };
@@ -42,9 +46,9 @@ impl<A: Allocator> Model for Pending<A> {
 
     ghost use Rattle.pfl_queue.specs.Kept.{queue_of, IsKept};
 
-    ghost view = { λ q. queue_of q.limit q.next q.marks.lists q.requests.items q.statuses.items q.clears.items };
+    ghost view = { λ q. queue_of q.limit q.next q.marks.lists q.requests.listed q.statuses.items q.clears.items };
 
-    ghost invariant = { λ q. IsKept (queue_of q.limit q.next q.marks.lists q.requests.items q.statuses.items q.clears.items) q.marks.limit (vec_capacity q.requests) (vec_capacity q.statuses) (vec_capacity q.clears) };
+    ghost invariant = { λ q. IsKept (queue_of q.limit q.next q.marks.lists q.requests.listed q.statuses.items q.clears.items) q.marks.limit q.requests.limit (deque_capacity q.statuses) (deque_capacity q.clears) };
 }
 
 impl<A: Allocator + Copy> Pending<A> {
@@ -63,9 +67,9 @@ impl<A: Allocator + Copy> Pending<A> {
             limit,
             next: next as u64,
             marks: Marks::new(alloc, limit)?,
-            requests: Vec::with_capacity(alloc, limit)?,
-            statuses: Vec::with_capacity(alloc, limit)?,
-            clears: Vec::with_capacity(alloc, limit)?,
+            requests: Requests::new(alloc, limit)?,
+            statuses: VecDeque::with_capacity(alloc, limit)?,
+            clears: VecDeque::with_capacity(alloc, limit)?,
         })
     }
 }
@@ -111,40 +115,40 @@ impl<A: Allocator> Pending<A> {
     pub fn requests(&self) -> InOrder<'_, StateName>
         ensures requests { result ≡ self.now.requests }
     {
-        InOrder::of(&self.requests)
+        self.requests.iter()
     }
 
     /// The bulk statuses, in the order in which they were listed.
     pub fn statuses(&self) -> InOrder<'_, BulkStatus>
         ensures statuses { result ≡ self.now.statuses }
     {
-        InOrder::of(&self.statuses)
+        in_order_of(&self.statuses)
     }
 
     /// The clears, in the order in which they were listed.
     pub fn clears(&self) -> InOrder<'_, Cleared>
         ensures clears { result ≡ self.now.clears }
     {
-        InOrder::of(&self.clears)
+        in_order_of(&self.clears)
     }
 
     /// The first requests, at most so many.
-    pub(crate) fn first_requests(&self, most: usize) -> &[StateName]
-        ensures first { result.now ≡ take most self.now.requests }
+    pub(crate) fn first_requests(&self, most: usize) -> Iter<'_, StateName>
+        ensures first { deque_iter_rest result ≡ take most self.now.requests }
     {
-        first(&self.requests, most)
+        self.requests.first(most)
     }
 
     /// The first bulk statuses, at most so many.
-    pub(crate) fn first_statuses(&self, most: usize) -> &[BulkStatus]
-        ensures first { result.now ≡ take most self.now.statuses }
+    pub(crate) fn first_statuses(&self, most: usize) -> Iter<'_, BulkStatus>
+        ensures first { deque_iter_rest result ≡ take most self.now.statuses }
     {
         first(&self.statuses, most)
     }
 
     /// The first clears, at most so many.
-    pub(crate) fn first_clears(&self, most: usize) -> &[Cleared]
-        ensures first { result.now ≡ take most self.now.clears }
+    pub(crate) fn first_clears(&self, most: usize) -> Iter<'_, Cleared>
+        ensures first { deque_iter_rest result ≡ take most self.now.clears }
     {
         first(&self.clears, most)
     }
@@ -277,7 +281,7 @@ impl<A: Allocator> Pending<A> {
     pub fn is_requested(&self, name: StateName) -> bool
         ensures requested { result ≡ is_requested self.now name }
     {
-        self.requests.iter().any(|listed| name == *listed)
+        self.requests.contains(name)
     }
 
     /// Why no status and no clear may be listed, if there is a reason.
@@ -366,23 +370,29 @@ impl<A: Allocator> Pending<A> {
         Ok(edit)
     }
 
-    /// Takes entries out: each name off its queue, and of each list as many of the first as there are entries of it, at once.
+    /// Takes entries out: each name off its queue, and for each other entry the first of its list.
     pub(crate) fn take_out(&mut self, entries: &[Entry])
         ensures left { self.new ≡ left_by self.old entries.now }
-        ensures queue { IsQueue self.old }
     {
-        let (mut requests, mut statuses, mut clears) = (0, 0, 0);
         for entry in entries {
-            match entry {
-                Entry::Marked { name, .. } => self.marks.remove(*name),
-                Entry::Request(_) => requests += 1,
-                Entry::Status(_) => statuses += 1,
-                Entry::Clear { .. } => clears += 1,
+            self.take(entry);
+        }
+    }
+
+    /// Takes an entry out: a name off its queue, or the first of a list.
+    fn take(&mut self, entry: &Entry)
+        ensures gone { self.new ≡ gone self.old entry.now }
+    {
+        match *entry {
+            Entry::Marked { name, .. } => self.marks.remove(name),
+            Entry::Request(_) => self.requests.remove(0),
+            Entry::Status(_) => {
+                self.statuses.pop_front();
+            }
+            Entry::Clear { .. } => {
+                self.clears.pop_front();
             }
         }
-        drop_first(&mut self.requests, requests);
-        drop_first(&mut self.statuses, statuses);
-        drop_first(&mut self.clears, clears);
     }
 
     /// Makes an edit that leads back.
@@ -419,7 +429,7 @@ impl<A: Allocator> Pending<A> {
                 position,
                 before,
                 after,
-            } => set_position(&mut self.requests, position, before, after),
+            } => self.requests.set(position, before, after),
             QueueEdit::OfStatus {
                 position,
                 before,
@@ -460,7 +470,7 @@ impl<A: Allocator> Reversible for Pending<A> {
 impl<A: Allocator + Copy> Pending<A> {
     /// The allocator that the room was made with.
     pub(crate) fn allocator(&self) -> A {
-        *self.requests.allocator()
+        *self.statuses.allocator()
     }
 
     /// The marks by kind and then by number, as a frame has them.
@@ -483,18 +493,14 @@ impl<A: Allocator + Copy> Pending<A> {
     pub fn copy(&self) -> Result<Self, NoMemory>
         ensures same { IfOk result (λ copied. copied ≡ self.now) }
     {
-        let alloc = *self.requests.allocator();
-        let mut requests = Vec::with_capacity(alloc, self.limit)?;
-        requests.extend_from_slice(&self.requests)?;
-        let mut statuses = Vec::with_capacity(alloc, self.limit)?;
-        statuses.extend_from_slice(&self.statuses)?;
-        let mut clears = Vec::with_capacity(alloc, self.limit)?;
-        clears.extend_from_slice(&self.clears)?;
+        let alloc = self.allocator();
+        let statuses = copied(alloc, &self.statuses, self.limit)?;
+        let clears = copied(alloc, &self.clears, self.limit)?;
         Ok(Pending {
             limit: self.limit,
             next: self.next,
             marks: self.marks.copy()?,
-            requests,
+            requests: self.requests.copy()?,
             statuses,
             clears,
         })

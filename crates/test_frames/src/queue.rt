@@ -113,8 +113,8 @@ fn words_of_faults(rt: HostRuntime) -> Result<(), Fail> {
     let fault = QueueFault::CountFull;
     assert!(rt; Refusal::from(fault) == Refusal::CountFull);
     assert!(rt; fault.number() == 2);
-    let text = format!(in rt.alloc(); "{fault}")?;
-    assert!(rt; text.as_str() == "CountFull");
+    let texts = format!(in rt.alloc(); "{} {fault}", QueueFault::QueueFull)?;
+    assert!(rt; texts.as_str() == "QueueFull CountFull");
     Ok(())
 }
 
@@ -223,5 +223,5 @@ fn wanting_over(alloc: Global, bytes: usize) -> Option<([Option<NoMemory>; 3], u
 #[test]
 fn want_of_memory_changes_nothing(rt: HostRuntime) {
     let each = [Some(NoMemory), Some(NoMemory), Some(NoMemory)];
-    assert!(rt; wanting_over(rt.alloc(), 2048) == Some((each, 6, 7)));
+    assert!(rt; wanting_over(rt.alloc(), 2656) == Some((each, 6, 7)));
 }

@@ -1,4 +1,4 @@
--- The slots of values by a key of each, as an index has them. No contract of a public call cites this.
+-- What an index has of values, by a key of each: their slots, say. No contract of a public call cites this.
 use Rattle.std.specs.Prelude.{◌≡◌, ℕ, List, None}
 use Rattle.std.specs.declared.cmp.Ordering.{Ordering}
 use Rattle.pfl_edits.specs.Maps.{Map}
@@ -11,14 +11,14 @@ use Rattle.pfl_queue.specs.inner.Mapped.{map_values}
 abbrev pub key_of : {V K : Type 0} → (V → K) → Link V → K
 key_of key l = key l.value
 
--- the slots, by a key of the value at each
-abbrev pub slots_of : {V K : Type 0} (R : K → K → Ordering) → (V → K) → List (Link V) → Map R ℕ
-slots_of R key links = map_values (λ l. l.slot) (map_of R (key_of key) links)
+-- what is made of each value, by a key of the value: so an index has it, and no two values have one key
+pub record IsIndexOf {X K Y : Type 0} (R : K → K → Ordering) (key : X → K) (made : X → Y) (xs : List X) (m : Map R Y) : Type 0 where
+  pub is : m ≡ map_values made (map_of R key xs)
+  pub apart : Distinct R key xs
 
--- the map has the slot of each value under the value's key, and no two values have one
-pub record IsIndex {V K : Type 0} (R : K → K → Ordering) (key : V → K) (links : List (Link V)) (m : Map R ℕ) : Type 0 where
-  pub slots : m ≡ slots_of R key links
-  pub apart : Distinct R (key_of key) links
+-- the map has the slot of each value under the value's key
+abbrev pub IsIndex : {V K : Type 0} (R : K → K → Ordering) → (V → K) → List (Link V) → Map R ℕ → Type 0
+IsIndex R key = IsIndexOf R (key_of key) (λ l. l.slot)
 
 -- no value has this key
 abbrev pub HasNone : {V K : Type 0} (R : K → K → Ordering) → (V → K) → List (Link V) → K → Type 0

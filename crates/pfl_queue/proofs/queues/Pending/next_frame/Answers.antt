@@ -31,4 +31,4 @@ returns-clause-leads_back g c =
     let edits =
     c.record.ensures.edits ∙ (ap (λ (xs : List QueueEdit). xs ++ map taking c.deref.result.now) none ∙ ap (map taking) c.deref.ensures.value) in
     subst (λ (xs : List QueueEdit). QueueLeadsBack xs q c.take_out.new.self) (sym edits)
-    (subst (QueueLeadsBack (map taking es) q) (sym left) (taken_leads_back q c.take_out.ensures.queue es first))
+    (subst (QueueLeadsBack (map taking es) q) (sym left) (taken_leads_back q c.known.ensures.queue es first))
