@@ -19,12 +19,23 @@ use std::alloc::Allocator;
 use std::marker::Model;
 
 /// Frames in flight under their tickets. `new` makes the room for the tickets; each frame brings the memory of its bytes.
-#[derive(Drop)]
 pub struct Link<A: Allocator> {
     alloc: A,
     limit: usize,
     next: u32,
     rows: Rows<Ticketed<A>, A>,
+}
+
+// Not derived: to a proof a written drop is one call, where a derived one is opened again on every way out.
+impl<A: Allocator> Drop for Link<A> {
+    fn drop(self) {
+        let Link {
+            alloc: _,
+            limit: _,
+            next: _,
+            rows: _,
+        } = self;
+    }
 }
 
 impl<A: Allocator> Model for Link<A> {

@@ -16,11 +16,21 @@ use std::marker::Model;
 /// One firewall of the pair: its states, what it has to tell its peer, and what it counts. Its limits and rules never
 /// change. All room is made by `new`, also that for the edits of an event while it is carried out and judged; a frame of many
 /// records may want more for itself.
-#[derive(Drop)]
 pub struct Node<A: Allocator> {
     pub(crate) alloc: A,
     pub(crate) parts: Parts<A>,
     pub(crate) edits: Change<NodeEdit, A>,
+}
+
+// Not derived: to a proof a written drop is one call, where a derived one is opened again on every way out.
+impl<A: Allocator> Drop for Node<A> {
+    fn drop(self) {
+        let Node {
+            alloc: _,
+            parts: _,
+            edits: _,
+        } = self;
+    }
 }
 
 impl<A: Allocator> Model for Node<A> {

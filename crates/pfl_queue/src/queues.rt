@@ -26,7 +26,6 @@ const GREATEST_NUMBER: u64 = 4294967295;
 
 /// What is to be told to the peer: names with a kind and a number, and lists of requests, statuses and clears. There are
 /// never more than `limit` of them all, and all room is made by `new`.
-#[derive(Drop)]
 pub struct Pending<A: Allocator> {
     limit: usize,
     next: u64,
@@ -34,6 +33,20 @@ pub struct Pending<A: Allocator> {
     requests: Requests<A>,
     statuses: VecDeque<BulkStatus, A>,
     clears: VecDeque<Cleared, A>,
+}
+
+// Not derived: to a proof a written drop is one call, where a derived one is opened again on every way out.
+impl<A: Allocator> Drop for Pending<A> {
+    fn drop(self) {
+        let Pending {
+            limit: _,
+            next: _,
+            marks: _,
+            requests: _,
+            statuses: _,
+            clears: _,
+        } = self;
+    }
 }
 
 impl<A: Allocator> Model for Pending<A> {

@@ -12,11 +12,21 @@ use std::marker::Model;
 ///
 /// It owns the node from before, which the new one follows from. That stands on the heap: a node is larger than what any other
 /// edit holds.
-#[derive(Drop)]
 pub struct RestartEdit<A: Allocator> {
     node: NodeId,
     former: Box<Node<A>, A>,
     boot: u32,
+}
+
+// Not derived: to a proof a written drop is one call, where a derived one is opened again on every way out.
+impl<A: Allocator> Drop for RestartEdit<A> {
+    fn drop(self) {
+        let RestartEdit {
+            node: _,
+            former: _,
+            boot: _,
+        } = self;
+    }
 }
 
 impl<A: Allocator> Model for RestartEdit<A> {

@@ -61,13 +61,11 @@ fn put_three<A: Allocator>(table: &mut StateTable<A>) -> Option<()> {
     Some(())
 }
 
-/// A table of three states. (It is dropped in one place, since each drop of a table takes long to prove.)
+/// A table of three states.
 fn three(alloc: Global) -> Option<StateTable<Global>> {
     let mut table = StateTable::new(alloc, 3).ok()?;
-    match put_three(&mut table) {
-        Some(()) => Some(table),
-        None => None,
-    }
+    put_three(&mut table)?;
+    Some(table)
 }
 
 /// Why a state of this id and of these ports is not put.
