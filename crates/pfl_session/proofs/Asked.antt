@@ -1,6 +1,7 @@
 -- What a pass has seen and counted once it has met, and what one entry more makes of journal, counts and pass.
-use Rattle.std.proofs.Common.{◌≡◌, ℕ, ◌+◌, ◌-◌, ◌≤◌, List, [], ◌∷◌, ◌++◌, length, set, Some, sym, ap, subst, ◌∙◌, arith, length-append}
+use Rattle.std.proofs.Common.{◌≡◌, ℕ, ◌+◌, ◌-◌, ◌<◌, ◌≤◌, List, [], ◌∷◌, ◌++◌, length, set, Some, sym, ap, subst, ◌∙◌, arith, length-append}
 use Rattle.std.specs.Prelude.{slice_get, slice_set}
+use Rattle.std.proofs.lemmas.Option.{slice_get_within}
 use Rattle.atomic_table.specs.Seated.{TableId}
 use Rattle.pfl_count.specs.Count.{Count}
 use Rattle.pfl_publish.specs.Revisions.{Log, StartsWith}
@@ -11,29 +12,29 @@ use Rattle.pfl_timeline.specs.Timelines.{Timeline}
 use Rattle.pfl_session.specs.declared.entry.Entry.{Entry}
 use Rattle.pfl_session.specs.declared.mark.Mark.{Mark}
 use Rattle.pfl_session.specs.Totals.{HasFewEvents}
-use Rattle.pfl_session.specs.Journals.{after, replay, IsRight, IsLegal, history, calls_in, count_of, counts_of}
+use Rattle.pfl_session.specs.Journals.{after, replay, IsRight, IsJournal, history, calls_in, count_of, counts_of}
 use Rattle.pfl_session.specs.Passes.{Seen, seen_in, GoesOn, HasSeenJournal, AddsOthers, AddsCall}
 use Rattle.pfl_session.specs.Labs.{HasSeenOwn}
 use Rattle.pfl_session.specs.Desks.{counted, HasMet, IsEntered}
 use Rattle.pfl_session.proofs.Replays.{some_same, replay-snoc, legal-snoc, calls-history, count-own, counts-get, counts-set, all-seen, seen-is, seen-journal, others-since, call-since}
-use Rattle.pfl_session.proofs.Growth.{grown}
+use Rattle.pfl_session.proofs.Growth.{all_behind, grown}
 
 module _ {M : Type 0} where
   -- a pass that was compared, and has then met
-  pub has-met : (opening : Timeline) (js js' js'' : List (Entry M)) (old compared met : Seen M) → js' ≡ js → js'' ≡ js' → compared ≡ old → old.half.count ≤ count_of old.session (seen_in old) → old.half.count ≡ count_of old.session js
-      → GoesOn compared met → met.half ≡ compared.half → IsLegal opening js' → met.viewer.seen ≡ history opening js' → HasMet opening js'' old met
-  has-met opening js js' js'' old compared met same same' is below all on half legal seen = record {
+  pub has-met : (opening : Timeline) (n : ℕ) (js js' js'' : List (Entry M)) (old compared met : Seen M) → js' ≡ js → js'' ≡ js' → compared ≡ old → old.half.count ≤ count_of old.session (seen_in old) → old.half.count ≡ count_of old.session js
+      → GoesOn compared met → met.half ≡ compared.half → IsJournal opening n js' → met.viewer.seen ≡ history opening js' → HasMet opening n js'' old met
+  has-met opening n js js' js'' old compared met same same' is below all on half journal seen = record {
     goes_on = subst (λ (p : Seen M). GoesOn p met) is on;
     half = half ∙ ap (λ (p : Seen M). p.half) is;
-    legal = subst (IsLegal opening) (sym same') legal;
+    journal = subst (IsJournal opening n) (sym same') journal;
     seen = seen ∙ ap (history opening) (sym same');
     below = below;
     all = all ∙ ap (count_of old.session) (sym (same' ∙ same));
   }
 
-  module _ (opening : Timeline) (js : List (Entry M)) (old met : Seen M) (is : HasMet opening js old met) where
-    pub met-journal : HasSeenJournal opening met
-    met-journal = seen-journal opening js met is.seen is.legal
+  module _ (opening : Timeline) (n : ℕ) (js : List (Entry M)) (old met : Seen M) (is : HasMet opening n js old met) where
+    pub met-journal : HasSeenJournal opening n met
+    met-journal = seen-journal opening n js met is.seen is.journal
 
     pub met-length : length (seen_in met) ≡ length js
     met-length = ap (λ (l : List (Entry M)). length l) (seen-is opening js met is.seen)
@@ -53,11 +54,11 @@ module _ {M : Type 0} where
     pub met-counted : old.half.count ≡ count_of old.session (seen_in old)
     met-counted = is.all ∙ sym all_own
 
-    pub met-called : (js' : List (Entry M)) (new : Seen M) (c : Command) (r : Reply) → IsEntered opening js js' met new c r → AddsCall old new c r
-    met-called js' new c r entered = call-since opening js js' old met new c r met-others is.seen is.goes_on.session entered
+    pub met-called : (js' : List (Entry M)) (new : Seen M) (c : Command) (r : Reply) → IsEntered opening n js js' met new c r → AddsCall old new c r
+    met-called js' new c r entered = call-since opening n js js' old met new c r met-others is.seen is.goes_on.session entered
 
-  pub entered-journal : (opening : Timeline) (js js' : List (Entry M)) (old new : Seen M) (c : Command) (r : Reply) → IsEntered opening js js' old new c r → HasSeenJournal opening new
-  entered-journal opening js js' old new c r entered = seen-journal opening js' new entered.seen entered.legal
+  pub entered-journal : (opening : Timeline) (n : ℕ) (js js' : List (Entry M)) (old new : Seen M) (c : Command) (r : Reply) → IsEntered opening n js js' old new c r → HasSeenJournal opening n new
+  entered-journal opening n js js' old new c r entered = seen-journal opening n js' new entered.seen entered.journal
 
   -- the session's half, where its lab's counts are those of the journal
   half-is : (ts : List TableId) (hs : List Count) (js : List (Entry M)) (t : TableId) (mine : Count) (s : ℕ) → 1 ≤ s → slice_get ts (s - 1) ≡ Some t → hs ≡ counts_of 1 ts js → slice_get hs (s - 1) ≡ Some mine → mine ≡ record { table = t; count = count_of (1 + (s - 1)) js }
@@ -80,8 +81,11 @@ module _ {M : Type 0} (opening t u : Timeline) (js : List (Entry M)) (e : Entry 
   kept-few n m le few = grown t u n m c r few is.step le
 
   module _ (items : List (Entry M)) (more : items ≡ js ++ e ∷ []) where
-    pub kept-legal : IsLegal opening js → IsLegal opening items
-    kept-legal legal = subst (IsLegal opening) (sym more) (legal-snoc opening js e legal right)
+    pub kept-journal : (ts : List TableId) (tally : TableId) → 1 ≤ s → slice_get ts (s - 1) ≡ Some tally → IsJournal opening (length ts) js → IsJournal opening (length ts) items
+    kept-journal ts tally first there journal =
+        let own = is.entry.0 in
+        let within : s - 1 < length ts = slice_get_within ts (s - 1) tally there in
+        subst (IsJournal opening (length ts)) (sym more) (record { legal = legal-snoc opening js e journal.legal right; sessions = all_behind _ js e journal.sessions (omega (arith, first, own), omega (arith, first, own, within)) })
 
     pub kept-replay : u ≡ replay opening items
     kept-replay = kept-after ∙ (sym (replay-snoc opening js e) ∙ ap (replay opening) (sym more))

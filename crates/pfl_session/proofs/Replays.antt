@@ -18,7 +18,7 @@ use Rattle.pfl_session.specs.declared.mark.Mark.{Mark}
 use Rattle.pfl_session.specs.declared.mark.Mark.TheVariants.{Start, Call}
 use Rattle.pfl_session.specs.Desks.{IsEntered}
 use Rattle.pfl_session.specs.Passes.{Seen, seen_in, IsPassOf, GoesOn, HasSeenJournal, AddsOthers, AddsCall}
-use Rattle.pfl_session.specs.Journals.{after, replay, IsRight, IsLegal, following, history, call_of, calls_in, count_of, counts_of}
+use Rattle.pfl_session.specs.Journals.{after, replay, IsRight, IsLegal, IsJournal, following, history, call_of, calls_in, count_of, counts_of}
 
 pub some_same : {A : Type 0} (a b : A) → Some a ≡ Some b → a ≡ b
 some_same a b e = cc
@@ -155,8 +155,8 @@ module _ {M : Type 0} where
   pub seen-is : (t : Timeline) (js : List (Entry M)) (p : Seen M) → p.viewer.seen ≡ history t js → seen_in p ≡ js
   seen-is t js p is = ap calls_in is ∙ calls-history t js
 
-  pub seen-journal : (t : Timeline) (js : List (Entry M)) (p : Seen M) → p.viewer.seen ≡ history t js → IsLegal t js → HasSeenJournal t p
-  seen-journal t js p is legal = record { legal = subst (IsLegal t) (sym (seen-is t js p is)) legal; revisions = is ∙ ap (history t) (sym (seen-is t js p is)) }
+  pub seen-journal : (t : Timeline) (n : ℕ) (js : List (Entry M)) (p : Seen M) → p.viewer.seen ≡ history t js → IsJournal t n js → HasSeenJournal t n p
+  seen-journal t n js p is journal = record { journal = subst (IsJournal t n) (sym (seen-is t js p is)) journal; revisions = is ∙ ap (history t) (sym (seen-is t js p is)) }
 
   -- what came since is of others
   pub others-since : (t : Timeline) (js : List (Entry M)) (old new : Seen M) → new.viewer.seen ≡ history t js → StartsWith new.viewer.seen old.viewer.seen → old.half.count ≤ count_of old.session (seen_in old) → old.half.count ≡ count_of old.session js
@@ -168,11 +168,11 @@ module _ {M : Type 0} where
   }
 
   -- ... and then the call
-  pub call-since : (t : Timeline) (js js' : List (Entry M)) (old met new : Seen M) (c : Command) (r : Reply) → AddsOthers old met → met.viewer.seen ≡ history t js → met.session ≡ old.session → IsEntered t js js' met new c r → AddsCall old new c r
-  call-since t js js' old met new c r adds is same entered = record {
+  pub call-since : (t : Timeline) (n : ℕ) (js js' : List (Entry M)) (old met new : Seen M) (c : Command) (r : Reply) → AddsOthers old met → met.viewer.seen ≡ history t js → met.session ≡ old.session → IsEntered t n js js' met new c r → AddsCall old new c r
+  call-since t n js js' old met new c r adds is same entered = record {
     others = adds.others;
     entry = entered.entry;
-    seen = seen-is t js' new entered.seen ∙ (entered.journal ∙ ap (λ (l : List (Entry M)). l ++ entered.entry ∷ []) (sym (seen-is t js met is) ∙ adds.seen));
+    seen = seen-is t js' new entered.seen ∙ (entered.longer ∙ ap (λ (l : List (Entry M)). l ++ entered.entry ∷ []) (sym (seen-is t js met is) ∙ adds.seen));
     none_own = adds.none_own;
     session = entered.session ∙ same;
     command_is = entered.command_is;

@@ -2,7 +2,7 @@
 use Rattle.std.proofs.Common.{◌≡◌, ℕ, zero, suc, ◌+◌, ◌<◌, ◌≤◌, List, [], ◌∷◌, ◌++◌, length, take, drop, refl, sym, ap, subst, ◌∙◌, arith}
 use Rattle.std.specs.Prelude.{map}
 use Rattle.std.specs.List.{AllByRecursion}
-use Rattle.std.proofs.lemmas.List.{take-append-drop}
+use Rattle.std.proofs.lemmas.List.{append-nil, take-append-drop}
 use Rattle.pfl_publish.specs.Revisions.{Log, words_at, StartsWith}
 use Rattle.pfl_publish.proofs.Lists.{words_at-append, begun_length}
 use Rattle.pfl_timeline.specs.Commands.{command_step, replayed}
@@ -12,14 +12,20 @@ use Rattle.pfl_timeline.specs.Timelines.{Timeline, new_timeline}
 use Rattle.pfl_timeline.proofs.Shows.{branches-show-runs}
 use Rattle.pfl_session.specs.declared.entry.Entry.{Entry}
 use Rattle.pfl_session.specs.declared.mark.Mark.{Mark}
-use Rattle.pfl_session.specs.Journals.{after, replay, following, history, calls_in}
-use Rattle.pfl_session.specs.Laws.{RevisionsShowTimelines, SeenEntriesAreFirst, JournalsAreCommands, BranchesShowTheirRunsInJournals}
-use Rattle.pfl_session.proofs.Replays.{calls-since, calls-history, length-history}
+use Rattle.pfl_session.specs.Journals.{after, replay, following, history, calls_in, count_of}
+use Rattle.pfl_session.specs.Laws.{RevisionsShowTimelines, SeenEntriesAreFirst, LastCallersHaveSeenAll, JournalsAreCommands, BranchesShowTheirRunsInJournals}
+use Rattle.pfl_session.specs.Passes.{Seen, seen_in}
+use Rattle.pfl_session.proofs.Replays.{calls-since, calls-history, count-own, count-since, length-history}
 
 -- the front of two lists
 front : {X : Type 0} (xs ys : List X) → take (length xs) (xs ++ ys) ≡ xs
 front [] ys = refl
 front {X = X} (x ∷ xs) ys = ap (λ (l : List X). x ∷ l) (front xs ys)
+
+-- nothing stands behind a list where both together are empty
+none-right : {X : Type 0} (xs ys : List X) → [] ≡ xs ++ ys → ys ≡ []
+none-right [] ys is = sym is
+none-right (x ∷ xs) ys is = absurd cc
 
 module _ {M : Type 0} where
   -- the words of the revision that stands so many behind revision k
@@ -49,6 +55,21 @@ module _ {M : Type 0} where
   pub seen-are-first : SeenEntriesAreFirst M
   seen-are-first opening js seen begun =
       ap (take (length (calls_in seen))) (sym (calls-history opening js) ∙ calls-since (history opening js) seen begun) ∙ front (calls_in seen) (calls_in (drop (length seen) (history opening js)))
+
+  -- what stands behind the entries that hold all of a session's, where the last entry is of that session
+  none-behind : (s : ℕ) (js : List (Entry M)) (e : Entry M) (xs ys : List (Entry M)) → e.session ≡ s → js ++ e ∷ [] ≡ xs ++ ys → count_of s ys ≡ 0 → ys ≡ []
+  none-behind s js e [] ys own is none = absurd (omega (arith, count-own s js e own, ap (count_of s) is, none))
+  none-behind s [] e (x ∷ xs) ys own is none = let rest : [] ≡ xs ++ ys = cc in none-right xs ys rest
+  none-behind s (j ∷ js) e (x ∷ xs) ys own is none = let rest : js ++ e ∷ [] ≡ xs ++ ys = cc in none-behind s js e xs ys own rest none
+
+  pub last-callers-saw-all : LastCallersHaveSeenAll M
+  last-callers-saw-all opening js e p is own =
+      let list = history opening (js ++ e ∷ []) in
+      let later = calls_in (drop (length p.viewer.seen) list) in
+      let parts : js ++ e ∷ [] ≡ seen_in p ++ later = sym (calls-history opening (js ++ e ∷ [])) ∙ calls-since list p.viewer.seen is.begun in
+      let none : count_of p.session later ≡ 0 = omega (arith, count-since p.session list p.viewer.seen is.begun, ap (count_of p.session) (calls-history opening (js ++ e ∷ [])), is.all_own) in
+      let all = none-behind p.session js e (seen_in p) later own parts none in
+      sym (parts ∙ (ap (λ (l : List (Entry M)). seen_in p ++ l) all ∙ append-nil (seen_in p)))
 
   pub journals-are : JournalsAreCommands M
   unfolding replayed

@@ -1,6 +1,6 @@
 -- Journals: what their commands make of the opening, and the revisions that stand for their entries (this project's profile).
-use Rattle.std.specs.Prelude.{◌≡◌, ℕ, suc, ◌+◌, List, [], ◌∷◌, ◌++◌, cond, nat_eq, ⊤}
-use Rattle.std.specs.List.{fold}
+use Rattle.std.specs.Prelude.{◌≡◌, ◌≤◌, ℕ, suc, ◌+◌, List, [], ◌∷◌, ◌++◌, cond, nat_eq, ⊤}
+use Rattle.std.specs.List.{fold, AllByRecursion}
 use Rattle.atomic_table.specs.Seated.{TableId}
 use Rattle.pfl_count.specs.Count.{Count}
 use Rattle.pfl_publish.specs.Revisions.{Log, published}
@@ -28,6 +28,15 @@ IsRight t e = reply_of e.reply ≡ (command_step t e.command).reply
 abbrev pub IsLegal : {M : Type 0} → Timeline → List (Entry M) → Type 0
 IsLegal t [] = ⊤
 IsLegal t (e ∷ js) = IsRight t e × IsLegal (after t e) js
+
+-- each entry is of a session from 1 to n
+abbrev pub AreOfSessions : {M : Type 0} → ℕ → List (Entry M) → Type 0
+AreOfSessions n js = AllByRecursion (λ e. (1 ≤ e.session) × (e.session ≤ n)) js
+
+-- a journal of n sessions
+pub record IsJournal {M : Type 0} (opening : Timeline) (n : ℕ) (js : List (Entry M)) : Type 0 where
+  pub legal : IsLegal opening js
+  pub sessions : AreOfSessions n js
 
 -- the revisions of these entries, after revision n with the timeline t
 abbrev pub following : {M : Type 0} → Timeline → ℕ → List (Entry M) → Log (Mark M)

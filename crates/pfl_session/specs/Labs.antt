@@ -12,7 +12,7 @@ use Rattle.pfl_session.specs.declared.fault.LabFault.{LabFault}
 use Rattle.pfl_session.specs.declared.fault.LabFault.TheVariants as fault
 use Rattle.pfl_session.specs.declared.mark.Mark.{Mark}
 use Rattle.pfl_session.specs.Totals.{HasFewEvents}
-use Rattle.pfl_session.specs.Journals.{replay, IsLegal, history, counts_of, count_of}
+use Rattle.pfl_session.specs.Journals.{replay, IsJournal, history, counts_of, count_of}
 use Rattle.pfl_session.specs.Passes.{Seen, seen_in}
 
 -- equations of tables are facts
@@ -65,7 +65,7 @@ pub record HasSeenOwn {M : Type 0} (opening : Timeline) (js : List (Entry M)) (p
   pub begun : StartsWith (history opening js) p.viewer.seen
   pub all_own : count_of p.session (seen_in p) ≡ count_of p.session js
 
--- the journal is legal, and its replay gives the timeline
-pub record IsClosed {M : Type 0} (opening timeline : Timeline) (js : List (Entry M)) : Type 0 where
-  pub legal : IsLegal opening js
+-- the journal is one of n sessions, and its replay gives the timeline
+pub record IsClosed {M : Type 0} (opening : Timeline) (n : ℕ) (timeline : Timeline) (js : List (Entry M)) : Type 0 where
+  pub journal : IsJournal opening n js
   pub timeline_is : timeline ≡ replay opening js

@@ -1,5 +1,5 @@
 -- Laws of journals and of what passes see of them, in their own words (this project's profile).
-use Rattle.std.specs.Prelude.{◌≡◌, ◌<◌, ℕ, List, length, map, take}
+use Rattle.std.specs.Prelude.{◌≡◌, ◌<◌, ℕ, List, [], ◌∷◌, ◌++◌, length, map, take}
 use Rattle.std.specs.List.{AllByRecursion}
 use Rattle.pfl_publish.specs.Revisions.{Log, StartsWith, words_at}
 use Rattle.pfl_timeline.specs.Commands.{replayed}
@@ -10,6 +10,8 @@ use Rattle.pfl_world.specs.Worlds.{World, IsWorld}
 use Rattle.pfl_session.specs.declared.entry.Entry.{Entry}
 use Rattle.pfl_session.specs.declared.mark.Mark.{Mark}
 use Rattle.pfl_session.specs.Journals.{replay, history, calls_in}
+use Rattle.pfl_session.specs.Labs.{HasSeenOwn}
+use Rattle.pfl_session.specs.Passes.{Seen, seen_in}
 
 -- each revision that was seen is the summary of what the first entries of the journal give, as many as its number
 abbrev pub RevisionsShowTimelines : Type 0 → Type 0
@@ -22,6 +24,11 @@ abbrev pub SeenEntriesAreFirst : Type 0 → Type 0
 SeenEntriesAreFirst M =
     (opening : Timeline) (js : List (Entry M)) (seen : Log (Mark M)) → StartsWith (history opening js) seen
     → take (length (calls_in seen)) js ≡ calls_in seen
+
+-- a pass whose session made the last entry has seen all of them
+abbrev pub LastCallersHaveSeenAll : Type 0 → Type 0
+LastCallersHaveSeenAll M =
+    (opening : Timeline) (js : List (Entry M)) (e : Entry M) (p : Seen M) → HasSeenOwn opening (js ++ e ∷ []) p → e.session ≡ p.session → seen_in p ≡ js ++ e ∷ []
 
 -- a journal's timeline is that of its commands, one after another, whoever asked them
 abbrev pub JournalsAreCommands : Type 0 → Type 0

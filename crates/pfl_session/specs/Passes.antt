@@ -11,7 +11,7 @@ use Rattle.pfl_session.specs.declared.entry.Entry.{Entry}
 use Rattle.pfl_session.specs.declared.mark.Mark.{Mark}
 use Rattle.pfl_session.specs.declared.fault.AskFault.{AskFault}
 use Rattle.pfl_session.specs.declared.fault.AskFault.TheVariants as fault
-use Rattle.pfl_session.specs.Journals.{IsLegal, history, calls_in, count_of}
+use Rattle.pfl_session.specs.Journals.{IsJournal, history, calls_in, count_of}
 
 -- the name of no table
 abbrev pub no_table : TableId
@@ -51,9 +51,9 @@ pub record GoesOn {M : Type 0} (old new : Seen M) : Type 0 where
   pub publisher : new.viewer.table ≡ old.viewer.table
   pub seen : StartsWith new.viewer.seen old.viewer.seen
 
--- what it has seen is a journal, whose replies are those that its commands give from the opening; each revision is the summary of what the entries up to it give
-pub record HasSeenJournal {M : Type 0} (opening : Timeline) (p : Seen M) : Type 0 where
-  pub legal : IsLegal opening (seen_in p)
+-- what it has seen is a journal of n sessions, whose replies are those that its commands give from the opening; each revision is the summary of what the entries up to it give
+pub record HasSeenJournal {M : Type 0} (opening : Timeline) (n : ℕ) (p : Seen M) : Type 0 where
+  pub journal : IsJournal opening n (seen_in p)
   pub revisions : p.viewer.seen ≡ history opening (seen_in p)
 
 -- what it has seen since then is of other sessions

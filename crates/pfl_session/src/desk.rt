@@ -5,7 +5,7 @@ ghost use Rattle.pfl_count.specs.Count.{Count};
 ghost use Rattle.pfl_publish.specs.Revisions.{StartsWith};
 ghost use Rattle.pfl_timeline.specs.Replies.{reply_of};
 ghost use Rattle.pfl_session.specs.Totals.{HasFewEvents};
-ghost use Rattle.pfl_session.specs.Journals.{after, replay, IsLegal, history, count_of};
+ghost use Rattle.pfl_session.specs.Journals.{after, replay, IsJournal, history, count_of};
 ghost use Rattle.pfl_session.specs.Passes.{seen_in, IsPassOf, GoesOn, HasSeenJournal, AddsOthers, AddsCall, IsAskFault};
 ghost use Rattle.pfl_session.specs.Desks.{counted, HasMet, IsEntered};
 ghost use Rattle.pfl_session.specs.Labs.{HasSeenOwn, IsClosed};
@@ -37,18 +37,18 @@ pub(crate) struct Desk<J: Which, A: Allocator> {
 }
 
 impl<J: Which, A: Allocator> Model for Desk<J, A> {
-    ghost use Rattle.std.specs.Prelude.{◌≡◌, List, Some};
+    ghost use Rattle.std.specs.Prelude.{◌≡◌, List, Some, length};
     ghost use Rattle.pfl_publish.specs.Seats.{Writer};
     ghost use Rattle.pfl_session.specs.declared.entry.Entry.{Entry};
     ghost use Rattle.pfl_session.specs.declared.mark.Mark.{Mark};
     ghost use Rattle.pfl_session.specs.Journals.{history, counts_of};
-    ghost use Rattle.pfl_session.specs.Desks.{IsJournal};
+    ghost use Rattle.pfl_session.specs.Desks.{IsDesk};
 
     ghost Value = { List (Entry A) };
 
     ghost view = { λ d. d.journal.items };
 
-    ghost invariant = { λ d. ((w : Writer (Mark A)) × (d.writer ≡ Some w) × (w.table ≡ J.publisher) × (w.list ≡ history J.opening d.journal.items)) × (d.halves.items ≡ counts_of 1 J.tallies d.journal.items) × IsJournal J.opening J.limit d.timeline d.journal.items d.limit };
+    ghost invariant = { λ d. ((w : Writer (Mark A)) × (d.writer ≡ Some w) × (w.table ≡ J.publisher) × (w.list ≡ history J.opening d.journal.items)) × (d.halves.items ≡ counts_of 1 J.tallies d.journal.items) × IsDesk J.opening (length J.tallies) J.limit d.timeline d.journal.items d.limit };
 }
 
 /// Puts the entry behind the others, publishes what the timeline then shows, and lets the viewer see it.
@@ -117,7 +117,6 @@ impl<J: Which, A: Allocator> Desk<J, A> {
     fn is_full(&self) -> bool
         ensures full { IsTrue result → length self.now ≡ J.limit }
         ensures room { IsFalse result → length self.now < J.limit }
-        ensures legal { IsLegal J.opening self.now }
     {
         self.journal.len() >= self.limit
     }
@@ -126,7 +125,7 @@ impl<J: Which, A: Allocator> Desk<J, A> {
     pub(crate) fn meet(&mut self, publisher: &Publisher<Mark<A>, A>, pass: &mut Pass<A>) -> u64
         requires publisher { (publisher.now ≡ J.publisher) × (pass.old.viewer.table ≡ J.publisher) }
         ensures journal { self.new ≡ self.old }
-        ensures legal { IsLegal J.opening self.old }
+        ensures legal { IsJournal J.opening (length J.tallies) self.old }
         ensures seen { pass.new.viewer.seen ≡ history J.opening self.old }
         ensures half { pass.new.half ≡ pass.old.half }
         ensures goes_on { GoesOn pass.old pass.new }
@@ -166,7 +165,7 @@ impl<J: Which, A: Allocator> Desk<J, A> {
         requires lab { IsPassOf J.publisher J.tallies pass.old }
         requires tally { pass.old.half.table ≡ tally.now }
         ensures journal { self.new ≡ self.old }
-        ensures met { HasMet J.opening self.new pass.old pass.new }
+        ensures met { HasMet J.opening (length J.tallies) self.new pass.old pass.new }
     {
         pass.known();
         self.compare(tally, pass);
@@ -188,7 +187,7 @@ impl<J: Which, A: Allocator + Copy> Desk<J, A> {
         requires tally { pass.old.half.table ≡ tally.now }
         requires place { slice_get J.tallies (pass.old.session - 1) ≡ Some tally.now }
         requires room { length self.old < J.limit }
-        ensures entered { IfOk result (λ reply. IsEntered J.opening self.old self.new pass.old pass.new command.now (reply_of reply)) }
+        ensures entered { IfOk result (λ reply. IsEntered J.opening (length J.tallies) self.old self.new pass.old pass.new command.now (reply_of reply)) }
         ensures goes_on { GoesOn pass.old pass.new }
         ensures one_more { OnOk result (pass.new.half ≡ counted pass.old.half) }
         ensures unchanged { OnErr result ((self.new ≡ self.old) × (pass.new ≡ pass.old)) }
@@ -232,7 +231,7 @@ impl<J: Which, A: Allocator + Copy> Desk<J, A> {
         requires tally { pass.old.half.table ≡ tally.now }
         ensures goes_on { GoesOn pass.old pass.new }
         ensures lab { IsPassOf J.publisher J.tallies pass.new }
-        ensures journal { HasSeenJournal J.opening pass.new }
+        ensures journal { HasSeenJournal J.opening (length J.tallies) pass.new }
         ensures called { IfOk result (λ reply. AddsCall pass.old pass.new command (reply_of reply)) }
         ensures refused { IfErr result (IsAskFault J.limit pass.new) }
         ensures not_called { OnErr result (AddsOthers pass.old pass.new) }
@@ -268,7 +267,7 @@ impl<J: Which, A: Allocator> Desk<J, A> {
     /// The timeline and its journal.
     pub(crate) fn closed(self) -> Closed<A>
         ensures journal { result.journal.items ≡ self }
-        ensures closed { IsClosed J.opening result.timeline result.journal.items }
+        ensures closed { IsClosed J.opening (length J.tallies) result.timeline result.journal.items }
     {
         let Desk {
             timeline,

@@ -1,6 +1,6 @@
 //! Laws of journals. They have no code: each is a theorem over the definitions, which a function's contract names.
 
-ghost use Rattle.pfl_session.specs.Laws.{RevisionsShowTimelines, SeenEntriesAreFirst, JournalsAreCommands, BranchesShowTheirRunsInJournals};
+ghost use Rattle.pfl_session.specs.Laws.{RevisionsShowTimelines, SeenEntriesAreFirst, LastCallersHaveSeenAll, JournalsAreCommands, BranchesShowTheirRunsInJournals};
 
 use std::alloc::Allocator;
 
@@ -9,6 +9,12 @@ use std::alloc::Allocator;
 pub fn revisions_show_timelines<A: Allocator>()
     ensures words { RevisionsShowTimelines A }
     ensures entries { SeenEntriesAreFirst A }
+{}
+
+/// A pass that `Lab::close` takes back has seen all entries of the journal, where its session made the last of them. So where
+/// the pass of each session is handed in, the journal is what one of them has seen, and empty where none has seen an entry.
+pub fn last_callers_have_seen_all<A: Allocator>()
+    ensures { LastCallersHaveSeenAll A }
 {}
 
 /// A journal gives the timeline of its commands, one after another. So whatever the sessions asked, and in whatever order,

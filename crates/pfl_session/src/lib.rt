@@ -25,7 +25,7 @@ mod which;
 pub use entry::{Closed, Entry};
 pub use fault::{AskFault, LabFault};
 pub use lab::Lab;
-pub use laws::{journals_are_commands, revisions_show_timelines};
+pub use laws::{journals_are_commands, last_callers_have_seen_all, revisions_show_timelines};
 pub use mark::Mark;
 pub use opened::Opened;
 pub use pass::Pass;

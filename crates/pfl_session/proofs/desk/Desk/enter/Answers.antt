@@ -8,7 +8,7 @@ use Rattle.pfl_session.specs.declared.mark.Mark.{Mark}
 use Rattle.pfl_session.specs.Journals.{history, after, replay, count_of}
 use Rattle.pfl_session.specs.Passes.{Seen}
 use Rattle.pfl_session.proofs.Replays.{some_same, counts-get}
-use Rattle.pfl_session.proofs.Asked.{IsKept, kept-after, kept-few, kept-legal, kept-replay, kept-many, kept-counts, kept-below}
+use Rattle.pfl_session.proofs.Asked.{IsKept, kept-after, kept-few, kept-journal, kept-replay, kept-many, kept-counts, kept-below}
 use Rattle.pfl_session.proofs.desk.Desk.enter.Goals as goal
 
 pub invariant_of-self : goal.invariant_of-self
@@ -60,7 +60,7 @@ invariant_of-self-2 g c =
       (c.append-writer.result.0, refl, c.append-writer.ensures.tables.0 ∙ c.requires.publisher.0, c.append-writer.ensures.list),
       kept-counts opening c.self.inside.timeline c.execute.new.timeline js entry c.args.command.now (reply_of c.in_ok-reply.reply) c.pass.inside.session is.2.timeline_is kept items more g.J.Which.tallies _ _ c.args.tally.now _ c.pass.invariant.6 there is.1 c.count_one-mine.ensures.same c.count_one-mine.ensures.kept,
       record {
-        legal = kept-legal opening c.self.inside.timeline c.execute.new.timeline js entry c.args.command.now (reply_of c.in_ok-reply.reply) c.pass.inside.session is.2.timeline_is kept items more is.2.legal;
+        journal = kept-journal opening c.self.inside.timeline c.execute.new.timeline js entry c.args.command.now (reply_of c.in_ok-reply.reply) c.pass.inside.session is.2.timeline_is kept items more g.J.Which.tallies c.args.tally.now c.pass.invariant.6 there is.2.journal;
         timeline_is = kept-replay opening c.self.inside.timeline c.execute.new.timeline js entry c.args.command.now (reply_of c.in_ok-reply.reply) c.pass.inside.session is.2.timeline_is kept items more;
         few = kept-few opening c.self.inside.timeline c.execute.new.timeline js entry c.args.command.now (reply_of c.in_ok-reply.reply) c.pass.inside.session is.2.timeline_is kept (length js + 4294967295) _ (omega (arith, many)) is.2.few;
         bound_is = is.2.bound_is;
@@ -97,6 +97,7 @@ returns-clause-entered g c =
     let items = c.append-writer.new.journal.items in
     let entry = c.in_ok-reply.entry in
     let named : c.pass.inside.session ≡ c.args.pass.now.session = ap (λ (s : Seen g.row.A.Denot). s.session) c.pass.view_is in
+    let there : slice_get g.J.Which.tallies (c.pass.inside.session - 1) ≡ Some c.args.tally.now = ap (λ (n : ℕ). slice_get g.J.Which.tallies (n - 1)) named ∙ c.requires.place in
     let more : items ≡ js ++ entry ∷ [] = c.append-writer.ensures.items ∙ ap (λ (l : List (Entry g.row.A.Denot)). l ++ entry ∷ []) c.in_ok-reserve.ensures.items in
     let kept : IsKept c.self.inside.timeline c.execute.new.timeline entry c.args.command.now (reply_of c.in_ok-reply.reply) c.pass.inside.session = record { step = c.in_ok-reply.ensures.step; entry = c.in_ok-reply.ensures.entry } in
     record {
@@ -104,7 +105,7 @@ returns-clause-entered g c =
       session = c.in_ok-reply.ensures.entry.0 ∙ named;
       command_is = c.in_ok-reply.ensures.entry.1;
       reply_is = c.in_ok-reply.ensures.entry.2;
-      journal = more ∙ ap (λ (l : List (Entry g.row.A.Denot)). l ++ entry ∷ []) c.self.view_is;
-      legal = kept-legal opening c.self.inside.timeline c.execute.new.timeline js entry c.args.command.now (reply_of c.in_ok-reply.reply) c.pass.inside.session is.2.timeline_is kept items more is.2.legal;
+      longer = more ∙ ap (λ (l : List (Entry g.row.A.Denot)). l ++ entry ∷ []) c.self.view_is;
+      journal = kept-journal opening c.self.inside.timeline c.execute.new.timeline js entry c.args.command.now (reply_of c.in_ok-reply.reply) c.pass.inside.session is.2.timeline_is kept items more g.J.Which.tallies c.args.tally.now c.pass.invariant.6 there is.2.journal;
       seen = c.append-writer.ensures.seen ∙ c.append-writer.ensures.list;
     }

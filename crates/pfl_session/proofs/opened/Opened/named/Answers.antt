@@ -3,7 +3,7 @@ use Rattle.std.specs.List.{AllByRecursion}
 use Rattle.atomic_table.specs.Seated.{TableId}
 use Rattle.pfl_timeline.specs.Timelines.{Timeline}
 use Rattle.pfl_session.specs.declared.entry.Entry.{Entry}
-use Rattle.pfl_session.specs.Journals.{IsLegal, replay, history, counts_of}
+use Rattle.pfl_session.specs.Journals.{IsJournal, replay, history, counts_of}
 use Rattle.pfl_session.specs.Labs.{Setup}
 use Rattle.pfl_session.specs.Passes.{IsPassOf}
 use Rattle.pfl_session.proofs.Growth.{more_room}
@@ -24,7 +24,7 @@ invariant_of-desk g c =
       (c.self.inside.writer, refl, is.2 ∙ publisher, is.3 ∙ ap (λ (t : Timeline). history t js) opening),
       is.4 ∙ ap (λ (ts : List TableId). counts_of 1 ts js) tallies,
       record {
-        legal = subst (IsLegal g.J.Which.opening) (sym none) tt;
+        journal = subst (IsJournal g.J.Which.opening (length g.J.Which.tallies)) (sym none) (record { legal = tt; sessions = tt });
         timeline_is = opening ∙ sym (ap (replay g.J.Which.opening) none);
         few = more_room 4294967295 (length js + 4294967295) c.self.inside.timeline (omega arith) is.6;
         bound_is = limit;
