@@ -1,0 +1,100 @@
+//! Whether replies and timelines are the same, as far as their readers tell.
+
+use pfl_base::NodeId;
+use pfl_node::Node;
+use pfl_timeline::{Branch, BranchWord, Reply, Timeline};
+use pfl_world::World;
+use std::alloc::Allocator;
+
+/// The same word.
+fn same_name(one: &BranchWord, two: &BranchWord) -> bool {
+    one.bytes() == two.bytes()
+}
+
+/// The same words, in the same order.
+fn same_names(one: &[BranchWord], two: &[BranchWord]) -> bool {
+    let agree = one.iter().zip(two).all(|(a, b)| same_name(a, b));
+    one.len() == two.len() && agree
+}
+
+/// The same clocks, numbers, states, and counts of what is pending.
+fn same_node<A: Allocator>(one: &Node<A>, two: &Node<A>) -> bool {
+    let states = one.states().iter().eq(two.states().iter());
+    let counted = one.counters() == two.counters() && one.queue().len() == two.queue().len();
+    let numbers = one.creator() == two.creator() && one.next_id() == two.next_id();
+    states && counted && numbers && one.clock() == two.clock() && one.push() == two.push()
+}
+
+/// The same nodes, and as many frames between them.
+fn same_world<A: Allocator>(one: &World<A>, two: &World<A>) -> bool {
+    let nodes = same_node(one.node(NodeId::A), two.node(NodeId::A))
+        && same_node(one.node(NodeId::B), two.node(NodeId::B));
+    let (ours, theirs) = (one.link(), two.link());
+    let frames = ours.len() == theirs.len() && ours.next() == theirs.next();
+    nodes && frames && one.next_boot() == two.next_boot()
+}
+
+/// The same branch.
+fn same_branch<A: Allocator>(one: &Branch<A>, two: &Branch<A>) -> bool {
+    let events = one.events() == two.events() && one.cursor() == two.cursor();
+    same_name(one.name(), two.name()) && events && same_world(one.world(), two.world())
+}
+
+/// The same branches, in the same order.
+pub(super) fn same_timeline<A: Allocator>(one: &Timeline<A>, two: &Timeline<A>) -> bool {
+    let (ours, theirs) = (one.branches(), two.branches());
+    let agree = ours.iter().zip(theirs).all(|(a, b)| same_branch(a, b));
+    ours.len() == theirs.len() && agree
+}
+
+/// What is told of a branch that is shown.
+#[derive(Drop)]
+struct ShownBranch<'a, A: Allocator> {
+    name: &'a BranchWord,
+    events: usize,
+    cursor: usize,
+    world: &'a World<A>,
+}
+
+/// The reply shows the branch so.
+fn shows<A: Allocator>(reply: &Reply<A>, branch: &ShownBranch<'_, A>) -> bool {
+    let Reply::Shown {
+        name,
+        events,
+        cursor,
+        world,
+    } = reply
+    else {
+        return false;
+    };
+    let place = *events == branch.events && *cursor == branch.cursor;
+    same_name(name, branch.name) && place && same_world(world, branch.world)
+}
+
+/// The same reply.
+pub(super) fn same_reply<A: Allocator>(one: &Reply<A>, two: &Reply<A>) -> bool {
+    match one {
+        Reply::Stepped { outcome, dropped } => {
+            matches!(two, Reply::Stepped { outcome: o, dropped: d } if o == outcome && d == dropped)
+        }
+        Reply::At(cursor) => matches!(two, Reply::At(c) if c == cursor),
+        Reply::Forked => matches!(two, Reply::Forked),
+        Reply::Removed => matches!(two, Reply::Removed),
+        Reply::Shown {
+            name,
+            events,
+            cursor,
+            world,
+        } => {
+            let branch = ShownBranch {
+                name,
+                events: *events,
+                cursor: *cursor,
+                world,
+            };
+            shows(two, &branch)
+        }
+        Reply::Names(names) => matches!(two, Reply::Names(others) if same_names(names, others)),
+        Reply::Refused(why) => matches!(two, Reply::Refused(other) if other == why),
+    }
+}
