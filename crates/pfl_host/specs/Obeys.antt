@@ -1,0 +1,81 @@
+-- What the program does with its words, over any devices (this project's profile).
+use Rattle.std.specs.Prelude.{◌≡◌, ◌<◌, ℕ, Bool, List, [], length, Option, Some, ◌⊎◌, Result, Ok, Err}
+use Rattle.clap.specs.Faults.{fault_of}
+use Rattle.clap.specs.Values.{kind_of}
+use Rattle.clap.specs.declared.error.kind.ErrorKind.{ErrorKind}
+use Rattle.clap.specs.declared.error.kind.ErrorKind.TheVariants.{DisplayHelp, DisplayVersion}
+use Rattle.pfl_script.specs.Readers.{Source}
+use Rattle.pfl_run.specs.declared.fault.LabFault.TheVariants as lab
+use Rattle.pfl_run.specs.declared.mode.Mode.{Mode}
+use Rattle.pfl_run.specs.declared.mode.Mode.TheVariants.{Run, Check}
+use Rattle.pfl_run.specs.declared.mode.WordsFault.{WordsFault}
+use Rattle.pfl_run.specs.declared.mode.WordsFault.TheVariants as fault
+use Rattle.pfl_run.specs.Checks.{ChecksToEnd, IsCheckStop}
+use Rattle.pfl_run.specs.Faults.{fault_text}
+use Rattle.pfl_run.specs.Modes.{lab_app, mode_word, subcommand_name, words_status, IsWordsFault}
+use Rattle.pfl_run.specs.Runs.{Ends, IsStop, IsTold, RunsToEnd, Stops}
+
+-- a device that is written to, before and after; what was written to it, where that is known; whether a call of it has failed
+pub record Device (D : Type 0) : Type 0 where
+  pub old : D
+  pub new : D
+  pub before : Option (List ℕ)
+  pub after : Option (List ℕ)
+  pub failed : Bool
+
+-- what is seen of such a device
+abbrev pub seen : {D : Type 0} → (D → Option (List ℕ)) → (D → Bool) → D → D → Device D
+seen written has_failed old new =
+    record { old = old; new = new; before = written old; after = written new; failed = has_failed new }
+
+-- nothing was done to the device
+abbrev pub IsUntouched : {D : Type 0} → Device D → Type 0
+IsUntouched d = d.new ≡ d.old
+
+-- some text was written, and not an empty one: whole, unless the device has failed, and else in part
+abbrev pub TellsText : {D : Type 0} → Device D → Type 0
+TellsText d = (text : List ℕ) × (0 < length text) × IsTold text d.before d.after d.failed
+
+-- want of memory was told
+abbrev pub TellsNoMemory : {D : Type 0} → Device D → Type 0
+TellsNoMemory d = IsTold (fault_text lab.NoMemory) d.before d.after d.failed
+
+-- a text was written for an error of this kind: to the writer where the words call for help or for the version, else to faults
+abbrev pub TellsKind : {W F : Type 0} → ErrorKind → Device W → Device F → Type 0
+TellsKind DisplayHelp writer faults = TellsText writer × IsUntouched faults
+TellsKind DisplayVersion writer faults = TellsText writer × IsUntouched faults
+TellsKind _ writer faults = IsUntouched writer × TellsText faults
+
+-- it was told why words ask for no mode, or else that there was no memory for that
+abbrev pub TellsWords : {W F : Type 0} → WordsFault → Device W → Device F → Type 0
+TellsWords (fault.Words e) writer faults = TellsKind (kind_of e) writer faults ⊎ (IsUntouched writer × TellsNoMemory faults)
+TellsWords fault.NoMemory writer faults = IsUntouched writer × TellsNoMemory faults
+
+-- words are taken so: as a mode, which they name without a fault; or as none, for this reason
+abbrev pub IsTaken : List (List ℕ) → Result Mode WordsFault → Type 0
+IsTaken words (Ok mode) = (fault_of lab_app words ≡ []) × (subcommand_name words ≡ Some (mode_word mode))
+IsTaken words (Err why) = IsWordsFault (fault_of lab_app words) why
+
+-- the lines of the reader are run, with this exit status
+abbrev pub Runs : {W F : Type 0} → Source → Source → Device W → Device F → ℕ → Type 0
+Runs old new writer faults status =
+    Ends (RunsToEnd old.left new.left writer.before writer.after) faults.before faults.after status
+    ⊎ Stops (λ why. IsStop why old.left writer.before writer.after) new writer.failed faults.before faults.after faults.failed status
+
+-- the lines of the reader are checked, with this exit status
+abbrev pub Checks : {W F : Type 0} → Source → Source → Device W → Device F → ℕ → Type 0
+Checks old new writer faults status =
+    Ends (ChecksToEnd old.left new.left writer.before writer.after) faults.before faults.after status
+    ⊎ Stops (λ why. IsCheckStop why old.left writer.before writer.after) new writer.failed faults.before faults.after faults.failed status
+
+-- what the program does with words that were taken so, and its exit status; where they ask for no mode it reads nothing
+abbrev pub Does : {W F : Type 0} → Result Mode WordsFault → Source → Source → Device W → Device F → ℕ → Type 0
+Does (Ok Run) old new writer faults status = Runs old new writer faults status
+Does (Ok Check) old new writer faults status = Checks old new writer faults status
+Does (Err why) old new writer faults status = (new ≡ old) × TellsWords why writer faults × (status ≡ words_status why)
+
+-- the program does what its words ask for
+pub record Obeys {W F : Type 0} (words : List (List ℕ)) (old new : Source) (writer : Device W) (faults : Device F) (status : ℕ) : Type 0 where
+  pub how : Result Mode WordsFault
+  pub taken : IsTaken words how
+  pub does : Does how old new writer faults status
