@@ -8,4 +8,5 @@ pub mod Packets
 pub mod Commands
 pub mod Rules
 pub mod Setup
+pub mod Session
 pub mod inner

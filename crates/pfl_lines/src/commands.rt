@@ -364,7 +364,7 @@ fn whole_command(draft: CommandDraft) -> Result<Command, LineFault>
 
 /// What the words of a line say.
 #[tactic(auto, unfolding(crate::specs::Commands::command_of))]
-fn command_of(line: &[u8]) -> Result<Command, LineFault>
+pub fn command_of(line: &[u8]) -> Result<Command, LineFault>
     ensures { result ≡ command_of (words line.now) }
 {
     let (command, rest) = try_read!(command_at(line));

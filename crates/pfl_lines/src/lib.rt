@@ -9,9 +9,11 @@ mod numbers;
 mod packets;
 mod parts;
 mod rules;
+mod session;
 mod setup;
 mod words;
 
 pub use commands::{LONGEST, parse_line};
 pub use fault::LineFault;
+pub use session::{SessionLine, parse_session};
 pub use setup::{SetupLine, parse_setup};

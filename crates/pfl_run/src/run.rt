@@ -33,7 +33,7 @@ fn open_timeline<A: Allocator + Copy>(alloc: A, setup: Setup<A>) -> Result<Timel
 }
 
 /// Sets a pair up by the first lines that the reader has, up to `open`.
-fn set_up<A: Allocator + Copy, R: Input>(
+pub fn set_up<A: Allocator + Copy, R: Input>(
     alloc: A,
     reader: &mut LineReader<R>,
 ) -> Result<Timeline<A>, LabFault>

@@ -96,7 +96,7 @@ taken-drained (Some xs) (Some ys) None lines h t = absurd t
 taken-drained (Some xs) (Some ys) (Some zs) lines h t = t.1
 
 -- nothing more was written
-appends-keeps : (a b c : Option (List ℕ)) (s : List ℕ) → Appends a b s → KeepsBytes b c → Appends a c s
+pub appends-keeps : (a b c : Option (List ℕ)) (s : List ℕ) → Appends a b s → KeepsBytes b c → Appends a c s
 appends-keeps None b c s h i = tt
 appends-keeps (Some xs) None c s h i = absurd h
 appends-keeps (Some xs) (Some ys) None s h i = absurd i

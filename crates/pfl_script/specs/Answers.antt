@@ -7,6 +7,8 @@ use Rattle.pfl_lines.specs.declared.fault.LineFault.TheVariants.{Long}
 use Rattle.pfl_lines.specs.Commands.{parsed}
 use Rattle.pfl_lines.specs.declared.setup.SetupLine.{SetupLine}
 use Rattle.pfl_lines.specs.Setup.{parsed_setup}
+use Rattle.pfl_lines.specs.declared.session.SessionLine.{SessionLine}
+use Rattle.pfl_lines.specs.Session.{parsed_session}
 use Rattle.pfl_timeline.specs.Timelines.{Timeline}
 use Rattle.pfl_script.specs.Lines.{lines_of}
 use Rattle.pfl_script.specs.Scans.{Kept, head_of, has_word, TakesLines}
@@ -65,6 +67,10 @@ kept_said k = if k.long then Err Long else parsed k.bytes
 -- what is kept of a line says as one of a setup
 abbrev pub kept_setup : Kept → Result SetupLine LineFault
 kept_setup k = if k.long then Err Long else parsed_setup k.bytes
+
+-- what is kept of a line says to a session
+abbrev pub kept_session : Kept → Result SessionLine LineFault
+kept_session k = if k.long then Err Long else parsed_session k.bytes
 
 -- the answer to a line of which this is kept
 unfoldable pub kept_answer : Kept → Timeline → Answer

@@ -21,7 +21,7 @@ pub struct Ended {
 
 impl Ended {
     /// One more line.
-    fn more(self, bad: bool) -> Ended
+    pub fn more(self, bad: bool) -> Ended
         requires lines { self.lines < 2 ^ 63 }
         requires bad { self.bad < 2 ^ 63 }
         ensures lines { result.lines ≡ self.lines + 1 }

@@ -32,6 +32,7 @@ pub use link_lines::{FrameLine, LinkLine};
 pub use node_lines::{
     AskLine, BulkWords, BusLine, ClearLine, CountLine, HeldLine, NodeLine, NumbersWords, QueueLine,
 };
+pub use replies::fault_line;
 pub use setup::{Setup, read_setup};
 pub use setup_fault::SetupFault;
 pub use short_line::{ShortLine, plain_line, push_number};

@@ -1,11 +1,13 @@
 //! A line while it is read.
 
 ghost use Rattle.std.specs.Prelude.{◌≡◌, ◌≢◌, true, false};
-ghost use Rattle.pfl_script.specs.Answers.{kept_said, kept_setup};
+ghost use Rattle.pfl_script.specs.Answers.{kept_said, kept_session, kept_setup};
 ghost use Rattle.pfl_script.specs.Scans.{nothing, pushed, settled, added, head_after, has_word};
 
 use crate::head::Head;
-use pfl_lines::{LONGEST, LineFault, SetupLine, parse_line, parse_setup};
+use pfl_lines::{
+    LONGEST, LineFault, SessionLine, SetupLine, parse_line, parse_session, parse_setup,
+};
 use pfl_timeline::Command;
 use std::marker::Model;
 
@@ -129,5 +131,15 @@ impl Line {
             return Err(LineFault::Long);
         }
         parse_setup(&self.bytes[..self.len])
+    }
+
+    /// What the line says to a session.
+    pub fn parse_session(&self) -> Result<SessionLine, LineFault>
+        ensures { result ≡ kept_session self.now }
+    {
+        if self.long {
+            return Err(LineFault::Long);
+        }
+        parse_session(&self.bytes[..self.len])
     }
 }

@@ -8,11 +8,11 @@ use arrayvec::ArrayString;
 use itoa::Buffer;
 
 /// A short line of text, which takes no memory.
-pub type ShortLine = ArrayString<80>;
+pub type ShortLine = ArrayString<192>;
 
 /// A line with this text.
 pub fn plain_line(text: &str) -> ShortLine
-    requires room { length text.now ≤ 80 }
+    requires room { length text.now ≤ 192 }
     ensures bytes { result.bytes ≡ text.now }
     ensures len { array_string_len result ≡ length text.now }
 {
@@ -23,7 +23,7 @@ pub fn plain_line(text: &str) -> ShortLine
 
 /// Appends a number.
 pub fn push_number(line: &mut ShortLine, number: u64)
-    requires room { array_string_len line.old ≤ 60 }
+    requires room { array_string_len line.old ≤ 172 }
     ensures bytes { line.new.bytes ≡ line.old.bytes ++ decimal number }
     ensures few { array_string_len line.new ≤ array_string_len line.old + 20 }
 {

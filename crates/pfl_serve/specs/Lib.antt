@@ -1,0 +1,5 @@
+pub mod Texts
+pub mod Services
+pub mod Seats
+pub mod Laws
+pub mod inner

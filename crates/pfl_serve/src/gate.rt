@@ -1,0 +1,27 @@
+//! What the calls of sessions go through.
+use std::sync::Wait;
+
+/// A gate that the calls of sessions go through, for tests that hold one back until another is there. Sessions and calls count
+/// from 1. It has no part in what is answered.
+pub trait Gate {
+    /// Before the session's nth call.
+    fn enter<R: Wait>(&self, rt: &R, session: u32, nth: u64);
+
+    /// After the answer to its nth call was written.
+    fn leave<R: Wait>(&self, rt: &R, session: u32, nth: u64);
+
+    /// After the session has ended, whose writer then gets nothing more.
+    fn end<R: Wait>(&self, rt: &R, session: u32);
+}
+
+/// A gate that is open: it does nothing.
+#[derive(Clone, Copy, Debug)]
+pub struct Open;
+
+impl Gate for Open {
+    fn enter<R: Wait>(&self, _rt: &R, _session: u32, _nth: u64) {}
+
+    fn leave<R: Wait>(&self, _rt: &R, _session: u32, _nth: u64) {}
+
+    fn end<R: Wait>(&self, _rt: &R, _session: u32) {}
+}

@@ -1,0 +1,131 @@
+//! Labs over a pair in which each node passes what goes out, sessions that are served over memory, and journals as text.
+ghost use Rattle.std.specs.Prelude.{IfSome};
+ghost use Rattle.std.specs.List.{AllByRecursion};
+ghost use Rattle.pfl_session.specs.Passes.{IsPassOf};
+ghost use Rattle.pfl_session.specs.Totals.{HasFewEvents};
+
+use pfl_base::Std;
+use pfl_run::set_up;
+use pfl_script::{Ended, EngineFault, LineReader, write_reply};
+use pfl_serve::{Gate, serve_session};
+use pfl_session::{Entry, Lab, LabFault, Opened, Pass, Which};
+use pfl_timeline::Timeline;
+use std::alloc::Global;
+use std::sync::Wait;
+
+/// A pair that is soon full.
+const SETUP: &[u8] =
+    b"set states 16\nset queue 16\nset frames 16\nrule a pass out\nrule b pass out\nopen\n";
+
+/// A timeline over such a pair.
+fn opening(alloc: Global) -> Option<Timeline<Global>>
+    ensures { IfSome result (HasFewEvents 4294967295) }
+{
+    let mut reader = LineReader::new(Std::new(SETUP));
+    match set_up(alloc, &mut reader) {
+        Ok(timeline) => Some(timeline),
+        Err(_) => None,
+    }
+}
+
+/// A lab over such a timeline.
+pub(super) fn opened(
+    alloc: Global,
+    sessions: u32,
+    journal: usize,
+) -> Result<Opened<Global>, LabFault> {
+    let Some(timeline) = opening(alloc) else {
+        return Err(LabFault::NoMemory);
+    };
+    Opened::new(alloc, timeline, sessions, journal)
+}
+
+/// Takes the pass of the last session.
+pub(super) fn take<J: Which>(passes: &mut Vec<Pass<Global>, Global>) -> Option<Pass<Global>>
+    requires { AllByRecursion (IsPassOf J.publisher J.tallies) passes.old.items }
+    ensures taken { IfSome result (IsPassOf J.publisher J.tallies) }
+    ensures others { AllByRecursion (IsPassOf J.publisher J.tallies) passes.new.items }
+{
+    passes.pop()
+}
+
+/// What a session was answered, and how it ended.
+#[derive(Drop)]
+pub(super) struct Spoken {
+    pub(super) text: Vec<u8, Global>,
+    pub(super) result: Result<Ended, EngineFault>,
+}
+
+impl Spoken {
+    /// The session was answered so to its end, and so many of its lines were faulty.
+    pub(super) fn is(&self, text: &[u8], lines: u64, bad: u64) -> bool {
+        self.text.as_slice() == text && self.result == Ok(Ended { lines, bad })
+    }
+}
+
+/// Serves a session over memory.
+pub(super) fn speak<J: Which, G: Gate, R: Wait>(
+    rt: &R,
+    alloc: Global,
+    lab: &Lab<J, Global>,
+    pass: &mut Pass<Global>,
+    lines: &[u8],
+    gate: &G,
+) -> Spoken
+    requires { IsPassOf J.publisher J.tallies pass.old }
+    ensures { IsPassOf J.publisher J.tallies pass.new }
+{
+    let mut reader = LineReader::new(Std::new(lines));
+    let mut writer = Std::new(Vec::new(alloc));
+    let result = serve_session(rt, alloc, lab, pass, &mut reader, &mut writer, gate);
+    Spoken {
+        text: writer.into_inner(),
+        result,
+    }
+}
+
+/// A text, or nothing where there was no memory for it.
+pub(super) type Text = Option<Vec<u8, Global>>;
+
+/// The replies of a session's entries in the journal, or of all entries.
+pub(super) fn told(alloc: Global, journal: &[Entry<Global>], session: Option<u32>) -> Text {
+    let mut text = Std::new(Vec::new(alloc));
+    for entry in journal {
+        if session.is_none_or(|session| session == entry.session) {
+            write_reply(alloc, &entry.reply, &mut text).ok()?;
+        }
+    }
+    Some(text.into_inner())
+}
+
+/// Writes the reply to the entry's command: whether there is memory.
+fn follow(
+    alloc: Global,
+    timeline: &mut Timeline<Global>,
+    entry: &Entry<Global>,
+    text: &mut Std<Vec<u8, Global>>,
+) -> bool {
+    match timeline.command(entry.command) {
+        Ok(reply) => write_reply(alloc, &reply, text).is_ok(),
+        Err(_) => false,
+    }
+}
+
+/// The replies that the journal's commands give, one after another, on a new timeline.
+pub(super) fn replayed(alloc: Global, journal: &[Entry<Global>]) -> Text {
+    let mut timeline = opening(alloc)?;
+    let mut text = Std::new(Vec::new(alloc));
+    let mut whole = true;
+    for entry in journal {
+        whole = follow(alloc, &mut timeline, entry, &mut text) && whole;
+    }
+    if whole { Some(text.into_inner()) } else { None }
+}
+
+/// The journal tells these replies, and so does its replay.
+pub(super) fn tells(alloc: Global, journal: &[Entry<Global>], text: &[u8]) -> bool {
+    let told = told(alloc, journal, None);
+    let again = replayed(alloc, journal);
+    told.is_some_and(|told| told.as_slice() == text)
+        && again.is_some_and(|again| again.as_slice() == text)
+}
