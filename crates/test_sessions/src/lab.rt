@@ -106,15 +106,20 @@ pub(super) const FIRST_HOST: u32 = 0x0a00_0001;
 
 pub(super) const SECOND_HOST: u32 = 0x0a00_0002;
 
+/// The event is the next one of `main`.
+pub(super) fn on_main(event: Event) -> Command {
+    let branch = BranchWord::main();
+    Command::Step { branch, event }
+}
+
 /// The host's query, on its way out through node A, is the next event of `main`.
 pub(super) fn step(host: u32) -> Option<Command> {
-    let event = Event::Packet {
+    let packet = query(host)?;
+    Some(on_main(Event::Packet {
         node: NodeId::A,
         dir: Dir::Outbound,
-        packet: query(host)?,
-    };
-    let branch = BranchWord::main();
-    Some(Command::Step { branch, event })
+        packet,
+    }))
 }
 
 /// Takes the pass of the last session.

@@ -1,8 +1,11 @@
-//! Whether replies and timelines are the same, as far as their readers tell.
+//! Whether commands, replies and timelines are the same, as far as their readers tell.
 
+use super::lab::opening;
 use pfl_base::NodeId;
 use pfl_node::Node;
-use pfl_timeline::{Branch, BranchWord, Reply, Timeline};
+use pfl_parts::Limits;
+use pfl_session::{Closed, Entry};
+use pfl_timeline::{Branch, BranchWord, Command, Reply, Timeline};
 use pfl_world::World;
 use std::alloc::Allocator;
 
@@ -97,4 +100,50 @@ pub(super) fn same_reply<A: Allocator>(one: &Reply<A>, two: &Reply<A>) -> bool {
         Reply::Names(names) => matches!(two, Reply::Names(others) if same_names(names, others)),
         Reply::Refused(why) => matches!(two, Reply::Refused(other) if other == why),
     }
+}
+
+/// The same command.
+pub(super) fn same_command(one: &Command, two: &Command) -> bool {
+    match one {
+        Command::Step { branch, event } => {
+            matches!(two, Command::Step { branch: b, event: e } if same_name(branch, b) && event == e)
+        }
+        Command::Back { branch, n } => {
+            matches!(two, Command::Back { branch: b, n: m } if same_name(branch, b) && n == m)
+        }
+        Command::Forward { branch, n } => {
+            matches!(two, Command::Forward { branch: b, n: m } if same_name(branch, b) && n == m)
+        }
+        Command::Fork { from, place, name } => {
+            matches!(two, Command::Fork { from: f, place: p, name: n } if same_name(from, f) && place == p && same_name(name, n))
+        }
+        Command::Drop { branch } => {
+            matches!(two, Command::Drop { branch: b } if same_name(branch, b))
+        }
+        Command::Show { branch } => {
+            matches!(two, Command::Show { branch: b } if same_name(branch, b))
+        }
+        Command::Names => matches!(two, Command::Names),
+    }
+}
+
+/// The command of the entry, as the next one of a timeline, gives the entry's reply.
+fn follows<A: Allocator + Copy>(timeline: &mut Timeline<A>, entry: &Entry<A>) -> bool {
+    match timeline.command(entry.command) {
+        Ok(reply) => same_reply(&reply, &entry.reply),
+        Err(_) => false,
+    }
+}
+
+/// The commands of the journal, one after another, give the replies of their entries, and the timeline of the lab, which was
+/// opened within these limits.
+pub(super) fn replays<A: Allocator + Copy>(alloc: A, limits: Limits, closed: &Closed<A>) -> bool {
+    let Some(mut timeline) = opening(alloc, limits) else {
+        return false;
+    };
+    let mut same = true;
+    for entry in &closed.journal {
+        same = follows(&mut timeline, entry) && same;
+    }
+    same && same_timeline(&timeline, &closed.timeline)
 }

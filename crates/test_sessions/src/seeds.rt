@@ -7,11 +7,11 @@ ghost use Rattle.pfl_session.specs.Passes.{IsPassOf};
 ghost use Rattle.test_sessions.specs.Seats.{seat_prop};
 
 use super::dice::Dice;
-use super::lab::{limits, opened, opening, put, take};
-use super::same::{same_reply, same_timeline};
+use super::lab::{limits, opened, put, take};
+use super::same::replays;
 use pfl_parts::Limits;
 use pfl_session::{Closed, Entry, Lab, Opened, Pass, Which};
-use pfl_timeline::{Reply, Timeline};
+use pfl_timeline::Reply;
 use pfl_world::Outcome;
 use std::alloc::Global;
 use std::marker::{Brand, PhantomData};
@@ -210,32 +210,12 @@ fn counts_are_exact(journal: &[Entry<Global>]) -> bool {
     each && journal.len() == SESSIONS as usize * COMMANDS
 }
 
-/// The command of the entry, as the next one of a timeline, gives the entry's reply.
-fn follows(timeline: &mut Timeline<Global>, entry: &Entry<Global>) -> bool {
-    match timeline.command(entry.command) {
-        Ok(reply) => same_reply(&reply, &entry.reply),
-        Err(_) => false,
-    }
-}
-
-/// The commands of the journal, one after another, give the replies of their entries, and the lab's timeline.
-fn replays(alloc: Global, closed: &Closed<Global>) -> bool {
-    let Some(mut timeline) = opening(alloc, few()) else {
-        return false;
-    };
-    let mut same = true;
-    for entry in &closed.journal {
-        same = follows(&mut timeline, entry) && same;
-    }
-    same && same_timeline(&timeline, &closed.timeline)
-}
-
 #[test]
 fn eight_sessions_from_seeds(rt: HostRuntime) -> Result<(), Fail> {
     let opened = opened(rt.alloc(), few(), SESSIONS, 1_000_000)?;
     let (closed, good) = played::<Brand, _>(&rt, rt.alloc(), opened);
     let exact = counts_are_exact(&closed.journal);
-    let same = replays(rt.alloc(), &closed);
+    let same = replays(rt.alloc(), few(), &closed);
     assert!(rt; (good, exact, same) == (true, true, true));
     Ok(())
 }
