@@ -1,1 +1,2 @@
 pub mod Obeys
+pub mod Serves

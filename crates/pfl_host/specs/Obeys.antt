@@ -1,19 +1,21 @@
 -- What the program does with its words, over any devices (this project's profile).
 use Rattle.std.specs.Prelude.{◌≡◌, ◌<◌, ℕ, Bool, List, [], length, Option, Some, ◌⊎◌, Result, Ok, Err}
 use Rattle.clap.specs.Faults.{fault_of}
+use Rattle.clap.specs.Simple.{subcommand_of}
 use Rattle.clap.specs.Values.{kind_of}
 use Rattle.clap.specs.declared.error.kind.ErrorKind.{ErrorKind}
 use Rattle.clap.specs.declared.error.kind.ErrorKind.TheVariants.{DisplayHelp, DisplayVersion}
 use Rattle.pfl_script.specs.Readers.{Source}
 use Rattle.pfl_run.specs.declared.fault.LabFault.TheVariants as lab
 use Rattle.pfl_run.specs.declared.mode.Mode.{Mode}
-use Rattle.pfl_run.specs.declared.mode.Mode.TheVariants.{Run, Check}
+use Rattle.pfl_run.specs.declared.mode.Mode.TheVariants.{Run, Check, Serve}
 use Rattle.pfl_run.specs.declared.mode.WordsFault.{WordsFault}
 use Rattle.pfl_run.specs.declared.mode.WordsFault.TheVariants as fault
 use Rattle.pfl_run.specs.Checks.{ChecksToEnd, IsCheckStop}
 use Rattle.pfl_run.specs.Faults.{fault_text}
-use Rattle.pfl_run.specs.Modes.{lab_app, mode_word, subcommand_name, words_status, IsWordsFault}
+use Rattle.pfl_run.specs.Modes.{lab_app, mode_word, subcommand_name, words_status, HasNumbers, IsWordsFault}
 use Rattle.pfl_run.specs.Runs.{Ends, IsStop, IsTold, RunsToEnd, Stops}
+use Rattle.pfl_host.specs.Serves.{IsServeStop, Serves, ServesToEnd}
 
 -- a device that is written to, before and after; what was written to it, where that is known; whether a call of it has failed
 pub record Device (D : Type 0) : Type 0 where
@@ -51,9 +53,10 @@ abbrev pub TellsWords : {W F : Type 0} → WordsFault → Device W → Device F 
 TellsWords (fault.Words e) writer faults = TellsKind (kind_of e) writer faults ⊎ (IsUntouched writer × TellsNoMemory faults)
 TellsWords fault.NoMemory writer faults = IsUntouched writer × TellsNoMemory faults
 
--- words are taken so: as a mode, which they name without a fault; or as none, for this reason
+-- words are taken so: as a mode, which they name without a fault, with its numbers; or as none, for this reason
 abbrev pub IsTaken : List (List ℕ) → Result Mode WordsFault → Type 0
-IsTaken words (Ok mode) = (fault_of lab_app words ≡ []) × (subcommand_name words ≡ Some (mode_word mode))
+IsTaken words (Ok mode) =
+    (fault_of lab_app words ≡ []) × (subcommand_name words ≡ Some (mode_word mode)) × HasNumbers (subcommand_of lab_app words) mode
 IsTaken words (Err why) = IsWordsFault (fault_of lab_app words) why
 
 -- the lines of the reader are run, with this exit status
@@ -68,10 +71,17 @@ Checks old new writer faults status =
     Ends (ChecksToEnd old.left new.left writer.before writer.after) faults.before faults.after status
     ⊎ Stops (λ why. IsCheckStop why old.left writer.before writer.after) new writer.failed faults.before faults.after faults.failed status
 
+-- a lab of so many sessions is served on the port, with this exit status
+abbrev pub ServesLab : {W F : Type 0} → ℕ → ℕ → Source → Source → Device W → Device F → ℕ → Type 0
+ServesLab port sessions old new writer faults status =
+    Serves (ServesToEnd old.left new.left port sessions writer.before writer.after) faults.before faults.after faults.failed status
+    ⊎ Stops (λ why. IsServeStop why old.left port sessions writer.before writer.after) new writer.failed faults.before faults.after faults.failed status
+
 -- what the program does with words that were taken so, and its exit status; where they ask for no mode it reads nothing
 abbrev pub Does : {W F : Type 0} → Result Mode WordsFault → Source → Source → Device W → Device F → ℕ → Type 0
 Does (Ok Run) old new writer faults status = Runs old new writer faults status
 Does (Ok Check) old new writer faults status = Checks old new writer faults status
+Does (Ok (Serve port sessions)) old new writer faults status = ServesLab port sessions old new writer faults status
 Does (Err why) old new writer faults status = (new ≡ old) × TellsWords why writer faults × (status ≡ words_status why)
 
 -- the program does what its words ask for

@@ -1,4 +1,5 @@
-//! The laboratory's program: it runs or checks lines over a pair of pf(4) firewalls that share their states by pfsync(4).
+//! The laboratory's program: it runs or checks lines over a pair of pf(4) firewalls that share their states by pfsync(4), or
+//! serves such a pair to several sessions.
 #![tactic(auto)]
 
 ghost use Rattle.std.specs.Prelude.{◌≡◌};
@@ -7,6 +8,7 @@ use pfl_base::Std;
 use pfl_host::obey;
 use pfl_run::{LabFault, tell};
 use pfl_script::LineReader;
+use pfl_serve::Open;
 use std::env;
 use std::io::{self, ErrorKind};
 use std::process::ExitCode;
@@ -26,20 +28,17 @@ fn tell_no_memory(rt: &HostRuntime) -> u8
     tell(LabFault::NoMemory, &mut Std::new(rt.stderr()))
 }
 
-/// Does what the words ask for, over standard input, output and error, and answers the exit status.
-fn obey_words(rt: &HostRuntime, words: &[String]) -> u8 {
-    obey(
-        rt.alloc(),
-        words,
-        &mut LineReader::new(Std::new(rt.stdin())),
-        &mut Std::new(rt.stdout()),
-        &mut Std::new(rt.stderr()),
-    )
-}
-
 fn main(rt: HostRuntime) -> ExitCode {
     ExitCode::from(match words_of(&rt) {
-        Ok(words) => obey_words(&rt, words.as_slice()),
+        Ok(words) => obey(
+            &rt,
+            rt.alloc(),
+            words.as_slice(),
+            &mut LineReader::new(Std::new(rt.stdin())),
+            &mut Std::new(rt.stdout()),
+            &mut Std::new(rt.stderr()),
+            &Open,
+        ),
         Err(error) if error.kind() == ErrorKind::OutOfMemory => tell_no_memory(&rt),
         Err(error) => match eprintln!(rt; "pfl_lab: words: {error}") {
             Ok(()) | Err(_) => BAD_WORDS,

@@ -1,2 +1,4 @@
+pub mod Passing
+pub mod Numbers
 pub mod Modes
 pub mod Runs

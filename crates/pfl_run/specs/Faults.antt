@@ -24,6 +24,8 @@ fault_text (lab.NoOpen n) = at_line n (codes "no open\n")
 fault_text lab.Read = codes "pfl_lab: read\n"
 fault_text lab.Write = codes "pfl_lab: write\n"
 fault_text lab.TooManyTurns = codes "pfl_lab: too many turns\n"
+fault_text lab.Network = codes "pfl_lab: network\n"
+fault_text lab.NoThread = codes "pfl_lab: no thread\n"
 fault_text lab.NoMemory = codes "pfl_lab: no memory\n"
 
 -- the exit status of a run that stopped

@@ -65,6 +65,8 @@ IsSetupStop (fault.Rule n why) old = HasRuleFaultAt old n why
 IsSetupStop (fault.World n why) old = HasWorldFault old n why
 IsSetupStop (fault.NoOpen n) old = IsUnopened old n
 IsSetupStop fault.Write old = ⊥
+IsSetupStop fault.Network old = ⊥
+IsSetupStop fault.NoThread old = ⊥
 IsSetupStop _ old = Unit {0}
 
 -- nothing was written, or the text of first lines behind the setup but for a part of the last one's
@@ -78,6 +80,8 @@ IsStop (fault.Rule n why) old w v = HasRuleFaultAt old n why × Keeps w v
 IsStop (fault.World n why) old w v = HasWorldFault old n why × Keeps w v
 IsStop (fault.NoOpen n) old w v = IsUnopened old n × Keeps w v
 IsStop fault.Write old w v = RunsFirst old w v
+IsStop fault.Network old w v = ⊥
+IsStop fault.NoThread old w v = ⊥
 IsStop _ old w v = WritesFirst old w v
 
 -- reader and writer have failed where a fault says so
@@ -112,7 +116,3 @@ pub record Stops (IsWhy : LabFault → Type 0) (reader : Source) (broken : Bool)
   pub device : IsDeviceFault fault reader broken
   pub told : IsTold (fault_text fault) f g failed
   pub exit : status ≡ fault_status fault
-
--- a run's exit status: that of its end after so many faulty lines, or that of the fault that stopped it
-abbrev pub IsRunStatus : ℕ → Type 0
-IsRunStatus status = ((bad : ℕ) × (status ≡ ended_status bad)) ⊎ ((why : LabFault) × (status ≡ fault_status why))

@@ -27,6 +27,10 @@ pub enum LabFault {
     Write,
     /// More calls of `read` were wanted than one run may make.
     TooManyTurns,
+    /// The port could not be listened on, or a connection not be accepted.
+    Network,
+    /// No thread could be started for a session.
+    NoThread,
     /// There was no memory.
     NoMemory,
 }
@@ -44,6 +48,8 @@ impl LabFault {
             LabFault::Read => plain_line("pfl_lab: read\n"),
             LabFault::Write => plain_line("pfl_lab: write\n"),
             LabFault::TooManyTurns => plain_line("pfl_lab: too many turns\n"),
+            LabFault::Network => plain_line("pfl_lab: network\n"),
+            LabFault::NoThread => plain_line("pfl_lab: no thread\n"),
             LabFault::NoMemory => plain_line("pfl_lab: no memory\n"),
         }
     }

@@ -179,4 +179,4 @@ module _ {M : Type 0} where
         )
 
   pub sessions-are-told : SessionsAreToldTheirCalls M
-  sessions-are-told opening n limit lines old new text serves before behind = (told-lines opening n limit lines old new text serves (omega (arith, before)) behind).1
+  sessions-are-told opening n limit lines old new text serves below behind = (told-lines opening n limit lines old new text serves below behind).1

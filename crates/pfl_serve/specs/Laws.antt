@@ -1,5 +1,5 @@
 -- What the answers of a session tell, in the words of the journal (this project's profile).
-use Rattle.std.specs.Prelude.{◌≡◌, ℕ, List, [], ◌∷◌, ◌++◌, cond, nat_eq, Option, Some, None, Result, Ok, Err, ◌⊎◌}
+use Rattle.std.specs.Prelude.{◌≡◌, ◌≤◌, ℕ, List, [], ◌∷◌, ◌++◌, cond, nat_eq, Option, Some, None, Result, Ok, Err, ◌⊎◌}
 use Rattle.pfl_timeline.specs.declared.command.Command.{Command}
 use Rattle.pfl_timeline.specs.Replies.{Reply, reply_of}
 use Rattle.pfl_timeline.specs.Timelines.{Timeline}
@@ -47,9 +47,9 @@ Tells (line ∷ lines) calls text =
 abbrev pub HasSeenItsCalls : {M : Type 0} → Seen M → Type 0
 HasSeenItsCalls p = p.half.count ≡ count_of p.session (seen_in p)
 
--- What a session is told are the replies of its own entries, one after another, and each of its entries is told. So it is between any two moments at which its pass has seen as many entries of it as it has called, as it has whenever it was answered a command
+-- What a session is told are the replies of its own entries, one after another, and each of its entries is told: from any moment on, for no pass has called more than it has seen, to one at which it has seen as many entries of its session as it has called, as it has whenever it was answered a command
 abbrev pub SessionsAreToldTheirCalls : Type 0 → Type 0
 SessionsAreToldTheirCalls M =
     (opening : Timeline) (n limit : ℕ) (lines : List (List ℕ)) (old new : Seen M) (text : List ℕ) → Serves opening n limit lines old new text
-    → HasSeenItsCalls old → HasSeenItsCalls new
+    → old.half.count ≤ count_of old.session (seen_in old) → HasSeenItsCalls new
     → (calls : List Call) × (calls_of new.session (seen_in new) ≡ calls_of old.session (seen_in old) ++ calls) × Tells lines calls text

@@ -40,10 +40,10 @@ module _ {M : Type 0} where
     pub number : ℕ
     pub words : List ℕ
     pub read : IsRead old.viewer new.viewer words number
-    pub overtaken : ℕ
+    pub lost : ℕ
     pub now : ℕ
-    pub tries : MakesTries old.viewer new.viewer overtaken (slice_index words 0) now
-    pub few : overtaken ≤ 2
+    pub tries : MakesTries old.viewer new.viewer lost (slice_index words 0) now
+    pub few : lost ≤ 2
     pub told : text ≡ view_text words
 
   -- three tries were overtaken, and the text tells where the last one began and ended
@@ -112,6 +112,7 @@ module _ {M : Type 0} where
       (mid : Seen M) × (first : List ℕ) × (rest : List ℕ) × IsAnswer opening n limit (said line) old mid first
       × Serves opening n limit lines mid new rest × (text ≡ first ++ rest)
 
+  -- a lab of n sessions, whose journal has at most so many entries
   module _ (opening : Timeline) (n limit : ℕ) where
     -- all lines were answered, the whole text was written, and they were counted
     pub record ServesWhole (left rest : Option (List ℕ)) (old new : Seen M) (w v : Option (List ℕ)) (count bad : ℕ) : Type 0 where
@@ -132,7 +133,7 @@ module _ {M : Type 0} where
       pub serves : Serves opening n limit lines old new text
       pub written : Appends w v text
 
-    -- first lines were answered, and the whole text was written but for a part of the last one's
+    -- first lines were answered, and their whole text was written, but of the last one's only a part
     pub record ServesPart (left rest : Option (List ℕ)) (old new : Seen M) (w v : Option (List ℕ)) : Type 0 where
       pub lines : List (List ℕ)
       pub last : List ℕ

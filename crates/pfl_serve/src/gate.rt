@@ -1,8 +1,8 @@
 //! What the calls of sessions go through.
 use std::sync::Wait;
 
-/// A gate that the calls of sessions go through, for tests that hold one back until another is there. Sessions and calls count
-/// from 1. It has no part in what is answered.
+/// A gate that the calls of sessions go through, for tests that hold one back until another is there. Sessions count from 1, and so
+/// do the calls of a session, anew each time it is served. It has no part in what is answered.
 pub trait Gate {
     /// Before the session's nth call.
     fn enter<R: Wait>(&self, rt: &R, session: u32, nth: u64);

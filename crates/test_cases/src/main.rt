@@ -8,16 +8,15 @@ mod trial;
 
 use anyhow::{Context, Result};
 use difference::Difference;
-use pfl_run::Mode;
 use std::process::ExitCode;
 use std::{env, fs};
-use trial::Trial;
+use trial::{Action, Trial};
 
 /// Tells the first difference of a case, and answers whether there is none.
 fn passes(rt: &HostRuntime, path: &str) -> Result<bool> {
     let script = fs::read_to_string(rt, path).context(format_args!("reading {path}"))?;
-    let run = Trial::of(rt.alloc(), Mode::Run, script.as_str())?;
-    let check = Trial::of(rt.alloc(), Mode::Check, script.as_str())?;
+    let run = Trial::of(rt.alloc(), Action::Run, script.as_str())?;
+    let check = Trial::of(rt.alloc(), Action::Check, script.as_str())?;
     match Difference::first(rt.alloc(), script.as_str(), &run, &check)? {
         None => Ok(true),
         Some(difference) => {

@@ -1,7 +1,7 @@
 //! A run or a check of a script over memory.
 
 use pfl_base::Std;
-use pfl_run::{Mode, check_lab, run_lab};
+use pfl_run::{check_lab, run_lab};
 use pfl_script::LineReader;
 use std::alloc::{AllocError, Global};
 use std::cell::Cell;
@@ -57,6 +57,13 @@ impl io::Write for Replies<'_> {
     }
 }
 
+/// What is done with a script.
+#[derive(Clone, Copy)]
+pub enum Action {
+    Run,
+    Check,
+}
+
 /// What a run or a check of a script gave.
 #[derive(Drop)]
 pub struct Trial {
@@ -80,7 +87,7 @@ fn text_of(alloc: Global, bytes: &[u8]) -> Result<String, AllocError> {
 
 impl Trial {
     /// Runs or checks a script.
-    pub fn of(alloc: Global, mode: Mode, script: &str) -> Result<Trial, AllocError> {
+    pub fn of(alloc: Global, action: Action, script: &str) -> Result<Trial, AllocError> {
         let begun = Cell::new(0);
         let mut reader = LineReader::new(Std::new(Script {
             left: script.as_bytes(),
@@ -93,9 +100,9 @@ impl Trial {
             begun: &begun,
         });
         let mut faults = Std::new(Vec::new(alloc));
-        let status = match mode {
-            Mode::Run => run_lab(alloc, &mut reader, &mut writer, &mut faults),
-            Mode::Check => check_lab(alloc, &mut reader, &mut writer, &mut faults),
+        let status = match action {
+            Action::Run => run_lab(alloc, &mut reader, &mut writer, &mut faults),
+            Action::Check => check_lab(alloc, &mut reader, &mut writer, &mut faults),
         };
         let Replies { bytes, lines, .. } = writer.into_inner();
         Ok(Trial {

@@ -1,5 +1,17 @@
-//! The program in each of its modes, with words that ask for none, and without memory, over memory.
+//! The program in each of its modes, with words that ask for none, and without memory: over memory, and over loopback.
 #![tactic(auto)]
 
 #[cfg(test)]
+mod client;
+#[cfg(test)]
+mod crowd;
+#[cfg(test)]
+mod endings;
+#[cfg(test)]
+mod loopback;
+#[cfg(test)]
+mod meeting;
+#[cfg(test)]
 mod modes;
+#[cfg(test)]
+mod outcome;

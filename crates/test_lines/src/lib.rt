@@ -1,5 +1,5 @@
-//! Worked lines and setups, rules as they are printed, and runs and checks over devices that fail and without memory, through
-//! the public calls of the crates from pfl_lines up.
+//! Worked lines and setups, rules as they are printed, and runs and checks over devices that fail and without memory, and
+//! words of the command line, through the public calls of the crates from pfl_lines up.
 #![tactic(auto)]
 
 #[cfg(test)]
@@ -14,3 +14,5 @@ mod runs;
 mod script;
 #[cfg(test)]
 mod texts;
+#[cfg(test)]
+mod words;

@@ -1,9 +1,8 @@
-//! Runs over devices that fail and without memory, a script that is empty, and words of the command line.
+//! Runs over devices that fail and without memory, and a script that is empty.
 
 use pfl_base::Std;
-use pfl_run::{Mode, mode_of, run_lab};
+use pfl_run::run_lab;
 use pfl_script::LineReader;
-use std::alloc::Global;
 use test_devices::{Bytewise, Narrow, Refusing};
 
 /// Nothing is read, so not even a setup.
@@ -61,24 +60,4 @@ fn a_fault_is_told_without_memory(rt: HostRuntime) {
     let status = run_lab(Refusing, &mut reader, &mut writer, &mut faults);
     assert!(rt; status == 1);
     assert!(rt; faults.into_inner().as_slice() == b"pfl_lab: setup line 1: line 5\n".as_slice());
-}
-
-/// The mode that the words ask for, or the exit status.
-fn mode_or_status(alloc: Global, words: &[&str]) -> Result<Mode, u8> {
-    match mode_of(alloc, words) {
-        Ok(mode) => Ok(mode),
-        Err(fault) => Err(fault.status()),
-    }
-}
-
-#[test]
-fn words(rt: HostRuntime) {
-    let alloc = rt.alloc();
-    assert!(rt; mode_or_status(alloc, &["pfl_lab", "run"]) == Ok(Mode::Run));
-    assert!(rt; mode_or_status(alloc, &["pfl_lab", "check"]) == Ok(Mode::Check));
-    assert!(rt; mode_or_status(alloc, &["pfl_lab"]) == Err(2));
-    assert!(rt; mode_or_status(alloc, &["pfl_lab", "fly"]) == Err(2));
-    assert!(rt; mode_or_status(alloc, &["pfl_lab", "run", "now"]) == Err(2));
-    assert!(rt; mode_or_status(alloc, &["pfl_lab", "check", "now"]) == Err(2));
-    assert!(rt; mode_or_status(alloc, &["pfl_lab", "--help"]) == Err(0));
 }

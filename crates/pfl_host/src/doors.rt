@@ -1,0 +1,44 @@
+//! The gate of sessions that are served over connections.
+
+use pfl_serve::Gate;
+use std::net::{Shutdown, TcpStream};
+use std::sync::Wait;
+
+/// A gate over another one. When a session has ended it shuts the sending side of the session's connection, so that who reads
+/// there comes to the end although other sessions go on.
+#[derive(Clone, Copy)]
+pub(crate) struct Doors<'a, G: Gate> {
+    gate: &'a G,
+    streams: &'a [TcpStream],
+}
+
+impl<'a, G: Gate> Doors<'a, G> {
+    /// The gate over this one, with the connections of the sessions, the first one's first.
+    pub(crate) fn new(gate: &'a G, streams: &'a [TcpStream]) -> Self {
+        Doors { gate, streams }
+    }
+
+    /// The connection of a session.
+    fn stream(&self, session: u32) -> Option<&'a TcpStream> {
+        let index = session.checked_sub(1)?;
+        self.streams.get(index as usize)
+    }
+}
+
+impl<'a, G: Gate> Gate for Doors<'a, G> {
+    fn enter<R: Wait>(&self, rt: &R, session: u32, nth: u64) {
+        self.gate.enter(rt, session, nth);
+    }
+
+    fn leave<R: Wait>(&self, rt: &R, session: u32, nth: u64) {
+        self.gate.leave(rt, session, nth);
+    }
+
+    /// Where the other end is gone there is nothing to shut.
+    fn end<R: Wait>(&self, rt: &R, session: u32) {
+        if let Some(stream) = self.stream(session) {
+            let _ = stream.shutdown(Shutdown::Write);
+        }
+        self.gate.end(rt, session);
+    }
+}

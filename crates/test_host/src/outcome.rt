@@ -1,0 +1,52 @@
+//! What the program gives with some words, over lines in memory.
+
+use pfl_base::Std;
+use pfl_host::obey;
+use pfl_script::LineReader;
+use pfl_serve::Gate;
+use std::alloc::Global;
+use std::net::{Net, TcpListener, TcpStream};
+use std::sync::Wait;
+use std::thread::Threads;
+
+/// What the program gave.
+#[derive(Drop)]
+pub(crate) struct Outcome {
+    pub(crate) status: u8,
+    pub(crate) written: Vec<u8>,
+    pub(crate) told: Vec<u8>,
+    /// How many lines of its reader it has read.
+    pub(crate) lines: u64,
+}
+
+impl Outcome {
+    /// The program gave this.
+    pub(crate) fn is(&self, status: u8, written: &[u8], told: &[u8]) -> bool {
+        self.status == status && self.written.as_slice() == written && self.told.as_slice() == told
+    }
+}
+
+/// What the program gives with these words and these lines.
+pub(crate) fn outcome_of<
+    R: Net<Listener = TcpListener, Stream = TcpStream> + Threads + Wait + Sync,
+    G: Gate + Sync,
+>(rt: &R, alloc: Global, words: &[&str], lines: &[u8], gate: &G) -> Outcome {
+    let mut reader = LineReader::new(Std::new(lines));
+    let mut writer = Std::new(Vec::new(alloc));
+    let mut faults = Std::new(Vec::new(alloc));
+    let status = obey(
+        rt,
+        alloc,
+        words,
+        &mut reader,
+        &mut writer,
+        &mut faults,
+        gate,
+    );
+    Outcome {
+        status,
+        written: writer.into_inner(),
+        told: faults.into_inner(),
+        lines: reader.lines(),
+    }
+}
