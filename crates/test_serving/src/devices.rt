@@ -73,7 +73,7 @@ fn cut_all<J: Which, R: Wait>(
     requires opening { (opened.opening ≡ J.opening) × (opened.limit ≡ J.limit) }
 {
     let (lab, mut passes) = opened.named::<J>();
-    let cut = match take::<J>(&mut passes) {
+    let cut = match take::<J, _>(&mut passes) {
         Some(mut pass) => Some(cut_session(rt, alloc, &lab, &mut pass, places)),
         None => None,
     };

@@ -10,7 +10,7 @@ use std::sync::Wait;
 use std::test::*;
 
 /// What the last session of a lab is answered.
-fn one_speaks<J: Which, R: Wait>(
+pub(super) fn one_speaks<J: Which, R: Wait>(
     rt: &R,
     alloc: Global,
     opened: Opened<Global>,
@@ -20,7 +20,7 @@ fn one_speaks<J: Which, R: Wait>(
     requires opening { (opened.opening ≡ J.opening) × (opened.limit ≡ J.limit) }
 {
     let (lab, mut passes) = opened.named::<J>();
-    match take::<J>(&mut passes) {
+    match take::<J, _>(&mut passes) {
         Some(mut pass) => Some(speak(rt, alloc, &lab, &mut pass, lines, &Open)),
         None => None,
     }

@@ -51,8 +51,8 @@ fn two_answered<J: Which, I: Input, O: Output, R: Wait>(
     requires { AllByRecursion (IsPassOf J.publisher J.tallies) passes.old.items }
     ensures { AllByRecursion (IsPassOf J.publisher J.tallies) passes.new.items }
 {
-    let mut second = take::<J>(passes)?;
-    let mut first = take::<J>(passes)?;
+    let mut second = take::<J, _>(passes)?;
+    let mut first = take::<J, _>(passes)?;
     Some(answered_on(rt, alloc, lab, &mut first, &mut second, reader, writer))
 }
 

@@ -71,8 +71,8 @@ fn two_pass<J: Which, G: Gate, R: Wait>(
     requires opening { (opened.opening ≡ J.opening) × (opened.limit ≡ J.limit) }
 {
     let (lab, mut passes) = opened.named::<J>();
-    let mut second = take::<J>(&mut passes)?;
-    let mut first = take::<J>(&mut passes)?;
+    let mut second = take::<J, _>(&mut passes)?;
+    let mut first = take::<J, _>(&mut passes)?;
     let lines = b"names\nview\nfly\n\nnames\n# names\nnames\n".as_slice();
     let spoken = speak(rt, alloc, &lab, &mut first, lines, gate);
     let fault = unheard(rt, alloc, &lab, &mut second, gate);

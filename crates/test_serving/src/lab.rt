@@ -10,7 +10,7 @@ use pfl_script::{Ended, EngineFault, LineReader, write_reply};
 use pfl_serve::{Gate, serve_session};
 use pfl_session::{Entry, Lab, LabFault, Opened, Pass, Which};
 use pfl_timeline::Timeline;
-use std::alloc::Global;
+use std::alloc::{Allocator, Global};
 use std::sync::Wait;
 
 /// A pair that is soon full.
@@ -18,7 +18,7 @@ const SETUP: &[u8] =
     b"set states 16\nset queue 16\nset frames 16\nrule a pass out\nrule b pass out\nopen\n";
 
 /// A timeline over such a pair.
-fn opening(alloc: Global) -> Option<Timeline<Global>>
+fn opening<A: Allocator + Copy>(alloc: A) -> Option<Timeline<A>>
     ensures { IfSome result (HasFewEvents 4294967295) }
 {
     let mut reader = LineReader::new(Std::new(SETUP));
@@ -29,11 +29,11 @@ fn opening(alloc: Global) -> Option<Timeline<Global>>
 }
 
 /// A lab over such a timeline.
-pub(super) fn opened(
-    alloc: Global,
+pub(super) fn opened<A: Allocator + Copy>(
+    alloc: A,
     sessions: u32,
     journal: usize,
-) -> Result<Opened<Global>, LabFault> {
+) -> Result<Opened<A>, LabFault> {
     let Some(timeline) = opening(alloc) else {
         return Err(LabFault::NoMemory);
     };
@@ -41,7 +41,7 @@ pub(super) fn opened(
 }
 
 /// Takes the pass of the last session.
-pub(super) fn take<J: Which>(passes: &mut Vec<Pass<Global>, Global>) -> Option<Pass<Global>>
+pub(super) fn take<J: Which, A: Allocator>(passes: &mut Vec<Pass<A>, A>) -> Option<Pass<A>>
     requires { AllByRecursion (IsPassOf J.publisher J.tallies) passes.old.items }
     ensures taken { IfSome result (IsPassOf J.publisher J.tallies) }
     ensures others { AllByRecursion (IsPassOf J.publisher J.tallies) passes.new.items }
@@ -63,6 +63,28 @@ impl Spoken {
     }
 }
 
+/// Serves a session over memory, whose text lies in the heap, wherever the lab lies.
+pub(super) fn speak_to_heap<J: Which, A: Allocator + Copy, G: Gate, R: Wait>(
+    rt: &R,
+    heap: Global,
+    alloc: A,
+    lab: &Lab<J, A>,
+    pass: &mut Pass<A>,
+    lines: &[u8],
+    gate: &G,
+) -> Spoken
+    requires { IsPassOf J.publisher J.tallies pass.old }
+    ensures { IsPassOf J.publisher J.tallies pass.new }
+{
+    let mut reader = LineReader::new(Std::new(lines));
+    let mut writer = Std::new(Vec::new(heap));
+    let result = serve_session(rt, alloc, lab, pass, &mut reader, &mut writer, gate);
+    Spoken {
+        text: writer.into_inner(),
+        result,
+    }
+}
+
 /// Serves a session over memory.
 pub(super) fn speak<J: Which, G: Gate, R: Wait>(
     rt: &R,
@@ -75,20 +97,18 @@ pub(super) fn speak<J: Which, G: Gate, R: Wait>(
     requires { IsPassOf J.publisher J.tallies pass.old }
     ensures { IsPassOf J.publisher J.tallies pass.new }
 {
-    let mut reader = LineReader::new(Std::new(lines));
-    let mut writer = Std::new(Vec::new(alloc));
-    let result = serve_session(rt, alloc, lab, pass, &mut reader, &mut writer, gate);
-    Spoken {
-        text: writer.into_inner(),
-        result,
-    }
+    speak_to_heap(rt, alloc, alloc, lab, pass, lines, gate)
 }
 
 /// A text, or nothing where there was no memory for it.
 pub(super) type Text = Option<Vec<u8, Global>>;
 
 /// The replies of a session's entries in the journal, or of all entries.
-pub(super) fn told(alloc: Global, journal: &[Entry<Global>], session: Option<u32>) -> Text {
+pub(super) fn told<A: Allocator + Copy>(
+    alloc: Global,
+    journal: &[Entry<A>],
+    session: Option<u32>,
+) -> Text {
     let mut text = Std::new(Vec::new(alloc));
     for entry in journal {
         if session.is_none_or(|session| session == entry.session) {
@@ -99,10 +119,10 @@ pub(super) fn told(alloc: Global, journal: &[Entry<Global>], session: Option<u32
 }
 
 /// Writes the reply to the entry's command: whether there is memory.
-fn follow(
+fn follow<A: Allocator>(
     alloc: Global,
     timeline: &mut Timeline<Global>,
-    entry: &Entry<Global>,
+    entry: &Entry<A>,
     text: &mut Std<Vec<u8, Global>>,
 ) -> bool {
     match timeline.command(entry.command) {
@@ -112,7 +132,7 @@ fn follow(
 }
 
 /// The replies that the journal's commands give, one after another, on a new timeline.
-pub(super) fn replayed(alloc: Global, journal: &[Entry<Global>]) -> Text {
+pub(super) fn replayed<A: Allocator>(alloc: Global, journal: &[Entry<A>]) -> Text {
     let mut timeline = opening(alloc)?;
     let mut text = Std::new(Vec::new(alloc));
     let mut whole = true;
@@ -128,4 +148,10 @@ pub(super) fn tells(alloc: Global, journal: &[Entry<Global>], text: &[u8]) -> bo
     let again = replayed(alloc, journal);
     told.is_some_and(|told| told.as_slice() == text)
         && again.is_some_and(|again| again.as_slice() == text)
+}
+
+/// The journal's commands, one after another, give the replies of its entries.
+pub(super) fn replays<A: Allocator + Copy>(alloc: Global, journal: &[Entry<A>]) -> bool {
+    let told = told(alloc, journal, None);
+    told.is_some() && told == replayed(alloc, journal)
 }

@@ -14,6 +14,8 @@ mod lab;
 #[cfg(test)]
 mod meeting;
 #[cfg(test)]
+mod memory;
+#[cfg(test)]
 mod seeds;
 #[cfg(test)]
 mod served;

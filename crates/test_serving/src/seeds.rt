@@ -1,7 +1,7 @@
 //! Eight sessions that are served at once, whose lines are made from seeds.
 ghost use Rattle.std.specs.Prelude.{◌≡◌, ◌<◌};
 
-use super::lab::{opened, replayed, told};
+use super::lab::{opened, replays, told};
 use super::served::{Heard, served, spoken};
 use pfl_script::Ended;
 use pfl_serve::Open;
@@ -43,34 +43,26 @@ impl Dice {
     }
 }
 
+/// A packet on its way out, from one of 16 hosts.
+fn packet_out(pick: u32) -> (&'static str, u32, &'static str) {
+    let head = match pick {
+        0..=7 => "step main packet a out udp 10.0.0.",
+        8..=9 => "step main packet b out udp 10.0.0.",
+        14..=15 => "step one packet a out udp 10.0.0.",
+        _ => "step two packet b out udp 10.0.0.",
+    };
+    (head, 16, ":1000 192.0.2.9:53 40")
+}
+
 /// A kind of lines: the words up to a number, the bound below which the number lies, or 0 for none, and what stands behind it.
 /// As many events are taken back as happen, so branches stay short.
 fn kind(pick: u32) -> (&'static str, u32, &'static str) {
     match pick {
-        0..=7 => (
-            "step main packet a out udp 10.0.0.",
-            16,
-            ":1000 192.0.2.9:53 40",
-        ),
-        8..=9 => (
-            "step main packet b out udp 10.0.0.",
-            16,
-            ":1000 192.0.2.9:53 40",
-        ),
+        0..=9 | 14..=16 => packet_out(pick),
         10..=13 => (
             "step main packet a in udp 192.0.2.9:53 10.0.0.",
             16,
             ":1000 40",
-        ),
-        14..=15 => (
-            "step one packet a out udp 10.0.0.",
-            16,
-            ":1000 192.0.2.9:53 40",
-        ),
-        16 => (
-            "step two packet b out udp 10.0.0.",
-            16,
-            ":1000 192.0.2.9:53 40",
         ),
         17..=19 => ("step main flush a", 0, ""),
         20 => ("step main flush b", 0, ""),
@@ -206,12 +198,6 @@ fn are_answered(alloc: Global, heard: Vec<Heard<'_>, Global>, journal: &[Entry<G
         good = is_answered(alloc, heard, journal) && good;
     }
     good
-}
-
-/// The journal's commands, one after another, give the replies of its entries.
-fn replays(alloc: Global, journal: &[Entry<Global>]) -> bool {
-    let told = told(alloc, journal, None);
-    told.is_some() && told == replayed(alloc, journal)
 }
 
 #[test]

@@ -50,7 +50,7 @@ fn seats<'a, J: Which>(
     let mut seats = Vec::new(alloc);
     let mut whole = true;
     for lines in lines.iter().rev() {
-        let pass = take::<J>(passes)?;
+        let pass = take::<J, _>(passes)?;
         whole = sit::<J>(alloc, &mut seats, pass, lines.as_str().as_bytes()) && whole;
     }
     if whole { Some(seats) } else { None }
