@@ -46,6 +46,13 @@ impl Answered {
     };
 }
 
+/// A call that a session may make next: the gate that it goes through, and which of its calls it is, from 1.
+#[derive(Clone, Copy)]
+pub(crate) struct Turn<'a, G: Gate> {
+    pub(crate) gate: &'a G,
+    pub(crate) nth: u64,
+}
+
 /// Reads a revision, if it can: the line that tells it, or that no try went through.
 fn look<J: Which, A: Allocator>(lab: &Lab<J, A>, pass: &mut Pass<A>) -> ShortLine
     requires lab { IsPassOf J.publisher J.tallies pass.old }
@@ -102,14 +109,14 @@ fn answer_command<J: Which, A: Allocator + Copy, B: Allocator, W: Output, R: Wai
     }
 }
 
-/// Takes a command through the gate, as the session's nth call.
+/// Takes a command through the gate.
 fn pass_gate<J: Which, A: Allocator + Copy, B: Allocator, W: Output, G: Gate, R: Wait>(
     rt: &R,
     alloc: B,
     lab: &Lab<J, A>,
     pass: &mut Pass<A>,
     writer: &mut W,
-    gate: (&G, u64),
+    turn: Turn<'_, G>,
     command: Command,
 ) -> Result<(), EngineFault>
     requires lab { IsPassOf J.publisher J.tallies pass.old }
@@ -121,15 +128,14 @@ fn pass_gate<J: Which, A: Allocator + Copy, B: Allocator, W: Output, G: Gate, R:
     ensures stays { OnOk result (W.has_failed writer.new ≡ W.has_failed writer.old) }
     ensures fault { IfErr result (λ e. IsWriteFault e (W.has_failed writer.new)) }
 {
-    let (gate, nth) = gate;
     let session = pass.session();
-    gate.enter(rt, session, nth);
+    turn.gate.enter(rt, session, turn.nth);
     answer_command(rt, alloc, lab, pass, writer, command)?;
-    gate.leave(rt, session, nth);
+    turn.gate.leave(rt, session, turn.nth);
     Ok(())
 }
 
-/// Answers a line, if it has a word and is no comment, and says what it was. A command is the session's nth call.
+/// Answers a line, if it has a word and is no comment, and says what it was. A command takes the session's turn.
 #[tactic(auto, unfolding(crate::specs::inner::Answers::kept_said))]
 pub(crate) fn answer_line<J: Which, A: Allocator + Copy, B: Allocator, W: Output, G: Gate, R: Wait>(
     rt: &R,
@@ -137,7 +143,7 @@ pub(crate) fn answer_line<J: Which, A: Allocator + Copy, B: Allocator, W: Output
     lab: &Lab<J, A>,
     pass: &mut Pass<A>,
     writer: &mut W,
-    gate: (&G, u64),
+    turn: Turn<'_, G>,
     line: &Line,
 ) -> Result<Answered, EngineFault>
     requires lab { IsPassOf J.publisher J.tallies pass.old }
@@ -163,7 +169,7 @@ pub(crate) fn answer_line<J: Which, A: Allocator + Copy, B: Allocator, W: Output
             Err(fault) => Err(fault),
         },
         Ok(SessionLine::Ask(command)) => {
-            match pass_gate(rt, alloc, lab, pass, writer, gate, command) {
+            match pass_gate(rt, alloc, lab, pass, writer, turn, command) {
                 Ok(()) => Ok(Answered::ASKED),
                 Err(fault) => Err(fault),
             }

@@ -6,7 +6,7 @@ ghost use Rattle.pfl_script.specs.Readers.{IsRunFault, counted_on};
 ghost use Rattle.pfl_session.specs.Passes.{GoesOn, IsPassOf};
 ghost use Rattle.pfl_serve.specs.Services.{ServesUntil, ServesWhole};
 
-use crate::answering::answer_line;
+use crate::answering::{Turn, answer_line};
 use crate::gate::Gate;
 use pfl_base::{Input, Output};
 use pfl_script::{Ended, EngineFault, LineReader};
@@ -56,7 +56,7 @@ pub fn serve_session<
     let mut ended = Ended { lines: 0, bad: 0 };
     let mut nth: u64 = 1;
     while let Some(line) = reader.next_line()? {
-        let answered = answer_line(rt, alloc, lab, pass, writer, (gate, nth), &line)?;
+        let answered = answer_line(rt, alloc, lab, pass, writer, Turn { gate, nth }, &line)?;
         ended = ended.more(answered.bad);
         nth = next_call(nth, answered.asked);
     }

@@ -8,6 +8,8 @@ mod crowd;
 #[cfg(test)]
 mod endings;
 #[cfg(test)]
+mod failing;
+#[cfg(test)]
 mod loopback;
 #[cfg(test)]
 mod meeting;
