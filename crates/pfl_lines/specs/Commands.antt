@@ -188,6 +188,19 @@ show_at ws = do
   branch ← branch_at ws
   Ok (draft.Whole (commands.Show branch.0), branch.1)
 
+-- BR K
+unfoldable pub excise_at : List (List ℕ) → Reading CommandDraft
+excise_at ws = do
+  branch ← branch_at ws
+  place ← number_at greatest branch.1
+  Ok (draft.Whole (commands.Excise branch.0 place.0), place.1)
+
+-- BR
+unfoldable pub restore_at : List (List ℕ) → Reading CommandDraft
+restore_at ws = do
+  branch ← branch_at ws
+  Ok (draft.Whole (commands.Restore branch.0), branch.1)
+
 -- nothing
 abbrev pub names_at : List (List ℕ) → Reading CommandDraft
 names_at ws = Ok (draft.Whole commands.Names, ws)
@@ -201,7 +214,9 @@ command_by word ws =
     if bytes_eq word (codes "fork") then fork_at ws else
     if bytes_eq word (codes "drop") then drop_at ws else
     if bytes_eq word (codes "show") then show_at ws else
-    if bytes_eq word (codes "names") then names_at ws else Err faults.Unknown
+    if bytes_eq word (codes "names") then names_at ws else
+    if bytes_eq word (codes "excise") then excise_at ws else
+    if bytes_eq word (codes "restore") then restore_at ws else Err faults.Unknown
 
 -- a command's word and what belongs to it
 unfoldable pub command_at : List (List ℕ) → Reading CommandDraft

@@ -2,13 +2,17 @@
 use Rattle.std.specs.Prelude.{ℕ, List, ◌∷◌, ◌++◌, codes}
 use Rattle.std.specs.List.{flat_map}
 use Rattle.std.specs.Fmt.{decimal}
-use Rattle.pfl_timeline.specs.Replies.{Reply, Stepped, At, Forked, Removed, Shown, Names, Refused}
+use Rattle.pfl_timeline.specs.Replies.{Reply, Stepped, At, Forked, Removed, Shown, Names, Excised, Restored, Refused}
 use Rattle.pfl_script.specs.Texts.{outcome_text, refused_text}
 use Rattle.pfl_script.specs.Shows.{show_text}
 
 -- a name, behind a space
 abbrev pub named : List ℕ → List ℕ
 named name = 32 ∷ name
+
+-- a place, behind a space
+abbrev pub placed : ℕ → List ℕ
+placed place = 32 ∷ decimal place
 
 -- the lines of a reply
 abbrev pub reply_text : Reply → List ℕ
@@ -18,4 +22,6 @@ reply_text Forked = codes "forked\n"
 reply_text Removed = codes "removed\n"
 reply_text (Shown name events cursor world) = show_text name events cursor world
 reply_text (Names names) = codes "names" ++ flat_map named names ++ codes "\n"
+reply_text (Excised places) = codes "excised" ++ flat_map placed places ++ codes "\n"
+reply_text (Restored cursor) = codes "restored " ++ decimal cursor ++ codes "\n"
 reply_text (Refused why) = codes "refused " ++ refused_text why ++ codes "\n"

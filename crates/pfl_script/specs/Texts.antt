@@ -65,3 +65,5 @@ refused_text refused.NothingForward = codes "5 NothingForward"
 refused_text refused.LastBranch = codes "6 LastBranch"
 refused_text refused.BranchesFull = codes "7 BranchesFull"
 refused_text (refused.Event r) = codes "8 Event " ++ decimal (refusal_number r) ++ codes " " ++ refusal_text r
+refused_text refused.NoEvent = codes "9 NoEvent"
+refused_text refused.NothingExcised = codes "10 NothingExcised"

@@ -26,6 +26,8 @@ impl fmt::Display for RefusedWords {
                 let number = refusal.number();
                 write!(f, "8 Event {number} {refusal}")
             }
+            Refused::NoEvent => f.write_str("9 NoEvent"),
+            Refused::NothingExcised => f.write_str("10 NothingExcised"),
         }
     }
 }

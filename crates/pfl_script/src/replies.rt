@@ -4,10 +4,11 @@ ghost use Rattle.std.specs.Prelude.{◌≡◌, ◌++◌, codes, IfOk, OnOk};
 ghost use Rattle.std.specs.List.{flat_map};
 ghost use Rattle.std.specs.Fmt.{decimal};
 ghost use Rattle.pfl_world.specs.Outcomes.{told};
-ghost use Rattle.pfl_timeline.specs.Replies.{Stepped, At, Names, Refused as Refusing, reply_of};
+ghost use Rattle.pfl_timeline.specs.Replies.{Stepped, At, Names, Excised, Restored, Refused as Refusing, reply_of};
 ghost use Rattle.pfl_script.specs.Texts.{bad_text};
-ghost use Rattle.pfl_script.specs.Replies.{named, reply_text};
+ghost use Rattle.pfl_script.specs.Replies.{named, placed, reply_text};
 
+use crate::listed::push_shown;
 use crate::outcomes::OutcomeWords;
 use crate::refusals::RefusedWords;
 use crate::shown::shown_text;
@@ -80,6 +81,35 @@ fn names_line<A: Allocator>(alloc: A, names: &[BranchWord]) -> Result<Vec<u8, A>
     Ok(text)
 }
 
+/// Puts places behind a text, each behind a space.
+fn push_places<A: Allocator>(text: &mut Vec<u8, A>, places: &[usize]) -> Result<(), NoMemory>
+    ensures { OnOk result (text.new.items ≡ text.old.items ++ flat_map placed places.now) }
+{
+    for place in places {
+        text.extend_from_slice(b" ")?;
+        push_shown(text, *place)?;
+    }
+    Ok(())
+}
+
+/// The line of an event that is taken out.
+fn excised_line<A: Allocator>(alloc: A, places: &[usize]) -> Result<Vec<u8, A>, NoMemory>
+    ensures { IfOk result (λ text. text.items ≡ reply_text (Excised places.now)) }
+{
+    let mut text = Vec::new(alloc);
+    text.extend_from_slice(b"excised")?;
+    push_places(&mut text, places)?;
+    text.extend_from_slice(b"\n")?;
+    Ok(text)
+}
+
+/// The line of a branch that is as it was.
+fn restored_line<A: Allocator>(alloc: A, cursor: usize) -> Result<Vec<u8, A>, NoMemory>
+    ensures { IfOk result (λ text. text.items ≡ reply_text (Restored cursor)) }
+{
+    Ok(format!(in alloc; "restored {cursor}\n")?.into_bytes())
+}
+
 /// The line of a command that is refused.
 fn refused_line<A: Allocator>(alloc: A, why: Refused) -> Result<Vec<u8, A>, NoMemory>
     ensures { IfOk result (λ text. text.items ≡ reply_text (Refusing why)) }
@@ -107,6 +137,8 @@ pub fn reply_text<A: Allocator, B: Allocator + Copy>(
             cursor,
             world,
         } => shown_text(alloc, name.bytes(), *events, *cursor, world),
+        Reply::Excised(places) => excised_line(alloc, places.as_slice()),
+        Reply::Restored(cursor) => restored_line(alloc, *cursor),
         Reply::Refused(why) => refused_line(alloc, *why),
     }
 }

@@ -1,5 +1,5 @@
--- A command makes each branch longer by one event at most.
-use Rattle.std.specs.Prelude.{◌≡◌, ◌≤◌, ℕ, zero, suc, ◌+◌, ◌-◌, Bool, true, false, not, nat_lt, nat_le, List, [], ◌∷◌, ◌++◌, length, map, filter, find, take, Option, Some, None, Result, Ok, Err, refl, if◌then◌else◌}
+-- A command makes each branch longer by one event at most, or as long as it was before an excision.
+use Rattle.std.specs.Prelude.{◌≡◌, ◌≤◌, ℕ, zero, suc, ◌+◌, ◌-◌, Bool, true, false, not, nat_lt, nat_le, List, [], ◌∷◌, ◌++◌, length, map, filter, find, take, Option, Some, None, IfSome, Result, Ok, Err, refl, if◌then◌else◌}
 use Rattle.std.specs.List.{AllByRecursion}
 use Rattle.std.specs.Option.{option_map_or}
 use Rattle.std.proofs.Common.{cond, sym, ◌∙◌, ap, subst, arith, length-append}
@@ -11,18 +11,17 @@ use Rattle.pfl_timeline.specs.declared.command.Command.{Command}
 use Rattle.pfl_timeline.specs.declared.command.Command.TheVariants as command
 use Rattle.pfl_timeline.specs.declared.refused.Refused.{Refused}
 use Rattle.pfl_timeline.specs.declared.refused.Refused.TheVariants as refused
-use Rattle.pfl_timeline.specs.Commands.{replied, answered, with_branch, with_changed, extended, undone, at_cursor, step_answered, step_reply, back_reply, forward_reply, first_events, fork_refusal, fork_reply, drop_reply, show_reply, step_command, back_command, forward_command, fork_command, drop_command, show_command, names_command, command_step}
-use Rattle.pfl_timeline.specs.Replies.{Reply, Replied, Forked, Removed, Shown, Refused as Refusing}
-use Rattle.pfl_timeline.specs.Timelines.{Branch, Timeline, branch_of, same_name, standing, world_of}
-use Rattle.pfl_session.specs.Totals.{HasFewEvents}
+use Rattle.pfl_timeline.specs.Commands.{replied, answered, with_branch, with_changed, extended, undone, at_cursor, step_answered, step_reply, back_reply, forward_reply, first_events, fork_refusal, fork_reply, drop_reply, show_reply, excise_reply, restore_reply, step_command, back_command, forward_command, fork_command, drop_command, show_command, excise_command, restore_command, names_command, command_step}
+use Rattle.pfl_timeline.specs.Excisions.{has_event, excised, fallen_places, restored}
+use Rattle.pfl_timeline.specs.Replies.{Reply, Replied, Forked, Removed, Shown, Excised, Restored, Refused as Refusing}
+use Rattle.pfl_timeline.specs.Timelines.{Branch, Former, Timeline, branch_of, same_name, standing, world_of}
+use Rattle.pfl_session.specs.Totals.{HasFew, HasFewEvents}
+use Rattle.pfl_session.proofs.Falling.{left-few}
 
 length-front : {X : Type 0} (k : ℕ) (xs : List X) → length (take k xs) ≤ length xs
 length-front zero xs = omega arith
 length-front (suc k) [] = omega arith
 length-front (suc k) (x ∷ xs) = let h = length-front k xs in omega arith
-
-abbrev Few : ℕ → Branch → Type 0
-Few n b = length b.events ≤ n
 
 pub all_weaker : {X : Type 0} (P Q : X → Type 0) → ((x : X) → P x → Q x) → (xs : List X) → AllByRecursion P xs → AllByRecursion Q xs
 all_weaker P Q weaker [] all = tt
@@ -55,8 +54,19 @@ all_kept P p (c ∷ cs) all =
       | false ↦ all_kept P p cs all.1
     ]
 
+-- at most n events can be brought back
+abbrev FewBack : ℕ → Option Former → Type 0
+FewBack n o = IfSome o (λ f. length f.events ≤ n)
+
+more_back : (n m : ℕ) (o : Option Former) → n ≤ m → FewBack n o → FewBack m o
+more_back n m None le few = tt
+more_back n m (Some f) le few = omega (arith, few, le)
+
+more_here : (n m : ℕ) (b : Branch) → n ≤ m → HasFew n b → HasFew m b
+more_here n m b le few = (omega (arith, few.0, le), more_back n m b.former le few.1)
+
 pub more_room : (n m : ℕ) (t : Timeline) → n ≤ m → HasFewEvents n t → HasFewEvents m t
-more_room n m t le few = all_weaker (Few n) (Few m) (λ b h. omega (arith, h, le)) t.branches few
+more_room n m t le few = all_weaker (HasFew n) (HasFew m) (λ b h. more_here n m b le h) t.branches few
 
 module _ (t : Timeline) (n : ℕ) (few : HasFewEvents n t) where
   roomy : HasFewEvents (n + 1) t
@@ -65,24 +75,24 @@ module _ (t : Timeline) (n : ℕ) (few : HasFewEvents n t) where
   abbrev Grown : Replied → Type 0
   Grown done = HasFewEvents (n + 1) done.timeline
 
-  changed : (b : Branch) → Few (n + 1) b → HasFewEvents (n + 1) (with_changed t b)
-  changed b is = all_put (Few (n + 1)) b t.branches is roomy
+  changed : (b : Branch) → HasFew (n + 1) b → HasFewEvents (n + 1) (with_changed t b)
+  changed b is = all_put (HasFew (n + 1)) b t.branches is roomy
 
   answered_grown : (o : Option Refused) (done : Replied) → Grown done → Grown (answered t o done)
   answered_grown None done is = is
   answered_grown (Some r) done is = roomy
 
-  named_grown : (name : List ℕ) (done : Branch → Replied) → ((b : Branch) → Few n b → Grown (done b)) → Grown (with_branch t name done)
+  named_grown : (name : List ℕ) (done : Branch → Replied) → ((b : Branch) → HasFew n b → Grown (done b)) → Grown (with_branch t name done)
   named_grown name done grow =
       elim (branch_of t name) as (λ o. branch_of t name ≡ o → Grown (option_map_or done o (replied t (Refusing refused.NoBranch)))) [
         | None ↦ λ _. roomy
-        | Some b ↦ λ here. grow b (found_is (Few n) (λ c. same_name c.name name) t.branches b few here)
+        | Some b ↦ λ here. grow b (found_is (HasFew n) (λ c. same_name c.name name) t.branches b few here)
       ] refl
 
-  longer : (b : Branch) (e : Event) → Few n b → Few (n + 1) (extended b e)
-  longer b e is = omega (arith, is, length-append (take b.cursor b.events) (e ∷ []), length-front b.cursor b.events)
+  longer : (b : Branch) (e : Event) → HasFew n b → HasFew (n + 1) (extended b e)
+  longer b e is = (omega (arith, is.0, length-append (take b.cursor b.events) (e ∷ []), length-front b.cursor b.events), tt)
 
-  step_grown : (e : Event) (b : Branch) → Few n b → Grown (step_reply t e b)
+  step_grown : (e : Event) (b : Branch) → HasFew n b → Grown (step_reply t e b)
   step_grown e b is =
       elim (world_of t b) as (λ o. Grown (option_map_or (λ w. step_answered t b e (step w e)) o (replied t (Refusing refused.NoBranch)))) [
         | None ↦ roomy
@@ -100,20 +110,34 @@ module _ (t : Timeline) (n : ℕ) (few : HasFewEvents n t) where
         | Some w ↦ roomy
       ]
 
-  moved_grown : (b : Branch) (cursor : ℕ) → Few n b → Grown (at_cursor t b cursor)
-  moved_grown b cursor is = changed (record b { cursor = cursor }) (omega (arith, is))
+  moved_grown : (b : Branch) (cursor : ℕ) → HasFew n b → Grown (at_cursor t b cursor)
+  moved_grown b cursor is = changed (record b { cursor = cursor }) (more_here n (n + 1) b (omega arith) is)
+
+  excise_grown : (k : ℕ) (b : Branch) → HasFew n b → Grown (excise_reply t k b)
+  excise_grown k b is =
+      answered_grown (refused_by ((not (has_event k b), refused.NoEvent) ∷ [])) (replied (with_changed t (excised t.opening k b)) (Excised (fallen_places t.opening k b)))
+      (changed (excised t.opening k b) (omega (arith, is.0, left-few t.opening k b), omega (arith, is.0)))
+
+  restore_grown : (b : Branch) → HasFew n b → Grown (restore_reply t b)
+  restore_grown b is =
+      elim b.former as (λ o. FewBack n o → Grown (option_map_or (λ f. replied (with_changed t (restored b f)) (Restored f.cursor)) o (replied t (Refusing refused.NothingExcised)))) [
+        | None ↦ λ _. roomy
+        | Some f ↦ λ few. changed (restored b f) (omega (arith, few), tt)
+      ] is.1
 
   pub command-grows : (c : Command) → HasFewEvents (n + 1) (command_step t c).timeline
-  unfolding command_step step_command back_command forward_command fork_command drop_command show_command names_command
+  unfolding command_step step_command back_command forward_command fork_command drop_command show_command excise_command restore_command names_command
   command-grows (command.Step name e) = named_grown name (step_reply t e) (step_grown e)
   command-grows (command.Back name k) = named_grown name (back_reply t k) (λ b is. answered_grown (refused_by ((nat_lt b.cursor k, refused.TooFarBack) ∷ [])) (at_cursor t b (b.cursor - k)) (moved_grown b (b.cursor - k) is))
   command-grows (command.Forward name k) = named_grown name (forward_reply t k) (λ b is. answered_grown (refused_by ((nat_lt (undone b) k, refused.NothingForward) ∷ [])) (at_cursor t b (b.cursor + k)) (moved_grown b (b.cursor + k) is))
   command-grows (command.Fork from k name) =
       named_grown from (fork_reply t k name)
-      (λ b is. answered_grown (fork_refusal t k name b) (replied (record t { branches = t.branches ++ first_events k name b ∷ [] }) Forked) (all_behind (Few (n + 1)) t.branches (first_events k name b) roomy (omega (arith, is, length-front k b.events))))
-  command-grows (command.Drop name) = named_grown name (drop_reply t) (λ b _. answered_grown (refused_by ((nat_le (length t.branches) 1, refused.LastBranch) ∷ [])) (replied (record t { branches = filter (λ c. not (same_name c.name b.name)) t.branches }) Removed) (all_kept (Few (n + 1)) (λ c. not (same_name c.name b.name)) t.branches roomy))
+      (λ b is. answered_grown (fork_refusal t k name b) (replied (record t { branches = t.branches ++ first_events k name b ∷ [] }) Forked) (all_behind (HasFew (n + 1)) t.branches (first_events k name b) roomy (omega (arith, is.0, length-front k b.events), tt)))
+  command-grows (command.Drop name) = named_grown name (drop_reply t) (λ b _. answered_grown (refused_by ((nat_le (length t.branches) 1, refused.LastBranch) ∷ [])) (replied (record t { branches = filter (λ c. not (same_name c.name b.name)) t.branches }) Removed) (all_kept (HasFew (n + 1)) (λ c. not (same_name c.name b.name)) t.branches roomy))
   command-grows (command.Show name) = named_grown name (show_reply t) (λ b _. show_grown b)
   command-grows command.Names = roomy
+  command-grows (command.Excise name k) = named_grown name (excise_reply t k) (excise_grown k)
+  command-grows (command.Restore name) = named_grown name (restore_reply t) restore_grown
 
 -- ... and so the timeline after it
 pub grown : (t u : Timeline) (n m : ℕ) (c : Command) (r : Reply) → HasFewEvents n t → command_step t c ≡ replied u r → n + 1 ≤ m → HasFewEvents m u

@@ -1,4 +1,5 @@
 pub mod Asked
+pub mod Falling
 pub mod Growth
 pub mod Listed
 pub mod Looks
@@ -6,3 +7,4 @@ pub mod Replays
 pub mod Seatings
 pub mod Shown
 pub mod Sums
+pub mod Telling

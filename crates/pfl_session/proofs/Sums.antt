@@ -13,7 +13,7 @@ use Rattle.pfl_timeline.specs.Rooted.{Rooted, shown}
 use Rattle.pfl_timeline.specs.Summaries.{summary, over_worlds}
 use Rattle.pfl_timeline.specs.Timelines.{Branch, Timeline, standing, world_of}
 use Rattle.pfl_session.specs.declared.counts.Counts.{Counts}
-use Rattle.pfl_session.specs.Totals.{no_counts, in_world, counts_of_branch, added, counts_of_branches, AreAtMost, HasAtMost}
+use Rattle.pfl_session.specs.Totals.{no_counts, in_world, counts_of_branch, added, counts_of_branches, AreAtMost, HasAtMost, HasFew}
 
 -- what holds of all holds of the one at a place
 pub each_at : {X : Type 0} (P : X → Type 0) (xs : List X) (i : ℕ) (d : X) → AllByRecursion P xs → i < length xs → P (get_or xs i d)
@@ -21,13 +21,13 @@ each_at P [] i d all lt = absurd (omega arith)
 each_at P (x ∷ xs) zero d all lt = all.0
 each_at P (x ∷ xs) (suc i) d all lt = each_at P xs i d all.1 (omega arith)
 
-few-each : (n : ℕ) (rs : List Rooted) → AllByRecursion (λ b. length b.events ≤ n) (map (λ r. r.branch) rs) → AllByRecursion (HasAtMost n) rs
+few-each : (n : ℕ) (rs : List Rooted) → AllByRecursion (HasFew n) (map (λ r. r.branch) rs) → AllByRecursion (HasAtMost n) rs
 few-each n [] all = tt
-few-each n (r ∷ rs) all = (all.0, few-each n rs all.1)
+few-each n (r ∷ rs) all = (all.0.0, few-each n rs all.1)
 
 -- each branch of a timeline has few events
-pub few-rooted : (n : ℕ) (rs : List Rooted) (bs : List Branch) → map (λ r. r.branch) rs ≡ bs → AllByRecursion (λ b. length b.events ≤ n) bs → AllByRecursion (HasAtMost n) rs
-few-rooted n rs bs is few = few-each n rs (subst (AllByRecursion (λ b. length b.events ≤ n)) (sym is) few)
+pub few-rooted : (n : ℕ) (rs : List Rooted) (bs : List Branch) → map (λ r. r.branch) rs ≡ bs → AllByRecursion (HasFew n) bs → AllByRecursion (HasAtMost n) rs
+few-rooted n rs bs is few = few-each n rs (subst (AllByRecursion (HasFew n)) (sym is) few)
 
 abbrev add : Counts → Rooted → Counts
 add c r = added c (counts_of_branch r)
@@ -103,8 +103,3 @@ more-at-most n m k c d now sum all a b =
       frames = omega (arith, all, a.frames, b.frames);
       pending = omega (arith, all, a.pending, b.pending);
     })
-
--- more events than a revision counts come of no opening that is taken
-pub few-weaker : (n m : ℕ) (bs : List Branch) → n ≤ m → AllByRecursion (λ b. length b.events ≤ n) bs → AllByRecursion (λ b. length b.events ≤ m) bs
-few-weaker n m [] le all = tt
-few-weaker n m (b ∷ bs) le all = let here = all.0 in (omega (arith, here, le), few-weaker n m bs le all.1)

@@ -1,9 +1,23 @@
--- Replies that are of no fixed size, so that a copy wants memory (this project's profile).
-use Rattle.std.specs.Prelude.{Bool, true, false}
-use Rattle.pfl_timeline.specs.Replies.{Reply, Shown, Names}
+-- Replies that are of no fixed size, and how much room their copies want (this project's profile).
+use Rattle.std.specs.Prelude.{ℕ, Bool, true, false, List, [], length}
+use Rattle.std.specs.Option.{option_map_or}
+use Rattle.pfl_timeline.specs.declared.command.Command.{Command}
+use Rattle.pfl_timeline.specs.declared.command.Command.TheVariants as command
+use Rattle.pfl_timeline.specs.Replies.{Reply, Shown, Names, Excised}
+use Rattle.pfl_timeline.specs.Timelines.{Timeline, branch_of}
 
 -- the reply shows a branch, or names the branches
 abbrev pub is_listing : Reply → Bool
 is_listing (Shown name events cursor w) = true
 is_listing (Names names) = true
 is_listing _ = false
+
+-- the places that the reply tells
+abbrev pub places_in : Reply → List ℕ
+places_in (Excised places) = places
+places_in _ = []
+
+-- the most places that the reply to the command tells: as many as the branch has events
+abbrev pub most_places : Timeline → Command → ℕ
+most_places t (command.Excise name k) = option_map_or (λ b. length b.events) (branch_of t name) 0
+most_places t _ = 0

@@ -1,12 +1,12 @@
 -- The counts of a revision, added up over branches, and how many events there may be (this project's profile).
-use Rattle.std.specs.Prelude.{◌≤◌, ℕ, ◌+◌, List, length}
+use Rattle.std.specs.Prelude.{◌≤◌, ℕ, ◌+◌, List, length, IfSome}
 use Rattle.std.specs.List.{fold, AllByRecursion}
 use Rattle.std.specs.Option.{option_map_or}
 use Rattle.pfl_edits.specs.Maps as maps
 use Rattle.pfl_queue.specs.Queues.{pending}
 use Rattle.pfl_world.specs.Worlds.{World}
 use Rattle.pfl_timeline.specs.Rooted.{Rooted, shown}
-use Rattle.pfl_timeline.specs.Timelines.{Timeline}
+use Rattle.pfl_timeline.specs.Timelines.{Branch, Timeline}
 use Rattle.pfl_session.specs.declared.counts.Counts.{Counts}
 
 -- nothing is counted
@@ -56,6 +56,10 @@ pub record AreAtMost (n : ℕ) (c : Counts) : Type 0 where
 abbrev pub HasAtMost : ℕ → Rooted → Type 0
 HasAtMost n r = length r.branch.events ≤ n
 
--- each branch has at most n events
+-- the branch has at most n events, and at most n can be brought back
+abbrev pub HasFew : ℕ → Branch → Type 0
+HasFew n b = (length b.events ≤ n) × IfSome b.former (λ f. length f.events ≤ n)
+
+-- no branch has more than n events, nor can more be brought back
 abbrev pub HasFewEvents : ℕ → Timeline → Type 0
-HasFewEvents n t = AllByRecursion (λ b. length b.events ≤ n) t.branches
+HasFewEvents n t = AllByRecursion (HasFew n) t.branches

@@ -193,7 +193,8 @@ impl<J: Which, A: Allocator + Copy> Desk<J, A> {
         ensures unchanged { OnErr result ((self.new ≡ self.old) × (pass.new ≡ pass.old)) }
     {
         self.journal.reserve(1)?;
-        let (reply, entry) = execute(&mut self.timeline, pass.session, command)?;
+        let alloc = *self.journal.allocator();
+        let (reply, entry) = execute(alloc, &mut self.timeline, pass.session, command)?;
         let Some(writer) = self.writer.take() else {
             unreachable!();
         };

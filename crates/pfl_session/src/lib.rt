@@ -20,6 +20,7 @@ mod mark;
 mod opened;
 mod pass;
 mod revision;
+mod room;
 mod which;
 
 pub use entry::{Closed, Entry};

@@ -1,6 +1,6 @@
 -- What a branch answers, and which command asks for it.
-use Rattle.std.specs.Prelude.{◌≡◌, ◌≢◌, ℕ, Bool, true, false, List, [], ◌∷◌, length, map, Option, Some, None, Result, Ok, Err, IfOk, OnErr, refl, if◌then◌else◌}
-use Rattle.std.specs.Option.{option_map_or}
+use Rattle.std.specs.Prelude.{◌≡◌, ◌≢◌, ℕ, Bool, true, false, not, List, [], ◌∷◌, length, map, Option, Some, None, Result, Ok, Err, IfOk, OnErr, refl, if◌then◌else◌}
+use Rattle.std.specs.Option.{option_map, option_map_or}
 use Rattle.std.proofs.Common.{sym, ◌∙◌, ap, subst}
 use Rattle.pfl_base.specs.declared.refusal.Refusal.{Refusal}
 use Rattle.pfl_base.specs.declared.refusal.Refusal.TheVariants.{NoMemory}
@@ -14,13 +14,14 @@ use Rattle.pfl_timeline.specs.declared.command.Command.{Command}
 use Rattle.pfl_timeline.specs.declared.command.Command.TheVariants as command
 use Rattle.pfl_timeline.specs.declared.refused.Refused.{Refused}
 use Rattle.pfl_timeline.specs.declared.refused.Refused.TheVariants as refused
-use Rattle.pfl_timeline.specs.Commands.{replied, answered, with_branch, with_changed, extended, undone, at_cursor, step_answered, step_reply, back_reply, forward_reply, fork_reply, drop_reply, show_reply, step_command, back_command, forward_command, fork_command, drop_command, show_command, names_command, command_step}
-use Rattle.pfl_timeline.specs.Replies.{Reply, Replied, Stepped as StepReply, At, Shown, Names, Refused as Refusing}
-use Rattle.pfl_timeline.specs.inner.Replies.{moved}
+use Rattle.pfl_timeline.specs.Commands.{replied, answered, with_branch, with_changed, extended, undone, at_cursor, step_answered, step_reply, back_reply, forward_reply, fork_reply, drop_reply, show_reply, step_command, back_command, forward_command, fork_command, drop_command, show_command, names_command, excise_reply, restore_reply, excise_command, restore_command, command_step}
+use Rattle.pfl_timeline.specs.Excisions.{has_event, excised, fallen_places, restored}
+use Rattle.pfl_timeline.specs.Replies.{Reply, Replied, Stepped as StepReply, At, Shown, Names, Excised, Restored, Refused as Refusing}
+use Rattle.pfl_timeline.specs.inner.Replies.{moved, fell_out, brought_back}
 use Rattle.pfl_timeline.specs.Rooted.{Rooted, shown}
-use Rattle.pfl_timeline.specs.inner.Rooted.{with_cursor}
+use Rattle.pfl_timeline.specs.inner.Rooted.{with_cursor, with_former}
 use Rattle.pfl_timeline.proofs.Rooted.{StandsIn, IsReplyOf}
-use Rattle.pfl_timeline.specs.Timelines.{Branch, Timeline, standing, world_of}
+use Rattle.pfl_timeline.specs.Timelines.{Former, Branch, Timeline, standing, world_of}
 use Rattle.pfl_timeline.proofs.Refusals.{refusal_is}
 
 -- ---- a branch
@@ -94,6 +95,62 @@ module _ (far : Branch → Bool) (to : Branch → ℕ) (why : Refused) (r : Root
       (elim (far r.branch) as (λ b. far r.branch ≡ b → IsReplyOf asked r (if b then r else with_cursor r (to r.branch)) (moved why (if b then None else Some (to r.branch)))) [
         | true ↦ told_far
         | false ↦ told_near
+      ] refl)
+
+-- An event taken out of the branch, unless there is none.
+module _ (k : ℕ) (r : Rooted) where
+  abbrev without_it : Rooted
+  without_it = record r { branch = excised r.opening k r.branch }
+
+  abbrev fell : List ℕ
+  fell = fallen_places r.opening k r.branch
+
+  abbrev taken_out : Timeline → Bool → Replied
+  taken_out t there = answered t (refused_by ((not there, refused.NoEvent) ∷ [])) (replied (with_changed t (excised t.opening k r.branch)) (Excised (fallen_places t.opening k r.branch)))
+
+  told_there : has_event k r.branch ≡ true → IsReplyOf (λ t b. excise_reply t k b) r without_it (Excised fell)
+  told_there is = record {
+    opening = refl;
+    name = refl;
+    told = λ t stands.
+        ap (taken_out t) is
+        ∙ ap (λ (o : World). replied (with_changed t (excised o k r.branch)) (Excised (fallen_places o k r.branch))) stands.opening;
+  }
+
+  told_not_there : has_event k r.branch ≡ false → IsReplyOf (λ t b. excise_reply t k b) r r (Refusing refused.NoEvent)
+  told_not_there is = record {
+    opening = refl;
+    name = refl;
+    told = λ t stands. ap (taken_out t) is ∙ same_branch r t (Refusing refused.NoEvent) stands;
+  }
+
+  pub told-excised : (s : Rooted) (fallen : Option (List ℕ)) → fallen ≡ (if has_event k r.branch then Some fell else None) → s ≡ (if has_event k r.branch then without_it else r)
+      → IsReplyOf (λ t b. excise_reply t k b) r s (fell_out fallen)
+  told-excised s fallen is new =
+      replied_as _ _ _ _ _ _ new (ap fell_out is)
+      (elim (has_event k r.branch) as (λ b. has_event k r.branch ≡ b → IsReplyOf (λ t c. excise_reply t k c) r (if b then without_it else r) (fell_out (if b then Some fell else None))) [
+        | true ↦ told_there
+        | false ↦ told_not_there
+      ] refl)
+
+-- What the branch was before brought back, unless there is nothing.
+module _ (r : Rooted) where
+  abbrev back_again : Timeline → Option Former → Replied
+  back_again t former = option_map_or (λ f. replied (with_changed t (restored r.branch f)) (Restored f.cursor)) former (replied t (Refusing refused.NothingExcised))
+
+  told_back : (f : Former) → r.branch.former ≡ Some f → IsReplyOf (λ t b. restore_reply t b) r (with_former r f) (Restored f.cursor)
+  told_back f is = record { opening = refl; name = refl; told = λ t stands. ap (back_again t) is }
+
+  told_nothing : r.branch.former ≡ None → IsReplyOf (λ t b. restore_reply t b) r r (Refusing refused.NothingExcised)
+  told_nothing is = record { opening = refl; name = refl; told = λ t stands. ap (back_again t) is ∙ same_branch r t (Refusing refused.NothingExcised) stands }
+
+  pub told-restored : (s : Rooted) (cursor : Option ℕ) → cursor ≡ option_map (λ f. f.cursor) r.branch.former → s ≡ option_map_or (with_former r) r.branch.former r
+      → IsReplyOf (λ t b. restore_reply t b) r s (brought_back cursor)
+  told-restored s cursor is new =
+      replied_as _ _ _ _ _ _ new (ap brought_back is)
+      (elim r.branch.former as (λ o. r.branch.former ≡ o → IsReplyOf (λ t b. restore_reply t b) r (option_map_or (with_former r) o r) (brought_back (option_map (λ f. f.cursor) o))) [
+        | None ↦ told_nothing
+        | Some f ↦ told_back f
       ] refl)
 
 -- the branch is shown
@@ -181,6 +238,22 @@ is-drop t c name is = ap (command_step t) is
 pub is-names : (t : Timeline) (c : Command) → c ≡ command.Names → command_step t c ≡ names_command t
 unfolding command_step
 is-names t c is = ap (command_step t) is
+
+pub excise-asks : (t : Timeline) (name : List ℕ) (k : ℕ) → excise_command t name k ≡ with_branch t name (λ b. excise_reply t k b)
+unfolding excise_command
+excise-asks t name k = refl
+
+pub restore-asks : (t : Timeline) (name : List ℕ) → restore_command t name ≡ with_branch t name (λ b. restore_reply t b)
+unfolding restore_command
+restore-asks t name = refl
+
+pub is-excise : (t : Timeline) (c : Command) (name : List ℕ) (k : ℕ) → c ≡ command.Excise name k → command_step t c ≡ excise_command t name k
+unfolding command_step
+is-excise t c name k is = ap (command_step t) is
+
+pub is-restore : (t : Timeline) (c : Command) (name : List ℕ) → c ≡ command.Restore name → command_step t c ≡ restore_command t name
+unfolding command_step
+is-restore t c name is = ap (command_step t) is
 
 pub is-show : (t : Timeline) (c : Command) (name : List ℕ) → c ≡ command.Show name → command_step t c ≡ show_command t name
 unfolding command_step

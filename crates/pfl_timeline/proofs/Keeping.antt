@@ -1,5 +1,5 @@
 -- Every command leaves a timeline a timeline, and each branch shows a world.
-use Rattle.std.specs.Prelude.{◌≡◌, ◌≤◌, ℕ, ◌+◌, ◌-◌, ◌++◌, Bool, true, false, not, nat_lt, nat_le, List, [], ◌∷◌, length, map, find, take, drop, Option, Some, None, is_some, IsTrue, Ok, Err, refl, if◌then◌else◌}
+use Rattle.std.specs.Prelude.{◌≡◌, ◌≤◌, ℕ, ◌+◌, ◌-◌, ◌++◌, Bool, true, false, not, nat_lt, nat_le, List, [], ◌∷◌, length, map, find, take, drop, Option, Some, None, is_some, IsTrue, IfSome, Ok, Err, refl, if◌then◌else◌}
 use Rattle.std.specs.List.{AllByRecursion, IsDistinct}
 use Rattle.std.specs.Option.{option_and_then, option_map_or}
 use Rattle.std.proofs.Common.{cond, sym, ◌∙◌, ap, subst, arith, length-append, length-take-le}
@@ -17,13 +17,15 @@ use Rattle.pfl_timeline.specs.declared.command.Command.{Command}
 use Rattle.pfl_timeline.specs.declared.command.Command.TheVariants as command
 use Rattle.pfl_timeline.specs.declared.refused.Refused.{Refused}
 use Rattle.pfl_timeline.specs.declared.refused.Refused.TheVariants as refused
-use Rattle.pfl_timeline.specs.Commands.{replied, answered, with_branch, with_changed, extended, undone, at_cursor, step_answered, step_reply, back_reply, forward_reply, first_events, fork_refusal, fork_reply, drop_reply, show_reply, step_command, back_command, forward_command, fork_command, drop_command, show_command, names_command, command_step, replayed}
+use Rattle.pfl_timeline.specs.Commands.{replied, answered, with_branch, with_changed, extended, undone, at_cursor, step_answered, step_reply, back_reply, forward_reply, first_events, fork_refusal, fork_reply, drop_reply, show_reply, step_command, back_command, forward_command, fork_command, drop_command, show_command, names_command, excise_reply, restore_reply, excise_command, restore_command, command_step, replayed}
+use Rattle.pfl_timeline.specs.Excisions.{has_event, excised, fallen_places, restored}
 use Rattle.pfl_timeline.specs.Laws.{CommandsKeepTimelines, BranchesShowWorlds}
-use Rattle.pfl_timeline.specs.Replies.{Replied, Forked, Removed, Shown, Refused as Refusing}
-use Rattle.pfl_timeline.specs.Timelines.{Branch, Timeline, IsBranch, IsTimeline, branch_of, is_branch_name, same_name, standing, world_of}
+use Rattle.pfl_timeline.specs.Replies.{Replied, Forked, Removed, Shown, Excised, Restored, Refused as Refusing}
+use Rattle.pfl_timeline.specs.Timelines.{Branch, Timeline, IsFormer, IsBranch, IsTimeline, branch_of, is_branch_name, same_name, standing, world_of}
 use Rattle.pfl_timeline.proofs.Distinct.{all_behind, distinct_behind, no_some, others, all_others, distinct_others, one_less}
 use Rattle.pfl_timeline.proofs.Prefixes.{run-front}
 use Rattle.pfl_timeline.proofs.Runs.{run-last}
+use Rattle.pfl_timeline.proofs.Sieving.{excised-is}
 
 -- ---- branches
 
@@ -79,6 +81,7 @@ longer t b e w s branch here stepped =
       name = branch.name;
       within = omega (arith, length-append (standing b) (e ∷ []), length-take-le b.cursor b.events branch.within);
       runs = subst (λ (o : Option World). IsTrue (is_some o)) (sym ends) refl;
+      former = tt;
     }
 
 step_keeps : (t : Timeline) (e : Event) (b : Branch) → IsTimeline t → IsBranch t.opening b → IsTimeline (step_reply t e b).timeline
@@ -94,7 +97,7 @@ step_keeps t e b is branch =
 
 -- fewer events of a branch stand
 shorter : (t : Timeline) (n : ℕ) (b : Branch) → IsBranch t.opening b → IsBranch t.opening (record b { cursor = b.cursor - n })
-shorter t n b branch = record { name = branch.name; within = omega (arith, branch.within); runs = branch.runs }
+shorter t n b branch = record { name = branch.name; within = omega (arith, branch.within); runs = branch.runs; former = branch.former }
 
 back_keeps : (t : Timeline) (n : ℕ) (b : Branch) → IsTimeline t → IsBranch t.opening b → IsTimeline (back_reply t n b).timeline
 back_keeps t n b is branch =
@@ -110,7 +113,7 @@ forward_keeps t n b is branch =
       | true ↦ λ _. is
       | false ↦ λ near.
           keeps t (record b { cursor = b.cursor + n }) is
-          (record { name = branch.name; within = omega (arith, branch.within, ltb-false (undone b) n near); runs = branch.runs })
+          (record { name = branch.name; within = omega (arith, branch.within, ltb-false (undone b) n near); runs = branch.runs; former = branch.former })
     ] refl
 
 -- no test refuses
@@ -171,6 +174,7 @@ first_is t k name b branch named within = record {
   name = named;
   within = omega (arith, length-take-le k b.events within);
   runs = run-front t.opening (take k b.events) (drop k b.events) (subst (λ (es : List Event). IsTrue (is_some (run t.opening es))) (sym (take-append-drop k b.events)) branch.runs);
+  former = tt;
 }
 
 -- a branch more
@@ -214,6 +218,22 @@ show_keeps t b is =
       | Some w ↦ is
     ]
 
+-- an event taken out
+excise_keeps : (t : Timeline) (k : ℕ) (b : Branch) → IsTimeline t → IsBranch t.opening b → IsTimeline (excise_reply t k b).timeline
+excise_keeps t k b is branch =
+    elim (not (has_event k b)) as (λ none. IsTimeline (answered t (refused_by ((none, refused.NoEvent) ∷ [])) (replied (with_changed t (excised t.opening k b)) (Excised (fallen_places t.opening k b)))).timeline) [
+      | true ↦ is
+      | false ↦ keeps t (excised t.opening k b) is (excised-is t.opening k b branch)
+    ]
+
+-- what was there brought back
+restore_keeps : (t : Timeline) (b : Branch) → IsTimeline t → IsBranch t.opening b → IsTimeline (restore_reply t b).timeline
+restore_keeps t b is branch =
+    elim b.former as (λ o. IfSome o (IsFormer t.opening) → IsTimeline (option_map_or (λ f. replied (with_changed t (restored b f)) (Restored f.cursor)) o (replied t (Refusing refused.NothingExcised))).timeline) [
+      | None ↦ λ _. is
+      | Some f ↦ λ former. keeps t (restored b f) is (record { name = branch.name; within = former.within; runs = former.runs; former = tt })
+    ] branch.former
+
 -- ---- commands
 
 -- the branch of a name
@@ -228,7 +248,7 @@ named_keeps t name done is keep =
     ] refl
 
 pub command_keeps : (t : Timeline) (c : Command) → IsTimeline t → IsTimeline (command_step t c).timeline
-unfolding command_step step_command back_command forward_command fork_command drop_command show_command names_command
+unfolding command_step step_command back_command forward_command fork_command drop_command show_command names_command excise_command restore_command
 command_keeps t (command.Step name e) is = named_keeps t name (step_reply t e) is (λ b _ branch. step_keeps t e b is branch)
 command_keeps t (command.Back name n) is = named_keeps t name (back_reply t n) is (λ b _ branch. back_keeps t n b is branch)
 command_keeps t (command.Forward name n) is = named_keeps t name (forward_reply t n) is (λ b _ branch. forward_keeps t n b is branch)
@@ -236,6 +256,8 @@ command_keeps t (command.Fork from k name) is = named_keeps t from (fork_reply t
 command_keeps t (command.Drop name) is = named_keeps t name (drop_reply t) is (λ b here _. drop_keeps t name b is here)
 command_keeps t (command.Show name) is = named_keeps t name (show_reply t) is (λ b _ branch. show_keeps t b is)
 command_keeps t command.Names is = is
+command_keeps t (command.Excise name k) is = named_keeps t name (excise_reply t k) is (λ b _ branch. excise_keeps t k b is branch)
+command_keeps t (command.Restore name) is = named_keeps t name (restore_reply t) is (λ b _ branch. restore_keeps t b is branch)
 
 pub commands-keep : CommandsKeepTimelines
 unfolding replayed

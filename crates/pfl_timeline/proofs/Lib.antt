@@ -10,6 +10,8 @@ pub mod Refusals
 pub mod Asked
 pub mod Wants
 pub mod Prefixes
+pub mod Sieving
+pub mod Excised
 pub mod Keeping
 pub mod Forking
 pub mod Stepped

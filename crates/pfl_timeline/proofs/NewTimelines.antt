@@ -11,5 +11,5 @@ new_timeline-is w is = record {
   some = omega arith;
   few = omega arith;
   names = (tt, tt);
-  branches = (record { name = refl; within = omega arith; runs = refl }, tt);
+  branches = (record { name = refl; within = omega arith; runs = refl; former = tt }, tt);
 }

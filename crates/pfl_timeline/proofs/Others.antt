@@ -10,9 +10,10 @@ use Rattle.pfl_world.specs.Events.{step}
 use Rattle.pfl_timeline.specs.declared.command.Command.TheVariants as command
 use Rattle.pfl_timeline.specs.declared.refused.Refused.{Refused}
 use Rattle.pfl_timeline.specs.declared.refused.Refused.TheVariants as refused
-use Rattle.pfl_timeline.specs.Commands.{replied, answered, with_branch, extended, undone, step_answered, step_reply, back_reply, forward_reply, first_events, fork_refusal, fork_reply, drop_reply, show_reply, step_command, back_command, forward_command, fork_command, drop_command, show_command, names_command, command_step}
+use Rattle.pfl_timeline.specs.Commands.{replied, answered, with_branch, with_changed, extended, undone, step_answered, step_reply, back_reply, forward_reply, first_events, fork_refusal, fork_reply, drop_reply, show_reply, step_command, back_command, forward_command, fork_command, drop_command, show_command, names_command, excise_reply, restore_reply, excise_command, restore_command, command_step}
+use Rattle.pfl_timeline.specs.Excisions.{has_event, excised, restored}
 use Rattle.pfl_timeline.specs.Laws.{CommandsLeaveOthers}
-use Rattle.pfl_timeline.specs.Replies.{Replied, Shown, Refused as Refusing}
+use Rattle.pfl_timeline.specs.Replies.{Replied, Shown, Restored, Refused as Refusing}
 use Rattle.pfl_timeline.specs.Timelines.{Branch, Timeline, branch_of, same_name, world_of}
 use Rattle.pfl_timeline.proofs.Distinct.{called, others}
 
@@ -40,7 +41,7 @@ module _ (b : Branch) (name : List ℕ) (apart : same_name b.name name ≡ false
 -- ---- commands
 
 -- the branch that is found has the name
-has_the_name : (of : List ℕ) (bs : List Branch) (b : Branch) → find (called of) bs ≡ Some b → same_name b.name of ≡ true
+pub has_the_name : (of : List ℕ) (bs : List Branch) (b : Branch) → find (called of) bs ≡ Some b → same_name b.name of ≡ true
 has_the_name of [] b is = absurd (some_is_none b (sym is))
 has_the_name of (c ∷ cs) b is =
     elim (same_name c.name of) as (λ t. same_name c.name of ≡ t → cond t (Some c) (find (called of) cs) ≡ Some b → same_name b.name of ≡ true) [
@@ -82,6 +83,16 @@ module _ (t : Timeline) (of name : List ℕ) (apart : same_name of name ≡ fals
   leaves_forward : (n : ℕ) (b : Branch) → same_name b.name of ≡ true → Leaves t name (forward_reply t n b)
   leaves_forward n b has = leaves_answered t name (refused_by ((nat_lt (undone b) n, refused.NothingForward) ∷ [])) _ (find_put (record b { cursor = b.cursor + n }) name (other b has) t.branches)
 
+  leaves_excise : (k : ℕ) (b : Branch) → same_name b.name of ≡ true → Leaves t name (excise_reply t k b)
+  leaves_excise k b has = leaves_answered t name (refused_by ((not (has_event k b), refused.NoEvent) ∷ [])) _ (find_put (excised t.opening k b) name (other b has) t.branches)
+
+  leaves_restore : (b : Branch) → same_name b.name of ≡ true → Leaves t name (restore_reply t b)
+  leaves_restore b has =
+      elim b.former as (λ o. Leaves t name (option_map_or (λ f. replied (with_changed t (restored b f)) (Restored f.cursor)) o (replied t (Refusing refused.NothingExcised)))) [
+        | None ↦ refl
+        | Some f ↦ find_put (restored b f) name (other b has) t.branches
+      ]
+
 leaves_show : (t : Timeline) (name : List ℕ) (b : Branch) → Leaves t name (show_reply t b)
 leaves_show t name b =
     elim (world_of t b) as (λ o. Leaves t name (option_map_or (λ w. replied t (Shown b.name (length b.events) b.cursor w)) o (replied t (Refusing refused.NoBranch)))) [
@@ -113,7 +124,7 @@ leaves_drop t of name apart b has =
     leaves_answered t name (refused_by ((nat_le (length t.branches) 1, refused.LastBranch) ∷ [])) _ (find_others b.name name (other t of name apart b has) t.branches)
 
 pub others-stay : CommandsLeaveOthers
-unfolding command_step step_command back_command forward_command fork_command drop_command show_command names_command
+unfolding command_step step_command back_command forward_command fork_command drop_command show_command names_command excise_command restore_command
 others-stay t (command.Step of e) name apart = leaves_named t of name (step_reply t e) (leaves_step t of name apart e)
 others-stay t (command.Back of n) name apart = leaves_named t of name (back_reply t n) (leaves_back t of name apart n)
 others-stay t (command.Forward of n) name apart = leaves_named t of name (forward_reply t n) (leaves_forward t of name apart n)
@@ -121,3 +132,5 @@ others-stay t (command.Fork from k new) name apart = leaves_named t from name (f
 others-stay t (command.Drop of) name apart = leaves_named t of name (drop_reply t) (leaves_drop t of name apart)
 others-stay t (command.Show of) name apart = leaves_named t of name (show_reply t) (λ b _. leaves_show t name b)
 others-stay t command.Names name apart = refl
+others-stay t (command.Excise of k) name apart = leaves_named t of name (excise_reply t k) (leaves_excise t of name apart k)
+others-stay t (command.Restore of) name apart = leaves_named t of name (restore_reply t) (leaves_restore t of name apart)

@@ -292,7 +292,7 @@ shows-at P name rs i old t view place here kept is =
 
 -- ---- the first timeline
 
-pub kept-first : (w : World) (r : Rooted) (rs : List Rooted) → IsWorld w → r ≡ record { opening = w; branch = record { name = main_name; events = []; cursor = 0 } } → rs ≡ r ∷ [] → AreKept rs
+pub kept-first : (w : World) (r : Rooted) (rs : List Rooted) → IsWorld w → r ≡ record { opening = w; branch = record { name = main_name; events = []; cursor = 0; former = None } } → rs ≡ r ∷ [] → AreKept rs
 kept-first w r rs is made whole =
     subst AreKept (sym (whole ∙ ap (λ (x : Rooted). x ∷ []) made)) (record { one_opening = (refl, tt); timeline = new_timeline-is w is })
 

@@ -12,11 +12,11 @@ use Rattle.pfl_world.specs.Worlds.{World}
 use Rattle.pfl_timeline.proofs.Runs.{run-last}
 
 -- an event more, where the events before it have a world
-abbrev go_on : Option World → Event → Option World
+abbrev pub go_on : Option World → Event → Option World
 go_on at e = option_and_then (λ v. after (step v e)) at
 
 -- a refused event has no world after it
-never_again : (es : List Event) → fold go_on None es ≡ None
+pub never_again : (es : List Event) → fold go_on None es ≡ None
 never_again [] = refl
 never_again (e ∷ es) = never_again es
 

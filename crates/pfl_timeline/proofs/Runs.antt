@@ -1,4 +1,4 @@
--- What one event more, or one less, does to a branch that is kept.
+-- What one event more, or fewer events, do to a history that is kept.
 use Rattle.std.specs.Prelude.{◌≡◌, ℕ, zero, suc, ◌+◌, ◌<◌, ◌≤◌, List, [], ◌∷◌, ◌++◌, length, get_or, take, Option, Some, is_some, IsTrue, Ok, refl}
 use Rattle.std.specs.Option.{option_and_then}
 use Rattle.std.proofs.Common.{inl, inr, sym, ◌∙◌, ap, subst, le_refl, arith, length-append, length-take-le, take_all, take-take}
@@ -16,9 +16,8 @@ use Rattle.pfl_world.specs.Outcomes.{Outcome}
 use Rattle.pfl_world.specs.Runs.{run, after}
 use Rattle.pfl_world.specs.WorldEdits.{Finds, put_back}
 use Rattle.pfl_world.specs.Worlds.{World, IsWorld}
-use Rattle.pfl_timeline.specs.Kept.{IsKept, mark_at, rooted}
-use Rattle.pfl_timeline.specs.Rooted.{Rooted, shown}
-use Rattle.pfl_timeline.specs.Timelines.{is_branch_name}
+use Rattle.pfl_timeline.specs.Histories.{History, reached}
+use Rattle.pfl_timeline.specs.Kept.{IsKept, mark_at, history}
 use Rattle.pfl_timeline.proofs.Marks.{mark-past, mark-within, mark-cut, rising-cut, above-cut, mark-more, mark-all, rising-more, above-more}
 
 abbrev no_events : List Event
@@ -38,17 +37,16 @@ run-none : (w : World) → run w [] ≡ Some w
 unfolding run
 run-none w = refl
 
--- the world that the branch shows is the one that is kept
-pub shown-kept : {M : Type 0} (name : List ℕ) (w : World) (events : List Event) (tape : List (WorldEdit M)) (marks : List ℕ) → IsKept name w events tape marks → shown (rooted name w events tape marks) ≡ Some w
-shown-kept {M = M} name w events tape marks k =
+-- the world that those that stand give is the one that is kept
+pub reached-kept : {M : Type 0} (w : World) (events : List Event) (tape : List (WorldEdit M)) (marks : List ℕ) → IsKept w events tape marks → reached (history w events tape marks) ≡ Some w
+reached-kept {M = M} w events tape marks k =
     k.each (length marks) (le_refl (length marks))
     ∙ ap (λ n. Some (back put_back (above n tape) w)) (mark-past tape marks (length marks) (le_refl (length marks)))
     ∙ ap (λ (es : List (WorldEdit M)). Some (back put_back es w)) (drop-length tape)
 
--- a branch without events
-pub kept-new : {M : Type 0} (name : List ℕ) (w : World) → IsTrue (is_branch_name name) → IsWorld w → IsKept {M = M} name w [] [] []
-kept-new {M = M} name w named is = record {
-  named = named;
+-- a history without events
+pub kept-new : {M : Type 0} (w : World) → IsWorld w → IsKept {M = M} w [] [] []
+kept-new {M = M} w is = record {
   opening = is;
   within = omega arith;
   fits = tt;
@@ -58,21 +56,21 @@ kept-new {M = M} name w named is = record {
 }
 
 -- of equal ones
-pub kept_as : {M : Type 0} (name : List ℕ) (w v : World) (es fs : List Event) (tape copied : List (WorldEdit M)) (ms ns : List ℕ) → v ≡ w → fs ≡ es → copied ≡ tape → ns ≡ ms → IsKept name w es tape ms → IsKept name v fs copied ns
-kept_as name w v es fs tape copied ms ns a b c d k = rw (a, b, c, d) k
+pub kept_as : {M : Type 0} (w v : World) (es fs : List Event) (tape copied : List (WorldEdit M)) (ms ns : List ℕ) → v ≡ w → fs ≡ es → copied ≡ tape → ns ≡ ms → IsKept w es tape ms → IsKept v fs copied ns
+kept_as w v es fs tape copied ms ns a b c d k = rw (a, b, c, d) k
 
-pub rooted_as : {M : Type 0} (name : List ℕ) (w v : World) (es fs : List Event) (tape copied : List (WorldEdit M)) (ms ns : List ℕ) → v ≡ w → fs ≡ es → copied ≡ tape → ns ≡ ms → rooted name v fs copied ns ≡ rooted name w es tape ms
-rooted_as {M = M} name w v es fs tape copied ms ns a b c d =
-    ap (λ (x : World). rooted name x fs copied ns) a
-    ∙ ap (λ (xs : List Event). rooted name w xs copied ns) b
-    ∙ ap (λ (xs : List (WorldEdit M)). rooted name w es xs ns) c
-    ∙ ap (rooted name w es tape) d
+pub history_as : {M : Type 0} (w v : World) (es fs : List Event) (tape copied : List (WorldEdit M)) (ms ns : List ℕ) → v ≡ w → fs ≡ es → copied ≡ tape → ns ≡ ms → history v fs copied ns ≡ history w es tape ms
+history_as {M = M} w v es fs tape copied ms ns a b c d =
+    ap (λ (x : World). history x fs copied ns) a
+    ∙ ap (λ (xs : List Event). history w xs copied ns) b
+    ∙ ap (λ (xs : List (WorldEdit M)). history w es xs ns) c
+    ∙ ap (history w es tape) d
 
-abbrev pub of_parts : List ℕ → World → List Event → ℕ → Rooted
-of_parts name o es n = record { opening = o; branch = record { name = name; events = es; cursor = n } }
+abbrev pub of_parts : World → List Event → ℕ → History
+of_parts o es n = record { opening = o; events = es; cursor = n }
 
 -- The tape is taken back to where the first p events stood.
-module _ {M : Type 0} (name : List ℕ) (w : World) (events : List Event) (tape : List (WorldEdit M)) (marks : List ℕ) (k : IsKept name w events tape marks) (p : ℕ) (few : p ≤ length marks) where
+module _ {M : Type 0} (w : World) (events : List Event) (tape : List (WorldEdit M)) (marks : List ℕ) (k : IsKept w events tape marks) (p : ℕ) (few : p ≤ length marks) where
   abbrev mark : ℕ
   mark = mark_at tape marks p
 
@@ -105,9 +103,8 @@ module _ {M : Type 0} (name : List ℕ) (w : World) (events : List Event) (tape 
   as_many : length (take p marks) ≡ p
   as_many = length-take-le p marks few
 
-  pub kept-cut : IsKept name (back put_back (above (mark_at tape marks p) tape) w) events (below (mark_at tape marks p) tape) (take p marks)
+  pub kept-cut : IsKept (back put_back (above (mark_at tape marks p) tape) w) events (below (mark_at tape marks p) tape) (take p marks)
   kept-cut = record {
-    named = k.named;
     opening = subst IsWorld same_opening k.opening;
     within = omega (arith, k.within, as_many, few);
     fits = Fits-front Finds IsWorld put_back (below mark tape) (above mark tape) w fits_both;
@@ -121,11 +118,11 @@ module _ {M : Type 0} (name : List ℕ) (w : World) (events : List Event) (tape 
     whole = subst (λ (o : World). IsTrue (is_some (run o events))) same_opening k.whole;
   }
 
-  -- the branch then
-  pub rooted-cut : rooted name (back put_back (above (mark_at tape marks p) tape) w) events (below (mark_at tape marks p) tape) (take p marks) ≡ of_parts name (back put_back tape w) events p
-  rooted-cut =
-      ap (λ (o : World). of_parts name o events (length (take p marks))) (sym same_opening)
-      ∙ ap (of_parts name (back put_back tape w) events) as_many
+  -- the history then
+  pub history-cut : history (back put_back (above (mark_at tape marks p) tape) w) events (below (mark_at tape marks p) tape) (take p marks) ≡ of_parts (back put_back tape w) events p
+  history-cut =
+      ap (λ (o : World). of_parts o events (length (take p marks))) (sym same_opening)
+      ∙ ap (of_parts (back put_back tape w) events) as_many
 
   -- so too with the mark that was read, and what it was taken back to
   module _ (m : ℕ) (read : m ≡ mark_at tape marks p) (v : World) (rest : List (WorldEdit M)) (ns : List ℕ)
@@ -136,15 +133,15 @@ module _ {M : Type 0} (name : List ℕ) (w : World) (events : List Event) (tape 
     list_as : rest ≡ below (mark_at tape marks p) tape
     list_as = list ∙ ap (λ n. below n tape) read
 
-    pub kept-back : IsKept name v events rest ns
-    kept-back = kept_as name _ v events events _ rest _ ns world_as refl list_as items kept-cut
+    pub kept-back : IsKept v events rest ns
+    kept-back = kept_as _ v events events _ rest _ ns world_as refl list_as items kept-cut
 
-    pub rooted-back : rooted name v events rest ns ≡ of_parts name (back put_back tape w) events p
-    rooted-back = rooted_as name _ v events events _ rest _ ns world_as refl list_as items ∙ rooted-cut
+    pub history-back : history v events rest ns ≡ of_parts (back put_back tape w) events p
+    history-back = history_as _ v events events _ rest _ ns world_as refl list_as items ∙ history-cut
 
 -- An event happened, and stands behind those that stood: `more` is what it changed, and `fs` are all events then.
-module _ {M : Type 0} (name : List ℕ) (w new : World) (events fs : List Event) (tape more : List (WorldEdit M)) (marks : List ℕ) (e : Event) (out : Outcome)
-    (k : IsKept name w events tape marks) (stepped : step w e ≡ Ok (record { world = new; outcome = out }))
+module _ {M : Type 0} (w new : World) (events fs : List Event) (tape more : List (WorldEdit M)) (marks : List ℕ) (e : Event) (out : Outcome)
+    (k : IsKept w events tape marks) (stepped : step w e ≡ Ok (record { world = new; outcome = out }))
     (fits : Fits Finds IsWorld put_back more new) (back_is : back put_back more new ≡ w)
     (front : take (length marks + 1) fs ≡ take (length marks) events ++ e ∷ []) (within : length marks + 1 ≤ length fs) where
   abbrev opening : World
@@ -157,7 +154,7 @@ module _ {M : Type 0} (name : List ℕ) (w new : World) (events fs : List Event)
   at_end =
       ap (run opening) front
       ∙ run-last opening (take (length marks) events) e
-      ∙ ap (λ (o : Option World). option_and_then (λ v. after (step v e)) o) (shown-kept name w events tape marks k)
+      ∙ ap (λ (o : Option World). option_and_then (λ v. after (step v e)) o) (reached-kept w events tape marks k)
       ∙ ap after stepped
 
   -- the events that stood stand
@@ -185,9 +182,8 @@ module _ {M : Type 0} (name : List ℕ) (w new : World) (events fs : List Event)
   marks_more : length (marks ++ length tape ∷ []) ≡ length marks + 1
   marks_more = length-append marks (length tape ∷ [])
 
-  pub kept-step : IsTrue (is_some (run (back put_back tape w) fs)) → IsKept name new fs (tape ++ more) (marks ++ length tape ∷ [])
+  pub kept-step : IsTrue (is_some (run (back put_back tape w) fs)) → IsKept new fs (tape ++ more) (marks ++ length tape ∷ [])
   kept-step whole = record {
-    named = k.named;
     opening = subst IsWorld (sym same) k.opening;
     within = omega (arith, within, marks_more);
     fits = Fits-append Finds IsWorld put_back tape more new (subst (Fits Finds IsWorld put_back tape) (sym back_is) k.fits) fits;
@@ -208,15 +204,15 @@ module _ {M : Type 0} (name : List ℕ) (w new : World) (events fs : List Event)
     whole = subst (λ (o : World). IsTrue (is_some (run o fs))) (sym same) whole;
   }
 
-  -- the branch then
-  pub rooted-step : rooted name new fs (tape ++ more) (marks ++ length tape ∷ []) ≡ of_parts name (back put_back tape w) fs (length marks + 1)
-  rooted-step =
-      ap (λ (o : World). of_parts name o fs (length (marks ++ length tape ∷ []))) same
-      ∙ ap (of_parts name opening fs) marks_more
+  -- the history then
+  pub history-step : history new fs (tape ++ more) (marks ++ length tape ∷ []) ≡ of_parts (back put_back tape w) fs (length marks + 1)
+  history-step =
+      ap (λ (o : World). of_parts o fs (length (marks ++ length tape ∷ []))) same
+      ∙ ap (of_parts opening fs) marks_more
 
 -- The event stands in place of those that had been undone.
-module _ {M : Type 0} (name : List ℕ) (w new : World) (events : List Event) (tape more : List (WorldEdit M)) (marks : List ℕ) (e : Event) (out : Outcome)
-    (k : IsKept name w events tape marks) (stepped : step w e ≡ Ok (record { world = new; outcome = out }))
+module _ {M : Type 0} (w new : World) (events : List Event) (tape more : List (WorldEdit M)) (marks : List ℕ) (e : Event) (out : Outcome)
+    (k : IsKept w events tape marks) (stepped : step w e ≡ Ok (record { world = new; outcome = out }))
     (fits : Fits Finds IsWorld put_back more new) (back_is : back put_back more new ≡ w) where
   abbrev longer : List Event
   longer = take (length marks) events ++ e ∷ []
@@ -230,42 +226,41 @@ module _ {M : Type 0} (name : List ℕ) (w new : World) (events : List Event) (t
   runs : IsTrue (is_some (run (back put_back tape w) longer))
   runs =
       subst (λ (fs : List Event). IsTrue (is_some (run (back put_back tape w) fs))) all_of_it
-      (subst (λ (o : Option World). IsTrue (is_some o)) (sym (at_end name w new events longer tape more marks e out k stepped fits back_is all_of_it (omega (arith, one_more)))) refl)
+      (subst (λ (o : Option World). IsTrue (is_some o)) (sym (at_end w new events longer tape more marks e out k stepped fits back_is all_of_it (omega (arith, one_more)))) refl)
 
-  pub kept-more : IsKept name new (take (length marks) events ++ e ∷ []) (tape ++ more) (marks ++ length tape ∷ [])
-  kept-more = kept-step name w new events longer tape more marks e out k stepped fits back_is all_of_it (omega (arith, one_more)) runs
+  pub kept-more : IsKept new (take (length marks) events ++ e ∷ []) (tape ++ more) (marks ++ length tape ∷ [])
+  kept-more = kept-step w new events longer tape more marks e out k stepped fits back_is all_of_it (omega (arith, one_more)) runs
 
-  pub rooted-more : rooted name new (take (length marks) events ++ e ∷ []) (tape ++ more) (marks ++ length tape ∷ []) ≡ of_parts name (back put_back tape w) (take (length marks) events ++ e ∷ []) (length marks + 1)
-  rooted-more = rooted-step name w new events longer tape more marks e out k stepped fits back_is all_of_it (omega (arith, one_more))
+  pub history-more : history new (take (length marks) events ++ e ∷ []) (tape ++ more) (marks ++ length tape ∷ []) ≡ of_parts (back put_back tape w) (take (length marks) events ++ e ∷ []) (length marks + 1)
+  history-more = history-step w new events longer tape more marks e out k stepped fits back_is all_of_it (omega (arith, one_more))
 
 -- The event is the first of those that had been undone, all of which stay.
-module _ {M : Type 0} (name : List ℕ) (w new : World) (events : List Event) (tape more : List (WorldEdit M)) (marks : List ℕ) (e : Event) (out : Outcome)
-    (k : IsKept name w events tape marks) (stepped : step w e ≡ Ok (record { world = new; outcome = out }))
+module _ {M : Type 0} (w new : World) (events : List Event) (tape more : List (WorldEdit M)) (marks : List ℕ) (e : Event) (out : Outcome)
+    (k : IsKept w events tape marks) (stepped : step w e ≡ Ok (record { world = new; outcome = out }))
     (fits : Fits Finds IsWorld put_back more new) (back_is : back put_back more new ≡ w)
     (within : length marks < length events) (next : e ≡ get_or events (length marks) e) where
   next_of_all : take (length marks + 1) events ≡ take (length marks) events ++ e ∷ []
   next_of_all = take_more events (length marks) e within ∙ ap (λ (x : Event). take (length marks) events ++ x ∷ []) (sym next)
 
-  pub kept-again : IsKept name new events (tape ++ more) (marks ++ length tape ∷ [])
-  kept-again = kept-step name w new events events tape more marks e out k stepped fits back_is next_of_all (omega (arith, within)) k.whole
+  pub kept-again : IsKept new events (tape ++ more) (marks ++ length tape ∷ [])
+  kept-again = kept-step w new events events tape more marks e out k stepped fits back_is next_of_all (omega (arith, within)) k.whole
 
-  pub rooted-again : rooted name new events (tape ++ more) (marks ++ length tape ∷ []) ≡ of_parts name (back put_back tape w) events (length marks + 1)
-  rooted-again = rooted-step name w new events events tape more marks e out k stepped fits back_is next_of_all (omega (arith, within))
+  pub history-again : history new events (tape ++ more) (marks ++ length tape ∷ []) ≡ of_parts (back put_back tape w) events (length marks + 1)
+  history-again = history-step w new events events tape more marks e out k stepped fits back_is next_of_all (omega (arith, within))
 
--- the first events alone, all of which stand, under another name
-pub kept-front : {M : Type 0} (name new : List ℕ) (w : World) (events : List Event) (tape : List (WorldEdit M)) (marks : List ℕ) → IsTrue (is_branch_name new) → IsKept name w events tape marks → IsKept new w (take (length marks) events) tape marks
-kept-front {M = M} name new w events tape marks named k = record {
-  named = named;
+-- the first events alone, all of which stand
+pub kept-front : {M : Type 0} (w : World) (events : List Event) (tape : List (WorldEdit M)) (marks : List ℕ) → IsKept w events tape marks → IsKept w (take (length marks) events) tape marks
+kept-front {M = M} w events tape marks k = record {
   opening = k.opening;
   within = omega (arith, length-take-le (length marks) events k.within);
   fits = k.fits;
   rising = k.rising;
   each = λ i h. ap (run (back put_back tape w)) (take-take i (length marks) events h) ∙ k.each i h;
-  whole = subst (λ (o : Option World). IsTrue (is_some o)) (sym (shown-kept name w events tape marks k)) refl;
+  whole = subst (λ (o : Option World). IsTrue (is_some o)) (sym (reached-kept w events tape marks k)) refl;
 }
 
 pub put_as : (es fs : List Event) (ms ns : List ℕ) (e : Event) → fs ≡ es → ns ≡ ms → take (length ns) fs ++ e ∷ [] ≡ take (length ms) es ++ e ∷ []
 put_as es fs ms ns e a b = ap (λ (xs : List Event). take (length ns) xs ++ e ∷ []) a ∙ ap (λ (xs : List ℕ). take (length xs) es ++ e ∷ []) b
 
-pub parts_as : (name : List ℕ) (o o' : World) (es es' : List Event) (n n' : ℕ) → o ≡ o' → es ≡ es' → n ≡ n' → of_parts name o es n ≡ of_parts name o' es' n'
-parts_as name o o' es es' n n' a b c = ap (λ (x : World). of_parts name x es n) a ∙ ap (λ (x : List Event). of_parts name o' x n) b ∙ ap (of_parts name o' es') c
+pub parts_as : (o o' : World) (es es' : List Event) (n n' : ℕ) → o ≡ o' → es ≡ es' → n ≡ n' → of_parts o es n ≡ of_parts o' es' n'
+parts_as o o' es es' n n' a b c = ap (λ (x : World). of_parts x es n) a ∙ ap (λ (x : List Event). of_parts o' x n) b ∙ ap (of_parts o' es') c

@@ -1,5 +1,5 @@
 -- Each branch shows the run of the events before its cursor.
-use Rattle.std.specs.Prelude.{◌≡◌, ℕ, false, nat_lt, nat_le, List, [], ◌∷◌, length, map, find, Option, Some, None, is_some, IsTrue, Ok, Err, refl}
+use Rattle.std.specs.Prelude.{◌≡◌, ℕ, false, not, nat_lt, nat_le, List, [], ◌∷◌, length, map, find, Option, Some, None, is_some, IsTrue, Ok, Err, refl}
 use Rattle.std.specs.List.{AllByRecursion, IsDistinct}
 use Rattle.std.specs.Option.{option_map_or}
 use Rattle.std.proofs.Common.{cond, sym, ◌∙◌, ap}
@@ -13,9 +13,10 @@ use Rattle.pfl_timeline.specs.declared.command.Command.{Command}
 use Rattle.pfl_timeline.specs.declared.command.Command.TheVariants as command
 use Rattle.pfl_timeline.specs.declared.refused.Refused.{Refused}
 use Rattle.pfl_timeline.specs.declared.refused.Refused.TheVariants as refused
-use Rattle.pfl_timeline.specs.Commands.{replied, answered, with_branch, undone, step_answered, step_reply, back_reply, forward_reply, fork_refusal, fork_reply, drop_reply, show_reply, step_command, back_command, forward_command, fork_command, drop_command, show_command, names_command, command_step, replayed}
+use Rattle.pfl_timeline.specs.Commands.{replied, answered, with_branch, with_changed, undone, step_answered, step_reply, back_reply, forward_reply, fork_refusal, fork_reply, drop_reply, show_reply, step_command, back_command, forward_command, fork_command, drop_command, show_command, names_command, excise_reply, restore_reply, excise_command, restore_command, command_step, replayed}
+use Rattle.pfl_timeline.specs.Excisions.{has_event, restored}
 use Rattle.pfl_timeline.specs.Laws.{ShowsItsRun, BranchesShowTheirRuns}
-use Rattle.pfl_timeline.specs.Replies.{Replied, Shown, Refused as Refusing}
+use Rattle.pfl_timeline.specs.Replies.{Replied, Shown, Restored, Refused as Refusing}
 use Rattle.pfl_timeline.specs.Timelines.{Branch, Timeline, IsTimeline, branch_of, same_name, new_timeline, standing, world_of}
 use Rattle.pfl_timeline.proofs.Keeping.{commands-keep, branches-show}
 use Rattle.pfl_timeline.proofs.NewTimelines.{new_timeline-is}
@@ -53,8 +54,15 @@ begins_show t b =
       | Some w ↦ refl
     ]
 
+begins_restore : (t : Timeline) (b : Branch) → Begins t (restore_reply t b)
+begins_restore t b =
+    elim b.former as (λ o. Begins t (option_map_or (λ f. replied (with_changed t (restored b f)) (Restored f.cursor)) o (replied t (Refusing refused.NothingExcised)))) [
+      | None ↦ refl
+      | Some f ↦ refl
+    ]
+
 opening_kept : (t : Timeline) (c : Command) → Begins t (command_step t c)
-unfolding command_step step_command back_command forward_command fork_command drop_command show_command names_command
+unfolding command_step step_command back_command forward_command fork_command drop_command show_command names_command excise_command restore_command
 opening_kept t (command.Step of e) = begins_named t of (step_reply t e) (begins_step t e)
 opening_kept t (command.Back of n) = begins_named t of (back_reply t n) (λ b. begins_answered t (refused_by ((nat_lt b.cursor n, refused.TooFarBack) ∷ [])) _ refl)
 opening_kept t (command.Forward of n) = begins_named t of (forward_reply t n) (λ b. begins_answered t (refused_by ((nat_lt (undone b) n, refused.NothingForward) ∷ [])) _ refl)
@@ -62,6 +70,8 @@ opening_kept t (command.Fork from k new) = begins_named t from (fork_reply t k n
 opening_kept t (command.Drop of) = begins_named t of (drop_reply t) (λ b. begins_answered t (refused_by ((nat_le (length t.branches) 1, refused.LastBranch) ∷ [])) _ refl)
 opening_kept t (command.Show of) = begins_named t of (show_reply t) (begins_show t)
 opening_kept t command.Names = refl
+opening_kept t (command.Excise of k) = begins_named t of (excise_reply t k) (λ b. begins_answered t (refused_by ((not (has_event k b), refused.NoEvent) ∷ [])) _ refl)
+opening_kept t (command.Restore of) = begins_named t of (restore_reply t) (begins_restore t)
 
 opening_stays : (t : Timeline) (cs : List Command) → (replayed t cs).opening ≡ t.opening
 unfolding replayed

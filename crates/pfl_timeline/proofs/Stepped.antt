@@ -1,5 +1,5 @@
 -- Events that are stepped one after another.
-use Rattle.std.specs.Prelude.{◌≡◌, ◌+◌, List, [], ◌∷◌, ◌++◌, length, take, Option, Some, is_some, IsTrue, Result, refl}
+use Rattle.std.specs.Prelude.{◌≡◌, ◌+◌, List, [], ◌∷◌, ◌++◌, length, take, Option, Some, None, is_some, IsTrue, Result, refl}
 use Rattle.std.specs.Option.{option_map_or}
 use Rattle.std.proofs.Common.{sym, ◌∙◌, ap, subst, le_refl, length-append, append_assoc, append-nil, take_all}
 use Rattle.pfl_base.specs.declared.refusal.Refusal.{Refusal}
@@ -17,7 +17,7 @@ use Rattle.pfl_timeline.specs.Timelines.{Branch, Timeline, new_timeline, main_na
 use Rattle.pfl_timeline.proofs.Prefixes.{run-front, Accepted, last_accepted}
 
 abbrev main_with : List Event → Branch
-main_with es = record { name = main_name; events = es; cursor = length es }
+main_with es = record { name = main_name; events = es; cursor = length es; former = None }
 
 -- all of its events stand
 whole : (es : List Event) → take (length es) es ≡ es
@@ -35,8 +35,8 @@ one_more w es e k =
     let b = main_with es in
     ap (λ (o : Option World). (option_map_or (λ v. step_answered t b e (step v e)) o (replied t (Refusing refused.NoBranch))).timeline) (shows w k.before es k.here)
     ∙ ap (λ (r : Result Stepped Refusal). (step_answered t b e r).timeline) k.stepped
-    ∙ ap (λ (fs : List Event). record { opening = w; branches = record { name = main_name; events = fs ++ e ∷ []; cursor = length es + 1 } ∷ [] }) (whole es)
-    ∙ ap (λ n. record { opening = w; branches = record { name = main_name; events = es ++ e ∷ []; cursor = n } ∷ [] }) (sym (length-append es (e ∷ [])))
+    ∙ ap (λ (fs : List Event). record { opening = w; branches = record { name = main_name; events = fs ++ e ∷ []; cursor = length es + 1; former = None } ∷ [] }) (whole es)
+    ∙ ap (λ n. record { opening = w; branches = record { name = main_name; events = es ++ e ∷ []; cursor = n; former = None } ∷ [] }) (sym (length-append es (e ∷ [])))
 
 -- the other steps after these
 all_more : (w : World) (es rest : List Event) → IsTrue (is_some (run w (es ++ rest))) → replayed (all_stand w es) (steps rest) ≡ all_stand w (es ++ rest)

@@ -32,15 +32,16 @@ use Rattle.pfl_world.specs.Worlds.{World, node_at}
 use Rattle.pfl_timeline.specs.declared.command.Command.{Command}
 use Rattle.pfl_timeline.specs.declared.command.Command.TheVariants as command
 use Rattle.pfl_timeline.specs.declared.refused.Refused.TheVariants as refused
-use Rattle.pfl_timeline.specs.Commands.{replied, answered, with_branch, undone, at_cursor, step_answered, step_reply, back_reply, forward_reply, first_events, fork_reply, drop_reply, show_reply, step_command, back_command, forward_command, fork_command, drop_command, show_command, names_command, command_step}
+use Rattle.pfl_timeline.specs.Commands.{replied, answered, with_branch, with_changed, undone, at_cursor, step_answered, step_reply, back_reply, forward_reply, first_events, fork_reply, drop_reply, show_reply, step_command, back_command, forward_command, fork_command, drop_command, show_command, names_command, excise_reply, restore_reply, excise_command, restore_command, command_step}
+use Rattle.pfl_timeline.specs.Excisions.{has_event, excised, fallen_places, restored}
 use Rattle.pfl_timeline.specs.Laws.{NoReplyTellsWantOfMemory}
 use Rattle.pfl_timeline.specs.Memory.{is_refusal, IsAccepted, makes_something, Reads, StepMayWant, IsNotRefused, MayWantMemory}
-use Rattle.pfl_timeline.specs.Replies.{Reply, Replied, Forked, Removed, Shown, Refused as Refusing}
+use Rattle.pfl_timeline.specs.Replies.{Reply, Replied, Forked, Removed, Shown, Excised, Restored, Refused as Refusing}
 use Rattle.pfl_timeline.specs.Rooted.{Rooted, shown}
 use Rattle.pfl_timeline.proofs.Rooted.{Accepts}
 use Rattle.pfl_timeline.specs.Timelines.{Branch, Timeline, branch_of, is_branch_name, same_name, world_of}
 use Rattle.pfl_timeline.specs.Kept.{timeline_of, AreKept}
-use Rattle.pfl_timeline.proofs.Asked.{asked_of, step-asks, is-forward, is-fork, is-show, is-names}
+use Rattle.pfl_timeline.proofs.Asked.{asked_of, step-asks, is-forward, is-fork, is-show, is-names, is-excise}
 use Rattle.pfl_timeline.proofs.Places.{has_name, accepted-at, shows-at}
 use Rattle.pfl_timeline.proofs.Refusals.{told-apart}
 
@@ -141,6 +142,11 @@ pub forward_accepts : (r : Rooted) (n : ℕ) → nat_lt (undone r.branch) n ≡ 
 forward_accepts r n near = λ t stands.
     ap (λ far. is_refusal (answered t (refused_by ((far, refused.NothingForward) ∷ [])) (at_cursor t r.branch (r.branch.cursor + n))).reply) near
 
+-- an event that is there can be taken out
+pub excise_accepts : (r : Rooted) (k : ℕ) → has_event k r.branch ≡ true → Accepts (λ t b. excise_reply t k b) r
+excise_accepts r k has = λ t stands.
+    ap (λ there. is_refusal (answered t (refused_by ((not there, refused.NoEvent) ∷ [])) (replied (with_changed t (excised t.opening k r.branch)) (Excised (fallen_places t.opening k r.branch)))).reply) has
+
 -- ---- a command
 
 -- the branch of the name may want memory for the event
@@ -165,6 +171,12 @@ pub fork_wants : (t : Timeline) (c : Command) (from : List ℕ) (k : ℕ) (name 
 fork_wants t c from k name is accepted = record {
   makes = ap makes_something is;
   not_refused = subst (λ (d : Command). IsNotRefused t d) (sym is) (subst IsAccepted (sym (is-fork t (command.Fork from k name) from k name refl)) accepted);
+}
+
+pub excise_wants : (t : Timeline) (c : Command) (name : List ℕ) (k : ℕ) → c ≡ command.Excise name k → IsAccepted (excise_command t name k) → MayWantMemory t c
+excise_wants t c name k is accepted = record {
+  makes = ap makes_something is;
+  not_refused = subst (λ (d : Command). IsNotRefused t d) (sym is) (subst IsAccepted (sym (is-excise t (command.Excise name k) name k refl)) accepted);
 }
 
 pub names_wants : (t : Timeline) (c : Command) → c ≡ command.Names → MayWantMemory t c
@@ -238,6 +250,20 @@ show_tells t b =
       | Some w ↦ λ is. cc
     ]
 
+excise_tells : (t : Timeline) (k : ℕ) (b : Branch) → (excise_reply t k b).reply ≡ wanted → ⊥
+excise_tells t k b =
+    elim (not (has_event k b)) as (λ none. (answered t (refused_by ((none, refused.NoEvent) ∷ [])) (replied (with_changed t (excised t.opening k b)) (Excised (fallen_places t.opening k b)))).reply ≡ wanted → ⊥) [
+      | true ↦ λ is. cc
+      | false ↦ λ is. cc
+    ]
+
+restore_tells : (t : Timeline) (b : Branch) → (restore_reply t b).reply ≡ wanted → ⊥
+restore_tells t b =
+    elim b.former as (λ o. (option_map_or (λ f. replied (with_changed t (restored b f)) (Restored f.cursor)) o (replied t (Refusing refused.NothingExcised))).reply ≡ wanted → ⊥) [
+      | None ↦ λ is. cc
+      | Some f ↦ λ is. cc
+    ]
+
 named_tells : (t : Timeline) (name : List ℕ) (done : Branch → Replied) → ((b : Branch) → (done b).reply ≡ wanted → ⊥) → (with_branch t name done).reply ≡ wanted → ⊥
 named_tells t name done tells =
     elim (branch_of t name) as (λ o. (option_map_or done o (replied t (Refusing refused.NoBranch))).reply ≡ wanted → ⊥) [
@@ -246,7 +272,7 @@ named_tells t name done tells =
     ]
 
 pub no_reply-tells : NoReplyTellsWantOfMemory
-unfolding command_step step_command back_command forward_command fork_command drop_command show_command names_command
+unfolding command_step step_command back_command forward_command fork_command drop_command show_command names_command excise_command restore_command
 no_reply-tells t (command.Step name e) = named_tells t name (step_reply t e) (step_tells t e)
 no_reply-tells t (command.Back name n) = named_tells t name (back_reply t n) (back_tells t n)
 no_reply-tells t (command.Forward name n) = named_tells t name (forward_reply t n) (forward_tells t n)
@@ -254,3 +280,5 @@ no_reply-tells t (command.Fork from k name) = named_tells t from (fork_reply t k
 no_reply-tells t (command.Drop name) = named_tells t name (drop_reply t) (drop_tells t)
 no_reply-tells t (command.Show name) = named_tells t name (show_reply t) (show_tells t)
 no_reply-tells t command.Names = λ is. cc
+no_reply-tells t (command.Excise name k) = named_tells t name (excise_reply t k) (excise_tells t k)
+no_reply-tells t (command.Restore name) = named_tells t name (restore_reply t) (restore_tells t)

@@ -12,7 +12,8 @@ use Rattle.pfl_timeline.specs.declared.refused.Refused.TheVariants as refused
 use Rattle.pfl_timeline.specs.Timelines.{Timeline, new_timeline, main_name}
 use Rattle.pfl_timeline.specs.Timelines as timelines
 use Rattle.pfl_timeline.specs.Commands as commands
-use Rattle.pfl_timeline.specs.Commands.{step_command, back_command, forward_command, fork_command, drop_command, show_command, names_command}
+use Rattle.pfl_timeline.specs.Commands.{step_command, back_command, forward_command, fork_command, drop_command, show_command, names_command, excise_command, restore_command}
+use Rattle.pfl_timeline.specs.Excisions as excisions
 use Rattle.pfl_timeline.specs.Replies as reply
 use Rattle.pfl_timeline.specs.Replies.{Reply, Replied}
 use Rattle.pfl_timeline.specs.Summaries.{summary}
@@ -27,8 +28,10 @@ data Asked : Type 0 where
   drop : List ℕ → Asked
   show : List ℕ → Asked
   names : Asked
+  excise : ℕ → Asked
+  restore : Asked
 
--- what it gives; steps and moves are on `main`
+-- what it gives; steps, moves, excisions and restorations are on `main`
 unfoldable gives : Timeline → Asked → Replied
 gives t (step e) = step_command t main_name e
 gives t (back n) = back_command t main_name n
@@ -37,6 +40,8 @@ gives t (fork of k new) = fork_command t of k new
 gives t (drop of) = drop_command t of
 gives t (show of) = show_command t of
 gives t names = names_command t
+gives t (excise k) = excise_command t main_name k
+gives t restore = restore_command t main_name
 
 abbrev packet : Packet → Asked
 packet p = step (event.Packet A Outbound p)
@@ -55,7 +60,7 @@ final t [] = t
 final t (c ∷ cs) = final (gives t c).timeline cs
 
 unfoldable computing : ℕ
-unfolding of_worlds replies final gives timelines.world_of commands.step_command commands.back_command commands.forward_command commands.fork_command commands.drop_command commands.show_command commands.names_command summary
+unfolding of_worlds replies final gives timelines.world_of commands.step_command commands.back_command commands.forward_command commands.fork_command commands.drop_command commands.show_command commands.names_command commands.excise_command commands.restore_command excisions.sieve summary
 computing = 0
 
 abbrev t : Timeline
@@ -92,3 +97,45 @@ counted = refl
 refused_step : replies (t) (packet u1 ∷ back 1 ∷ tick 1000000000001 ∷ forward 1 ∷ []) ≡ passed 1 1 0 ∷ reply.At 0 ∷ reply.Refused (refused.Event refusal.ClockFull) ∷ reply.At 1 ∷ []
 unfolding computing
 refused_step = refl
+
+-- ---- an event taken out
+
+-- a packet, its frame sent and delivered, and another packet
+abbrev four : List Asked
+four = packet u1 ∷ step (event.Flush A) ∷ step (event.Deliver 1) ∷ packet u2 ∷ []
+
+abbrev after_four : Timeline
+after_four = final t four
+
+-- the replies after the four events, and how many events stand then, of how many
+abbrev asked_then : List Asked → List Reply
+asked_then cs = replies after_four cs
+
+-- where the packet goes, its frame goes too, and the other packet has the number that was the first one's; then all is back
+taken_out : asked_then (excise 1 ∷ back 1 ∷ step (event.Kill A (name 1 1)) ∷ []) ≡ reply.Excised (2 ∷ 3 ∷ []) ∷ reply.At 0 ∷ reply.Refused (refused.Event refusal.NoSuchState) ∷ []
+unfolding computing
+taken_out = refl
+
+brought_back : asked_then (excise 1 ∷ restore ∷ restore ∷ []) ≡ reply.Excised (2 ∷ 3 ∷ []) ∷ reply.Restored 4 ∷ reply.Refused refused.NothingExcised ∷ []
+unfolding computing
+brought_back = refl
+
+no_event : asked_then (excise 0 ∷ excise 5 ∷ []) ≡ reply.Refused refused.NoEvent ∷ reply.Refused refused.NoEvent ∷ []
+unfolding computing
+no_event = refl
+
+-- of the events that stand those stand that are left
+undone_before : asked_then (back 2 ∷ excise 1 ∷ forward 2 ∷ forward 1 ∷ restore ∷ []) ≡ reply.At 2 ∷ reply.Excised (2 ∷ 3 ∷ []) ∷ reply.Refused refused.NothingForward ∷ reply.At 1 ∷ reply.Restored 2 ∷ []
+unfolding computing
+undone_before = refl
+
+-- a refused step leaves what can be brought back, and an accepted one does not
+last_event : asked_then (excise 4 ∷ step (event.Lose 9) ∷ restore ∷ excise 4 ∷ tick 1 ∷ restore ∷ [])
+    ≡ reply.Excised [] ∷ reply.Refused (refused.Event refusal.NoSuchFrame) ∷ reply.Restored 4 ∷ reply.Excised [] ∷ reply.Stepped (outcome.Clock 1) 0 ∷ reply.Refused refused.NothingExcised ∷ []
+unfolding computing
+last_event = refl
+
+-- the former list and cursor are not counted
+counted_without : summary (final after_four (excise 1 ∷ [])) 5 ≡ 5 ∷ 1 ∷ 1 ∷ 1 ∷ 1 ∷ 0 ∷ 0 ∷ 1 ∷ []
+unfolding computing
+counted_without = refl

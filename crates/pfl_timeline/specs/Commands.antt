@@ -11,7 +11,8 @@ use Rattle.pfl_timeline.specs.declared.command.Command.{Command}
 use Rattle.pfl_timeline.specs.declared.command.Command.TheVariants as command
 use Rattle.pfl_timeline.specs.declared.refused.Refused.{Refused}
 use Rattle.pfl_timeline.specs.declared.refused.Refused.TheVariants as refused
-use Rattle.pfl_timeline.specs.Replies.{Reply, Stepped as StepReply, At, Forked, Removed, Shown, Names, Refused as Refusing, Replied}
+use Rattle.pfl_timeline.specs.Excisions.{has_event, excised, fallen_places, restored}
+use Rattle.pfl_timeline.specs.Replies.{Reply, Stepped as StepReply, At, Forked, Removed, Shown, Names, Excised, Restored, Refused as Refusing, Replied}
 use Rattle.pfl_timeline.specs.Timelines.{Branch, Timeline, branch_of, same_name, is_branch_name, standing, world_of}
 
 -- the timeline with a reply
@@ -35,9 +36,9 @@ with_branch t name done = option_map_or done (branch_of t name) (replied t (Refu
 abbrev pub with_changed : Timeline → Branch → Timeline
 with_changed t b = record t { branches = map (λ c. if same_name c.name b.name then b else c) t.branches }
 
--- the event after those that stand, in place of what was undone
+-- the event after those that stand, in place of what was undone; nothing is brought back behind it
 abbrev pub extended : Branch → Event → Branch
-extended b e = record b { events = standing b ++ e ∷ []; cursor = b.cursor + 1 }
+extended b e = record b { events = standing b ++ e ∷ []; cursor = b.cursor + 1; former = None }
 
 -- how many events stand no more
 abbrev pub undone : Branch → ℕ
@@ -66,7 +67,7 @@ forward_reply t n b = unless t ((nat_lt (undone b) n, refused.NothingForward) �
 
 -- the first k events under a new name
 abbrev pub first_events : ℕ → List ℕ → Branch → Branch
-first_events k name b = record { name = name; events = take k b.events; cursor = k }
+first_events k name b = record { name = name; events = take k b.events; cursor = k; former = None }
 
 -- why no branch of the first k events is made under this name, if there is a reason: the first one
 abbrev pub fork_refusal : Timeline → ℕ → List ℕ → Branch → Option Refused
@@ -88,6 +89,16 @@ drop_reply t b =
 -- the branch with its world
 abbrev pub show_reply : Timeline → Branch → Replied
 show_reply t b = option_map_or (λ w. replied t (Shown b.name (length b.events) b.cursor w)) (world_of t b) (replied t (Refusing refused.NoBranch))
+
+-- the k-th event taken out, and what is refused then left out
+abbrev pub excise_reply : Timeline → ℕ → Branch → Replied
+excise_reply t k b =
+    unless t ((not (has_event k b), refused.NoEvent) ∷ [])
+    (replied (with_changed t (excised t.opening k b)) (Excised (fallen_places t.opening k b)))
+
+-- what was there before the newest excision
+abbrev pub restore_reply : Timeline → Branch → Replied
+restore_reply t b = option_map_or (λ f. replied (with_changed t (restored b f)) (Restored f.cursor)) b.former (replied t (Refusing refused.NothingExcised))
 
 -- ---- each command, by the branch that it names
 
@@ -115,6 +126,14 @@ drop_command t name = with_branch t name (drop_reply t)
 unfoldable pub show_command : Timeline → List ℕ → Replied
 show_command t name = with_branch t name (show_reply t)
 
+-- an event taken out of the middle
+unfoldable pub excise_command : Timeline → List ℕ → ℕ → Replied
+excise_command t name k = with_branch t name (excise_reply t k)
+
+-- the newest excision taken back
+unfoldable pub restore_command : Timeline → List ℕ → Replied
+restore_command t name = with_branch t name (restore_reply t)
+
 -- the branches by name
 unfoldable pub names_command : Timeline → Replied
 names_command t = replied t (Names (map (λ b. b.name) t.branches))
@@ -128,6 +147,8 @@ command_step t (command.Fork from k name) = fork_command t from k name
 command_step t (command.Drop name) = drop_command t name
 command_step t (command.Show name) = show_command t name
 command_step t command.Names = names_command t
+command_step t (command.Excise name k) = excise_command t name k
+command_step t (command.Restore name) = restore_command t name
 
 -- the timeline after commands
 unfoldable pub replayed : Timeline → List Command → Timeline

@@ -1,14 +1,19 @@
 -- Laws of timelines, in their own words (this project's profile).
-use Rattle.std.specs.Prelude.{◌≡◌, ◌≢◌, ℕ, Bool, false, List, [], ◌∷◌, length, map, Some, is_some, IsTrue, IsFalse}
+use Rattle.std.specs.Prelude.{◌≡◌, ◌≢◌, ℕ, Bool, false, List, [], ◌∷◌, length, map, Option, Some, None, is_some, IsTrue, IsFalse, Result, Ok, Err}
 use Rattle.std.specs.List.{AllByRecursion}
+use Rattle.std.specs.Option.{option_map}
+use Rattle.pfl_base.specs.declared.refusal.Refusal.{Refusal}
 use Rattle.pfl_base.specs.declared.refusal.Refusal.TheVariants.{NoMemory}
 use Rattle.pfl_world.specs.declared.event.Event.{Event}
+use Rattle.pfl_world.specs.Events.{step}
+use Rattle.pfl_world.specs.Outcomes.{Stepped}
 use Rattle.pfl_world.specs.Runs.{run}
 use Rattle.pfl_world.specs.Worlds.{World, IsWorld}
 use Rattle.pfl_timeline.specs.declared.command.Command.{Command}
 use Rattle.pfl_timeline.specs.declared.command.Command.TheVariants as command
 use Rattle.pfl_timeline.specs.declared.refused.Refused.TheVariants as refused
 use Rattle.pfl_timeline.specs.Commands.{show_command, command_step, replayed}
+use Rattle.pfl_timeline.specs.Excisions.{without, has_event}
 use Rattle.pfl_timeline.specs.Replies as reply
 use Rattle.pfl_timeline.specs.Timelines.{Branch, Timeline, IsTimeline, branch_of, new_timeline, main_name, same_name, standing, world_of}
 
@@ -34,7 +39,7 @@ steps es = map (command.Step main_name) es
 
 -- the one branch `main` with these events, which all stand
 abbrev pub all_stand : World → List Event → Timeline
-all_stand opening es = record { opening = opening; branches = record { name = main_name; events = es; cursor = length es } ∷ [] }
+all_stand opening es = record { opening = opening; branches = record { name = main_name; events = es; cursor = length es; former = None } ∷ [] }
 
 -- the events, stepped one after another on the opening, all stand, and `main` shows the world
 pub record StepsShow (opening : World) (es : List Event) (w : World) : Type 0 where
@@ -54,6 +59,8 @@ touches (command.Fork from k new) name = same_name new name
 touches (command.Drop of) name = same_name of name
 touches (command.Show of) name = false
 touches command.Names name = false
+touches (command.Excise of k) name = same_name of name
+touches (command.Restore of) name = same_name of name
 
 -- a command leaves every other branch as it was
 abbrev pub CommandsLeaveOthers : Type 0
@@ -70,3 +77,37 @@ abbrev pub BranchesShowTheirRuns : Type 0
 BranchesShowTheirRuns =
     (opening : World) (cs : List Command) → IsWorld opening
     → let t = replayed (new_timeline opening) cs in AllByRecursion (ShowsItsRun opening t) t.branches
+
+-- ---- an event taken out of the middle
+
+-- an event is accepted or left out, and the others come after it
+abbrev pub accepted_with : World → Event → (World → List Event) → Result Stepped Refusal → List Event
+accepted_with w e rest (Ok s) = e ∷ rest s.world
+accepted_with w e rest (Err why) = rest w
+
+-- of events that come one after another those that are accepted; the others are left out
+unfoldable pub accepted : World → List Event → List Event
+accepted w [] = []
+accepted w (e ∷ es) = accepted_with w e (λ v. accepted v es) (step w e)
+
+-- the events of the branch of the name
+abbrev pub events_of : Timeline → List ℕ → Option (List Event)
+events_of t name = option_map (λ b. b.events) (branch_of t name)
+
+-- an excision leaves what the list without the event gives
+abbrev pub ExcisionsAreRunsWithout : Type 0
+ExcisionsAreRunsWithout =
+    (t : Timeline) (name : List ℕ) (k : ℕ) (b : Branch) → branch_of t name ≡ Some b → IsTrue (has_event k b)
+    → events_of (command_step t (command.Excise name k)).timeline name ≡ Some (accepted t.opening (without k b.events))
+
+-- where the list without the event has a run, no other event falls out
+abbrev pub NothingElseFallsOut : Type 0
+NothingElseFallsOut =
+    (t : Timeline) (name : List ℕ) (k : ℕ) (b : Branch) → branch_of t name ≡ Some b → IsTrue (has_event k b)
+    → IsTrue (is_some (run t.opening (without k b.events))) → (command_step t (command.Excise name k)).reply ≡ reply.Excised []
+
+-- a restoration takes an excision back
+abbrev pub RestorationsTakeBack : Type 0
+RestorationsTakeBack =
+    (t : Timeline) (name : List ℕ) (k : ℕ) (b : Branch) → branch_of t name ≡ Some b → IsTrue (has_event k b)
+    → branch_of (replayed t (command.Excise name k ∷ command.Restore name ∷ [])) name ≡ Some (record b { former = None })

@@ -1,8 +1,10 @@
 pub mod Words
 pub mod Timelines
+pub mod Excisions
 pub mod Replies
 pub mod Commands
 pub mod Memory
+pub mod Histories
 pub mod Rooted
 pub mod Kept
 pub mod Codes

@@ -15,6 +15,8 @@ pub data Reply : Type 0 where
   Removed : Reply
   Shown : List ℕ → ℕ → ℕ → World → Reply
   Names : List (List ℕ) → Reply
+  Excised : List ℕ → Reply
+  Restored : ℕ → Reply
   Refused : Refusal → Reply
 
 -- what a reply of the code tells
@@ -25,6 +27,8 @@ reply_of given.Forked = Forked
 reply_of given.Removed = Removed
 reply_of (given.Shown name events cursor world) = Shown name events cursor world
 reply_of (given.Names names) = Names names.items
+reply_of (given.Excised places) = Excised places.items
+reply_of (given.Restored cursor) = Restored cursor
 reply_of (given.Refused why) = Refused why
 
 -- the timeline after a command, and its reply

@@ -1,5 +1,5 @@
 -- A timeline: an opening world, and branches of events over it (this project's profile).
-use Rattle.std.specs.Prelude.{◌≤◌, ℕ, Bool, false, ◌&&◌, ◌||◌, ◌==◌, nat_le, List, [], ◌∷◌, length, map, find, take, Option, is_some, IsTrue}
+use Rattle.std.specs.Prelude.{◌≤◌, ℕ, Bool, false, ◌&&◌, ◌||◌, ◌==◌, nat_le, List, [], ◌∷◌, length, map, find, take, Option, None, is_some, IsTrue, IfSome}
 use Rattle.std.specs.List.{list_all, IsDistinct}
 use Rattle.std.specs.List.{AllByRecursion}
 use Rattle.std.specs.Cmp.Lexicographic.{pointwise}
@@ -7,11 +7,17 @@ use Rattle.pfl_world.specs.declared.event.Event.{Event}
 use Rattle.pfl_world.specs.Worlds.{World, IsWorld}
 use Rattle.pfl_world.specs.Runs.{run}
 
--- a branch: events, and how many of them stand
+-- events that a branch had, and how many of them stood
+pub record Former : Type 0 where
+  pub events : List Event
+  pub cursor : ℕ
+
+-- a branch: events, how many of them stand, and what it had before an event was taken out, if that can be brought back
 pub record Branch : Type 0 where
   pub name : List ℕ
   pub events : List Event
   pub cursor : ℕ
+  pub former : Option Former
 
 -- branches in the order of their making
 pub record Timeline : Type 0 where
@@ -47,11 +53,17 @@ standing b = take b.cursor b.events
 unfoldable pub world_of : Timeline → Branch → Option World
 world_of t b = run t.opening (standing b)
 
+-- what can be brought back has a run
+pub record IsFormer (opening : World) (f : Former) : Type 0 where
+  pub within : f.cursor ≤ length f.events
+  pub runs : IsTrue (is_some (run opening f.events))
+
 -- a branch of the timeline
 pub record IsBranch (opening : World) (b : Branch) : Type 0 where
   pub name : IsTrue (is_branch_name b.name)
   pub within : b.cursor ≤ length b.events
   pub runs : IsTrue (is_some (run opening b.events))
+  pub former : IfSome b.former (IsFormer opening)
 
 -- a timeline: 1 to 16 branches under names of their own
 pub record IsTimeline (t : Timeline) : Type 0 where
@@ -67,4 +79,4 @@ main_name = 109 ∷ 97 ∷ 105 ∷ 110 ∷ []
 
 -- the one branch `main`, empty
 abbrev pub new_timeline : World → Timeline
-new_timeline opening = record { opening = opening; branches = record { name = main_name; events = []; cursor = 0 } ∷ [] }
+new_timeline opening = record { opening = opening; branches = record { name = main_name; events = []; cursor = 0; former = None } ∷ [] }

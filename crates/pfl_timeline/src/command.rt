@@ -37,4 +37,13 @@ pub enum Command {
     },
     /// Asks for the names of the branches, in the order of their making.
     Names,
+    /// Takes an event out of the branch, and with it each later one that is refused then. Places count from 1.
+    Excise {
+        branch: BranchWord,
+        place: u32,
+    },
+    /// Brings back what the branch had before its newest excision, unless an event was stepped behind it.
+    Restore {
+        branch: BranchWord,
+    },
 }

@@ -1,6 +1,6 @@
 //! Laws of timelines. They have no code: each is a theorem over the definitions, which a function's contract names.
 
-ghost use Rattle.pfl_timeline.specs.Laws.{NewTimelinesAreTimelines, CommandsKeepTimelines, BranchesShowWorlds, BranchesShowTheirRuns, CommandsLeaveOthers, NoReplyTellsWantOfMemory, StepsAreRuns};
+ghost use Rattle.pfl_timeline.specs.Laws.{NewTimelinesAreTimelines, CommandsKeepTimelines, BranchesShowWorlds, BranchesShowTheirRuns, CommandsLeaveOthers, ExcisionsAreRunsWithout, NothingElseFallsOut, RestorationsTakeBack, NoReplyTellsWantOfMemory, StepsAreRuns};
 
 /// The timeline that opens over a world keeps all that is true of each timeline.
 pub fn new_timelines_are_timelines()
@@ -31,4 +31,12 @@ pub fn no_reply_tells_want_of_memory()
 /// Events that are stepped one after another show the world of their run.
 pub fn steps_are_runs()
     ensures { StepsAreRuns }
+{}
+
+/// An excision leaves what the list without the event gives: each event that is refused then falls out, and where none is
+/// refused, none falls out. A restoration takes it back.
+pub fn excisions_are_runs_without_the_event()
+    ensures runs { ExcisionsAreRunsWithout }
+    ensures alone { NothingElseFallsOut }
+    ensures restored { RestorationsTakeBack }
 {}

@@ -4,6 +4,7 @@
 mod branch;
 mod command;
 mod copying;
+mod history;
 mod laws;
 mod refused;
 mod reply;
@@ -14,7 +15,8 @@ pub use branch::Branch;
 pub use command::Command;
 pub use laws::{
     branches_show_their_runs, commands_keep_timelines, commands_leave_others,
-    new_timelines_are_timelines, no_reply_tells_want_of_memory, steps_are_runs,
+    excisions_are_runs_without_the_event, new_timelines_are_timelines,
+    no_reply_tells_want_of_memory, steps_are_runs,
 };
 pub use refused::Refused;
 pub use reply::Reply;

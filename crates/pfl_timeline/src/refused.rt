@@ -21,4 +21,8 @@ pub enum Refused {
     BranchesFull,
     /// The event is refused.
     Event(Refusal),
+    /// The branch has no event at the place.
+    NoEvent,
+    /// The branch has nothing from before an excision that could be brought back.
+    NothingExcised,
 }

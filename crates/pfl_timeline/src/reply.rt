@@ -28,6 +28,10 @@ pub enum Reply<A: Allocator> {
     },
     /// The names of the branches, in the order of their making.
     Names(Vec<BranchWord, A>),
+    /// The event is taken out, and with it the events that were at these places, since they are refused without it.
+    Excised(Vec<usize, A>),
+    /// The branch is as it was before its newest excision, and so many of its events stand.
+    Restored(usize),
     /// The command is refused.
     Refused(Refused),
 }

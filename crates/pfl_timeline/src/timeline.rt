@@ -2,10 +2,11 @@
 
 ghost use Rattle.std.specs.Prelude.{◌≡◌, ◌≢◌, map, position, IfOk, OnErr};
 ghost use Rattle.std.specs.List.{AllByRecursion};
-ghost use Rattle.pfl_timeline.specs.Commands.{replied, step_command, back_command, forward_command, fork_refusal, fork_command, drop_command, show_command, names_command, command_step};
+ghost use Rattle.std.specs.Option.{option_map};
+ghost use Rattle.pfl_timeline.specs.Commands.{replied, step_command, back_command, forward_command, fork_refusal, fork_command, drop_command, show_command, names_command, excise_command, restore_command, command_step};
 ghost use Rattle.pfl_timeline.specs.Memory.{IsAccepted, MayWantMemory, StepMayWant};
 ghost use Rattle.pfl_timeline.specs.Replies.{reply_of, Refused as Refusing};
-ghost use Rattle.pfl_timeline.specs.inner.Replies.{moved};
+ghost use Rattle.pfl_timeline.specs.inner.Replies.{moved, fell_out, brought_back};
 ghost use Rattle.pfl_timeline.specs.Timelines.{IsTimeline, new_timeline, same_name};
 
 use crate::branch::Branch;
@@ -82,6 +83,26 @@ fn moved<A: Allocator>(cursor: Option<usize>, why: Refused) -> Reply<A>
     }
 }
 
+/// The reply to an excision, which is refused where there is no such event.
+fn excised<A: Allocator>(fallen: Option<Vec<usize, A>>) -> Reply<A>
+    ensures { reply_of result ≡ fell_out (option_map (λ v. v.items) fallen) }
+{
+    match fallen {
+        Some(places) => Reply::Excised(places),
+        None => Reply::Refused(Refused::NoEvent),
+    }
+}
+
+/// The reply to a restoration, which is refused where there is nothing to bring back.
+fn restored<A: Allocator>(cursor: Option<usize>) -> Reply<A>
+    ensures { reply_of result ≡ brought_back cursor }
+{
+    match cursor {
+        Some(cursor) => Reply::Restored(cursor),
+        None => Reply::Refused(Refused::NothingExcised),
+    }
+}
+
 impl<A: Allocator> Timeline<A> {
     /// The branches, in the order of their making. Each begins from the timeline's opening.
     pub fn branches(&self) -> &[Branch<A>]
@@ -110,6 +131,19 @@ impl<A: Allocator> Timeline<A> {
         let cursor = branch.back(n);
         branch.known();
         moved(cursor, Refused::TooFarBack)
+    }
+
+    /// Brings back what the branch was before its newest excision. It takes no memory.
+    fn restore(&mut self, name: &BranchWord) -> Reply<A>
+        ensures step { restore_command self.old name.now ≡ replied self.new (reply_of result) }
+    {
+        let Some(place) = place_of(&self.branches, name) else {
+            return Reply::Refused(Refused::NoBranch);
+        };
+        let branch = &mut self.branches[place];
+        let cursor = branch.restore();
+        branch.known();
+        restored(cursor)
     }
 
     /// Removes a branch. It takes no memory.
@@ -171,6 +205,22 @@ impl<A: Allocator + Copy> Timeline<A> {
         branch.known();
         let cursor = cursor?;
         Ok(moved(cursor, Refused::NothingForward))
+    }
+
+    /// Takes an event out of the middle of the branch.
+    fn excise(&mut self, name: &BranchWord, event: u32) -> Result<Reply<A>, NoMemory>
+        ensures step { IfOk result (λ reply. excise_command self.old name.now event ≡ replied self.new (reply_of reply)) }
+        ensures memory { OnErr result (IsAccepted (excise_command self.old name.now event)) }
+        ensures unchanged { OnErr result (self.new ≡ self.old) }
+    {
+        let Some(place) = place_of(&self.branches, name) else {
+            return Ok(Reply::Refused(Refused::NoBranch));
+        };
+        let branch = &mut self.branches[place];
+        let fallen = branch.excise(event);
+        branch.known();
+        let fallen = fallen?;
+        Ok(excised(fallen))
     }
 
     /// Why a branch of the first `place` events of another one is not made under this name, if there is a reason.
@@ -246,8 +296,9 @@ impl<A: Allocator + Copy> Timeline<A> {
     }
 
     /// Carries a command out: the reply and the timeline are those of its definition, so a refusal changes nothing. Where
-    /// there is no memory, nothing changes either. Memory is wanted last: by no way back, by no drop, and by no command that is
-    /// refused, but for the delivery of a frame that can be read, whose records want it before they are judged.
+    /// there is no memory, nothing changes either. Memory is wanted last: by no way back, no drop and no restoration, and by no
+    /// command that is refused, but for the delivery of a frame that can be read, whose records want it before they are
+    /// judged.
     pub fn command(&mut self, command: Command) -> Result<Reply<A>, NoMemory>
         ensures step { IfOk result (λ reply. command_step self.old command ≡ replied self.new (reply_of reply)) }
         ensures memory { OnErr result (MayWantMemory self.old command) }
@@ -261,6 +312,8 @@ impl<A: Allocator + Copy> Timeline<A> {
             Command::Drop { branch } => Ok(self.remove(&branch)),
             Command::Show { branch } => self.show(&branch),
             Command::Names => self.names(),
+            Command::Excise { branch, place } => self.excise(&branch, place),
+            Command::Restore { branch } => Ok(self.restore(&branch)),
         }
     }
 }

@@ -57,6 +57,18 @@ fn forward(n: u32) -> Command {
     Command::Forward { branch, n }
 }
 
+/// The event at the place is taken out of `main`.
+fn excise(place: u32) -> Command {
+    let branch = BranchWord::main();
+    Command::Excise { branch, place }
+}
+
+/// `main` is as it was before its newest excision.
+fn restore() -> Command {
+    let branch = BranchWord::main();
+    Command::Restore { branch }
+}
+
 /// Carries commands out: how many of them want memory.
 fn wanting<A: Allocator + Copy>(timeline: &mut Timeline<A>, commands: &[Command]) -> u8 {
     let mut wanting = 0u8;
@@ -105,12 +117,16 @@ fn over(
 }
 
 /// Room for the pair and for four ticks: with the fifth the tape of the branch has to grow.
-const FOUR_TICKS: usize = EDITS + 17_408;
+const FOUR_TICKS: usize = EDITS + 21_248;
 
 /// Room for the pair and for a node more, and bytes that leave no room for that node.
 const ONE_NODE: usize = 2 * EDITS;
 
 const LESS_THAN_A_NODE: usize = 20_000;
+
+/// Room for the pair, for a copy of it, and for a node more. Once those bytes are taken there is room for the copy, and none for
+/// the node.
+const A_COPY_AND_A_NODE: usize = 3 * EDITS + 9_600;
 
 #[test]
 fn want_of_memory_changes_nothing(rt: HostRuntime) {
@@ -129,7 +145,7 @@ fn a_branch_wants_memory(rt: HostRuntime) {
     let branch = BranchWord::main();
     let purge = step(Event::Purge { node: NodeId::A });
     let commands = [purge, Command::Show { branch }];
-    let seen = over(rt.alloc(), EDITS + 6784, &[], 0, &commands);
+    let seen = over(rt.alloc(), EDITS + 9344, &[], 0, &commands);
     assert!(rt; seen == one_branch(2, 0, 0, 0));
 }
 
@@ -166,4 +182,45 @@ fn want_of_memory_makes_no_branch(rt: HostRuntime) {
     let fork = fork().unwrap_or(tick());
     let seen = over(rt.alloc(), FOUR_TICKS, &[tick()], 0, &[fork]);
     assert!(rt; seen == one_branch(1, 1, 1, 5));
+}
+
+#[test]
+fn want_of_memory_takes_no_event_out(rt: HostRuntime) {
+    // There is no room for a copy of the pair, so nothing is taken out, and nothing can be brought back.
+    let commands = [excise(1), restore()];
+    let seen = over(rt.alloc(), FOUR_TICKS, &[tick(), tick()], 0, &commands);
+    assert!(rt; seen == one_branch(1, 2, 2, 10));
+    // There is room for the copy, and none for the node that begins anew where the restart happens again.
+    let restart = step(Event::Restart { node: NodeId::A });
+    let before = [tick(), restart, back(1)];
+    let seen = over(
+        rt.alloc(),
+        A_COPY_AND_A_NODE,
+        &before,
+        LESS_THAN_A_NODE,
+        &commands,
+    );
+    assert!(rt; seen == one_branch(1, 2, 1, 5));
+    // There is room for one copy, and none for another one: what the first excision left stays, and can be taken back.
+    let ticks = [tick(), tick(), tick()];
+    let twice = [excise(3), excise(2)];
+    let seen = over(rt.alloc(), A_COPY_AND_A_NODE, &ticks, 0, &twice);
+    assert!(rt; seen == one_branch(1, 2, 2, 10));
+    let commands = [excise(3), excise(2), restore()];
+    let seen = over(rt.alloc(), A_COPY_AND_A_NODE, &ticks, 0, &commands);
+    assert!(rt; seen == one_branch(1, 3, 3, 15));
+}
+
+#[test]
+fn a_restoration_wants_no_memory(rt: HostRuntime) {
+    // There is room for the copy and the node: the tick is taken out, and the restart is left, which does not stand.
+    let restart = step(Event::Restart { node: NodeId::A });
+    let before = [tick(), restart, back(1)];
+    let seen = over(rt.alloc(), A_COPY_AND_A_NODE, &before, 0, &[excise(1)]);
+    assert!(rt; seen == one_branch(0, 1, 0, 0));
+    // Then there is no room for a third pair, and bringing the former one back needs none.
+    let branch = BranchWord::main();
+    let commands = [excise(1), Command::Show { branch }, restore()];
+    let seen = over(rt.alloc(), A_COPY_AND_A_NODE, &before, 0, &commands);
+    assert!(rt; seen == one_branch(1, 2, 1, 5));
 }

@@ -104,24 +104,29 @@ impl Dice {
     pub(super) fn command(&mut self, last: u32) -> Option<Command> {
         let branch = self.branch()?;
         match self.below(100) {
-            0..=72 => {
+            0..=66 => {
                 let event = self.event(last)?;
                 Some(Command::Step { branch, event })
             }
-            73..=82 => {
+            67..=76 => {
                 let n = self.below(16);
                 Some(Command::Back { branch, n })
             }
-            83..=88 => {
+            77..=82 => {
                 let n = self.below(4);
                 Some(Command::Forward { branch, n })
             }
-            89..=92 => self.fork(branch),
-            93 => {
+            83..=86 => {
+                let place = self.below(16);
+                Some(Command::Excise { branch, place })
+            }
+            87..=90 => Some(Command::Restore { branch }),
+            91..=93 => self.fork(branch),
+            94 => {
                 let branch = self.other()?;
                 Some(Command::Drop { branch })
             }
-            94 => Some(Command::Show { branch }),
+            95 => Some(Command::Show { branch }),
             _ => Some(Command::Names),
         }
     }

@@ -79,18 +79,15 @@ pub(super) fn opened<A: Allocator + Copy>(
     Opened::new(alloc, timeline, sessions, journal)
 }
 
-/// A query of this host, on its way to a name server.
-pub(super) fn query(host: u32) -> Option<Packet> {
+/// A query from this end, on its way to a name server.
+pub(super) fn query_from(src: End) -> Option<Packet> {
     let fields = PacketFields {
         seq: 0,
         ack: 0,
         window: 0,
         len: 40,
         proto: Proto::Udp,
-        src: End {
-            addr: Addr::V4(host),
-            port: 1000,
-        },
+        src,
         dst: End {
             addr: Addr::V4(0xc000_0209),
             port: 53,
@@ -99,6 +96,14 @@ pub(super) fn query(host: u32) -> Option<Packet> {
         scale: None,
     };
     Packet::of(fields).ok()
+}
+
+/// A query of this host.
+pub(super) fn query(host: u32) -> Option<Packet> {
+    query_from(End {
+        addr: Addr::V4(host),
+        port: 1000,
+    })
 }
 
 /// The hosts 10.0.0.1 and 10.0.0.2.
@@ -112,14 +117,18 @@ pub(super) fn on_main(event: Event) -> Command {
     Command::Step { branch, event }
 }
 
-/// The host's query, on its way out through node A, is the next event of `main`.
-pub(super) fn step(host: u32) -> Option<Command> {
-    let packet = query(host)?;
-    Some(on_main(Event::Packet {
+/// The packet, on its way out through node A, is the next event of `main`.
+pub(super) fn goes_out(packet: Packet) -> Command {
+    on_main(Event::Packet {
         node: NodeId::A,
         dir: Dir::Outbound,
         packet,
-    }))
+    })
+}
+
+/// The host's query, on its way out through node A, is the next event of `main`.
+pub(super) fn step(host: u32) -> Option<Command> {
+    Some(goes_out(query(host)?))
 }
 
 /// Takes the pass of the last session.

@@ -98,6 +98,8 @@ pub(super) fn same_reply<A: Allocator>(one: &Reply<A>, two: &Reply<A>) -> bool {
             shows(two, &branch)
         }
         Reply::Names(names) => matches!(two, Reply::Names(others) if same_names(names, others)),
+        Reply::Excised(places) => matches!(two, Reply::Excised(others) if **others == **places),
+        Reply::Restored(cursor) => matches!(two, Reply::Restored(c) if c == cursor),
         Reply::Refused(why) => matches!(two, Reply::Refused(other) if other == why),
     }
 }
@@ -124,6 +126,12 @@ pub(super) fn same_command(one: &Command, two: &Command) -> bool {
             matches!(two, Command::Show { branch: b } if same_name(branch, b))
         }
         Command::Names => matches!(two, Command::Names),
+        Command::Excise { branch, place } => {
+            matches!(two, Command::Excise { branch: b, place: p } if same_name(branch, b) && place == p)
+        }
+        Command::Restore { branch } => {
+            matches!(two, Command::Restore { branch: b } if same_name(branch, b))
+        }
     }
 }
 

@@ -4,11 +4,11 @@ use Rattle.pfl_publish.specs.Revisions.{published}
 use Rattle.pfl_session.specs.declared.mark.Mark.TheVariants.{Start}
 use Rattle.pfl_session.specs.Journals.{history, counts_of}
 use Rattle.pfl_session.proofs.Seatings.{passes-kept}
-use Rattle.pfl_session.proofs.Sums.{few-weaker}
+use Rattle.pfl_session.proofs.Growth.{more_room}
 use Rattle.pfl_session.proofs.opened.Opened.without_sessions.Goals as goal
 
 pub revision_of-first-requires : goal.revision_of-first-requires
-revision_of-first-requires g c = record { few = few-weaker 4294967295 8589934592 c.args.timeline.branches (omega arith) c.requires.few }
+revision_of-first-requires g c = record { few = more_room 4294967295 8589934592 c.args.timeline (omega arith) c.requires.few }
 
 pub invariant_of-result : goal.invariant_of-result
 invariant_of-result g c =

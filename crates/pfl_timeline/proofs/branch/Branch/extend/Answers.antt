@@ -1,46 +1,13 @@
-use Rattle.std.specs.Prelude.{ℕ, List, ◌∷◌, [], ◌++◌}
 use Rattle.std.proofs.Common.{◌∙◌, ap, sym}
-use Rattle.pfl_timeline.specs.Commands.{extended}
-use Rattle.pfl_timeline.specs.Rooted.{Rooted, shown}
-use Rattle.pfl_timeline.proofs.Recording.{kept-extended, rooted-extended, mark_on, fits_on}
-use Rattle.pfl_timeline.proofs.Runs.{shown-kept, put_as}
-use Rattle.pfl_world.proofs.Stepping.{event_wants}
+use Rattle.pfl_timeline.specs.Rooted.{shown}
 use Rattle.pfl_timeline.proofs.branch.Branch.extend.Goals as goal
 
 pub returns-in-Err-clause-refused : goal.returns-in-Err-clause-refused
 returns-in-Err-clause-refused g c =
-    (c.self.inside.world, ap shown (sym c.self.view_is) ∙ shown-kept _ _ _ _ _ c.self.invariant, c.in-Err.ensures.refused)
+    let why = c.in-Err.ensures.refused in
+    (why.0, ap shown (sym c.self.view_is) ∙ why.1, why.2)
 
-pub undo_to-requires : goal.undo_to-requires
-undo_to-requires g c = record {
-  within = mark_on _ _ _ _ c.apply_on.ensures.taped c.in-Ok.ensures.fits c.in-Ok.ensures.back _ c.len-mark.ensures.length;
-  fits = fits_on _ _ _ _ c.apply_on.ensures.taped c.in-Ok.ensures.fits c.in-Ok.ensures.back _ c.len-mark.ensures.length;
-}
-
-pub returns-then-is_err-clause-refused : goal.returns-then-is_err-clause-refused
-returns-then-is_err-clause-refused g c =
-    (c.self.inside.world, ap shown (sym c.self.view_is) ∙ shown-kept _ _ _ _ _ c.self.invariant, event_wants c.self.inside.world c.args.event.now _ c.in-Ok.ensures.step)
-
-pub returns-else-is_err-clause-stepped : goal.returns-else-is_err-clause-stepped
-returns-else-is_err-clause-stepped g c =
-    (c.self.inside.world, c.apply_on.new.self, ap shown (sym c.self.view_is) ∙ shown-kept _ _ _ _ _ c.self.invariant, c.in-Ok.ensures.step)
-
-pub invariant_of-self-in-Ok : goal.invariant_of-self-in-Ok
-invariant_of-self-in-Ok g c =
-    let events = c.put-dropped.ensures.events ∙ put_as _ _ _ _ c.args.event.now c.make_room.ensures.events c.make_room.ensures.marks in
-    let items = c.put-dropped.ensures.marks ∙ ap (λ (ns : List ℕ). ns ++ c.len-mark.result ∷ []) c.make_room.ensures.marks ∙ ap (λ n. c.self.inside.marks.items ++ n ∷ []) c.len-mark.ensures.length in
-    kept-extended _ _ _ _ _ _ _ c.args.event.now _ c.self.invariant c.in-Ok.ensures.step c.apply_on.ensures.taped c.in-Ok.ensures.fits c.in-Ok.ensures.back _ _ items events
-
-pub returns-else-is_err-clause-extended : goal.returns-else-is_err-clause-extended
-returns-else-is_err-clause-extended g c =
-    let events = c.put-dropped.ensures.events ∙ put_as _ _ _ _ c.args.event.now c.make_room.ensures.events c.make_room.ensures.marks in
-    let items = c.put-dropped.ensures.marks ∙ ap (λ (ns : List ℕ). ns ++ c.len-mark.result ∷ []) c.make_room.ensures.marks ∙ ap (λ n. c.self.inside.marks.items ++ n ∷ []) c.len-mark.ensures.length in
-    rooted-extended _ _ _ _ _ _ _ c.args.event.now _ c.self.invariant c.in-Ok.ensures.step c.apply_on.ensures.taped c.in-Ok.ensures.fits c.in-Ok.ensures.back _ _ items events
-    ∙ ap (λ (v : Rooted). record { opening = v.opening; branch = extended v.branch c.args.event.now }) c.self.view_is
-
-pub returns-else-is_err-clause-opening : goal.returns-else-is_err-clause-opening
-returns-else-is_err-clause-opening g c =
-    let events = c.put-dropped.ensures.events ∙ put_as _ _ _ _ c.args.event.now c.make_room.ensures.events c.make_room.ensures.marks in
-    let items = c.put-dropped.ensures.marks ∙ ap (λ (ns : List ℕ). ns ++ c.len-mark.result ∷ []) c.make_room.ensures.marks ∙ ap (λ n. c.self.inside.marks.items ++ n ∷ []) c.len-mark.ensures.length in
-    ap (λ (v : Rooted). v.opening) (rooted-extended _ _ _ _ _ _ _ c.args.event.now _ c.self.invariant c.in-Ok.ensures.step c.apply_on.ensures.taped c.in-Ok.ensures.fits c.in-Ok.ensures.back _ _ items events
-    ∙ ap (λ (v : Rooted). record { opening = v.opening; branch = extended v.branch c.args.event.now }) c.self.view_is)
+pub returns-in-Ok-clause-stepped : goal.returns-in-Ok-clause-stepped
+returns-in-Ok-clause-stepped g c =
+    let done = c.in-Ok.ensures.stepped in
+    (done.0, done.1, ap shown (sym c.self.view_is) ∙ done.2, done.3)

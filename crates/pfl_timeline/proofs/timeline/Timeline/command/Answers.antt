@@ -1,7 +1,7 @@
 use Rattle.std.proofs.Common.{◌∙◌}
 use Rattle.std.proofs.lemmas.Result.{IfOk-weaker, on_err_weaker}
-use Rattle.pfl_timeline.proofs.Asked.{is-step, is-back, is-forward, is-fork, is-drop, is-show, is-names, anyway}
-use Rattle.pfl_timeline.proofs.Wants.{step_wants, forward_wants, fork_wants, show_wants, names_wants}
+use Rattle.pfl_timeline.proofs.Asked.{is-step, is-back, is-forward, is-fork, is-drop, is-show, is-names, is-excise, is-restore, anyway}
+use Rattle.pfl_timeline.proofs.Wants.{step_wants, forward_wants, fork_wants, show_wants, names_wants, excise_wants}
 use Rattle.pfl_timeline.proofs.timeline.Timeline.command.Goals as goal
 
 pub returns-in-Step-clause-step : goal.returns-in-Step-clause-step
@@ -25,6 +25,12 @@ returns-in-Show-clause-step g c = IfOk-weaker c.show.result _ _ (λ reply h. is-
 pub returns-in-Names-clause-step : goal.returns-in-Names-clause-step
 returns-in-Names-clause-step g c = IfOk-weaker c.names.result _ _ (λ reply h. is-names _ _ c.in-Names.is ∙ h) c.names.ensures.step
 
+pub returns-in-Excise-clause-step : goal.returns-in-Excise-clause-step
+returns-in-Excise-clause-step g c = IfOk-weaker c.excise.result _ _ (λ reply h. is-excise _ _ _ _ c.in-Excise.is ∙ h) c.excise.ensures.step
+
+pub returns-in-Restore-clause-step : goal.returns-in-Restore-clause-step
+returns-in-Restore-clause-step g c = is-restore _ _ _ c.in-Restore.is ∙ c.restore.ensures.step
+
 pub returns-in-Step-clause-memory : goal.returns-in-Step-clause-memory
 returns-in-Step-clause-memory g c = on_err_weaker c.step.result (λ accepted. step_wants _ _ _ _ c.in-Step.is accepted) c.step.ensures.memory
 
@@ -39,3 +45,6 @@ returns-in-Show-clause-memory g c = on_err_weaker c.show.result (λ accepted. sh
 
 pub returns-in-Names-clause-memory : goal.returns-in-Names-clause-memory
 returns-in-Names-clause-memory g c = anyway c.names.result (names_wants _ _ c.in-Names.is)
+
+pub returns-in-Excise-clause-memory : goal.returns-in-Excise-clause-memory
+returns-in-Excise-clause-memory g c = on_err_weaker c.excise.result (λ accepted. excise_wants _ _ _ _ c.in-Excise.is accepted) c.excise.ensures.memory

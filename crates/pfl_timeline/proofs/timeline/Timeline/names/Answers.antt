@@ -8,6 +8,10 @@ use Rattle.pfl_timeline.proofs.Asked.{names-asks}
 use Rattle.pfl_timeline.proofs.Places.{names_more, all_names}
 use Rattle.pfl_timeline.proofs.timeline.Timeline.names.Goals as goal
 
+pub unwrap-requires : goal.unwrap-requires
+unwrap-requires g c =
+    c.push.ensures.succeeds (omega (arith, c.loop-branch.invariant.room, c.loop-branch.invariant.many, c.loop-branch-test.true))
+
 pub loop-branch-preserved : goal.loop-branch-preserved
 loop-branch-preserved g c = record {
   names = names_more _ _ _ _ _ _ c.branch-item.is c.loop-branch-test.true c.name.ensures.name c.loop-branch.invariant.names (rw c.unwrap.ensures at c.push.ensures.items);
@@ -22,10 +26,6 @@ returns g c = record {
       (sym (all_names _ _ _ c.loop-branch-test.false c.loop-branch.invariant.names
       ∙ ap (λ (t : Timeline). map (λ b. b.name) t.branches) (ap timeline_of c.deref-branch-items.ensures.value ∙ c.self.view_is)));
 }
-
-pub unwrap-requires : goal.unwrap-requires
-unwrap-requires g c =
-    c.push.ensures.succeeds (omega (arith, c.loop-branch.invariant.room, c.loop-branch.invariant.many, c.loop-branch-test.true))
 
 pub loop-branch-init : goal.loop-branch-init
 loop-branch-init g c = record {

@@ -1,0 +1,92 @@
+-- An event taken out of the middle, told by the list without it.
+use Rattle.std.specs.Prelude.{◌≡◌, ℕ, true, false, not, List, [], ◌∷◌, map, find, Option, Some, None, is_some, IsTrue, refl, if◌then◌else◌}
+use Rattle.std.specs.Option.{option_map, option_map_or}
+use Rattle.std.proofs.Common.{cond, sym, ◌∙◌, ap, subst}
+use Rattle.std.proofs.lemmas.Slice.Eq.{bytes_eq-Decides}
+use Rattle.pfl_edits.proofs.RowMaps.{some_is_none}
+use Rattle.pfl_parts.specs.Nodes.{refused_by}
+use Rattle.pfl_world.specs.declared.event.Event.{Event}
+use Rattle.pfl_world.specs.Runs.{run}
+use Rattle.pfl_timeline.specs.declared.command.Command.TheVariants as command
+use Rattle.pfl_timeline.specs.declared.refused.Refused.TheVariants as refused
+use Rattle.pfl_timeline.specs.Commands.{replied, answered, with_changed, excise_reply, restore_reply, excise_command, restore_command, command_step, replayed}
+use Rattle.pfl_timeline.specs.Excisions.{placed, without, has_event, excised, fallen_places}
+use Rattle.pfl_timeline.specs.Laws.{ExcisionsAreRunsWithout, NothingElseFallsOut, RestorationsTakeBack, accepted, events_of}
+use Rattle.pfl_timeline.specs.Replies.{Replied, Excised, Restored, Refused as Refusing}
+use Rattle.pfl_timeline.specs.Timelines.{Branch, Timeline, branch_of, same_name}
+use Rattle.pfl_timeline.proofs.Distinct.{called}
+use Rattle.pfl_timeline.proofs.Others.{has_the_name}
+use Rattle.pfl_timeline.proofs.Sieving.{places_in, events_without, sieve-accepted, sieve-keeps}
+
+-- ---- the branch of the name after a change
+
+abbrev put : Branch → Branch → Branch
+put b c = if same_name c.name b.name then b else c
+
+-- the changed branch is found in the place of the one that was
+find_changed : (name : List ℕ) (new : Branch) (bs : List Branch) (b : Branch) → new.name ≡ b.name → find (called name) bs ≡ Some b → find (called name) (map (put new) bs) ≡ Some new
+find_changed name new [] b same is = absurd (some_is_none b (sym is))
+find_changed name new (c ∷ cs) b same is =
+    elim (same_name c.name name) as (λ t. same_name c.name name ≡ t → cond t (Some c) (find (called name) cs) ≡ Some b → find (called name) (put new c ∷ map (put new) cs) ≡ Some new) [
+      | true ↦ λ has here.
+          let it : c ≡ b = cc in
+          let of_new : same_name c.name new.name ≡ true = (bytes_eq-Decides c.name new.name).1 (ap (λ (d : Branch). d.name) it ∙ sym same) in
+          let named : same_name new.name name ≡ true = ap (λ (n : List ℕ). same_name n name) (same ∙ sym (ap (λ (d : Branch). d.name) it)) ∙ has in
+          ap (λ t. find (called name) (cond t new c ∷ map (put new) cs)) of_new
+          ∙ ap (λ t. cond t (Some new) (find (called name) (map (put new) cs))) named
+      | false ↦ λ hasnt later.
+          let named : same_name new.name name ≡ true = ap (λ (n : List ℕ). same_name n name) same ∙ has_the_name name cs b later in
+          (elim (same_name c.name new.name) as (λ t. same_name c.name new.name ≡ t → find (called name) (cond t new c ∷ map (put new) cs) ≡ Some new) [
+            | true ↦ λ alike. absurd (let both : false ≡ true = sym hasnt ∙ ap (λ (n : List ℕ). same_name n name) ((bytes_eq-Decides c.name new.name).0 alike) ∙ named in cc)
+            | false ↦ λ _. ap (λ t. cond t (Some c) (find (called name) (map (put new) cs))) hasnt ∙ find_changed name new cs b same later
+          ]) refl
+    ] refl is
+
+changed_there : (t : Timeline) (name : List ℕ) (b new : Branch) → branch_of t name ≡ Some b → new.name ≡ b.name → branch_of (with_changed t new) name ≡ Some new
+changed_there t name b new here same = find_changed name new t.branches b same here
+
+-- ---- what the commands give
+
+module _ (t : Timeline) (name : List ℕ) (k : ℕ) (b : Branch) (here : branch_of t name ≡ Some b) (has : IsTrue (has_event k b)) where
+  abbrev new : Branch
+  new = excised t.opening k b
+
+  taken_out : command_step t (command.Excise name k) ≡ replied (with_changed t new) (Excised (fallen_places t.opening k b))
+  unfolding command_step excise_command
+  taken_out =
+      ap (λ (o : Option Branch). option_map_or (excise_reply t k) o (replied t (Refusing refused.NoBranch))) here
+      ∙ ap (λ there. answered t (refused_by ((not there, refused.NoEvent) ∷ [])) (replied (with_changed t new) (Excised (fallen_places t.opening k b)))) has
+
+  new_there : branch_of (with_changed t new) name ≡ Some new
+  new_there = changed_there t name b new here refl
+
+  pub what-is-left : events_of (command_step t (command.Excise name k)).timeline name ≡ Some (accepted t.opening (without k b.events))
+  what-is-left =
+      ap (λ (r : Replied). events_of r.timeline name) taken_out
+      ∙ ap (λ (o : Option Branch). option_map (λ c. c.events) o) new_there
+      ∙ ap Some (sieve-accepted t.opening (without k (placed b.events)) ∙ ap (accepted t.opening) (events_without k b.events))
+
+  pub none-falls : IsTrue (is_some (run t.opening (without k b.events))) → (command_step t (command.Excise name k)).reply ≡ Excised []
+  none-falls runs =
+      let all = sieve-keeps t.opening (without k (placed b.events)) (subst (λ (es : List Event). IsTrue (is_some (run t.opening es))) (sym (events_without k b.events)) runs) in
+      ap (λ (r : Replied). r.reply) taken_out ∙ ap (λ ps. Excised (places_in ps)) all.fallen
+
+  brought_back : command_step (with_changed t new) (command.Restore name) ≡ replied (with_changed (with_changed t new) (record b { former = None })) (Restored b.cursor)
+  unfolding command_step restore_command
+  brought_back = ap (λ (o : Option Branch). option_map_or (restore_reply (with_changed t new)) o (replied (with_changed t new) (Refusing refused.NoBranch))) new_there
+
+  pub back-again : branch_of (replayed t (command.Excise name k ∷ command.Restore name ∷ [])) name ≡ Some (record b { former = None })
+  unfolding replayed
+  back-again =
+      ap (λ (r : Replied). branch_of (command_step r.timeline (command.Restore name)).timeline name) taken_out
+      ∙ ap (λ (r : Replied). branch_of r.timeline name) brought_back
+      ∙ changed_there (with_changed t new) name new (record b { former = None }) new_there refl
+
+pub excisions-are-runs : ExcisionsAreRunsWithout
+excisions-are-runs = what-is-left
+
+pub nothing-else-falls : NothingElseFallsOut
+nothing-else-falls = none-falls
+
+pub restorations-take-back : RestorationsTakeBack
+restorations-take-back = back-again

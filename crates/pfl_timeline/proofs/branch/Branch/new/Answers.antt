@@ -1,5 +1,0 @@
-use Rattle.pfl_timeline.proofs.Runs.{kept-new}
-use Rattle.pfl_timeline.proofs.branch.Branch.new.Goals as goal
-
-pub invariant_of-result : goal.invariant_of-result
-invariant_of-result g c = rw (c.new.ensures.items, c.new-2.ensures.list, c.new-3.ensures.items) (kept-new c.args.name c.args.world c.requires.named c.known.ensures.world)

@@ -1,0 +1,291 @@
+//! Histories.
+
+ghost use Rattle.std.specs.Prelude.{◌≡◌, ◌+◌, ◌-◌, ◌<◌, ◌≤◌, ℕ, [], ◌∷◌, ◌++◌, length, map, nat_le, min, take, filter, Ok, Some, IfErr, IfOk, OnErr, OnOk, vec_len, vec_capacity};
+ghost use Rattle.pfl_world.specs.Events.{step, IsEventRefusal};
+ghost use Rattle.pfl_world.specs.Outcomes.{told};
+ghost use Rattle.pfl_world.specs.Worlds.{World as Pair};
+ghost use Rattle.pfl_timeline.specs.Excisions.{placed, without, sieve};
+ghost use Rattle.pfl_timeline.specs.Histories.{IsHistory, reached, continued};
+ghost use Rattle.pfl_timeline.specs.inner.Histories.{standing_at, first_of, Sifts, so_far};
+
+use crate::copying::copy_tape;
+use pfl_base::Refusal;
+use pfl_edits::{NoMemory, Tape, undo_to};
+use pfl_world::{Event, Outcome, World, WorldTape};
+use std::alloc::Allocator;
+use std::marker::Model;
+
+/// Events over an opening world, and the world that the first of them, those that stand, give.
+///
+/// The opening world is not kept: it is what taking the whole tape back would give.
+pub struct History<A: Allocator> {
+    world: World<A>,
+    events: Vec<Event, A>,
+    /// What the events that stand changed, one after another.
+    tape: WorldTape<A>,
+    /// How long the tape was before each of them.
+    marks: Vec<usize, A>,
+}
+
+// Not derived: to a proof a written drop is one call, where a derived one is opened again on every way out.
+impl<A: Allocator> Drop for History<A> {
+    fn drop(self) {
+        let History {
+            world: _,
+            events: _,
+            tape: _,
+            marks: _,
+        } = self;
+    }
+}
+
+impl<A: Allocator> Model for History<A> {
+    ghost use Rattle.pfl_timeline.specs.Histories.{History};
+    ghost use Rattle.pfl_timeline.specs.Codes.{coded_history};
+
+    ghost Value = { History };
+
+    ghost coded = { coded_history };
+
+    ghost use Rattle.pfl_timeline.specs.Kept.{IsKept, history};
+
+    ghost view = { λ h. history h.world h.events.items h.tape.list h.marks.items };
+
+    ghost invariant = { λ h. IsKept h.world h.events.items h.tape.list h.marks.items };
+}
+
+/// Makes room for one event more, and for its mark.
+fn make_room<A: Allocator>(
+    events: &mut Vec<Event, A>,
+    marks: &mut Vec<usize, A>,
+) -> Result<(), NoMemory>
+    ensures events { events.new.items ≡ events.old.items }
+    ensures marks { marks.new.items ≡ marks.old.items }
+    ensures event_room { OnOk result (vec_len events.new < vec_capacity events.new) }
+    ensures mark_room { OnOk result (vec_len marks.new < vec_capacity marks.new) }
+{
+    events.reserve(1)?;
+    marks.reserve(1)?;
+    Ok(())
+}
+
+/// Puts an event and its mark behind those that stand, in room that was made. Gives how many events were cut.
+fn put<A: Allocator>(
+    events: &mut Vec<Event, A>,
+    marks: &mut Vec<usize, A>,
+    event: Event,
+    mark: usize,
+) -> usize
+    requires within { length marks.old.items ≤ length events.old.items }
+    requires event_room { vec_len events.old < vec_capacity events.old }
+    requires mark_room { vec_len marks.old < vec_capacity marks.old }
+    ensures events { events.new.items ≡ take (length marks.old.items) events.old.items ++ event ∷ [] }
+    ensures marks { marks.new.items ≡ marks.old.items ++ mark ∷ [] }
+    ensures dropped { result ≡ length events.old.items - length marks.old.items }
+{
+    let cursor = marks.len();
+    let dropped = events.len() - cursor;
+    events.truncate(cursor);
+    events.push(event).unwrap();
+    marks.push(mark).unwrap();
+    dropped
+}
+
+impl<A: Allocator> History<A> {
+    /// All its events.
+    pub fn events(&self) -> &[Event]
+        ensures events { result.now ≡ self.now.events }
+    {
+        self.events.as_slice()
+    }
+
+    /// How many of its events stand.
+    pub fn cursor(&self) -> usize
+        ensures cursor { result ≡ self.now.cursor }
+    {
+        self.marks.len()
+    }
+
+    /// The world that those that stand give.
+    pub fn world(&self) -> &World<A>
+        ensures world { reached self.now ≡ Some result.now }
+    {
+        &self.world
+    }
+
+    /// Tells a proof what is true of each history. It does nothing.
+    pub fn known(&self)
+        ensures history { IsHistory self.now }
+    {
+        let _world = &self.world;
+    }
+
+    /// Takes events back until so many stand, the newest first. It takes no memory.
+    pub fn take_back_to(&mut self, place: usize)
+        requires within { place ≤ self.old.cursor }
+        ensures history { self.new ≡ standing_at self.old place }
+    {
+        if place < self.marks.len() {
+            undo_to(&mut self.world, &mut self.tape, self.marks[place]);
+            self.marks.truncate(place);
+        }
+    }
+}
+
+impl<A: Allocator + Copy> History<A> {
+    /// A history without events. It takes no memory yet.
+    pub fn new(alloc: A, world: World<A>) -> Self
+        ensures history { result ≡ record { opening = world; events = []; cursor = 0 } }
+    {
+        world.known();
+        History {
+            world,
+            events: Vec::new(alloc),
+            tape: Tape::new(alloc),
+            marks: Vec::new(alloc),
+        }
+    }
+
+    /// Puts an event behind those that stand, in place of those that had been undone. Gives its outcome, and how many were
+    /// cut. Where it is refused, or there is no memory, nothing changes.
+    pub fn extend(&mut self, event: &Event) -> Result<(Outcome, usize), Refusal>
+        ensures refused { IfErr result (λ why. (w : Pair) × (reached self.old ≡ Some w) × IsEventRefusal w event.now why) }
+        ensures unchanged { OnErr result (self.new ≡ self.old) }
+        ensures stepped { IfOk result (λ r. (w new : Pair) × (reached self.old ≡ Some w) × (step w event.now ≡ Ok (record { world = new; outcome = told r.0 }))) }
+        ensures extended { OnOk result (self.new ≡ continued self.old event.now) }
+        ensures dropped { IfOk result (λ r. r.1 ≡ length self.old.events - self.old.cursor) }
+    {
+        let mark = self.tape.len();
+        match self.world.apply_on(event, &mut self.tape) {
+            Err(refusal) => Err(refusal),
+            Ok(outcome) => {
+                if make_room(&mut self.events, &mut self.marks).is_err() {
+                    undo_to(&mut self.world, &mut self.tape, mark);
+                    return Err(Refusal::NoMemory);
+                }
+                let dropped = put(&mut self.events, &mut self.marks, *event, mark);
+                Ok((outcome, dropped))
+            }
+        }
+    }
+
+    /// Lets the first of the events that had been undone happen again. Where there is no memory, nothing changes.
+    fn redo_one(&mut self) -> Result<(), NoMemory>
+        requires within { self.old.cursor < length self.old.events }
+        ensures history { OnOk result (self.new ≡ standing_at self.old (self.old.cursor + 1)) }
+        ensures unchanged { OnErr result (self.new ≡ self.old) }
+    {
+        let event = self.events[self.cursor()];
+        let mark = self.tape.len();
+        self.marks.reserve(1)?;
+        match self.world.apply_on(&event, &mut self.tape) {
+            Ok(_) => {
+                self.marks.push(mark).unwrap();
+                Ok(())
+            }
+            // The events of a history were accepted where they stand, so only memory can be wanting.
+            Err(_) => Err(NoMemory),
+        }
+    }
+
+    /// Lets the first `n` of the events that had been undone happen again. Where there is no memory, those that happened
+    /// are taken back, and nothing changes.
+    pub fn redo(&mut self, n: usize) -> Result<(), NoMemory>
+        requires within { self.old.cursor + n ≤ length self.old.events }
+        ensures history { OnOk result (self.new ≡ standing_at self.old (self.old.cursor + n)) }
+        ensures unchanged { OnErr result (self.new ≡ self.old) }
+    {
+        let cursor = self.cursor();
+        for _ in 0..n {
+            if self.redo_one().is_err() {
+                self.take_back_to(cursor);
+                return Err(NoMemory);
+            }
+        }
+        Ok(())
+    }
+
+    /// Lets events happen again, or takes them back, until so many stand.
+    fn move_to(&mut self, place: usize) -> Result<(), NoMemory>
+        requires within { place ≤ length self.old.events }
+        ensures history { OnOk result (self.new ≡ standing_at self.old place) }
+    {
+        let cursor = self.cursor();
+        if place < cursor {
+            self.take_back_to(place);
+            Ok(())
+        } else {
+            self.redo(place - cursor)
+        }
+    }
+
+    /// An equal history, in memory of its own. It copies one world, and the tape that leads back from it.
+    fn copy(&self) -> Result<History<A>, NoMemory>
+        ensures same { IfOk result (λ copied. copied ≡ self.now) }
+    {
+        let alloc = *self.events.allocator();
+        let events = Vec::from_slice(alloc, &self.events)?;
+        let marks = Vec::from_slice(alloc, &self.marks)?;
+        let tape = copy_tape(alloc, &self.tape)?;
+        let world = self.world.copy()?;
+        Ok(History {
+            world,
+            events,
+            tape,
+            marks,
+        })
+    }
+
+    /// The first events, all of which stand, in memory of their own. They can be taken back to the opening.
+    pub fn first(&self, count: usize) -> Result<History<A>, NoMemory>
+        requires within { count ≤ length self.now.events }
+        ensures history { IfOk result (λ first. first ≡ first_of self.now count) }
+    {
+        let mut first = self.copy()?;
+        first.move_to(count)?;
+        first.events.truncate(count);
+        Ok(first)
+    }
+
+    /// Puts an event behind those that stand, unless it is refused, and tells which.
+    fn sift(&mut self, event: &Event) -> Result<bool, NoMemory>
+        ensures { IfOk result (λ kept. Sifts self.old event.now self.new kept) }
+    {
+        match self.extend(event) {
+            Ok(_) => Ok(true),
+            Err(refusal) => match refusal {
+                Refusal::NoMemory => Err(NoMemory),
+                _ => Ok(false),
+            },
+        }
+    }
+
+    /// What would have happened without the event at the place, counted from 1, in memory of its own; of the events that
+    /// stand here those stand that are left. Gives the places of the events that are refused then, too.
+    ///
+    /// The pair is copied, since only memory brings back what was taken back: this history has to be whole until the last
+    /// event is judged.
+    pub fn without(&self, place: usize) -> Result<(History<A>, Vec<usize, A>), NoMemory>
+        requires some { 1 ≤ place }
+        requires within { place ≤ length self.now.events }
+        ensures fallen { IfOk result (λ r. r.1.items ≡ map (λ p. p.place) (sieve self.now.opening (without place (placed self.now.events))).fallen) }
+        ensures history { IfOk result (λ r. let s = sieve self.now.opening (without place (placed self.now.events)) in
+            r.0 ≡ standing_at (so_far self.now.opening s) (length (filter (λ p. nat_le p.place self.now.cursor) s.kept))) }
+    {
+        self.known();
+        let cursor = self.cursor();
+        let mut rest = self.first(place - 1)?;
+        let mut fallen = Vec::new(*self.events.allocator());
+        let mut standing = cursor.min(place - 1);
+        for index in place..self.events.len() {
+            if !rest.sift(&self.events[index])? {
+                fallen.reserve(1)?;
+                fallen.push(index + 1).unwrap();
+            } else if index < cursor {
+                standing += 1;
+            }
+        }
+        rest.take_back_to(standing);
+        Ok((rest, fallen))
+    }
+}
