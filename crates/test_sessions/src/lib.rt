@@ -4,6 +4,8 @@
 #[cfg(test)]
 mod dice;
 #[cfg(test)]
+mod excising;
+#[cfg(test)]
 mod faults;
 #[cfg(test)]
 mod lab;
@@ -11,6 +13,8 @@ mod lab;
 mod meeting;
 #[cfg(test)]
 mod memory;
+#[cfg(test)]
+mod rows;
 #[cfg(test)]
 mod same;
 #[cfg(test)]

@@ -6,6 +6,7 @@ ghost use Rattle.pfl_session.specs.Passes.{IsPassOf};
 use super::lab::{
     FIRST_HOST, SECOND_HOST, limits, on_main, opened, opening, put, query, step, take,
 };
+use super::rows::{Answer, Row, is_wanted};
 use super::same::{replays, same_command};
 use pfl_base::{Dir, NodeId};
 use pfl_session::{AskFault, Closed, Entry, Lab, LabFault, Opened, Pass, Which};
@@ -38,9 +39,19 @@ fn each_request_of_a_new_lab_is_refused_in_turn(rt: HostRuntime) {
     assert!(rt; good, "{requests:?}");
 }
 
-/// What a lab's one session asks before the call whose requests are refused. The journal has then no room left over: state 1.1
-/// stands at both nodes, and node A is to tell of the answer that it passed.
-fn beginning() -> Option<[Command; 4]> {
+/// A call whose requests are refused.
+#[derive(Clone, Copy, Debug)]
+struct Trial {
+    /// What the lab's one session asks before. The journal has then no room left over.
+    before: [Command; 4],
+    /// The call, and what it is answered where memory is there.
+    row: Row,
+    /// How many of its requests it does without.
+    spared: u64,
+}
+
+/// State 1.1 stands at both nodes, and node A is to tell of the answer that it passed.
+fn answered_query() -> Option<[Command; 4]> {
     let node = NodeId::A;
     Some([
         step(FIRST_HOST)?,
@@ -54,22 +65,60 @@ fn beginning() -> Option<[Command; 4]> {
     ])
 }
 
-/// The calls whose requests are refused, and how many of those each does without.
-fn calls() -> Option<[(Command, u64); 6]> {
+/// Without the first of the three events node A had nothing to tell node B.
+fn excised_query() -> Option<[Command; 4]> {
     let branch = BranchWord::main();
+    let [query, flush, deliver, _] = answered_query()?;
+    Some([query, flush, deliver, Command::Excise { branch, place: 1 }])
+}
+
+/// The call after state 1.1 stands.
+fn once_answered(command: Command, wanted: Answer, spared: u64) -> Option<Trial> {
+    Some(Trial {
+        before: answered_query()?,
+        row: Row { command, wanted },
+        spared,
+    })
+}
+
+/// Brings the three events back.
+fn restoration() -> Option<Trial> {
+    let branch = BranchWord::main();
+    Some(Trial {
+        before: excised_query()?,
+        row: Row {
+            command: Command::Restore { branch },
+            wanted: Answer::Restored(3),
+        },
+        spared: 0,
+    })
+}
+
+/// The calls whose requests are refused.
+fn trials() -> Option<[Trial; 8]> {
+    let branch = BranchWord::main();
+    let node = NodeId::A;
+    let shown = Answer::Shown {
+        events: 4,
+        cursor: 4,
+        port: Some(1000),
+    };
     let fork = Command::Fork {
         from: branch,
         place: 2,
         name: BranchWord::of(b"other")?,
     };
+    let excise = Command::Excise { branch, place: 1 };
     Some([
-        (step(SECOND_HOST)?, 0),
+        once_answered(step(SECOND_HOST)?, Answer::Stepped, 0)?,
         // The list of what is pending is made at one go where that much memory is there, and else it grows.
-        (on_main(Event::Flush { node: NodeId::A }), 1),
-        (Command::Back { branch, n: 1 }, 0),
-        (fork, 0),
-        (Command::Show { branch }, 0),
-        (Command::Names, 0),
+        once_answered(on_main(Event::Flush { node }), Answer::Stepped, 1)?,
+        once_answered(Command::Back { branch, n: 1 }, Answer::At(3), 0)?,
+        once_answered(fork, Answer::Forked, 0)?,
+        once_answered(Command::Show { branch }, shown, 0)?,
+        once_answered(Command::Names, Answer::Names(1), 0)?,
+        once_answered(excise, Answer::Excised(Some([2, 3])), 0)?,
+        restoration()?,
     ])
 }
 
@@ -90,42 +139,45 @@ fn ask_all<J: Which, A: Allocator + Copy, R: Wait>(
     taken
 }
 
-/// Asks the command while the `n`-th request is refused.
+/// Asks the command of the row while the `n`-th request is refused.
 fn ask_without<'a, J: Which, R: Wait>(
     rt: &R,
     memory: &'a RefusesOne,
     lab: &Lab<J, &'a RefusesOne>,
     pass: &mut Pass<&'a RefusesOne>,
-    command: Command,
+    row: &Row,
     n: u64,
 ) -> Option<Try>
     requires lab { IsPassOf J.publisher J.tallies pass.old }
     ensures lab { IsPassOf J.publisher J.tallies pass.new }
 {
     memory.refuse(n);
-    let fault = lab.ask(rt, pass, command).err();
-    match (fault, memory.relent()) {
-        (Some(AskFault::NoMemory), true) => Some(Try::Wanting),
-        (None, true) => Some(Try::Spared),
-        (None, false) => Some(Try::Whole),
+    let answer = lab.ask(rt, pass, row.command);
+    match (answer, memory.relent()) {
+        (Err(AskFault::NoMemory), true) => Some(Try::Wanting),
+        (Ok(reply), came) if is_wanted(row.wanted, &reply) => Some(if came {
+            Try::Spared
+        } else {
+            Try::Whole
+        }),
         _ => None,
     }
 }
 
-/// Asks so after the beginning, and then for the names of the branches, which the lab has to answer.
+/// Asks so after what comes before, and then for the names of the branches, which the lab has to answer.
 fn begin_and_ask_without<'a, J: Which, R: Wait>(
     rt: &R,
     memory: &'a RefusesOne,
     lab: &Lab<J, &'a RefusesOne>,
     pass: &mut Pass<&'a RefusesOne>,
-    command: Command,
+    trial: &Trial,
     n: u64,
 ) -> Option<Try>
     requires lab { IsPassOf J.publisher J.tallies pass.old }
     ensures lab { IsPassOf J.publisher J.tallies pass.new }
 {
-    let begun = ask_all(rt, lab, pass, &beginning()?);
-    let tried = ask_without(rt, memory, lab, pass, command, n);
+    let begun = ask_all(rt, lab, pass, &trial.before);
+    let tried = ask_without(rt, memory, lab, pass, &trial.row, n);
     let answers = ask_all(rt, lab, pass, &[Command::Names]);
     if begun && answers { tried } else { None }
 }
@@ -136,14 +188,14 @@ fn session_asks_without<'a, J: Which, R: Wait>(
     memory: &'a RefusesOne,
     lab: &Lab<J, &'a RefusesOne>,
     passes: &mut Vec<Pass<&'a RefusesOne>, &'a RefusesOne>,
-    command: Command,
+    trial: &Trial,
     n: u64,
 ) -> Option<Try>
     requires { AllByRecursion (IsPassOf J.publisher J.tallies) passes.old.items }
     ensures { AllByRecursion (IsPassOf J.publisher J.tallies) passes.new.items }
 {
     let mut pass = take::<J, _>(passes)?;
-    let tried = begin_and_ask_without(rt, memory, lab, &mut pass, command, n);
+    let tried = begin_and_ask_without(rt, memory, lab, &mut pass, trial, n);
     let back = put::<J, _>(passes, pass);
     if back { tried } else { None }
 }
@@ -153,26 +205,22 @@ fn closed_without<'a, J: Which, R: Wait>(
     rt: &R,
     memory: &'a RefusesOne,
     opened: Opened<&'a RefusesOne>,
-    command: Command,
+    trial: &Trial,
     n: u64,
 ) -> (Closed<&'a RefusesOne>, Option<Try>)
     requires tables { (opened.publisher ≡ J.publisher) × (opened.tallies ≡ J.tallies) }
     requires opening { (opened.opening ≡ J.opening) × (opened.limit ≡ J.limit) }
 {
     let (lab, mut passes) = opened.named::<J>();
-    let tried = session_asks_without(rt, memory, &lab, &mut passes, command, n);
+    let tried = session_asks_without(rt, memory, &lab, &mut passes, trial, n);
     (lab.close(passes), tried)
 }
 
-/// The commands that were answered: this one too, unless memory was wanting.
-fn answered<A: Allocator>(
-    alloc: A,
-    command: &Command,
-    tried: Option<Try>,
-) -> Option<Vec<Command, A>> {
-    let mut commands = Vec::from_slice(alloc, &beginning()?).ok()?;
+/// The commands that were answered: that of the trial too, unless memory was wanting.
+fn answered<A: Allocator>(alloc: A, trial: &Trial, tried: Option<Try>) -> Option<Vec<Command, A>> {
+    let mut commands = Vec::from_slice(alloc, &trial.before).ok()?;
     if tried != Some(Try::Wanting) {
-        commands.push(*command).ok()?;
+        commands.push(trial.row.command).ok()?;
     }
     commands.push(Command::Names).ok()?;
     Some(commands)
@@ -189,20 +237,20 @@ fn has_these<A: Allocator>(journal: &[Entry<A>], commands: &[Command]) -> bool {
 fn tells_no_more<A: Allocator + Copy>(
     alloc: A,
     closed: &Closed<A>,
-    command: &Command,
+    trial: &Trial,
     tried: Option<Try>,
 ) -> bool {
-    let Some(commands) = answered(alloc, command, tried) else {
+    let Some(commands) = answered(alloc, trial, tried) else {
         return false;
     };
     has_these(&closed.journal, &commands) && replays(alloc, limits(), closed)
 }
 
-/// Asks the command of a lab while the `n`-th request is refused. A call for which memory was wanting leaves no trace.
-fn call_without<R: Wait>(rt: &R, memory: &RefusesOne, command: Command, n: u64) -> Option<Try> {
+/// Asks the trial's command of a lab while the `n`-th request is refused. A call for which memory was wanting leaves no trace.
+fn call_without<R: Wait>(rt: &R, memory: &RefusesOne, trial: &Trial, n: u64) -> Option<Try> {
     let opened = opened(memory, limits(), 1, 1000).ok()?;
-    let (closed, tried) = closed_without::<Brand, _>(rt, memory, opened, command, n);
-    if tells_no_more(memory, &closed, &command, tried) {
+    let (closed, tried) = closed_without::<Brand, _>(rt, memory, opened, trial, n);
+    if tells_no_more(memory, &closed, trial, tried) {
         tried
     } else {
         None
@@ -210,17 +258,17 @@ fn call_without<R: Wait>(rt: &R, memory: &RefusesOne, command: Command, n: u64) 
 }
 
 /// How many requests the call makes.
-fn requests_of_call<R: Wait>(rt: &R, memory: &RefusesOne, command: Command) -> Option<Requests> {
-    requests_of(|n| call_without(rt, memory, command, n))
+fn requests_of_call<R: Wait>(rt: &R, memory: &RefusesOne, trial: &Trial) -> Option<Requests> {
+    requests_of(|n| call_without(rt, memory, trial, n))
 }
 
 #[test]
 fn each_request_of_a_call_is_refused_in_turn(rt: HostRuntime) -> Result<(), Fail> {
     let memory = RefusesOne::new(rt.alloc());
-    for (command, spared) in calls().ok_or("no calls")? {
-        let requests = requests_of_call(&rt, &memory, command);
-        let good = requests.is_some_and(|all| all.wanted > 0 && all.spared == spared);
-        assert!(rt; good, "{command:?} {requests:?}");
+    for trial in trials().ok_or("no calls")? {
+        let requests = requests_of_call(&rt, &memory, &trial);
+        let good = requests.is_some_and(|all| all.wanted > 0 && all.spared == trial.spared);
+        assert!(rt; good, "{trial:?} {requests:?}");
     }
     Ok(())
 }

@@ -1,0 +1,79 @@
+//! Commands, and the answers that are wanted of a lab.
+
+use pfl_base::{NodeId, StateName};
+use pfl_timeline::{Command, Refused, Reply};
+use pfl_world::World;
+use std::alloc::Allocator;
+
+/// What is wanted of an answer.
+#[derive(Clone, Copy, Debug)]
+pub(super) enum Answer {
+    /// The event happened, and none was cut.
+    Stepped,
+    /// So many events stand.
+    At(usize),
+    /// The branch is made.
+    Forked,
+    /// The branch has so many events, and so many of them stand. The one state of node A is 1.1 from this port; there is none
+    /// where no port is given.
+    Shown {
+        events: usize,
+        cursor: usize,
+        port: Option<u16>,
+    },
+    /// There are so many names.
+    Names(usize),
+    /// The events at these two places fell out, or none did.
+    Excised(Option<[usize; 2]>),
+    /// So many events stand again.
+    Restored(usize),
+    /// The command is refused.
+    Refused(Refused),
+}
+
+/// A command, and what is wanted of its answer.
+#[derive(Clone, Copy, Debug)]
+pub(super) struct Row {
+    pub(super) command: Command,
+    pub(super) wanted: Answer,
+}
+
+/// The one state of node A is 1.1 from this port; there is none where no port is given.
+fn has_state<A: Allocator>(world: &World<A>, port: Option<u16>) -> bool {
+    let states = world.node(NodeId::A).states();
+    let first = states.by_name(StateName { creator: 1, id: 1 });
+    let from = first.map(|state| state.stack().near.port);
+    from == port && states.len() == usize::from(port.is_some())
+}
+
+/// These are the two places, or there are none.
+fn are_these(places: &[usize], wanted: Option<[usize; 2]>) -> bool {
+    match wanted {
+        Some(two) => places == two.as_slice(),
+        None => places.is_empty(),
+    }
+}
+
+/// The reply is the one that is wanted.
+pub(super) fn is_wanted<A: Allocator>(wanted: Answer, reply: &Reply<A>) -> bool {
+    match wanted {
+        Answer::Stepped => matches!(reply, Reply::Stepped { dropped: 0, .. }),
+        Answer::At(standing) => matches!(reply, Reply::At(cursor) if *cursor == standing),
+        Answer::Forked => matches!(reply, Reply::Forked),
+        Answer::Shown {
+            events,
+            cursor,
+            port,
+        } => {
+            matches!(reply, Reply::Shown { events: e, cursor: c, world, .. } if (*e, *c) == (events, cursor) && has_state(world, port))
+        }
+        Answer::Names(count) => matches!(reply, Reply::Names(names) if names.len() == count),
+        Answer::Excised(fallen) => {
+            matches!(reply, Reply::Excised(places) if are_these(places, fallen))
+        }
+        Answer::Restored(standing) => {
+            matches!(reply, Reply::Restored(cursor) if *cursor == standing)
+        }
+        Answer::Refused(why) => matches!(reply, Reply::Refused(other) if *other == why),
+    }
+}
