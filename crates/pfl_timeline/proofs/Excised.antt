@@ -1,21 +1,24 @@
 -- An event taken out of the middle, told by the list without it.
-use Rattle.std.specs.Prelude.{◌≡◌, ℕ, true, false, not, List, [], ◌∷◌, map, find, Option, Some, None, is_some, IsTrue, refl, if◌then◌else◌}
+use Rattle.std.specs.Prelude.{◌≡◌, ℕ, ◌-◌, ◌≤◌, Bool, ◌&&◌, nat_le, length, true, false, not, List, [], ◌∷◌, map, find, take, drop, Option, Some, None, is_some, IsTrue, refl, if◌then◌else◌}
 use Rattle.std.specs.Option.{option_map, option_map_or}
 use Rattle.std.proofs.Common.{cond, sym, ◌∙◌, ap, subst}
+use Rattle.std.proofs.lemmas.Bool.{leb-true}
 use Rattle.std.proofs.lemmas.Slice.Eq.{bytes_eq-Decides}
 use Rattle.pfl_edits.proofs.RowMaps.{some_is_none}
 use Rattle.pfl_parts.specs.Nodes.{refused_by}
 use Rattle.pfl_world.specs.declared.event.Event.{Event}
 use Rattle.pfl_world.specs.Runs.{run}
+use Rattle.pfl_world.specs.Worlds.{World}
 use Rattle.pfl_timeline.specs.declared.command.Command.TheVariants as command
 use Rattle.pfl_timeline.specs.declared.refused.Refused.TheVariants as refused
 use Rattle.pfl_timeline.specs.Commands.{replied, answered, with_changed, excise_reply, restore_reply, excise_command, restore_command, command_step, replayed}
 use Rattle.pfl_timeline.specs.Excisions.{placed, without, has_event, excised, fallen_places}
-use Rattle.pfl_timeline.specs.Laws.{ExcisionsAreRunsWithout, NothingElseFallsOut, RestorationsTakeBack, accepted, events_of}
+use Rattle.pfl_timeline.specs.Laws.{ExcisionsAreRunsWithout, ExcisionsLeaveStanding, ExcisionsTellTheRefused, NothingElseFallsOut, RestorationsTakeBack, accepted, refused_behind, events_of}
 use Rattle.pfl_timeline.specs.Replies.{Replied, Excised, Restored, Refused as Refusing}
-use Rattle.pfl_timeline.specs.Timelines.{Branch, Timeline, branch_of, same_name}
+use Rattle.pfl_timeline.specs.Timelines.{Branch, Timeline, branch_of, same_name, standing}
 use Rattle.pfl_timeline.proofs.Distinct.{called}
 use Rattle.pfl_timeline.proofs.Others.{has_the_name}
+use Rattle.pfl_timeline.proofs.Parting.{sieve-standing, sieve-refused}
 use Rattle.pfl_timeline.proofs.Sieving.{places_in, events_without, sieve-accepted, sieve-keeps}
 
 -- ---- the branch of the name after a change
@@ -47,6 +50,11 @@ changed_there t name b new here same = find_changed name new t.branches b same h
 
 -- ---- what the commands give
 
+-- places count from 1
+some_event : (a c : Bool) (k : ℕ) → nat_le 1 k ≡ a → IsTrue (a && c) → 1 ≤ k
+some_event true c k is has = leb-true 1 k is
+some_event false c k is has = absurd cc
+
 module _ (t : Timeline) (name : List ℕ) (k : ℕ) (b : Branch) (here : branch_of t name ≡ Some b) (has : IsTrue (has_event k b)) where
   abbrev new : Branch
   new = excised t.opening k b
@@ -66,6 +74,15 @@ module _ (t : Timeline) (name : List ℕ) (k : ℕ) (b : Branch) (here : branch_
       ∙ ap (λ (o : Option Branch). option_map (λ c. c.events) o) new_there
       ∙ ap Some (sieve-accepted t.opening (without k (placed b.events)) ∙ ap (accepted t.opening) (events_without k b.events))
 
+  pub what-stands : option_map standing (branch_of (command_step t (command.Excise name k)).timeline name) ≡ Some (accepted t.opening (without k (standing b)))
+  what-stands =
+      ap (λ (r : Replied). option_map standing (branch_of r.timeline name)) taken_out
+      ∙ ap (λ (o : Option Branch). option_map standing o) new_there
+      ∙ ap Some (sieve-standing t.opening k b.cursor b.events (some_event (nat_le 1 k) (nat_le k (length b.events)) k refl has))
+
+  pub what-is-told : (w : World) → run t.opening (take (k - 1) b.events) ≡ Some w → (command_step t (command.Excise name k)).reply ≡ Excised (refused_behind k w (drop k b.events))
+  what-is-told w here_w = ap (λ (r : Replied). r.reply) taken_out ∙ ap Excised (sieve-refused t.opening k b.events w here_w)
+
   pub none-falls : IsTrue (is_some (run t.opening (without k b.events))) → (command_step t (command.Excise name k)).reply ≡ Excised []
   none-falls runs =
       let all = sieve-keeps t.opening (without k (placed b.events)) (subst (λ (es : List Event). IsTrue (is_some (run t.opening es))) (sym (events_without k b.events)) runs) in
@@ -84,6 +101,12 @@ module _ (t : Timeline) (name : List ℕ) (k : ℕ) (b : Branch) (here : branch_
 
 pub excisions-are-runs : ExcisionsAreRunsWithout
 excisions-are-runs = what-is-left
+
+pub excisions-leave-standing : ExcisionsLeaveStanding
+excisions-leave-standing = what-stands
+
+pub excisions-tell-refused : ExcisionsTellTheRefused
+excisions-tell-refused t name k b w here has runs = what-is-told t name k b here has w runs
 
 pub nothing-else-falls : NothingElseFallsOut
 nothing-else-falls = none-falls

@@ -11,6 +11,7 @@ pub mod Asked
 pub mod Wants
 pub mod Prefixes
 pub mod Sieving
+pub mod Parting
 pub mod Excised
 pub mod Keeping
 pub mod Forking

@@ -29,7 +29,7 @@ events_in ps = map (λ p. p.event) ps
 abbrev pub places_in : List Placed → List ℕ
 places_in ps = map (λ p. p.place) ps
 
-events_placed : (n : ℕ) (es : List Event) → events_in (placed_behind n es) ≡ es
+pub events_placed : (n : ℕ) (es : List Event) → events_in (placed_behind n es) ≡ es
 events_placed n [] = refl
 events_placed n (e ∷ es) = ap (λ (fs : List Event). e ∷ fs) (events_placed (n + 1) es)
 
@@ -72,7 +72,7 @@ fold_sound : (o : World) (s : Sieved) (ps : List Placed) → Sound o s → Sound
 fold_sound o s [] sound = sound
 fold_sound o s (p ∷ ps) sound = fold_sound o (sift s p) ps (sift_sound o s p sound)
 
-abbrev at_first : World → Sieved
+abbrev pub at_first : World → Sieved
 at_first o = record { world = o; kept = []; fallen = [] }
 
 run_none : (o : World) → run o [] ≡ Some o

@@ -1,5 +1,5 @@
 -- Laws of timelines, in their own words (this project's profile).
-use Rattle.std.specs.Prelude.{◌≡◌, ◌≢◌, ℕ, Bool, false, List, [], ◌∷◌, length, map, Option, Some, None, is_some, IsTrue, IsFalse, Result, Ok, Err}
+use Rattle.std.specs.Prelude.{◌≡◌, ◌≢◌, ℕ, ◌+◌, ◌-◌, Bool, false, List, [], ◌∷◌, length, map, take, drop, Option, Some, None, is_some, IsTrue, IsFalse, Result, Ok, Err}
 use Rattle.std.specs.List.{AllByRecursion}
 use Rattle.std.specs.Option.{option_map}
 use Rattle.pfl_base.specs.declared.refusal.Refusal.{Refusal}
@@ -99,6 +99,28 @@ abbrev pub ExcisionsAreRunsWithout : Type 0
 ExcisionsAreRunsWithout =
     (t : Timeline) (name : List ℕ) (k : ℕ) (b : Branch) → branch_of t name ≡ Some b → IsTrue (has_event k b)
     → events_of (command_step t (command.Excise name k)).timeline name ≡ Some (accepted t.opening (without k b.events))
+
+-- those stand that stood and are accepted
+abbrev pub ExcisionsLeaveStanding : Type 0
+ExcisionsLeaveStanding =
+    (t : Timeline) (name : List ℕ) (k : ℕ) (b : Branch) → branch_of t name ≡ Some b → IsTrue (has_event k b)
+    → option_map standing (branch_of (command_step t (command.Excise name k)).timeline name) ≡ Some (accepted t.opening (without k (standing b)))
+
+-- the place of an event that is refused is told, and the others come after it
+abbrev pub refused_with : World → ℕ → (World → List ℕ) → Result Stepped Refusal → List ℕ
+refused_with w place rest (Ok s) = rest s.world
+refused_with w place rest (Err why) = place ∷ rest w
+
+-- of events that come one after another, the places of those that are refused; n is the place in front of the first
+unfoldable pub refused_behind : ℕ → World → List Event → List ℕ
+refused_behind n w [] = []
+refused_behind n w (e ∷ es) = refused_with w (n + 1) (λ v. refused_behind (n + 1) v es) (step w e)
+
+-- the reply tells the places of the events behind it that are refused where the world in front of it goes on
+abbrev pub ExcisionsTellTheRefused : Type 0
+ExcisionsTellTheRefused =
+    (t : Timeline) (name : List ℕ) (k : ℕ) (b : Branch) (w : World) → branch_of t name ≡ Some b → IsTrue (has_event k b) → run t.opening (take (k - 1) b.events) ≡ Some w
+    → (command_step t (command.Excise name k)).reply ≡ reply.Excised (refused_behind k w (drop k b.events))
 
 -- where the list without the event has a run, no other event falls out
 abbrev pub NothingElseFallsOut : Type 0

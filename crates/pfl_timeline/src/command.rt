@@ -42,7 +42,7 @@ pub enum Command {
         branch: BranchWord,
         place: u32,
     },
-    /// Brings back what the branch had before its newest excision, unless an event was stepped behind it.
+    /// Brings back what the branch had before its newest excision, unless an event was accepted since.
     Restore {
         branch: BranchWord,
     },

@@ -1,6 +1,6 @@
 //! Laws of timelines. They have no code: each is a theorem over the definitions, which a function's contract names.
 
-ghost use Rattle.pfl_timeline.specs.Laws.{NewTimelinesAreTimelines, CommandsKeepTimelines, BranchesShowWorlds, BranchesShowTheirRuns, CommandsLeaveOthers, ExcisionsAreRunsWithout, NothingElseFallsOut, RestorationsTakeBack, NoReplyTellsWantOfMemory, StepsAreRuns};
+ghost use Rattle.pfl_timeline.specs.Laws.{NewTimelinesAreTimelines, CommandsKeepTimelines, BranchesShowWorlds, BranchesShowTheirRuns, CommandsLeaveOthers, ExcisionsAreRunsWithout, ExcisionsLeaveStanding, ExcisionsTellTheRefused, NothingElseFallsOut, RestorationsTakeBack, NoReplyTellsWantOfMemory, StepsAreRuns};
 
 /// The timeline that opens over a world keeps all that is true of each timeline.
 pub fn new_timelines_are_timelines()
@@ -34,9 +34,12 @@ pub fn steps_are_runs()
 {}
 
 /// An excision leaves what the list without the event gives: each event that is refused then falls out, and where none is
-/// refused, none falls out. A restoration takes it back.
+/// refused, none falls out. Those stand that stood. The reply tells the places of those that fall out, in the list as it was.
+/// A restoration takes it back.
 pub fn excisions_are_runs_without_the_event()
     ensures runs { ExcisionsAreRunsWithout }
+    ensures standing { ExcisionsLeaveStanding }
+    ensures told { ExcisionsTellTheRefused }
     ensures alone { NothingElseFallsOut }
     ensures restored { RestorationsTakeBack }
 {}
