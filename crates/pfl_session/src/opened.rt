@@ -93,8 +93,9 @@ impl<A: Allocator> Model for Opened<A> {
 }
 
 impl<A: Allocator + Copy> Opened<A> {
-    /// Opens a lab of so many sessions, from 1 to 8, over a timeline. Its journal has at most so many entries, from 1 to
-    /// 1000000. There are no entries yet, and no pass has seen any.
+    /// Opens a lab of so many sessions, from 1 to 8, over a timeline in which no branch has more than 4294967295 events, nor
+    /// can more be brought back on one. Its journal has at most so many entries, from 1 to 1000000. There are no entries yet,
+    /// and no pass has seen any.
     pub fn new(
         alloc: A,
         timeline: Timeline<A>,

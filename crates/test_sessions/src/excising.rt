@@ -43,14 +43,15 @@ fn restored(branch: BranchWord, wanted: Answer) -> Row {
     }
 }
 
-/// `main` is shown with so many events, so many of which stand, and the state 1.1 from this port.
-fn shown(events: usize, cursor: usize, port: Option<u16>) -> Row {
+/// `main` is shown with so many events, so many of which stand, and with so many states of node A, of which 1.1 is from this port.
+fn shown(events: usize, cursor: usize, states: usize, port: Option<u16>) -> Row {
     let branch = BranchWord::main();
     Row {
         command: Command::Show { branch },
         wanted: Answer::Shown {
             events,
             cursor,
+            states,
             port,
         },
     }
@@ -72,15 +73,16 @@ fn beginning() -> Option<[Command; 4]> {
 }
 
 /// All four events stand.
-fn while_all_stand() -> Option<[Row; 7]> {
+fn while_all_stand() -> Option<[Row; 8]> {
     let main = BranchWord::main();
     let nothing = Answer::Refused(Refused::NothingExcised);
     let no_event = Answer::Refused(Refused::NoEvent);
     let unknown = BranchWord::of(b"x")?;
     Some([
         excised(main, 1, Answer::Excised(Some([2, 3]))),
-        shown(1, 1, Some(1001)),
+        shown(1, 1, 1, Some(1001)),
         restored(main, Answer::Restored(4)),
+        shown(4, 4, 2, Some(1000)),
         restored(main, nothing),
         excised(main, 0, no_event),
         excised(main, 5, no_event),
@@ -89,7 +91,7 @@ fn while_all_stand() -> Option<[Row; 7]> {
 }
 
 /// Two of them stand.
-fn while_two_stand() -> [Row; 4] {
+fn while_two_stand() -> [Row; 5] {
     let branch = BranchWord::main();
     [
         Row {
@@ -97,8 +99,9 @@ fn while_two_stand() -> [Row; 4] {
             wanted: Answer::At(2),
         },
         excised(branch, 1, Answer::Excised(Some([2, 3]))),
-        shown(1, 0, None),
+        shown(1, 0, 0, None),
         restored(branch, Answer::Restored(2)),
+        shown(4, 2, 1, Some(1000)),
     ]
 }
 
@@ -109,7 +112,7 @@ fn before_a_step() -> [Row; 7] {
     let node = NodeId::A;
     [
         excised(main, 4, Answer::Excised(None)),
-        shown(3, 3, Some(1000)),
+        shown(3, 3, 1, Some(1000)),
         stepped(Event::Lose { ticket: 9 }, no_frame),
         restored(main, Answer::Restored(4)),
         excised(main, 4, Answer::Excised(None)),

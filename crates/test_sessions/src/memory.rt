@@ -10,7 +10,7 @@ use super::rows::{Answer, Row, is_wanted};
 use super::same::{replays, same_command};
 use pfl_base::{Dir, NodeId};
 use pfl_session::{AskFault, Closed, Entry, Lab, LabFault, Opened, Pass, Which};
-use pfl_timeline::{BranchWord, Command};
+use pfl_timeline::{BranchWord, Command, Refused};
 use pfl_world::Event;
 use std::alloc::Allocator;
 use std::marker::Brand;
@@ -65,11 +65,16 @@ fn answered_query() -> Option<[Command; 4]> {
     ])
 }
 
+/// The event at the place is taken out of `main`.
+fn excise(place: u32) -> Command {
+    let branch = BranchWord::main();
+    Command::Excise { branch, place }
+}
+
 /// Without the first of the three events node A had nothing to tell node B.
 fn excised_query() -> Option<[Command; 4]> {
-    let branch = BranchWord::main();
     let [query, flush, deliver, _] = answered_query()?;
-    Some([query, flush, deliver, Command::Excise { branch, place: 1 }])
+    Some([query, flush, deliver, excise(1)])
 }
 
 /// The call after state 1.1 stands.
@@ -81,44 +86,49 @@ fn once_answered(command: Command, wanted: Answer, spared: u64) -> Option<Trial>
     })
 }
 
-/// Brings the three events back.
-fn restoration() -> Option<Trial> {
-    let branch = BranchWord::main();
+/// The call after the first event was taken out, and the two behind it fell out.
+fn once_excised(command: Command, wanted: Answer) -> Option<Trial> {
     Some(Trial {
         before: excised_query()?,
-        row: Row {
-            command: Command::Restore { branch },
-            wanted: Answer::Restored(3),
-        },
+        row: Row { command, wanted },
         spared: 0,
     })
 }
 
+/// A branch of the first events of `main`.
+fn fork(place: u32) -> Option<Command> {
+    Some(Command::Fork {
+        from: BranchWord::main(),
+        place,
+        name: BranchWord::of(b"other")?,
+    })
+}
+
 /// The calls whose requests are refused.
-fn trials() -> Option<[Trial; 8]> {
+fn trials() -> Option<[Trial; 12]> {
     let branch = BranchWord::main();
     let node = NodeId::A;
     let shown = Answer::Shown {
         events: 4,
         cursor: 4,
+        states: 1,
         port: Some(1000),
     };
-    let fork = Command::Fork {
-        from: branch,
-        place: 2,
-        name: BranchWord::of(b"other")?,
-    };
-    let excise = Command::Excise { branch, place: 1 };
+    let no_event = Answer::Refused(Refused::NoEvent);
     Some([
         once_answered(step(SECOND_HOST)?, Answer::Stepped, 0)?,
         // The list of what is pending is made at one go where that much memory is there, and else it grows.
         once_answered(on_main(Event::Flush { node }), Answer::Stepped, 1)?,
         once_answered(Command::Back { branch, n: 1 }, Answer::At(3), 0)?,
-        once_answered(fork, Answer::Forked, 0)?,
+        once_answered(fork(2)?, Answer::Forked, 0)?,
         once_answered(Command::Show { branch }, shown, 0)?,
         once_answered(Command::Names, Answer::Names(1), 0)?,
-        once_answered(excise, Answer::Excised(Some([2, 3])), 0)?,
-        restoration()?,
+        once_answered(excise(1), Answer::Excised(Some([2, 3])), 0)?,
+        once_answered(excise(4), Answer::Excised(None), 0)?,
+        once_answered(excise(5), no_event, 0)?,
+        once_excised(step(SECOND_HOST)?, Answer::Stepped)?,
+        once_excised(fork(0)?, Answer::Forked)?,
+        once_excised(Command::Restore { branch }, Answer::Restored(3))?,
     ])
 }
 

@@ -14,11 +14,12 @@ pub(super) enum Answer {
     At(usize),
     /// The branch is made.
     Forked,
-    /// The branch has so many events, and so many of them stand. The one state of node A is 1.1 from this port; there is none
-    /// where no port is given.
+    /// The branch has so many events, and so many of them stand. Node A has so many states, and 1.1 is from this port; there is
+    /// no 1.1 where no port is given.
     Shown {
         events: usize,
         cursor: usize,
+        states: usize,
         port: Option<u16>,
     },
     /// There are so many names.
@@ -38,12 +39,12 @@ pub(super) struct Row {
     pub(super) wanted: Answer,
 }
 
-/// The one state of node A is 1.1 from this port; there is none where no port is given.
-fn has_state<A: Allocator>(world: &World<A>, port: Option<u16>) -> bool {
+/// Node A has so many states, and 1.1 is from this port; there is no 1.1 where no port is given.
+fn has_states<A: Allocator>(world: &World<A>, count: usize, port: Option<u16>) -> bool {
     let states = world.node(NodeId::A).states();
     let first = states.by_name(StateName { creator: 1, id: 1 });
     let from = first.map(|state| state.stack().near.port);
-    from == port && states.len() == usize::from(port.is_some())
+    from == port && states.len() == count
 }
 
 /// These are the two places, or there are none.
@@ -63,9 +64,10 @@ pub(super) fn is_wanted<A: Allocator>(wanted: Answer, reply: &Reply<A>) -> bool 
         Answer::Shown {
             events,
             cursor,
+            states,
             port,
         } => {
-            matches!(reply, Reply::Shown { events: e, cursor: c, world, .. } if (*e, *c) == (events, cursor) && has_state(world, port))
+            matches!(reply, Reply::Shown { events: e, cursor: c, world, .. } if (*e, *c) == (events, cursor) && has_states(world, states, port))
         }
         Answer::Names(count) => matches!(reply, Reply::Names(names) if names.len() == count),
         Answer::Excised(fallen) => {
