@@ -10,7 +10,7 @@ use std::sync::Wait;
 use std::test::*;
 
 /// What the last session of a lab is answered.
-pub(super) fn one_speaks<J: Which, R: Wait>(
+fn one_speaks<J: Which, R: Wait>(
     rt: &R,
     alloc: Global,
     opened: Opened<Global>,
@@ -26,6 +26,17 @@ pub(super) fn one_speaks<J: Which, R: Wait>(
     }
 }
 
+/// What the only session of a new lab is answered, whose journal has room for so many entries.
+pub(super) fn alone<R: Wait>(
+    rt: &R,
+    alloc: Global,
+    journal: usize,
+    lines: &[u8],
+) -> Result<Spoken, Fail> {
+    let opened = opened(alloc, 1, journal)?;
+    Ok(one_speaks::<Brand, _>(rt, alloc, opened, lines).ok_or("no pass")?)
+}
+
 /// A view tells its number and the branches, their events and the sum of their cursors, the states of node a and of node b, the
 /// frames in flight, and what is pending. The packet makes a state of node a, of which node b is to be told.
 #[test]
@@ -34,23 +45,27 @@ fn one_session_is_answered(rt: HostRuntime) -> Result<(), Fail> {
         b"step main packet a out udp 10.0.0.1:1000 192.0.2.9:53 40\nview\n# a comment\n\nview now\nfly\n \tview \r\nback main 1\nview\nnames";
     let answers =
         b"step pass 1.1 dropped 0\nview 1 1 1 1 1 0 0 1\nbad 6 Extra\nbad 3 Unknown\nview 1 1 1 1 1 0 0 1\nat 0\nview 2 1 1 0 0 0 0 0\nnames main\n";
-    let opened = opened(rt.alloc(), 1, 1_000_000)?;
-    let spoken = one_speaks::<Brand, _>(&rt, rt.alloc(), opened, lines.as_slice()).ok_or(
-        "no pass",
-    )?;
+    let spoken = alone(&rt, rt.alloc(), 1_000_000, lines)?;
     assert!(rt; spoken.is(answers, 10, 2));
+    Ok(())
+}
+
+/// Node b is told of the first packet's state. Without that packet there is nothing to send and nothing to deliver, and the state of
+/// the second packet, from port 1001, is the first one of node a.
+#[test]
+fn an_excision_and_its_restoration_are_answered(rt: HostRuntime) -> Result<(), Fail> {
+    let lines =
+        b"step main packet a out udp 10.0.0.1:1000 192.0.2.9:53 40\nstep main flush a\nstep main deliver 1\nstep main packet a out udp 10.0.0.1:1001 192.0.2.9:53 40\nexcise main 1\nview\nrestore main\nview\nrestore main\n";
+    let answers =
+        b"step pass 1.1 dropped 0\nstep sent 1 148 dropped 0\nstep taken 1 dropped 0\nstep pass 1.2 dropped 0\nexcised 2 3\nview 5 1 1 1 1 0 0 1\nrestored 4\nview 6 1 4 4 2 1 0 1\nrefused 10 NothingExcised\n";
+    let spoken = alone(&rt, rt.alloc(), 1_000_000, lines)?;
+    assert!(rt; spoken.is(answers, 9, 0));
     Ok(())
 }
 
 #[test]
 fn a_full_journal_says_full(rt: HostRuntime) -> Result<(), Fail> {
-    let opened = opened(rt.alloc(), 1, 1)?;
-    let spoken = one_speaks::<Brand, _>(
-        &rt,
-        rt.alloc(),
-        opened,
-        b"names\nnames\nview\n".as_slice(),
-    ).ok_or("no pass")?;
+    let spoken = alone(&rt, rt.alloc(), 1, b"names\nnames\nview\n")?;
     assert!(rt; spoken.is(b"names main\nfull\nview 1 1 0 0 0 0 0 0\n", 3, 0));
     Ok(())
 }

@@ -3,7 +3,7 @@ ghost use Rattle.std.specs.Prelude.{◌≡◌};
 ghost use Rattle.std.specs.List.{AllByRecursion};
 ghost use Rattle.pfl_session.specs.Passes.{IsPassOf};
 
-use super::dialogues::one_speaks;
+use super::dialogues::alone;
 use super::lab::{Spoken, opened, replays, speak_to_heap, take};
 use pfl_script::{Ended, EngineFault};
 use pfl_serve::Open;
@@ -16,13 +16,13 @@ use test_memory::{RefusesOne, Try, requests_of};
 
 /// The first session's lines.
 const LINES: &[u8] =
-    b"step main packet a out udp 10.0.0.1:1000 192.0.2.9:53 40\nstep main flush a\nview\nshow main\nnames\nback main 1\n";
+    b"step main packet a out udp 10.0.0.1:1000 192.0.2.9:53 40\nstep main flush a\nview\nshow main\nnames\nback main 1\nexcise main 1\nrestore main\n";
 
 /// Its first answers, each of a line: one state is told in a frame of a header (20 bytes), a group's (4) and one record (124).
 const FIRST: &[u8] = b"step pass 1.1 dropped 0\nstep sent 1 148 dropped 0\nview 2 1 2 2 1 0 1 0\n";
 
-/// Its last answers, each of a line. Between them stands the branch that is shown.
-const LAST: &[u8] = b"names main\nat 1\n";
+/// Its last answers, each of a line. Between them stands the branch that is shown. Without the packet there is nothing to send.
+const LAST: &[u8] = b"names main\nat 1\nexcised 2\nrestored 1\n";
 
 /// The text is a first part of the whole one that ends with an answer.
 fn ends_with_an_answer(whole: &[u8], text: &[u8]) -> bool {
@@ -35,7 +35,7 @@ fn ends_with_an_answer(whole: &[u8], text: &[u8]) -> bool {
 
 /// What came of the session, if it was answered as it should be while one request was refused that came or not.
 fn tried(whole: &[u8], spoken: &Spoken, came: bool) -> Option<Try> {
-    let answered = spoken.is(whole, 6, 0);
+    let answered = spoken.is(whole, 8, 0);
     let wanting = spoken.result == Err(EngineFault::NoMemory);
     match (answered, came) {
         (true, true) => Some(Try::Spared),
@@ -137,9 +137,7 @@ fn service_without<R: Wait>(
 #[test]
 fn each_request_of_a_service_is_refused_in_turn(rt: HostRuntime) -> Result<(), Fail> {
     let heap = rt.alloc();
-    let unrefused = one_speaks::<Brand, _>(&rt, heap, opened(heap, 1, 1000)?, LINES).ok_or(
-        "no pass",
-    )?;
+    let unrefused = alone(&rt, heap, 1000, LINES)?;
     let whole = unrefused.text.as_slice();
     assert!(rt; whole.starts_with(FIRST) && whole.ends_with(LAST));
     let memory = RefusesOne::new(heap);

@@ -1,4 +1,0 @@
-use Rattle.test_serving.proofs.dialogues.one_session_is_answered.Given as goal
-
-abbrev pub ghosts-one_speaks : goal.ghosts-one_speaks
-ghosts-one_speaks g a = record { publisher = a.opened.publisher; tallies = a.opened.tallies; opening = a.opened.opening; limit = a.opened.limit }
