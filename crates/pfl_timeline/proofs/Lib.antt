@@ -4,8 +4,8 @@ pub mod Marks
 pub mod Runs
 pub mod Recording
 pub mod Distinct
+pub mod ByName
 pub mod Places
-pub mod Searched
 pub mod Refusals
 pub mod Asked
 pub mod Wants

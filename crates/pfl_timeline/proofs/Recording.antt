@@ -1,6 +1,6 @@
 -- An event whose edits go onto the tape of a history, and is taken back to the mark below them.
 use Rattle.std.specs.Prelude.{◌≡◌, ℕ, ◌+◌, ◌<◌, ◌≤◌, List, [], ◌∷◌, ◌++◌, length, get_or, take, Ok, refl}
-use Rattle.std.proofs.Common.{sym, ◌∙◌, ap, subst, arith}
+use Rattle.std.proofs.Common.{sym, ◌∙◌, subst, arith}
 use Rattle.pfl_edits.specs.Changes.{back, Fits}
 use Rattle.pfl_edits.specs.Tapes.{above, below}
 use Rattle.pfl_world.specs.declared.edit.WorldEdit.{WorldEdit}

@@ -1,7 +1,8 @@
 -- Where memory is wanted, what is asked is not refused.
-use Rattle.std.specs.Prelude.{◌≡◌, ◌⊎◌, ℕ, ◌+◌, ◌-◌, Bool, true, false, not, nat_lt, nat_le, ◌==◌, List, [], ◌∷◌, ◌++◌, length, filter, get_or, position, Option, Some, None, is_some, IsSomeAnd, Result, Ok, Err, refl}
+use Rattle.std.specs.Prelude.{◌≡◌, ◌⊎◌, ℕ, ◌+◌, ◌-◌, Bool, true, false, not, nat_lt, nat_le, ◌==◌, List, [], ◌∷◌, ◌++◌, length, filter, Option, Some, None, is_some, IsSomeAnd, Result, Ok, Err, refl}
 use Rattle.std.specs.List.{AllByRecursion}
 use Rattle.std.specs.Option.{option_map_or}
+use Rattle.std.specs.Map.{values_of, lookup}
 use Rattle.std.proofs.Common.{sym, ◌∙◌, ap, subst, inl, inr}
 use Rattle.pfl_base.specs.declared.node_id.NodeId.{NodeId}
 use Rattle.pfl_base.specs.declared.refusal.Refusal.{Refusal}
@@ -40,9 +41,9 @@ use Rattle.pfl_timeline.specs.Replies.{Reply, Replied, Forked, Removed, Shown, E
 use Rattle.pfl_timeline.specs.Rooted.{Rooted, shown}
 use Rattle.pfl_timeline.proofs.Rooted.{Accepts}
 use Rattle.pfl_timeline.specs.Timelines.{Branch, Timeline, branch_of, is_branch_name, same_name, world_of}
-use Rattle.pfl_timeline.specs.Kept.{timeline_of, AreKept}
+use Rattle.pfl_timeline.specs.Kept.{timeline_of, StandByName}
 use Rattle.pfl_timeline.proofs.Asked.{asked_of, step-asks, is-forward, is-fork, is-show, is-names, is-excise}
-use Rattle.pfl_timeline.proofs.Places.{has_name, accepted-at, shows-at}
+use Rattle.pfl_timeline.proofs.Places.{Entries, accepted-at, shows-at}
 use Rattle.pfl_timeline.proofs.Refusals.{told-apart}
 
 -- ---- no event is refused for want of memory
@@ -150,10 +151,10 @@ excise_accepts r k has = λ t stands.
 -- ---- a command
 
 -- the branch of the name may want memory for the event
-pub may_at : (name : List ℕ) (e : Event) (rs : List Rooted) (i : ℕ) (old : Rooted) (t : Timeline) → timeline_of rs ≡ t → position (has_name name) rs ≡ Some i → old ≡ get_or rs i old → AreKept rs
+pub may_at : (name : List ℕ) (e : Event) (es : Entries) (old : Rooted) (t : Timeline) → timeline_of (values_of es) ≡ t → StandByName es → Some old ≡ lookup (same_name name) es
     → Accepts (λ u b. step_reply u e b) old ⊎ IsSomeAnd (shown old) (λ v. Reads v e) → StepMayWant t name e
-may_at name e rs i old t view place here kept (inl accepts) = inl (subst IsAccepted (sym (step-asks t name e)) (accepted-at (λ u b. step_reply u e b) name rs i old t view place here kept accepts))
-may_at name e rs i old t view place here kept (inr reads) = inr (shows-at (λ v. Reads v e) name rs i old t view place here kept reads)
+may_at name e es old t view stand here (inl accepts) = inl (subst IsAccepted (sym (step-asks t name e)) (accepted-at name es old t view stand here (λ u b. step_reply u e b) accepts))
+may_at name e es old t view stand here (inr reads) = inr (shows-at name es old t view stand here (λ v. Reads v e) reads)
 
 pub step_wants : (t : Timeline) (c : Command) (name : List ℕ) (e : Event) → c ≡ command.Step name e → StepMayWant t name e → MayWantMemory t c
 step_wants t c name e is may = record {

@@ -2,6 +2,7 @@
 -- said (this project's profile).
 use Rattle.std.specs.Prelude.{◌≡◌, ◌≤◌, ℕ, false, List, [], ◌∷◌, length, get_or, map, take, Option, Some, is_some, IsTrue, IfSome}
 use Rattle.std.specs.List.{AllByRecursion}
+use Rattle.std.specs.Map.{values_of}
 use Rattle.std.specs.Option.{option_map}
 use Rattle.pfl_edits.specs.Changes.{back, Fits}
 use Rattle.pfl_edits.specs.Tapes.{above}
@@ -71,3 +72,12 @@ timeline_of rs = record { opening = opening_of rs; branches = map (λ r. r.branc
 pub record AreKept (rs : List Rooted) : Type 0 where
   pub one_opening : AllByRecursion (λ r. r.opening ≡ opening_of rs) rs
   pub timeline : IsTimeline (timeline_of rs)
+
+-- each branch under its name
+abbrev pub by_name : List Rooted → List (List ℕ × Rooted)
+by_name rs = map (λ r. (r.branch.name, r)) rs
+
+-- the branches stand under their names, and make a timeline
+pub record StandByName (es : List (List ℕ × Rooted)) : Type 0 where
+  pub named : es ≡ by_name (values_of es)
+  pub kept : AreKept (values_of es)

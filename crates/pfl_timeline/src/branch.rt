@@ -9,23 +9,24 @@ ghost use Rattle.pfl_timeline.specs.Commands.{extended, undone, first_events};
 ghost use Rattle.pfl_timeline.specs.Excisions.{has_event, excised, fallen_places};
 ghost use Rattle.pfl_timeline.specs.Rooted.{shown};
 ghost use Rattle.pfl_timeline.specs.inner.Rooted.{with_cursor, with_former};
-ghost use Rattle.pfl_timeline.specs.Timelines.{IsBranch, is_branch_name, same_name};
+ghost use Rattle.pfl_timeline.specs.Timelines.{IsBranch, is_branch_name};
 
 use crate::history::History;
 use crate::word::BranchWord;
 use pfl_base::Refusal;
 use pfl_edits::NoMemory;
 use pfl_world::{Event, Outcome, World};
-use std::alloc::Allocator;
+use std::alloc::{AllocError, Allocator};
 use std::marker::Model;
 use std::mem;
 
 /// A branch of a timeline: its name, its events, and the world that those before its cursor give.
+// The histories stand in boxes, since a branch is moved when it is made, and when one before it is dropped.
 pub struct Branch<A: Allocator> {
     name: BranchWord,
-    history: History<A>,
+    history: Box<History<A>, A>,
     /// What it was before its newest excision, as long as that can be taken back.
-    former: Option<History<A>>,
+    former: Option<Box<History<A>, A>>,
 }
 
 // Not derived: to a proof a written drop is one call, where a derived one is opened again on every way out.
@@ -47,11 +48,20 @@ impl<A: Allocator> Model for Branch<A> {
 
     ghost coded = { coded_rooted };
 
+    ghost use Rattle.std.specs.Prelude.{box_value};
+    ghost use Rattle.std.specs.Option.{option_map};
     ghost use Rattle.pfl_timeline.specs.Kept.{IsNamed, rooted};
 
-    ghost view = { λ b. rooted b.name b.history b.former };
+    ghost view = { λ b. rooted b.name b.history.value (option_map box_value b.former) };
 
-    ghost invariant = { λ b. IsNamed b.name b.history b.former };
+    ghost invariant = { λ b. IsNamed b.name b.history.value (option_map box_value b.former) };
+}
+
+/// The history in a box.
+fn boxed<A: Allocator>(alloc: A, history: History<A>) -> Result<Box<History<A>, A>, NoMemory>
+    ensures history { IfOk result (λ boxed. boxed.value ≡ history) }
+{
+    Ok(Box::new(alloc, history).map_err(AllocError::from)?)
 }
 
 impl<A: Allocator> Branch<A> {
@@ -60,13 +70,6 @@ impl<A: Allocator> Branch<A> {
         ensures name { result.now ≡ self.now.branch.name }
     {
         &self.name
-    }
-
-    /// Whether this is its name.
-    pub(crate) fn is_named(&self, name: &BranchWord) -> bool
-        ensures named { result ≡ same_name self.now.branch.name name.now }
-    {
-        self.name.bytes() == name.bytes()
     }
 
     /// Its events, those behind the cursor too.
@@ -131,16 +134,16 @@ impl<A: Allocator> Branch<A> {
 }
 
 impl<A: Allocator + Copy> Branch<A> {
-    /// A branch without events. It takes no memory yet.
-    pub(crate) fn new(alloc: A, name: BranchWord, world: World<A>) -> Self
+    /// A branch without events.
+    pub(crate) fn new(alloc: A, name: BranchWord, world: World<A>) -> Result<Self, NoMemory>
         requires named { IsTrue (is_branch_name name) }
-        ensures branch { result ≡ record { opening = world; branch = record { name = name; events = []; cursor = 0; former = None } } }
+        ensures branch { IfOk result (λ made. made ≡ record { opening = world; branch = record { name = name; events = []; cursor = 0; former = None } }) }
     {
-        Branch {
+        Ok(Branch {
             name,
-            history: History::new(alloc, world),
+            history: boxed(alloc, History::new(alloc, world))?,
             former: None,
-        }
+        })
     }
 
     /// Puts an event behind those that stand, in place of those that had been undone, and of what could be brought back.
@@ -199,7 +202,8 @@ impl<A: Allocator + Copy> Branch<A> {
             return Ok(None);
         }
         let (rest, fallen) = self.history.without(place)?;
-        self.former = Some(mem::replace(&mut self.history, rest));
+        let history = boxed(*Box::allocator(&self.history), rest)?;
+        self.former = Some(mem::replace(&mut self.history, history));
         Ok(Some(fallen))
     }
 
@@ -209,9 +213,10 @@ impl<A: Allocator + Copy> Branch<A> {
         requires named { IsTrue (is_branch_name name) }
         ensures branch { IfOk result (λ forked. forked ≡ record { opening = self.now.opening; branch = first_events place name self.now.branch }) }
     {
+        let history = self.history.first(place)?;
         Ok(Branch {
             name,
-            history: self.history.first(place)?,
+            history: boxed(*Box::allocator(&self.history), history)?,
             former: None,
         })
     }

@@ -1,28 +1,33 @@
 //! Timelines.
 
-ghost use Rattle.std.specs.Prelude.{◌≡◌, ◌≢◌, map, position, IfOk, OnErr};
+ghost use Rattle.std.specs.Prelude.{◌≡◌, ◌≢◌, map, IfOk, OnErr};
 ghost use Rattle.std.specs.List.{AllByRecursion};
 ghost use Rattle.std.specs.Option.{option_map};
 ghost use Rattle.pfl_timeline.specs.Commands.{replied, step_command, back_command, forward_command, fork_refusal, fork_command, drop_command, show_command, names_command, excise_command, restore_command, command_step};
 ghost use Rattle.pfl_timeline.specs.Memory.{IsAccepted, MayWantMemory, StepMayWant};
 ghost use Rattle.pfl_timeline.specs.Replies.{reply_of, Refused as Refusing};
 ghost use Rattle.pfl_timeline.specs.inner.Replies.{moved, fell_out, brought_back};
-ghost use Rattle.pfl_timeline.specs.Timelines.{IsTimeline, new_timeline, same_name};
+ghost use Rattle.pfl_timeline.specs.Timelines.{IsTimeline, new_timeline};
 
 use crate::branch::Branch;
 use crate::command::Command;
 use crate::refused::Refused;
 use crate::reply::Reply;
 use crate::word::BranchWord;
+use indexmap::IndexMap;
 use pfl_base::Refusal;
 use pfl_edits::NoMemory;
 use pfl_world::{Event, World};
 use std::alloc::Allocator;
+use std::hash::{BuildHasherDefault, FoldHasher};
 use std::marker::Model;
+
+/// Branches by their names, in the order of their making.
+type Branches<A> = IndexMap<BranchWord, Branch<A>, BuildHasherDefault<FoldHasher>, A>;
 
 /// Branches of events over one opening world.
 pub struct Timeline<A: Allocator> {
-    branches: Vec<Branch<A>, A>,
+    branches: Branches<A>,
 }
 
 // Not derived: to a proof a written drop is one call, where a derived one is opened again on every way out.
@@ -40,27 +45,16 @@ impl<A: Allocator> Model for Timeline<A> {
 
     ghost coded = { coded_timeline };
 
-    ghost use Rattle.pfl_timeline.specs.Kept.{AreKept, timeline_of};
+    ghost use Rattle.indexmap.specs.IndexMap.{values};
+    ghost use Rattle.pfl_timeline.specs.Kept.{StandByName, timeline_of};
 
-    ghost view = { λ t. timeline_of t.branches.items };
+    ghost view = { λ t. timeline_of (values t.branches) };
 
-    ghost invariant = { λ t. AreKept t.branches.items };
+    ghost invariant = { λ t. StandByName t.branches.entries };
 }
 
 /// The most branches of a timeline.
 const MOST_BRANCHES: usize = 16;
-
-/// Where the branch of the name stands.
-fn place_of<A: Allocator>(branches: &[Branch<A>], name: &BranchWord) -> Option<usize>
-    ensures place { result ≡ position (λ r. same_name r.branch.name name.now) branches.now }
-{
-    for place in 0..branches.len() {
-        if branches[place].is_named(name) {
-            return Some(place);
-        }
-    }
-    None
-}
 
 /// The reply to an event that did not happen, unless it wanted memory.
 fn refused<A: Allocator>(refusal: Refusal) -> Result<Reply<A>, NoMemory>
@@ -109,7 +103,7 @@ impl<A: Allocator> Timeline<A> {
         ensures branches { map (λ r. r.branch) result.now ≡ self.now.branches }
         ensures openings { AllByRecursion (λ r. r.opening ≡ self.now.opening) result.now }
     {
-        self.branches.as_slice()
+        self.branches.values().as_slice()
     }
 
     /// Tells a proof what is true of each timeline. It does nothing.
@@ -124,10 +118,9 @@ impl<A: Allocator> Timeline<A> {
     pub fn back(&mut self, name: BranchWord, n: u32) -> Reply<A>
         ensures step { back_command self.old name n ≡ replied self.new (reply_of result) }
     {
-        let Some(place) = place_of(&self.branches, &name) else {
+        let Some(branch) = self.branches.get_mut(&name) else {
             return Reply::Refused(Refused::NoBranch);
         };
-        let branch = &mut self.branches[place];
         let cursor = branch.back(n);
         branch.known();
         moved(cursor, Refused::TooFarBack)
@@ -137,10 +130,9 @@ impl<A: Allocator> Timeline<A> {
     fn restore(&mut self, name: &BranchWord) -> Reply<A>
         ensures step { restore_command self.old name.now ≡ replied self.new (reply_of result) }
     {
-        let Some(place) = place_of(&self.branches, name) else {
+        let Some(branch) = self.branches.get_mut(name) else {
             return Reply::Refused(Refused::NoBranch);
         };
-        let branch = &mut self.branches[place];
         let cursor = branch.restore();
         branch.known();
         restored(cursor)
@@ -150,13 +142,13 @@ impl<A: Allocator> Timeline<A> {
     fn remove(&mut self, name: &BranchWord) -> Reply<A>
         ensures step { drop_command self.old name.now ≡ replied self.new (reply_of result) }
     {
-        let Some(place) = place_of(&self.branches, name) else {
+        if !self.branches.contains_key(name) {
             return Reply::Refused(Refused::NoBranch);
-        };
-        if self.branches().len() <= 1 {
+        }
+        if self.branches.len() <= 1 {
             return Reply::Refused(Refused::LastBranch);
         }
-        self.branches.remove(place);
+        self.branches.shift_remove(name);
         Reply::Removed
     }
 }
@@ -167,9 +159,10 @@ impl<A: Allocator + Copy> Timeline<A> {
         ensures new { IfOk result (λ t. t ≡ new_timeline world) }
     {
         world.known();
-        let mut branches = Vec::with_capacity(alloc, 1)?;
-        let main = Branch::new(alloc, BranchWord::main(), world);
-        branches.push(main).unwrap();
+        let mut branches = IndexMap::with_capacity(alloc, 1)?;
+        let name = BranchWord::main();
+        let main = Branch::new(alloc, name, world)?;
+        branches.insert(name, main).unwrap();
         Ok(Timeline { branches })
     }
 
@@ -179,10 +172,9 @@ impl<A: Allocator + Copy> Timeline<A> {
         ensures memory { OnErr result (StepMayWant self.old name.now event.now) }
         ensures unchanged { OnErr result (self.new ≡ self.old) }
     {
-        let Some(place) = place_of(&self.branches, name) else {
+        let Some(branch) = self.branches.get_mut(name) else {
             return Ok(Reply::Refused(Refused::NoBranch));
         };
-        let branch = &mut self.branches[place];
         let stepped = branch.extend(event);
         branch.known();
         match stepped {
@@ -197,10 +189,9 @@ impl<A: Allocator + Copy> Timeline<A> {
         ensures memory { OnErr result (IsAccepted (forward_command self.old name.now n)) }
         ensures unchanged { OnErr result (self.new ≡ self.old) }
     {
-        let Some(place) = place_of(&self.branches, name) else {
+        let Some(branch) = self.branches.get_mut(name) else {
             return Ok(Reply::Refused(Refused::NoBranch));
         };
-        let branch = &mut self.branches[place];
         let cursor = branch.forward(n);
         branch.known();
         let cursor = cursor?;
@@ -213,10 +204,9 @@ impl<A: Allocator + Copy> Timeline<A> {
         ensures memory { OnErr result (IsAccepted (excise_command self.old name.now event)) }
         ensures unchanged { OnErr result (self.new ≡ self.old) }
     {
-        let Some(place) = place_of(&self.branches, name) else {
+        let Some(branch) = self.branches.get_mut(name) else {
             return Ok(Reply::Refused(Refused::NoBranch));
         };
-        let branch = &mut self.branches[place];
         let fallen = branch.excise(event);
         branch.known();
         let fallen = fallen?;
@@ -227,13 +217,13 @@ impl<A: Allocator + Copy> Timeline<A> {
     fn fork_refusal(&self, from: &Branch<A>, place: usize, name: &BranchWord) -> Option<Refused>
         ensures { result ≡ fork_refusal self.now place name.now from.now.branch }
     {
-        if place_of(&self.branches, name).is_some() {
+        if self.branches.contains_key(name) {
             Some(Refused::NameTaken)
         } else if !name.is_name() {
             Some(Refused::BadName)
         } else if from.events().len() < place {
             Some(Refused::NothingForward)
-        } else if self.branches().len() >= MOST_BRANCHES {
+        } else if self.branches.len() >= MOST_BRANCHES {
             Some(Refused::BranchesFull)
         } else {
             None
@@ -251,17 +241,17 @@ impl<A: Allocator + Copy> Timeline<A> {
         ensures memory { OnErr result (IsAccepted (fork_command self.old from.now place name)) }
         ensures unchanged { OnErr result (self.new ≡ self.old) }
     {
-        let Some(from) = place_of(&self.branches, from) else {
+        let Some(from) = self.branches.get(from) else {
             return Ok(Reply::Refused(Refused::NoBranch));
         };
         let place = place as usize;
-        if let Some(why) = self.fork_refusal(&self.branches[from], place, &name) {
+        if let Some(why) = self.fork_refusal(from, place, &name) {
             return Ok(Reply::Refused(why));
         }
-        self.branches.reserve(1)?;
-        let branch = self.branches[from].forked(place, name)?;
+        let branch = from.forked(place, name)?;
         branch.known();
-        self.branches.push(branch).unwrap();
+        self.branches.reserve(1)?;
+        self.branches.insert(name, branch).unwrap();
         Ok(Reply::Forked)
     }
 
@@ -270,10 +260,7 @@ impl<A: Allocator + Copy> Timeline<A> {
         ensures step { IfOk result (λ reply. names_command self.now ≡ replied self.now (reply_of reply)) }
     {
         let alloc = *self.branches.allocator();
-        let mut names = Vec::with_capacity(alloc, self.branches.len())?;
-        for branch in &self.branches {
-            names.push(*branch.name()).unwrap();
-        }
+        let names = Vec::from_slice(alloc, self.branches.keys().as_slice())?;
         Ok(Reply::Names(names))
     }
 
@@ -282,10 +269,9 @@ impl<A: Allocator + Copy> Timeline<A> {
         ensures step { IfOk result (λ reply. show_command self.now name.now ≡ replied self.now (reply_of reply)) }
         ensures memory { OnErr result (IsAccepted (show_command self.now name.now)) }
     {
-        let Some(place) = place_of(&self.branches, name) else {
+        let Some(branch) = self.branches.get(name) else {
             return Ok(Reply::Refused(Refused::NoBranch));
         };
-        let branch = &self.branches[place];
         let world = branch.world().copy()?;
         Ok(Reply::Shown {
             name: *branch.name(),

@@ -145,7 +145,7 @@ fn a_branch_wants_memory(rt: HostRuntime) {
     let branch = BranchWord::main();
     let purge = step(Event::Purge { node: NodeId::A });
     let commands = [purge, Command::Show { branch }];
-    let seen = over(rt.alloc(), EDITS + 9344, &[], 0, &commands);
+    let seen = over(rt.alloc(), EDITS + 7904, &[], 0, &commands);
     assert!(rt; seen == one_branch(2, 0, 0, 0));
 }
 
