@@ -1,0 +1,1 @@
+"""A face for people over the laboratory's lines: `./lab shell`, and what goes with it."""

@@ -1,0 +1,63 @@
+"""What `./lab` answers without the program is what the program answers."""
+from __future__ import annotations
+
+import os
+import subprocess
+import sys
+import unittest
+from typing import Sequence
+
+from . import TOP, program
+
+
+def lab(*words: str, given: str = "") -> "subprocess.CompletedProcess[str]":
+    """What `./lab` answers to words; it has seconds, in which nothing could be proved."""
+    command = (sys.executable, f"{TOP}/lab", *words)
+    return subprocess.run(command, input=given, capture_output=True, text=True, timeout=20)
+
+
+class StoredHelp(unittest.TestCase):
+    def own(self, *words: str) -> str:
+        # (the program calls itself by the name of its file)
+        ran = subprocess.run((program(), *words), capture_output=True, text=True, timeout=20)
+        return ran.stdout
+
+    def stored(self, name: str) -> str:
+        with open(os.path.join(TOP, "shell", "texts", f"{name}.txt"), encoding="utf-8") as it:
+            return it.read()
+
+    def same(self, name: str, words: Sequence[str]) -> None:
+        self.assertEqual(self.stored(name), self.own(*words))
+
+    def test_the_programs_help(self) -> None:
+        self.same("help", ["--help"])
+
+    def test_the_help_of_each_word(self) -> None:
+        for word in ("run", "check", "serve"):
+            with self.subTest(word):
+                self.same(word, [word, "--help"])
+                self.assertEqual(lab(word, "--help").stdout, self.stored(word))
+
+
+class AtOnce(unittest.TestCase):
+    def test_help_lists_the_programs_words_and_its_own(self) -> None:
+        ran = lab("--help")
+        self.assertEqual((ran.returncode, ran.stderr), (0, ""))
+        for word in ("run", "check", "serve", "try", "build"):
+            self.assertRegex(ran.stdout, rf"(?m)^  {word} +\w")
+
+    def test_no_word_is_a_fault_with_the_help(self) -> None:
+        ran = lab()
+        self.assertEqual((ran.returncode, ran.stdout, ran.stderr), (2, "", lab("--help").stdout))
+
+    def test_an_unknown_word_is_named(self) -> None:
+        ran = lab("rum")
+        self.assertEqual((ran.returncode, ran.stdout), (2, ""))
+        self.assertEqual(ran.stderr, "lab: there is no command 'rum'; did you mean 'run'?\n")
+
+    def test_try_knows_its_words(self) -> None:
+        self.assertEqual(lab("try", "serve").returncode, 2)
+
+
+if __name__ == "__main__":
+    unittest.main()
