@@ -1,7 +1,11 @@
-"""Tests of what stands around the program: `python3 -m unittest discover -t . -s shell/tests`, with its path in PFL_LAB."""
+"""Tests of the shell over the built program: `python3 -m unittest discover -t . -s shell/tests`, with its path in PFL_LAB."""
 from __future__ import annotations
 
+import atexit
 import os
+from typing import List
+
+from ..laboratory import Laboratory
 
 TOP = os.path.dirname(os.path.dirname(os.path.dirname(os.path.realpath(__file__))))
 
@@ -9,3 +13,19 @@ TOP = os.path.dirname(os.path.dirname(os.path.dirname(os.path.realpath(__file__)
 def program() -> str:
     """The program that the tests run: the one that PFL_LAB names, else the one that `./lab build` makes."""
     return os.environ.get("PFL_LAB", f"{TOP}/crates/pfl_lab/out/pfl_lab")
+
+
+def laboratory(script: str) -> Laboratory:
+    """A laboratory after the lines of a script, which are all expected to be taken."""
+    lab = Laboratory(program())
+    atexit.register(lab.close)
+    for line in _lines(script):
+        if lab.is_open:
+            lab.ask(line)
+        else:
+            lab.tell_setup(line)
+    return lab
+
+
+def _lines(script: str) -> List[str]:
+    return [it.strip() for it in script.splitlines() if it.strip()]

@@ -1,0 +1,1 @@
+"""Charts of a branch, as text and as a picture."""

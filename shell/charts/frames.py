@@ -1,0 +1,149 @@
+"""What a chart asks the program for: the frames that were sent, and what deliveries did beside what their outcomes say."""
+from __future__ import annotations
+
+from typing import Dict, List, NamedTuple, Sequence, Tuple
+
+from ..frames import Broken, ClearRecord, Record, StateRecord, StatusRecord, decode
+from ..laboratory import Laboratory, Unknown
+from ..names import BULK_STATUS, COUNTERS, NODES, OF_TICKET
+from ..pair import other
+
+# So many copies of frames are in flight before they are shown. A show tells the whole pair, so one for many frames is quick.
+COPIES = 256
+MOST_FRAMES = 4096
+# So many deliveries at most are looked into, since each takes a show or two.
+LOOKS = 60
+# What a node did with a frame beside taking it, by the counter that tells it.
+_BESIDE = {"bad": "bad", "stale": "stale", "freed": "held let go", "lost": "held lost"}
+# A word of tcpdump(8) that is shorter than the message's name.
+_SHORTER = {"insert acknowledgement": "insert ack"}
+
+
+class _Sight(NamedTuple):
+    """What a shown branch tells of a node: its counters, and the names that it asks for."""
+
+    counters: Dict[str, int]
+    asks: Tuple[str, ...]
+
+
+def counted(number: int, thing: str) -> str:
+    """A number with its thing, in the plural where it has to be."""
+    return f"{number} {thing}{'' if number == 1 else 's'}"
+
+
+def frames_sent(lab: Laboratory, events: Sequence[str]) -> Dict[int, bytes]:
+    """The bytes of each flushed frame, by ticket. A run of its own copies each frame behind its flush, and shows the copies
+    together: a show for each frame would take longer than all the events. Copies take tickets, so frames have others there."""
+    lines: List[str] = []
+    tickets: Dict[int, int] = {}
+    copies: Dict[int, int] = {}
+    following, waiting = 1, 0
+    for event in events:
+        words = event.split()
+        if words[0] in OF_TICKET:
+            words[1] = str(tickets[int(words[1])])
+        lines.append(f"step main {' '.join(words)}")
+        if words[0] in ("flush", "repeat"):
+            ticket = len(tickets) + 1
+            tickets[ticket], following = following, following + 1
+            if words[0] == "flush":
+                lines.append(f"step main repeat {tickets[ticket]}")
+                copies[following], following = ticket, following + 1
+                waiting += 1
+        if waiting == COPIES:
+            lines += ["show main", *(f"step main lose {it}" for it in list(copies)[-COPIES:])]
+            waiting = 0
+    frames = min(MOST_FRAMES, lab.setup.limits["frames"] + COPIES)
+    replies = lab.run([*lines, "show main"], [*lab.setup.lines, f"set frames {frames}"])
+    if any(it[0].startswith("refused") for it in replies):
+        raise Unknown(f"the frames cannot be read: the link has no room for {COPIES} copies beside what is in flight")
+    found: Dict[int, bytes] = {}
+    for words in (line.split() for reply in replies if reply[0].startswith("branch ") for line in reply):
+        if words[0] == "frame" and int(words[1]) in copies:
+            found[copies[int(words[1])]] = bytes.fromhex(words[3])
+    return found
+
+
+def asides(lab: Laboratory, events: Sequence[str]) -> Dict[int, str]:
+    """What deliveries did beside what their outcomes say, by the number of the event. A node is shown behind each delivery to
+    it; before it, it is what it was behind the last event that changed it."""
+    looks = _looks(events)
+    places = {place for number, (_, before) in looks.items() for place in (before, number)}
+    lines = ["show main"] * (0 in places)
+    for number, event in enumerate(events, 1):
+        lines += [f"step main {event}"] + ["show main"] * (number in places)
+    shown = [_sight(it) for it in lab.run(lines) if it[0].startswith("branch ")]
+    seen = dict(zip(sorted(places), shown))
+    return {number: _beside(seen[before][node], seen[number][node]) for number, (node, before) in looks.items()}
+
+
+def _looks(events: Sequence[str]) -> Dict[int, Tuple[str, int]]:
+    """For each delivery its receiver, and the number of the last event before it that changed that node."""
+    changed = {node: 0 for node in NODES}
+    receivers: List[str] = []
+    looks: Dict[int, Tuple[str, int]] = {}
+    for number, words in enumerate((it.split() for it in events), 1):
+        node = words[1]
+        if words[0] in ("flush", "repeat"):
+            receivers.append(other(node) if words[0] == "flush" else receivers[int(node) - 1])
+        if words[0] == "deliver":
+            node = receivers[int(node) - 1]
+            looks[number] = node, changed[node]
+        if node in NODES:
+            changed[node] = number
+    return looks
+
+
+def _sight(shown: Sequence[str]) -> Dict[str, _Sight]:
+    counters: Dict[str, Dict[str, int]] = {}
+    asks: Dict[str, List[str]] = {"a": [], "b": []}
+    for words in (it.split() for it in shown):
+        if words[0] == "count":
+            counters[words[1]] = dict(zip((it.name for it in COUNTERS), map(int, words[2:])))
+        elif words[0] == "ask":
+            asks[words[1]].append(words[2])
+    return {node: _Sight(counters[node], tuple(asks[node])) for node in counters}
+
+
+def _beside(before: _Sight, after: _Sight) -> str:
+    """What a delivery did beside what its outcome says."""
+    risen = [(after.counters[name] - before.counters[name], words) for name, words in _BESIDE.items()]
+    parts = [f"{number} {words}" for number, words in risen if number > 0]
+    asks = [it for it in after.asks if it not in before.asks]
+    if asks:
+        parts.append("asks for all" if asks == ["0.0"] else f"asks for {_names(asks)}")
+    return ", ".join(parts)
+
+
+def record_words(frame: bytes) -> Tuple[str, ...]:
+    """The records of a frame in words, those of one kind that follow one another together."""
+    try:
+        records = decode(frame)
+    except Broken as error:
+        return (f"broken: {error}",)
+    groups: List[List[Record]] = []
+    for record in records:
+        if groups and groups[-1][0].action == record.action and not isinstance(record, (StatusRecord, ClearRecord)):
+            groups[-1].append(record)
+        else:
+            groups.append([record])
+    return tuple(_group_words(it) for it in groups) or ("no records",)
+
+
+def _group_words(records: Sequence[Record]) -> str:
+    first = records[0]
+    if isinstance(first, StatusRecord):
+        return f"bulk {BULK_STATUS.get(first.status, str(first.status))}"
+    if isinstance(first, ClearRecord):
+        return f"clear boot {first.creator} up to {first.creator}.{first.bound}"
+    wanted = all(isinstance(it, StateRecord) and it.asks_for_acknowledgement for it in records)
+    names = [str(it.name) for it in records if not isinstance(it, (StatusRecord, ClearRecord))]
+    action = _SHORTER.get(first.action, first.action)
+    if len(records) == 1:
+        return f"{action} {'0.0 (all)' if names == ['0.0'] else names[0]}{' (wants ack)' if wanted else ''}"
+    told = f"{action}s {', '.join(names)}" if len(records) == 2 else f"{len(records)} {action}s"
+    return f"{told}{' (want ack)' if wanted else ''}"
+
+
+def _names(names: Sequence[str]) -> str:
+    return ", ".join(names) if len(names) <= 3 else counted(len(names), "state")

@@ -1,0 +1,198 @@
+"""What differs: between node a and node b of a pair, and between two branches."""
+from __future__ import annotations
+
+from dataclasses import dataclass, field
+from itertools import groupby, zip_longest
+from typing import Dict, List, Optional
+
+from .branches import Branch
+from .checksums import rules_checksum
+from .colours import Paint
+from .differences import Difference, differences
+from .laboratory import Laboratory
+from .names import NODES, Name
+from .pair import Node, Pair, State, other
+from .setups import Setup
+from .words import (
+    bulk_client,
+    bulk_server,
+    counted,
+    expiries,
+    expiry,
+    flow,
+    milliseconds_left,
+    seconds,
+    state_fields,
+    state_line,
+)
+
+# What nodes that agree may have apart: each uses a state at its own times, and keeps for itself what it has to tell of it.
+NOT_SHARED = ("last use", "flags", "update count", "last change by the peer")
+
+
+# ---- node a against node b
+
+
+@dataclass
+class Compared:
+    """The states of both nodes, set against each other."""
+
+    only: Dict[str, List[State]] = field(default_factory=lambda: {it: [] for it in NODES})
+    # States of a rule with `no-sync`, which no peer is told of.
+    unsynchronised: Dict[str, List[State]] = field(default_factory=lambda: {it: [] for it in NODES})
+    agreeing: List[Name] = field(default_factory=list)
+    # What should be the same of a state and is not; and what may be apart, and is.
+    differing: Dict[Name, List[str]] = field(default_factory=dict)
+    apart: Dict[Name, List[str]] = field(default_factory=dict)
+
+
+def between_nodes(pair: Pair, setup: Optional[Setup], paint: Paint) -> List[str]:
+    """Whether both nodes have the same states, what is on its way between them, and each difference."""
+    compared = _compare(pair, setup)
+    lines = [_answer(pair, compared, paint), *_circumstances(pair, setup, paint)]
+    if setup is None:
+        lines.append(paint.note("the setup is not known here: times of expiry are those of the default timeouts"))
+    for node, states in compared.only.items():
+        lines += [paint.bad(f"only on {node}: ") + _alone(pair, node, it, setup, paint) for it in states]
+    for name, parts in compared.differing.items():
+        apart = compared.apart.get(name, [])
+        lines.append(paint.bad("differ: ") + f"{name}  {flow(pair.a.states[name])}  {', '.join((*parts, *apart))}")
+    for node, states in compared.unsynchronised.items():
+        lines += [f"no-sync, only on {node}: " + _alone(pair, node, it, setup, paint) for it in states]
+    return lines + _only_apart(compared)
+
+
+def _compare(pair: Pair, setup: Optional[Setup]) -> Compared:
+    compared = Compared()
+    for node in (pair.a, pair.b):
+        for name, state in sorted(node.states.items()):
+            if name not in pair.nodes[other(node.id)].states:
+                (compared.unsynchronised if state.flags == "n" else compared.only)[node.id].append(state)
+    one_rule_set = _is_one_rule_set(setup)
+    for name in sorted(it for it in pair.a.states if it in pair.b.states):
+        parts = _parts(pair.a.states[name], pair.b.states[name])
+        rule = parts.pop("rule", "")
+        apart = [*([rule] if rule and not one_rule_set else []), *_times_apart(pair, name, setup)]
+        differing = [*parts.values(), *([rule] if rule and one_rule_set else [])]
+        if apart:
+            compared.apart[name] = apart
+        if differing:
+            compared.differing[name] = differing
+        else:
+            compared.agreeing.append(name)
+    return compared
+
+
+def _is_one_rule_set(setup: Optional[Setup]) -> bool:
+    """Whether both nodes are known to have the same rules: only then a rule's number means the same at both."""
+    return setup is not None and rules_checksum(setup.rules["a"]) == rules_checksum(setup.rules["b"])
+
+
+def _parts(one: State, two: State) -> Dict[str, str]:
+    """The fields of two states that are not the same, each with both texts."""
+    first, second = state_fields(one), state_fields(two)
+    unequal = (it for it in first if it not in NOT_SHARED and first[it] != second[it])
+    return {it: f"{it} {first[it]} | {second[it]}" for it in unequal}
+
+
+def _times_apart(pair: Pair, name: Name, setup: Optional[Setup]) -> List[str]:
+    """How long ago each node used a state, by its own clock, and when each has it expire; where these are apart."""
+    used_a, used_b = (node.clock - node.states[name].last for node in (pair.a, pair.b))
+    left_a, left_b = (milliseconds_left(setup, node, node.states[name]) for node in (pair.a, pair.b))
+    said = [f"last used {seconds(used_a)} | {seconds(used_b)} ago"] if used_a != used_b else []
+    return said + ([expiries(left_a, left_b)] if expiry(left_a) != expiry(left_b) else [])
+
+
+def _only_apart(compared: Compared) -> List[str]:
+    """The states that agree but for what need not be the same: those that are apart by the same in a line."""
+    names: Dict[str, List[str]] = {}
+    for it in compared.agreeing:
+        if it in compared.apart:
+            names.setdefault(", ".join(compared.apart[it]), []).append(str(it))
+    return [f"agree, but apart: {', '.join(those)}  {apart}" for apart, those in names.items()]
+
+
+def _answer(pair: Pair, compared: Compared, paint: Paint) -> str:
+    only_a, only_b, differ = len(compared.only["a"]), len(compared.only["b"]), len(compared.differing)
+    if not only_a + only_b + differ:
+        shared = len(compared.agreeing)
+        return paint.good("a and b agree") + f" in {counted(shared, 'state')}" * (shared > 0)
+    answer = paint.bad(f"a and b differ in {counted(only_a + only_b + differ, 'state')}")
+    answer += f": {only_a} only on a, {only_b} only on b, {differ} differ"
+    twice = sum(bool(_names_of_flow(pair.b, it)) for it in compared.only["a"])
+    return answer + (paint.note(f"; {counted(twice, 'flow has', 'flows have')} two names") if twice else "")
+
+
+def _circumstances(pair: Pair, setup: Optional[Setup], paint: Paint) -> List[str]:
+    """What explains why the nodes are apart, or may still make them agree."""
+    lines: List[str] = []
+    if pair.a.pending + pair.b.pending + len(pair.frames):
+        pending = f"pending: {pair.a.pending} at a, {pair.b.pending} at b"
+        lines.append(f"{pending}; {counted(len(pair.frames), 'frame')} in flight")
+    if pair.a.clock != pair.b.clock:
+        lines.append(f"clocks: {seconds(pair.a.clock)} at a, {seconds(pair.b.clock)} at b")
+    for node in (pair.a, pair.b):
+        if node.serve != "-":
+            lines.append(f"{node.id} serves a bulk update, {bulk_server(node.serve)}")
+        if node.sync != "-":
+            lines.append(f"{node.id} {bulk_client(node.sync)}")
+    if setup and not _is_one_rule_set(setup):
+        lines.append("rules: those of a and b differ, so neither keeps the other's rule numbers")
+    return [paint.note(it) for it in lines]
+
+
+def _alone(pair: Pair, node: str, state: State, setup: Optional[Setup], paint: Paint) -> str:
+    """A state that the other node has not; it may have the flow under another name."""
+    line = f"{state_line(state)}  {expiry(milliseconds_left(setup, pair.nodes[node], state))}"
+    peer = pair.nodes[other(node)]
+    names = ", ".join(map(str, _names_of_flow(peer, state)))
+    return line + (paint.note(f"; {peer.id} has this flow as {names}") if names else "")
+
+
+def _names_of_flow(node: Node, state: State) -> List[Name]:
+    """The other names under which a node has a flow: its wire key or its stack key, of the same protocol."""
+    same = (it for it in node.states.values() if it.protocol == state.protocol and it.name != state.name)
+    return sorted(it.name for it in same if it.wire == state.wire or it.stack == state.stack)
+
+
+# ---- a branch against another one
+
+
+def between_branches(lab: Laboratory, one: Branch, two: Branch, paint: Paint) -> List[str]:
+    """Whether two branches show the same pair, where their events part, and what differs between the pairs."""
+    found = differences(lab.show(one.name), lab.show(two.name))
+    answer = "show the same pair" if not found else f"show pairs that differ in {counted(len(found), 'place')}"
+    colour = paint.bad if found else paint.good
+    lines = [colour(f"{one.name} and {two.name} {answer}"), *_where_they_part(one, two)]
+    return lines + _told(found, one.name, two.name)
+
+
+def _where_they_part(one: Branch, two: Branch) -> List[str]:
+    """The first event that is not the same in both, of those that stand."""
+    events = list(zip_longest(one.events[: one.cursor], two.events[: two.cursor]))
+    for number, (first, second) in enumerate(events, 1):
+        if first != second:
+            none = "no more events"
+            parting = f"their events part at number {number}:"
+            return [parting, f"  {one.name}: {first or none}", f"  {two.name}: {second or none}"]
+    return [f"their events are the same: {counted(len(events), 'event')}"]
+
+
+def _told(found: List[Difference], one: str, two: str) -> List[str]:
+    """The differences, those of one subject in a line."""
+    lines: List[str] = []
+    for (where, what, subject), group in groupby(found, lambda it: (it.where, it.what, it.subject)):
+        of = " ".join(it for it in (what, subject) if it)
+        lines += _of_subject(where, of, list(group), one, two)
+    return lines
+
+
+def _of_subject(where: str, of: str, group: List[Difference], one: str, two: str) -> List[str]:
+    lines: List[str] = []
+    parts: List[str] = []
+    for it in group:
+        if it.is_new or it.is_gone:
+            lines.append(f"{where}: {it.of} only in {one if it.is_gone else two}: {it.before or it.after}")
+        else:
+            parts.append(f"{it.part} {it.before} | {it.after}".strip())
+    return ([f"{where}: {of}: {', '.join(parts)}"] if parts else []) + lines

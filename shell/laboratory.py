@@ -1,0 +1,156 @@
+"""A laboratory that a person works with: its setup, the program behind it, and the runs that answer her questions."""
+from __future__ import annotations
+
+from dataclasses import dataclass
+from typing import List, Optional, Sequence, Tuple
+
+from .branches import Branch, Branches
+from .pair import Pair, read_shown
+from .programs import Client, Ended, Run, Session, check_setup, has_reply, run_lines
+from .setups import Setup
+
+
+class Unknown(Exception):
+    """A question that the laboratory cannot answer, with the reason."""
+
+
+@dataclass(frozen=True)
+class Asked:
+    """A line that was asked, its reply, and the events before it where it was a step and they are known."""
+
+    line: str
+    reply: Tuple[str, ...]
+    before: Optional[Tuple[str, ...]] = None
+
+
+@dataclass(frozen=True)
+class Step:
+    """An event of a branch: its place from 1 on, its line, its outcome, and the pair before and after it."""
+
+    number: int
+    event: str
+    outcome: str
+    before: Pair
+    after: Pair
+
+
+class Laboratory:
+    """One pair with its branches. A question is answered by a run of its own, and changes nothing here."""
+
+    def __init__(self, program: str, port: Optional[int] = None, setup: Optional[Setup] = None):
+        self.program, self.port = program, port
+        self.setup = setup or Setup()
+        self.knows_setup = port is None or setup is not None
+        self.session: Optional[Session] = Client(port) if port else None
+        self.branches = Branches()
+        self.last: Optional[Asked] = None
+        # The branch that is meant where none is named.
+        self.in_use = "main"
+
+    # ---- lines
+
+    @property
+    def is_open(self) -> bool:
+        return self.session is not None
+
+    def tell_setup(self, line: str) -> None:
+        """Takes a line of the setup, or says what is wrong with it."""
+        if line.split() == ["open"]:
+            self.open()
+            return
+        fault = check_setup(self.program, [*self.setup.lines, line])
+        if fault:
+            raise fault
+        self.setup.add(line)
+
+    def open(self) -> None:
+        fault = check_setup(self.program, self.setup.lines)
+        if fault:
+            raise fault
+        self.session = Run(self.program, self.setup.lines)
+
+    def ask(self, line: str) -> List[str]:
+        """The reply to a line behind the setup; none where it is passed over."""
+        if not has_reply(line):
+            return []
+        if self.session is None:
+            raise Unknown("the pair is not set up: say `rule NODE ..` for its rules, and then `open`")
+        words = line.split()
+        is_known = self.port is None and len(words) > 2 and words[0] == "step" and words[1] in self.branches.all
+        branch = self.branches.all[words[1]] if is_known else None
+        before = tuple(branch.events[: branch.cursor]) if branch else None
+        reply = self.session.ask(line)
+        self.last = Asked(" ".join(words), tuple(reply), before)
+        if self.port is None:
+            self.branches.follow(line, reply)
+        if reply[0] == "removed" and words[1] == self.in_use:
+            self.in_use = self.names()[0]
+        return reply
+
+    def show(self, branch: str) -> Pair:
+        """The pair that a branch shows."""
+        reply = self._quietly(f"show {branch}")
+        if not reply[0].startswith("branch "):
+            raise Unknown(f"show {branch}: {reply[0]}")
+        return read_shown(reply)
+
+    def names(self) -> List[str]:
+        """The names of the branches, in the order of their making."""
+        return self._quietly("names")[0].split()[1:]
+
+    def _quietly(self, line: str) -> List[str]:
+        """A reply that changes nothing, and that no one asks the reason of."""
+        if self.session is None:
+            raise Unknown("the pair is not set up: say `rule NODE ..` for its rules, and then `open`")
+        return self.session.ask(line)
+
+    def close(self) -> None:
+        if self.session is not None:
+            self.session.close()
+
+    # ---- questions, each answered by a run of its own
+
+    def branch(self, name: str) -> Branch:
+        """A branch with its events, those that were undone too."""
+        if self.port is not None:
+            raise Unknown("the events of a branch are known only to the one who stepped them all: not on a server")
+        if name not in self.branches.all:
+            raise Unknown(f"there is no branch {name}; `names` tells them")
+        return self.branches.all[name]
+
+    def outcomes(self, events: Sequence[str]) -> List[str]:
+        """What became of each event, from the opening on."""
+        replies = self.run([f"step main {it}" for it in events])
+        return [outcome_of(it[0]) for it in replies]
+
+    def pair_after(self, events: Sequence[str]) -> Pair:
+        """The pair after the events, from the opening on."""
+        return read_shown(self.run([*(f"step main {it}" for it in events), "show main"])[-1])
+
+    def steps(self, events: Sequence[str], first: int = 1) -> List[Step]:
+        """The events from a place on, each with the pair before and after it."""
+        lines = [f"step main {it}" for it in events[: first - 1]]
+        lines.append("show main")
+        for event in events[first - 1 :]:
+            lines += [f"step main {event}", "show main"]
+        replies = self.run(lines)[first - 1 :]
+        shown = [read_shown(it) for it in replies[::2]]
+        told = [outcome_of(it[0]) for it in replies[1::2]]
+        return [Step(first + at, events[first - 1 + at], told[at], shown[at], shown[at + 1]) for at in range(len(told))]
+
+    def run(self, lines: Sequence[str], setup: Optional[Sequence[str]] = None) -> List[List[str]]:
+        """The replies to commands, on a new pair with this setup or another one."""
+        if not self.knows_setup:
+            raise Unknown(
+                "the setup of the server is not known here: start the shell with --setup FILE, the file that the server read"
+            )
+        ran = run_lines(self.program, (*(self.setup.lines if setup is None else setup), "open", *lines))
+        if len(ran.replies) != len(lines):
+            raise Ended("; ".join(ran.faults) or f"the program ended with status {ran.status}")
+        return ran.replies
+
+
+def outcome_of(reply: str) -> str:
+    """The outcome of an accepted event, out of its reply; another reply as it is."""
+    words = reply.split()
+    return " ".join(words[1:-2]) if words[0] == "step" else reply

@@ -1,0 +1,48 @@
+"""`log BRANCH`: the events of a branch with their outcomes, and where the cursor stands among them."""
+from __future__ import annotations
+
+from typing import List
+
+from .branches import Branch
+from .colours import Paint
+from .laboratory import Laboratory
+
+
+def log(lab: Laboratory, branch: Branch, paint: Paint) -> List[str]:
+    """A headline, and each event of the branch with its number, its line and what became of it."""
+    lines = [paint.head(_headline(branch))]
+    outcomes = lab.outcomes(branch.events)
+    number_width = len(str(len(branch.events)))
+    event_width = max((len(it) for it in branch.events), default=0)
+    for number, (event, outcome) in enumerate(zip(branch.events, outcomes), 1):
+        if number == branch.cursor + 1:
+            lines.append(paint.note(_cursor(branch, number_width)))
+        stands = number <= branch.cursor
+        text = f"  {number:>{number_width}}  {event:<{event_width}}  "
+        if stands:
+            lines.append(text + _painted(outcome, paint))
+        else:
+            lines.append(paint.dim(f"{text}{outcome}  (undone)"))
+    if branch.events and branch.cursor == len(branch.events):
+        lines.append(paint.note(_cursor(branch, number_width)))
+    return lines
+
+
+def _headline(branch: Branch) -> str:
+    events = len(branch.events)
+    text = f"{branch.name}: {events} {'event' if events == 1 else 'events'}"
+    if not events:
+        return text
+    stand = "stands" if branch.cursor == 1 else "stand"
+    return f"{text}, {branch.cursor} {stand}"
+
+
+def _cursor(branch: Branch, width: int) -> str:
+    return f"{'>':>{width + 2}}  cursor at {branch.cursor}"
+
+
+def _painted(outcome: str, paint: Paint) -> str:
+    first = outcome.split()[0]
+    if first in ("drop", "broken", "refused", "bad", "lost"):
+        return paint.bad(outcome)
+    return paint.good(outcome) if first in ("pass", "held") else outcome

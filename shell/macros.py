@@ -1,0 +1,54 @@
+"""Several steps under one word: until nothing is pending, both clocks, all frames in flight."""
+from __future__ import annotations
+
+from typing import Callable, Iterator, List
+
+from .names import NODES
+from .pair import Pair
+
+# A pair that is not quiet after so many steps answers itself without end.
+MOST_STEPS = 10_000
+
+# Lets an event happen, and says whether it was accepted.
+Step = Callable[[str], bool]
+# The pair as it stands.
+Look = Callable[[], Pair]
+
+
+class NotQuiet(Exception):
+    """Something is pending or in flight, and no step is left that helps."""
+
+
+def deliveries(pair: Pair) -> List[str]:
+    """The delivery of each frame in flight, by ticket."""
+    return [f"deliver {ticket}" for ticket in sorted(pair.frames)]
+
+
+def ticks(milliseconds: str) -> List[str]:
+    """A tick of each node."""
+    return [f"tick {node} {milliseconds}" for node in NODES]
+
+
+def next_steps(pair: Pair) -> List[str]:
+    """What brings a pair nearer to quiet: what is in flight arrives first, then each node tells what it has, then bulk turns."""
+    arriving = deliveries(pair)
+    if arriving:
+        return arriving
+    telling = [f"flush {node}" for node in NODES if pair.nodes[node].pending]
+    return telling or [f"turn {node}" for node in NODES if pair.nodes[node].serve != "-"]
+
+
+def steps_to_quiet(step: Step, look: Look) -> Iterator[str]:
+    """Takes the steps to a pair in which nothing is pending or in flight, and gives the event of each as it is taken."""
+    taken = 0
+    while True:
+        events = next_steps(look())
+        if not events:
+            return
+        for event in events:
+            taken += 1
+            if taken > MOST_STEPS:
+                raise NotQuiet(f"something is still pending after {MOST_STEPS} steps")
+            yield event
+            if not step(event):
+                raise NotQuiet(f"`{event}` is refused")

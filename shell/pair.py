@@ -1,0 +1,213 @@
+"""The pair as a shown branch tells it: both nodes, and the link between them."""
+from __future__ import annotations
+
+from dataclasses import dataclass, field
+from typing import Callable, Dict, List, Optional, Sequence
+
+from .names import COUNTERS, Name, number_or_none
+
+
+class NotShown(ValueError):
+    """The text is not that of a shown branch."""
+
+
+@dataclass(frozen=True)
+class End:
+    """An end of a connection, as the window is followed."""
+
+    level: int
+    scale: Optional[int]
+    window: int
+    lo: int
+    hi: int
+
+    @classmethod
+    def read(cls, words: Sequence[str]) -> "End":
+        level, scale, window, lo, hi = words
+        return cls(int(level), number_or_none(scale), int(window), int(lo), int(hi))
+
+
+@dataclass(frozen=True)
+class Key:
+    """The two ends of a flow, each `ADDRESS:PORT`, as the packet's receiver is far or near."""
+
+    far: str
+    near: str
+
+
+@dataclass(frozen=True)
+class State:
+    """An entry of a node's state table."""
+
+    name: Name
+    protocol: str
+    direction: str
+    wire: Key
+    stack: Key
+    source: End
+    destination: End
+    timeout_class: str
+    last: int
+    rule: Optional[int]
+    flags: str
+    updates: int
+    peer: Optional[int]
+
+    @classmethod
+    def read(cls, words: Sequence[str]) -> "State":
+        name, protocol, direction, wire_far, wire_near, stack_far, stack_near = words[:7]
+        timeout_class, last, rule, flags, updates, peer = words[17:23]
+        return cls(
+            Name.read(name),
+            protocol,
+            direction,
+            Key(wire_far, wire_near),
+            Key(stack_far, stack_near),
+            End.read(words[7:12]),
+            End.read(words[12:17]),
+            timeout_class,
+            int(last),
+            number_or_none(rule),
+            flags,
+            int(updates),
+            number_or_none(peer),
+        )
+
+
+@dataclass(frozen=True)
+class Queued:
+    """A state whose name waits to be told to the peer."""
+
+    kind: str
+    number: int
+    name: Name
+
+
+@dataclass(frozen=True)
+class Held:
+    """A packet that waits until the peer knows its state."""
+
+    name: Name
+    since: int
+    packet: str = ""
+
+
+@dataclass(frozen=True)
+class Cleared:
+    """What the peer is to be told that this node gave up: the states of a creator up to an id."""
+
+    creator: int
+    bound: int
+
+
+@dataclass
+class Node:
+    """All of a node."""
+
+    id: str
+    clock: int
+    boot: int
+    next_id: int
+    next_number: int
+    push: bool
+    serve: str
+    sync: str
+    counters: Dict[str, int] = field(default_factory=dict)
+    states: Dict[Name, State] = field(default_factory=dict)
+    queue: List[Queued] = field(default_factory=list)
+    asks: List[Name] = field(default_factory=list)
+    statuses: List[int] = field(default_factory=list)
+    clears: List[Cleared] = field(default_factory=list)
+    held: List[Held] = field(default_factory=list)
+
+    @classmethod
+    def read(cls, words: Sequence[str]) -> "Node":
+        (node, _, clock, _, boot, _, next_id, _, number, _, push, _, serve, _, sync) = words
+        return cls(node, int(clock), int(boot), int(next_id), int(number), push == "1", serve, sync)
+
+    @property
+    def pending(self) -> int:
+        """How much waits to be told to the peer."""
+        return len(self.queue) + len(self.asks) + len(self.statuses) + len(self.clears)
+
+
+@dataclass(frozen=True)
+class Frame:
+    """A frame in flight: the node that it goes to, and its bytes."""
+
+    ticket: int
+    to: str
+    data: bytes
+
+
+@dataclass
+class Pair:
+    """A branch with its pair, as `show` tells it."""
+
+    branch: str
+    events: int
+    cursor: int
+    nodes: Dict[str, Node] = field(default_factory=dict)
+    next_ticket: int = 1
+    next_boot: int = 3
+    frames: Dict[int, Frame] = field(default_factory=dict)
+
+    @property
+    def a(self) -> Node:
+        return self.nodes["a"]
+
+    @property
+    def b(self) -> Node:
+        return self.nodes["b"]
+
+    def line(self, words: List[str]) -> None:
+        """Takes one line of what is shown."""
+        kind, rest = words[0], words[1:]
+        if kind == "node":
+            self.nodes[rest[0]] = Node.read(rest)
+        elif kind == "link":
+            self.next_ticket, self.next_boot = int(rest[1]), int(rest[3])
+        elif kind == "frame":
+            data = b"" if rest[2] == "-" else bytes.fromhex(rest[2])
+            self.frames[int(rest[0])] = Frame(int(rest[0]), rest[1], data)
+        else:
+            _OF_NODE[kind](self.nodes[rest[0]], rest[1:])
+
+
+def _take_counts(node: Node, words: List[str]) -> None:
+    node.counters = dict(zip((it.name for it in COUNTERS), map(int, words)))
+
+
+def _take_state(node: Node, words: List[str]) -> None:
+    state = State.read(words)
+    node.states[state.name] = state
+
+
+_OF_NODE: Dict[str, Callable[[Node, List[str]], None]] = {
+    "count": _take_counts,
+    "state": _take_state,
+    "queue": lambda node, it: node.queue.append(Queued(it[0], int(it[1]), Name.read(it[2]))),
+    "ask": lambda node, it: node.asks.append(Name.read(it[0])),
+    "bus": lambda node, it: node.statuses.append(int(it[0])),
+    "clr": lambda node, it: node.clears.append(Cleared(int(it[0]), int(it[1]))),
+    "held": lambda node, it: node.held.append(Held(Name.read(it[0]), int(it[1]), " ".join(it[2:]))),
+}
+
+
+def read_shown(lines: Sequence[str]) -> Pair:
+    """The pair that the lines of a shown branch tell."""
+    try:
+        head = lines[0].split()
+        if head[0] != "branch" or lines[-1] != "end":
+            raise NotShown("\n".join(lines[:1]))
+        pair = Pair(head[1], int(head[3]), int(head[5]))
+        for line in lines[1:-1]:
+            pair.line(line.split())
+        return pair
+    except (IndexError, KeyError, ValueError) as error:
+        raise NotShown("\n".join(lines[:1])) from error
+
+
+def other(node: str) -> str:
+    """The other node of the pair."""
+    return "b" if node == "a" else "a"

@@ -1,0 +1,165 @@
+"""The proved program, as the shell speaks with it: a run of its own over a pipe, or a session of a server."""
+from __future__ import annotations
+
+import contextlib
+import re
+import signal
+import socket
+import subprocess
+from typing import IO, Iterable, Iterator, List, Optional, Sequence
+
+# The first words of replies that end with a line `end`.
+MANY_LINES = ("branch", "log")
+
+
+class Ended(Exception):
+    """The program ended, or the server went away: no reply came."""
+
+
+class SetupFault(Exception):
+    """A line of the setup is faulty: its number, counted from 1 over the lines that were given, and the fault."""
+
+    def __init__(self, line: int, fault: str):
+        super().__init__(f"setup line {line}: {fault}")
+        self.line, self.fault = line, fault
+
+
+LINE_FAULTS = ("Long", "NotAscii", "Unknown", "Missing", "Number", "Extra", "Packet")
+RULE_FAULTS = ("TooMany", "NatNotOut", "ZeroMax", "NoMemory")
+LIMIT_FAULTS = ("TooSmall", "TooLarge", "NoMemory")
+_FAULTS = {"line": LINE_FAULTS, "rule": RULE_FAULTS, "world": LIMIT_FAULTS}
+
+
+def has_reply(line: str) -> bool:
+    """Whether a line behind the setup is answered: it has a word, and that does not begin a comment."""
+    if line.endswith("\r"):
+        line = line[:-1]
+    return not line.strip(" \t").startswith("#") and bool(line.strip(" \t"))
+
+
+def read_reply(lines: Iterator[str]) -> List[str]:
+    """The next whole reply, without line ends; empty where none comes."""
+    first = next(lines, None)
+    if first is None:
+        return []
+    reply = [first.rstrip("\n")]
+    if reply[0].split(" ")[0] in MANY_LINES:
+        for line in lines:
+            reply.append(line.rstrip("\n"))
+            if reply[-1] == "end":
+                break
+    return reply
+
+
+@contextlib.contextmanager
+def uninterrupted() -> Iterator[None]:
+    """Has an interrupt wait: between a line and its reply it would leave the reply for the next line."""
+    before = signal.pthread_sigmask(signal.SIG_BLOCK, {signal.SIGINT})
+    try:
+        yield
+    finally:
+        signal.pthread_sigmask(signal.SIG_SETMASK, before)
+
+
+class Session:
+    """A program that answers one line after another."""
+
+    def __init__(self, to: IO[str], replies: Iterator[str]):
+        self._to, self._replies = to, replies
+
+    def ask(self, line: str) -> List[str]:
+        """The reply to a line that has one."""
+        try:
+            with uninterrupted():
+                self._to.write(f"{line}\n")
+                self._to.flush()
+                reply = read_reply(self._replies)
+        except OSError as error:
+            raise Ended(str(error)) from error
+        if not reply:
+            raise Ended("no reply came")
+        return reply
+
+    def close(self) -> None:
+        try:
+            self._to.close()
+        except OSError:
+            pass
+
+
+class Run(Session):
+    """A run of the program over a pipe, behind its setup."""
+
+    def __init__(self, program: str, setup: Sequence[str]):
+        self.process = subprocess.Popen(
+            [program, "run"],
+            stdin=subprocess.PIPE,
+            stdout=subprocess.PIPE,
+            encoding="utf-8",
+            errors="surrogateescape",
+            # An interrupt at the terminal gives up the typed line, and not the pair.
+            start_new_session=True,
+        )
+        assert self.process.stdin and self.process.stdout
+        super().__init__(self.process.stdin, iter(self.process.stdout))
+        for line in (*setup, "open"):
+            self.process.stdin.write(f"{line}\n")
+
+    def close(self) -> None:
+        super().close()
+        self.process.wait()
+        if self.process.stdout:
+            self.process.stdout.close()
+
+
+class Client(Session):
+    """A session of a server that listens on a port of this machine."""
+
+    def __init__(self, port: int):
+        self.connection = socket.create_connection(("127.0.0.1", port))
+        stream = self.connection.makefile("rw", encoding="utf-8", errors="surrogateescape", newline="\n")
+        super().__init__(stream, iter(stream))
+
+    def close(self) -> None:
+        super().close()
+        self.connection.close()
+
+
+class Result:
+    """What a run of the program over given lines wrote, and its status."""
+
+    def __init__(self, replies: List[List[str]], faults: List[str], status: int):
+        self.replies, self.faults, self.status = replies, faults, status
+
+
+def run_lines(program: str, lines: Iterable[str], mode: str = "run") -> Result:
+    """Runs the program once over all the lines."""
+    text = "".join(f"{line}\n" for line in lines)
+    ran = subprocess.run([program, mode], input=text, capture_output=True, encoding="utf-8", errors="surrogateescape")
+    came = iter(lines_of(ran.stdout))
+    replies = iter(lambda: read_reply(came), [])
+    return Result(list(replies), lines_of(ran.stderr), ran.returncode)
+
+
+def lines_of(text: str) -> List[str]:
+    """The lines of a text, which only a line feed ends."""
+    lines = text.split("\n")
+    return lines if lines[-1] else lines[:-1]
+
+
+def setup_fault(faults: Sequence[str]) -> Optional[SetupFault]:
+    """The fault of a setup that the program told on standard error."""
+    for line in faults:
+        found = re.search(r"setup line (\d+): (line|rule|world) (\d+)$", line)
+        if found:
+            names = _FAULTS[found[2]]
+            return SetupFault(int(found[1]), f"{found[2]} {found[3]} {names[int(found[3]) - 1]}")
+        found = re.search(r"setup line (\d+): no open$", line)
+        if found:
+            return SetupFault(int(found[1]), "no open")
+    return None
+
+
+def check_setup(program: str, lines: Sequence[str]) -> Optional[SetupFault]:
+    """The first fault of a setup, if it has one; nothing is made."""
+    return setup_fault(run_lines(program, (*lines, "open"), "check").faults)

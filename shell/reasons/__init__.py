@@ -1,0 +1,1 @@
+"""Why something happened: the rule, the limit, the window, the record, with their numbers."""

@@ -1,0 +1,103 @@
+"""Why a command on branches was refused, in words, with the numbers that it met."""
+from __future__ import annotations
+
+from difflib import get_close_matches
+from typing import Callable, Dict, List, Sequence
+
+from ..laboratory import Laboratory
+from ..pair import Pair
+from ..words import counted
+
+MOST_BRANCHES = 16
+NOT_SHOWN = "the branches as they are now do not show it: the shell cannot tell more"
+NAME_FORM = "a branch's name is a letter from a to z and at most 15 more of a to z, 0 to 9 and `-`"
+
+
+def _branch(lab: Laboratory, words: Sequence[str]) -> Pair:
+    return lab.show(words[1])
+
+
+def _no_branch(lab: Laboratory, words: Sequence[str]) -> List[str]:
+    names = lab.names()
+    if words[1] in names:
+        return [NOT_SHOWN]
+    near = get_close_matches(words[1], names, n=1)
+    meant = f"; did you mean {near[0]}?" if near else ""
+    return [f"there is no branch {words[1]}{meant}", f"the branches: {', '.join(names)}"]
+
+
+def _name_taken(lab: Laboratory, words: Sequence[str]) -> List[str]:
+    return [f"there is a branch {words[3]} already"] if words[3] in lab.names() else [NOT_SHOWN]
+
+
+def _bad_name(lab: Laboratory, words: Sequence[str]) -> List[str]:
+    name = words[3]
+    letters, rest = "abcdefghijklmnopqrstuvwxyz", "abcdefghijklmnopqrstuvwxyz0123456789-"
+    if name[0] not in letters:
+        return [f"`{name}` begins with `{name[0]}`", NAME_FORM]
+    wrong = [it for it in name[1:] if it not in rest]
+    if wrong:
+        return [f"`{name}` has a `{wrong[0]}`", NAME_FORM]
+    return [f"`{name}` has {len(name)} characters", NAME_FORM] if len(name) > 16 else [NAME_FORM]
+
+
+def _too_far_back(lab: Laboratory, words: Sequence[str]) -> List[str]:
+    cursor, number = _branch(lab, words).cursor, int(words[2])
+    if number <= cursor:
+        return [NOT_SHOWN]
+    stand = "stands" if cursor == 1 else "stand"
+    return [f"{counted(number, 'event')} cannot be undone: {counted(cursor, 'event')} of {words[1]} {stand}"]
+
+
+def _nothing_forward(lab: Laboratory, words: Sequence[str]) -> List[str]:
+    pair, number = _branch(lab, words), int(words[2])
+    if words[0] == "fork":
+        if number <= pair.events:
+            return [NOT_SHOWN]
+        return [f"{words[1]} has {counted(pair.events, 'event')}, so there are no first {number} of them"]
+    undone = pair.events - pair.cursor
+    if number <= undone:
+        return [NOT_SHOWN]
+    behind = f"{counted(undone, 'undone event')} of {words[1]} {'is' if undone == 1 else 'are'} behind the cursor"
+    return [f"{counted(number, 'event')} cannot happen again: {behind}"]
+
+
+def _last_branch(lab: Laboratory, words: Sequence[str]) -> List[str]:
+    if len(lab.names()) > 1:
+        return [NOT_SHOWN]
+    return [f"{words[1]} is the only branch, and one has to be left: fork another one first"]
+
+
+def _branches_full(lab: Laboratory, words: Sequence[str]) -> List[str]:
+    count = len(lab.names())
+    return [f"there are {count} branches, and at most {MOST_BRANCHES} can be: `drop` one first"]
+
+
+def _no_event(lab: Laboratory, words: Sequence[str]) -> List[str]:
+    number = int(words[2])
+    if not number:
+        return ["events are counted from 1"]
+    events = _branch(lab, words).events
+    return [NOT_SHOWN] if number <= events else [f"{words[1]} has {counted(events, 'event')}: there is no event {number}"]
+
+
+def _nothing_excised(lab: Laboratory, words: Sequence[str]) -> List[str]:
+    return [f"{words[1]} has nothing to bring back: no event was taken out, or an event was accepted or restored since"]
+
+
+_REFUSALS: Dict[str, Callable[[Laboratory, Sequence[str]], List[str]]] = {
+    "NoBranch": _no_branch,
+    "NameTaken": _name_taken,
+    "BadName": _bad_name,
+    "TooFarBack": _too_far_back,
+    "NothingForward": _nothing_forward,
+    "LastBranch": _last_branch,
+    "BranchesFull": _branches_full,
+    "NoEvent": _no_event,
+    "NothingExcised": _nothing_excised,
+}
+
+
+def explain_command(lab: Laboratory, line: str, reply: str) -> List[str]:
+    """Why a command was refused, by the name at the end of the reply, as the branches are now."""
+    return _REFUSALS[reply.split()[-1]](lab, line.split())

@@ -1,0 +1,144 @@
+"""What events without packets found to do: sending, clocks, purges, releases and bulk updates."""
+from __future__ import annotations
+
+from typing import Callable, Dict, List
+
+from ..frames import summary
+from ..names import Name
+from ..pair import Node, State, other
+from .questions import Question, name_list, told_state
+from ..words import counted
+
+MOST_TRIES = 12
+
+
+def _node(question: Question) -> Node:
+    return question.table(question.words[1])
+
+
+def _expiry(question: Question, node: Node, state: State) -> int:
+    return state.last + 1000 * question.lab.setup.seconds(node.id, state.rule, state.timeout_class)
+
+
+def _purged(question: Question) -> List[str]:
+    node = _node(question)
+    after = question.after.nodes[node.id]
+    gone = [it for name, it in node.states.items() if name not in after.states]
+    lines = [f"the clock of {node.id} stands at {node.clock} ms"]
+    for state in gone:
+        seconds = question.lab.setup.seconds(node.id, state.rule, state.timeout_class)
+        lines.append(
+            f"{told_state(state)} expired at {_expiry(question, node, state)} ms: "
+            f"last used at {state.last} ms, and {state.timeout_class} is {seconds} s"
+        )
+    kept = [_expiry(question, node, it) for it in after.states.values()]
+    left = f"of the {counted(len(kept), 'state')} left the next expires at {min(kept)} ms" if kept else "no state is left"
+    return [*lines, left]
+
+
+def _released(question: Question) -> List[str]:
+    node, wait = _node(question), question.lab.setup.limits["defer_ms"]
+    left = [it.name for it in question.after.nodes[node.id].held]
+    gone = [it for it in node.held if it.name not in left]
+    lines = [f"the clock of {node.id} stands at {node.clock} ms, and a packet is due {wait} ms after it was held"]
+    lines += [f"the packet of state {it.name}, held since {it.since} ms, went out" for it in gone]
+    return lines + ([f"still held: {name_list(left)}"] if left else [])
+
+
+def _sent(question: Question) -> List[str]:
+    ticket = int(question.outcome.split()[1])
+    frame = question.after.frames[ticket]
+    lines = [f"frame {ticket} goes to {frame.to}, and carries {summary(frame.data)}"]
+    if question.words[0] == "flush":
+        left = question.after.nodes[question.words[1]].pending
+        mtu = question.lab.setup.limits["mtu"]
+        rest = f"{left} pending are left for the next frame: a frame has {mtu} bytes at most (`mtu`)"
+        return [*lines, rest] if left else lines
+    return [*lines, f"it is a copy of frame {question.words[1]}"]
+
+
+def _lost(question: Question) -> List[str]:
+    frame = question.pair.frames[int(question.words[1])]
+    return [f"frame {frame.ticket} was on its way to {frame.to}, and carried {summary(frame.data)}; nobody learns of its loss"]
+
+
+def _queued(question: Question) -> List[str]:
+    node, batch = _node(question), question.lab.setup.limits["batch"]
+    after = question.after.nodes[node.id]
+    ended = f"these were the last: {node.id} lists the end of the bulk update"
+    return [
+        f"a turn queues {batch} states at most (`batch`), and none that is queued already, `no-sync`, or newer from the peer",
+        ended if after.serve == "-" else f"{node.id} serves on",
+    ]
+
+
+def _clock(question: Question) -> List[str]:
+    node = _node(question)
+    return [
+        f"the clock of {node.id} went on from {node.clock} ms",
+        "nothing else happens by itself: `purge`, `release` and `retry` look at the clock",
+    ]
+
+
+def _killed(question: Question) -> List[str]:
+    node, name = _node(question), Name.read(question.words[2])
+    told = any(it.name == name and it.kind == "del" for it in question.after.nodes[node.id].queue)
+    peer = other(node.id)
+    return [
+        f"{told_state(node.states[name])} of {node.id} is deleted",
+        f"{peer} is to be told: a short delete is queued" if told else f"{peer} was never told of it, and is not told now",
+    ]
+
+
+def _cleared(question: Question) -> List[str]:
+    node = _node(question)
+    bounds = [it for it in question.after.nodes[node.id].clears if it not in node.clears]
+    lines = [f"{node.id} gave up {counted(len(node.states), 'state')}, those of the other boots too"]
+    peer = other(node.id)
+    return lines + [f"a clear is listed: {peer} is to give up those of boot {it.creator} up to id {it.bound}" for it in bounds]
+
+
+def _cut(question: Question) -> List[str]:
+    ticket = int(question.words[1])
+    was, now = len(question.pair.frames[ticket].data), len(question.after.frames[ticket].data)
+    if was == now:
+        return [f"frame {ticket} had {was} bytes, and keeps them all"]
+    return [f"frame {ticket} had {was} bytes; its header tells its first length still, so that its receiver cannot read it"]
+
+
+def _boot(question: Question) -> List[str]:
+    node = _node(question)
+    return [
+        f"{node.id} was boot {node.boot}, and forgot {counted(len(node.states), 'state')} and what was queued, held and counted",
+        f"its clock and its rules stay, and it asks {other(node.id)} for all states",
+    ]
+
+
+def _retried(question: Question) -> List[str]:
+    node = _node(question)
+    tries, asked = node.sync.split("/")
+    waited = f"{node.id} has waited since {asked} ms, and `bulk_ms` is {question.lab.setup.limits['bulk_ms']} ms"
+    if question.outcome == "served":
+        return [waited, f"it had asked {tries} times, and goes on as if it had been served: {MOST_TRIES} tries are the most"]
+    return [waited, f"this is try {int(tries) + 1} of {MOST_TRIES} at most"]
+
+
+_OTHERS: Dict[str, Callable[[Question], List[str]]] = {
+    "sent": _sent,
+    "lost": _lost,
+    "cut": _cut,
+    "clock": _clock,
+    "purged": _purged,
+    "released": _released,
+    "killed": _killed,
+    "cleared": _cleared,
+    "boot": _boot,
+    "queued": _queued,
+    "asked": _retried,
+    "served": _retried,
+}
+
+
+def explain_other(question: Question) -> List[str]:
+    """What an event without a packet found to do."""
+    return _OTHERS[question.outcome.split()[0]](question)

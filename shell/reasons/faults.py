@@ -1,0 +1,80 @@
+"""Which word of a line is at fault. The program names the fault alone; the word is found by the forms of lines, and told only
+where the fault found so is the program's."""
+from __future__ import annotations
+
+from typing import List, Optional, Sequence
+
+from .line_forms import LineFault, check_line, wanted_form
+
+_WORDS = {
+    "Long": "the line is too long",
+    "NotAscii": "the line has a character that is not ASCII",
+    "Unknown": "a word is unknown",
+    "Missing": "a word is missing",
+    "Number": "a word has not the form that is wanted",
+    "Extra": "there are words left over, or out of their order",
+    "Packet": "the fields make no packet",
+}
+_OF_SETUPS = {
+    "open": "the setup ends without a line `open`",
+    "TooMany": "a node has 256 rules at most",
+    "NatNotOut": "a rule with `nat` has to be for the way `out`",
+    "ZeroMax": "a rule has to allow one state at least, and says `max 0`",
+    "NoMemory": "the program had no memory for the setup",
+}
+RANGES = {
+    "states": (1, 65536),
+    "queue": (1, 65536),
+    "frames": (1, 4096),
+    "mtu": (148, 9000),
+    "held": (1, 128),
+    "defer": (0, 1),
+    "defer_ms": (1, 10000),
+    "maxupd": (1, 255),
+    "batch": (1, 256),
+    "bulk_ms": (1, 60000),
+}
+
+
+def explain_fault(line: str, reply: str) -> List[str]:
+    """What is wrong with a line, and where. The reply is the program's, `bad 5 Number`, or of a setup, `line 5 Number`, or of
+    what a line of good form says, like `rule 2 NatNotOut` or `world 1 TooSmall`."""
+    kind, name = reply.split()[0], reply.split()[-1]
+    if kind not in ("bad", "line"):
+        return _of_content(line.split(), name)
+    fault = _first_fault(line, kind == "line")
+    if fault is None or fault.name != name:
+        lines = [f"{_WORDS.get(name, name)}; which word, the shell cannot tell"]
+    else:
+        lines = [fault.why, *_marked(line, fault.place)]
+    forms = wanted_form(line.split())
+    return [*lines, *(f"wanted: {it}" for it in forms)]
+
+
+def _first_fault(line: str, of_setup: bool) -> Optional[LineFault]:
+    try:
+        check_line(line, of_setup)
+    except LineFault as fault:
+        return fault
+    return None
+
+
+def _marked(line: str, place: Optional[int]) -> List[str]:
+    """The line, and under it a mark at the word."""
+    if place is None:
+        return []
+    words = line.split()
+    column = len(" ".join(words[:place])) + (1 if place else 0)
+    width = len(words[place]) if place < len(words) else 1
+    return [f"  {' '.join(words)}", f"  {' ' * column}{'^' * width}"]
+
+
+def _of_content(words: Sequence[str], name: str) -> List[str]:
+    """The faults of lines of good form, by name, with the line's own number where it is the one at fault."""
+    if name not in ("TooSmall", "TooLarge"):
+        return [_OF_SETUPS[name]]
+    what = f"a limit is {'below' if name == 'TooSmall' else 'above'} its range"
+    if len(words) == 3 and words[1] in RANGES:
+        low, high = RANGES[words[1]]
+        return [f"{what}: `{words[1]}` is from {low} to {high}, and not {int(words[2])}"]
+    return [what, *(f"`{it}` is from {low} to {high}" for it, (low, high) in RANGES.items())]

@@ -1,0 +1,88 @@
+"""A question for the reason of an event's outcome: what stood before it, and what the proved program made of it."""
+from __future__ import annotations
+
+from dataclasses import dataclass
+from functools import cached_property
+from typing import List, Optional, Sequence, Tuple
+
+from ..colours import Paint
+from ..laboratory import Laboratory, Step, outcome_of
+from ..names import Name
+from .packets import PacketEvent, read_packet
+from ..pair import Node, Pair, State, other
+from ..setups import Rule
+from ..words import flow
+
+
+@dataclass(eq=False)
+class Question:
+    """An event with its reply, behind the events that stood. The pair around it comes from a run of its own."""
+
+    lab: Laboratory
+    before: Tuple[str, ...]
+    event: str
+    reply: str
+    paint: Paint
+    step: Step
+
+    @property
+    def words(self) -> List[str]:
+        return self.event.split()
+
+    @property
+    def outcome(self) -> str:
+        return outcome_of(self.reply)
+
+    @property
+    def told_again(self) -> bool:
+        """Whether the run of its own answered as the program did at first."""
+        return self.step.outcome == self.outcome
+
+    @property
+    def pair(self) -> Pair:
+        """The pair before the event."""
+        return self.step.before
+
+    @property
+    def after(self) -> Pair:
+        return self.step.after
+
+    @property
+    def packet(self) -> PacketEvent:
+        """The packet of an event that is one."""
+        return read_packet(self.event)
+
+    @cached_property
+    def history(self) -> List[Step]:
+        """All events before, each with the pair before and after it; asked of the program once for a question."""
+        return self.lab.steps(self.before)
+
+    def table(self, node: str) -> Node:
+        """A node before the event."""
+        return self.pair.nodes[node]
+
+    def rule_words(self, node: str, number: Optional[int]) -> str:
+        """A rule by its number with its words, as `rule 1 of a (pass out)`."""
+        rule: Optional[Rule] = self.lab.setup.rule(node, number)
+        return f"rule {number} of {node} ({rule.text})" if rule else "no rule"
+
+
+def ask(lab: Laboratory, before: Tuple[str, ...], event: str, reply: str, paint: Paint) -> Question:
+    """The question, with the pair before and after the event as the program shows them."""
+    return Question(lab, before, event, reply, paint, lab.steps([*before, event], len(before) + 1)[0])
+
+
+def told_state(state: State) -> str:
+    """A state with its flow as `pfctl -ss` prints it: `state 1.1 (udp 10.0.0.1:1000 -> 192.0.2.9:53)`."""
+    return f"state {state.name} ({flow(state)})"
+
+
+def peer_of(question: Question, node: str) -> Node:
+    """The other node before the event."""
+    return question.table(other(node))
+
+
+def name_list(names: Sequence[Name], most: int = 6) -> str:
+    """Names, of many only the first."""
+    shown = ", ".join(str(it) for it in names[:most])
+    return f"{shown} and {len(names) - most} more" if len(names) > most else shown

@@ -1,0 +1,150 @@
+"""The forms of single words in the laboratory's lines (docs/FORMATS.md): what a word may be, and what is wrong with another."""
+from __future__ import annotations
+
+import re
+from dataclasses import dataclass
+from difflib import get_close_matches
+from typing import Callable, Optional, Sequence
+
+from ..names import CLASSES, DEFAULT_LIMITS, NODES
+
+GREATEST = 4294967295
+GREATEST_LONG = 18446744073709551615
+FLAG_LETTERS = "FSRPAU"
+
+
+@dataclass(frozen=True)
+class Form:
+    """A form: its name, what has it, and what is wrong with a word that has not."""
+
+    name: str
+    what: str
+    wrong: Callable[[str], Optional[str]]
+
+
+def nearest(word: str, words: Sequence[str]) -> str:
+    """The word that was probably meant, as a question behind a sentence."""
+    near = get_close_matches(word.lower(), words, n=1, cutoff=0.6)
+    return f" (did you mean `{near[0]}`?)" if near else ""
+
+
+def one_of(words: Sequence[str]) -> str:
+    """Words of which one is wanted: `a`, `a or b`, `a, b or c`."""
+    return " or ".join([", ".join(words[:-1]), words[-1]] if len(words) > 1 else words)
+
+
+def number(name: str, most: int) -> Form:
+    """A decimal number up to the greatest."""
+
+    def wrong(word: str) -> Optional[str]:
+        if not re.fullmatch("[0-9]+", word):
+            return "is no number of decimal digits"
+        return f"is above {most}" if int(word) > most else None
+
+    return Form(name, f"a number from 0 to {most}", wrong)
+
+
+def choice(name: str, words: Sequence[str]) -> Form:
+    """One of some words."""
+
+    def wrong(word: str) -> Optional[str]:
+        return None if word in words else f"is no {name}{nearest(word, words)}"
+
+    return Form(name, one_of(words), wrong)
+
+
+def _v4_wrong(word: str) -> Optional[str]:
+    parts = word.split(".")
+    if len(parts) != 4 or not all(re.fullmatch("[0-9]+", it) for it in parts):
+        return "has no address of four numbers joined by dots"
+    above = [it for it in parts if int(it) > 255]
+    return f"has {above[0]} in its address, above 255" if above else None
+
+
+def _v6_wrong(word: str) -> Optional[str]:
+    if re.fullmatch("[0-9a-f]{4}(:[0-9a-f]{4}){7}", word):
+        return None
+    return "has no IPv6 address of eight groups, each exactly four digits 0 to 9 or a to f (no `::`, no capital letters)"
+
+
+def _port_wrong(word: str) -> Optional[str]:
+    if not re.fullmatch("[0-9]+", word):
+        return "has no port number behind its last colon"
+    return f"has port {word}, above 65535" if int(word) > 65535 else None
+
+
+def _end_wrong(word: str) -> Optional[str]:
+    if word.startswith("["):
+        address, bracket, port = word[1:].partition("]:")
+        if not bracket:
+            return "has no `]:PORT` behind its address"
+        return _v6_wrong(address) or _port_wrong(port)
+    address, colon, port = word.partition(":")
+    if not colon:
+        return _v4_wrong(address) or "has no port: ADDRESS:PORT (0 for a protocol without ports)"
+    if word.count(":") > 1:
+        return "looks like IPv6, which stands in brackets: [ADDRESS]:PORT"
+    return _v4_wrong(address) or _port_wrong(port)
+
+
+def _net_wrong(word: str) -> Optional[str]:
+    address, slash, length = word.partition("/")
+    if not slash:
+        return "has no length behind a slash: a single IPv4 address is ADDRESS/32"
+    is_v6 = ":" in address
+    wrong = _v6_wrong(address) if is_v6 else _v4_wrong(address)
+    most = 128 if is_v6 else 32
+    if wrong is None and not re.fullmatch("[0-9]+", length):
+        return "has no number behind its slash"
+    if wrong is None and int(length) > most:
+        return f"has the length {length}, above {most}"
+    return wrong
+
+
+def _flags_wrong(word: str) -> Optional[str]:
+    if word == "-":
+        return None
+    unknown = [it for it in word if it not in FLAG_LETTERS]
+    if unknown:
+        return f"has `{unknown[0]}`, which is no flag"
+    ordered = "".join(it for it in FLAG_LETTERS if it in word)
+    return None if word == ordered else f"has flags in another order or twice: write `{ordered}`"
+
+
+def _name_wrong(word: str) -> Optional[str]:
+    creator, dot, number_there = word.partition(".")
+    if not dot or not re.fullmatch("[0-9]+", creator) or not re.fullmatch("[0-9]+", number_there):
+        return "is not two numbers with one dot between them"
+    if int(creator) > GREATEST:
+        return f"has the creator {creator}, above {GREATEST}"
+    return f"has the id {number_there}, above {GREATEST_LONG}" if int(number_there) > GREATEST_LONG else None
+
+
+def _protocol_wrong(word: str) -> Optional[str]:
+    if word in ("tcp", "udp", "icmp") or re.fullmatch("[0-9]+", word) and int(word) <= 255:
+        return None
+    if word.isdigit():
+        return "is above 255"
+    return f"is no protocol{nearest(word, ('tcp', 'udp', 'icmp'))}"
+
+
+def _branch_wrong(word: str) -> Optional[str]:
+    return f"has {len(word)} characters" if len(word) > 32 else None
+
+
+BRANCH = Form("BRANCH", "a word of at most 32 characters", _branch_wrong)
+NODE = choice("NODE", NODES)
+DIRECTION = choice("in|out", ("in", "out"))
+RULE_DIRECTION = choice("in|out|any", ("in", "out", "any"))
+ACTION = choice("pass|block", ("pass", "block"))
+ANY = choice("any", ("any",))
+CLASS = choice("CLASS", [name for name, _ in CLASSES])
+LIMITS = tuple(DEFAULT_LIMITS)
+PROTOCOL = Form("PROTO", "tcp, udp, icmp or a number from 0 to 255", _protocol_wrong)
+SOURCE = Form("SRC", "the source, ADDRESS:PORT or for IPv6 [ADDRESS]:PORT", _end_wrong)
+DESTINATION = Form("DST", "the destination, ADDRESS:PORT or for IPv6 [ADDRESS]:PORT", _end_wrong)
+END = Form("END", "ADDRESS:PORT or for IPv6 [ADDRESS]:PORT", _end_wrong)
+NET = Form("NET", "ADDRESS/LENGTH", _net_wrong)
+FLAGS = Form("FLAGS", f"`-` for no flag, or letters of {FLAG_LETTERS} in that order", _flags_wrong)
+NAME = Form("NAME", "a state's name, CREATOR.ID", _name_wrong)
+TICKET = number("TICKET", GREATEST)

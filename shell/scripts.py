@@ -1,0 +1,133 @@
+"""Scripts with their replies: comparing the lines `#>` with what comes, and writing them."""
+from __future__ import annotations
+
+import os
+import tempfile
+from dataclasses import dataclass, field
+from typing import Dict, Iterator, List, Tuple
+
+from .programs import has_reply, lines_of, run_lines
+
+REPLY, FAULT, CHECKED, STATUS = "#> ", "#! ", "#? ", "#= "
+
+
+@dataclass(frozen=True)
+class Difference:
+    """A place where a script's marked lines and what came differ."""
+
+    line: int
+    what: str
+    wanted: str
+    came: str
+
+    def __str__(self) -> str:
+        return f"{self.line}: {self.what}\n  wanted: {self.wanted or 'nothing'}\n  came:   {self.came or 'nothing'}"
+
+
+@dataclass
+class Command:
+    """A line that is answered: its number, and the reply that the script expects, each line with its own number."""
+
+    number: int
+    expected: List[Tuple[int, str]] = field(default_factory=list)
+
+
+@dataclass
+class Script:
+    """A script by its lines, counted from 1, and what it expects."""
+
+    lines: List[str]
+    commands: List[Command] = field(default_factory=list)
+    stray: List[Tuple[int, str]] = field(default_factory=list)
+    marked: Dict[str, List[Tuple[int, str]]] = field(default_factory=lambda: {it: [] for it in (FAULT, CHECKED, STATUS)})
+
+    @classmethod
+    def of(cls, text: str) -> "Script":
+        script, is_open = cls(lines_of(text)), False
+        for number, line in enumerate(script.lines, 1):
+            if line.startswith(REPLY):
+                script._expect(number, line[len(REPLY) :])
+            elif line[:3] in script.marked:
+                script.marked[line[:3]].append((number, line[3:]))
+            elif has_reply(line) and is_open:
+                script.commands.append(Command(number))
+            elif has_reply(line):
+                is_open = line.split() == ["open"]
+        return script
+
+    def _expect(self, number: int, text: str) -> None:
+        (self.commands[-1].expected if self.commands else self.stray).append((number, text))
+
+
+def read(path: str) -> str:
+    """A script's text, whatever bytes it has."""
+    with open(path, encoding="utf-8", errors="surrogateescape", newline="") as it:
+        return it.read()
+
+
+def verify(program: str, text: str) -> List[Difference]:
+    """Where the script's marked lines and the replies, faults and status differ: each place, from the first on."""
+    script = Script.of(text)
+    ran = run_lines(program, script.lines)
+    found = [Difference(number, "reply to no line", text, "") for number, text in script.stray]
+    for at, command in enumerate(script.commands):
+        found += _replies(command, ran.replies[at] if at < len(ran.replies) else [])
+    last = len(script.lines)
+    found += _differ("fault", script.marked[FAULT], ran.faults, last)
+    found += _differ("status", script.marked[STATUS] or [(last, "0")], [str(ran.status)], last)
+    if script.marked[CHECKED] or script.marked[FAULT]:
+        checked = run_lines(program, script.lines, "check")
+        found += _differ("check", script.marked[CHECKED], [line for reply in checked.replies for line in reply], last)
+    return found
+
+
+def _replies(command: Command, reply: List[str]) -> Iterator[Difference]:
+    return _differ("reply", command.expected, reply, command.number)
+
+
+def _differ(what: str, wanted: List[Tuple[int, str]], came: List[str], at: int) -> Iterator[Difference]:
+    """The first place where two lists of lines differ, if they do; at is the line for what stands in no line of the script."""
+    for place in range(max(len(wanted), len(came))):
+        number, text = wanted[place] if place < len(wanted) else (at, "")
+        line = came[place] if place < len(came) else ""
+        if text != line:
+            yield Difference(number, what, text, line)
+            return
+
+
+def annotated(program: str, text: str) -> str:
+    """The script with the replies, the faults and the status as they come, in place of those that it has."""
+    script = Script.of(text)
+    ran = run_lines(program, script.lines)
+    below = {command.number: reply for command, reply in zip(script.commands, ran.replies)}
+    checked = iter(_checked(program, script))
+    lines: List[str] = []
+    for number, line in enumerate(script.lines, 1):
+        if line.startswith(CHECKED):
+            lines += [f"{CHECKED}{it}" for it in checked]
+        elif not line.startswith((REPLY, FAULT, STATUS)):
+            lines.append(line)
+            lines += [f"{REPLY}{it}" for it in below.get(number, [])]
+    lines += [f"{FAULT}{it}" for it in ran.faults]
+    lines += [f"{STATUS}{ran.status}"] * bool(ran.status)
+    return "".join(f"{line}\n" for line in lines)
+
+
+def _checked(program: str, script: Script) -> List[str]:
+    if not script.marked[CHECKED]:
+        return []
+    return [line for reply in run_lines(program, script.lines, "check").replies for line in reply]
+
+
+def annotate(program: str, path: str) -> bool:
+    """Writes the replies into a script: whether anything changed. The file is whole at every moment."""
+    text = read(path)
+    new = annotated(program, text)
+    if new == text:
+        return False
+    folder = os.path.dirname(os.path.abspath(path))
+    with tempfile.NamedTemporaryFile("w", dir=folder, delete=False, encoding="utf-8", errors="surrogateescape", newline="") as it:
+        it.write(new)
+    os.chmod(it.name, os.stat(path).st_mode)
+    os.replace(it.name, path)
+    return True

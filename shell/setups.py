@@ -1,0 +1,75 @@
+"""The setup of a pair: its limits, and the rules of each node."""
+from __future__ import annotations
+
+from dataclasses import dataclass, field
+from typing import Dict, List, Optional, Sequence
+
+from .names import DEFAULT_LIMITS, DEFAULT_SECONDS, NODES
+
+
+@dataclass(frozen=True)
+class Rule:
+    """A rule of a node, by its words."""
+
+    words: Sequence[str]
+
+    @property
+    def text(self) -> str:
+        return " ".join(self.words)
+
+    @property
+    def action(self) -> str:
+        return self.words[0]
+
+    def after(self, word: str) -> Optional[str]:
+        """The word behind the given one, where the rule has it."""
+        words = list(self.words)
+        return words[words.index(word) + 1] if word in words[:-1] else None
+
+    @property
+    def most_states(self) -> Optional[int]:
+        most = self.after("max")
+        return None if most is None else int(most)
+
+    def seconds(self, timeout_class: str) -> Optional[int]:
+        """The seconds that the rule sets for a class, if it does."""
+        for at, word in enumerate(self.words[:-2]):
+            if word == "timeout" and self.words[at + 1] == timeout_class:
+                return int(self.words[at + 2])
+        return None
+
+
+@dataclass
+class Setup:
+    """The lines of a setup without `open`, and what they say."""
+
+    lines: List[str] = field(default_factory=list)
+    limits: Dict[str, int] = field(default_factory=lambda: dict(DEFAULT_LIMITS))
+    rules: Dict[str, List[Rule]] = field(default_factory=lambda: {node: [] for node in NODES})
+
+    @classmethod
+    def of(cls, lines: Sequence[str]) -> "Setup":
+        setup = cls()
+        for line in lines:
+            setup.add(line)
+        return setup
+
+    def add(self, line: str) -> None:
+        """Takes a line that the program has found right."""
+        words = line.split()
+        if words[0] == "set":
+            self.limits[words[1]] = int(words[2])
+        else:
+            self.rules[words[1]].append(Rule(tuple(words[2:])))
+        self.lines.append(line)
+
+    def rule(self, node: str, number: Optional[int]) -> Optional[Rule]:
+        """A node's rule by its number, counted from 0."""
+        rules = self.rules[node]
+        return rules[number] if number is not None and number < len(rules) else None
+
+    def seconds(self, node: str, number: Optional[int], timeout_class: str) -> int:
+        """The timeout of a state's class under its rule, in seconds."""
+        rule = self.rule(node, number)
+        own = rule.seconds(timeout_class) if rule else None
+        return DEFAULT_SECONDS[timeout_class] if own is None else own

@@ -1,0 +1,308 @@
+"""The dialogue: lines in, replies out, and the words for people between them."""
+from __future__ import annotations
+
+import cmd
+import os
+from typing import IO, Any, Iterable, List, Sequence, Tuple
+
+from . import changes, diffs, helps, logs, macros, scripts, views
+from .branches import Branch
+from .charts.chart import chart
+from .charts.picture import draw
+from .charts.text import text as chart_text
+from .colours import Paint
+from .completion import candidates
+from .laboratory import Laboratory, Unknown
+from .names import COMMANDS, EVENTS, SETUP
+from .programs import Ended, SetupFault, has_reply, lines_of
+from .reasons.faults import explain_fault
+from .reasons.why import why_event, why_last
+
+STRICT_STATUS = 4
+BAD_WORDS = ("bad", "refused")
+# Outcomes of an event that a person wants to look at.
+BAD_OUTCOMES = ("drop", "broken")
+
+
+class Stopped(Exception):
+    """A refused or faulty line, where the first one ends the shell."""
+
+
+class Shell(cmd.Cmd):
+    """A dialogue with a laboratory."""
+
+    def __init__(
+        self, lab: Laboratory, out: IO[str], paint: Paint, echo: bool = False, strict: bool = False, is_typed: bool = False
+    ):
+        super().__init__(stdout=out)
+        self.lab, self.out, self.paint = lab, out, paint
+        self.echo, self.strict, self.is_typed = echo, strict, is_typed
+        self.use_rawinput = is_typed
+        self.lines: List[Tuple[str, Sequence[str]]] = []
+        self.has_faults = False
+        self.set_prompt()
+
+    # ---- the loop
+
+    def take(self, lines: Iterable[str], echo: bool) -> bool:
+        """Takes lines one after another: whether one of them ends the shell."""
+        for line in lines:
+            if echo:
+                self.tell([self.paint.dim(f"> {line}")])
+            if self.onecmd(line):
+                return True
+        return False
+
+    def onecmd(self, line: str) -> bool:
+        """Takes one line: whether it ends the shell. What goes wrong with a question is told, and nothing has changed."""
+        try:
+            return bool(super().onecmd(line))
+        except (Unknown, macros.NotQuiet, OSError) as error:
+            self.fault(str(error))
+        except SetupFault as fault:
+            self.tell(explain_fault(line, fault.fault))
+            self.fault(f"the setup is without this line: {fault.fault}")
+        return False
+
+    def postcmd(self, stop: bool, line: str) -> bool:
+        self.set_prompt()
+        return stop
+
+    def emptyline(self) -> bool:
+        return False
+
+    def set_prompt(self) -> None:
+        if not self.is_typed:
+            self.prompt = ""
+            return
+        where = "setup"
+        if self.lab.is_open:
+            known = self.lab.branches.all.get(self.lab.in_use) if self.lab.port is None else None
+            where = f"{self.lab.in_use} {known.cursor}/{len(known.events)}" if known else self.lab.in_use
+        self.prompt = f"{where}> "
+
+    def tell(self, lines: Sequence[str]) -> None:
+        for line in lines:
+            print(line, file=self.out, flush=self.is_typed)
+
+    def fault(self, text: str) -> None:
+        """Tells what could not be done; where faults stop the shell, this one does."""
+        self.has_faults = True
+        self.tell([self.paint.bad(text)])
+        if self.strict:
+            raise Stopped(text)
+
+    # ---- lines of the language
+
+    def default(self, line: str) -> None:
+        """A line of the laboratory's own language, or an event alone, which is meant of the branch in use."""
+        words = line.split()
+        if not has_reply(line):
+            self.lines.append((line, ()))
+        elif words[0] in SETUP or not self.lab.is_open and words[0] not in (*COMMANDS, *EVENTS):
+            self.setup_line(line)
+        elif words[0] in EVENTS:
+            self.events(self.lab.in_use, " ".join(words))
+        elif words[0] == "step" and len(words) > 2:
+            self.events(words[1], " ".join(words[2:]), line)
+        else:
+            self.ask(line)
+
+    def setup_line(self, line: str) -> None:
+        if self.lab.is_open:
+            self.ask(line)
+            return
+        self.lab.tell_setup(line)
+        self.lines.append((line, ()))
+        if self.lab.is_open and self.is_typed:
+            self.tell([self.paint.dim("the pair is set up; its branch is main. `help` lists the words.")])
+
+    def events(self, branch: str, event: str, line: str = "") -> None:
+        """Lets an event happen, or those that `tick both` and `deliver all` stand for."""
+        words = event.split()
+        if words[:2] == ["tick", "both"] and len(words) == 3:
+            self.steps(branch, macros.ticks(words[2]))
+        elif words == ["deliver", "all"]:
+            deliveries = macros.deliveries(self.lab.show(branch))
+            if not deliveries:
+                self.fault("no frame is in flight")
+            self.steps(branch, deliveries)
+        else:
+            self.ask(line or f"step {branch} {event}")
+
+    def steps(self, branch: str, events: Iterable[str]) -> None:
+        for event in events:
+            if not self.step(branch, event):
+                return
+
+    def step(self, branch: str, event: str) -> bool:
+        """A step that stands for a part of what was asked: whether it was accepted."""
+        line = f"step {branch} {event}"
+        self.tell([self.paint.dim(f"> {line}")])
+        return self.ask(line)
+
+    def ask(self, line: str) -> bool:
+        """Asks a line and tells the reply: whether it was neither refused nor faulty."""
+        reply = self.lab.ask(line)
+        self.lines.append((line, tuple(reply)))
+        self.tell([self.painted(it) for it in reply])
+        words = reply[0].split()
+        if words[0] not in BAD_WORDS:
+            return True
+        self.has_faults = self.has_faults or words[0] == "bad"
+        if self.is_typed and words[0] == "bad":
+            self.tell(explain_fault(line, reply[0]))
+        if self.strict:
+            raise Stopped(f"`{line}`: {reply[0]}")
+        return False
+
+    def painted(self, line: str) -> str:
+        words = line.split()
+        if words[0] in BAD_WORDS or (words[0] == "step" and words[1] in BAD_OUTCOMES):
+            return self.paint.bad(line)
+        return line
+
+    # ---- questions
+
+    def branch(self, name: str) -> Branch:
+        return self.lab.branch(name or self.lab.in_use)
+
+    def place(self, words: Sequence[str], what: str) -> Tuple[Branch, int]:
+        """The branch and the place of an event that words tell: `[BRANCH] [K]`, the newest that stands where K is left out."""
+        rest = list(words)
+        number = int(rest.pop()) if rest and rest[-1].isdigit() else 0
+        if len(rest) > 1:
+            raise Unknown(f"usage: {helps.SHELL[what].form}")
+        branch = self.branch(rest[0] if rest else "")
+        number = number or branch.cursor
+        if not 1 <= number <= len(branch.events):
+            raise Unknown(f"{branch.name} has no event {number}; it has {len(branch.events)}")
+        return branch, number
+
+    def do_view(self, words: str) -> None:
+        setup = self.lab.setup if self.lab.knows_setup else None
+        self.tell(views.view(self.lab.show(words.strip() or self.lab.in_use), setup, self.paint))
+
+    def do_diff(self, words: str) -> None:
+        names = words.split()
+        setup = self.lab.setup if self.lab.knows_setup else None
+        if len(names) > 2:
+            raise Unknown(f"usage: {helps.SHELL['diff'].form}")
+        if len(names) == 2:
+            self.tell(diffs.between_branches(self.lab, self.branch(names[0]), self.branch(names[1]), self.paint))
+        else:
+            self.tell(diffs.between_nodes(self.lab.show(names[0] if names else self.lab.in_use), setup, self.paint))
+
+    def do_log(self, words: str) -> None:
+        self.tell(logs.log(self.lab, self.branch(words.strip()), self.paint))
+
+    def do_changes(self, words: str) -> None:
+        branch, number = self.place(words.split(), "changes")
+        self.tell(changes.changes(self.lab, branch, number, self.paint))
+
+    def do_why(self, words: str) -> None:
+        if not words.split():
+            self.tell(why_last(self.lab, self.paint))
+            return
+        branch, number = self.place(words.split(), "why")
+        self.tell(why_event(self.lab, branch, number, self.paint))
+
+    def do_quiet(self, words: str) -> None:
+        name = words.strip() or self.lab.in_use
+        taken = list(macros.steps_to_quiet(lambda event: self.step(name, event), lambda: self.lab.show(name)))
+        self.tell([self.paint.dim(f"quiet: nothing is pending or in flight, after {len(taken)} steps")])
+
+    def do_chart(self, words: str) -> None:
+        names = words.split()
+        path = names.pop() if names and names[-1].endswith(".svg") else ""
+        if len(names) > 1:
+            raise Unknown(f"usage: {helps.SHELL['chart'].form}")
+        drawn = chart(self.lab, self.branch(names[0] if names else ""))
+        if not path:
+            self.tell(chart_text(drawn, self.paint))
+            return
+        with open(path, "w", encoding="utf-8") as it:
+            it.write(draw(drawn, os.path.splitext(os.path.basename(path))[0]))
+        self.tell([f"written: {path}"])
+
+    # ---- the shell itself
+
+    def do_use(self, words: str) -> None:
+        if words.strip() not in self.lab.names():
+            raise Unknown(f"there is no branch {words.strip()}; `names` tells them")
+        self.lab.in_use = words.strip()
+
+    def do_verify(self, words: str) -> None:
+        self.tell(verified(self.lab.program, words.split()).lines)
+
+    def do_annotate(self, words: str) -> None:
+        for path in words.split():
+            self.tell([f"{path}: {'replies written' if scripts.annotate(self.lab.program, path) else 'as it was'}"])
+
+    def do_read(self, words: str) -> bool:
+        return self.take(lines_of(scripts.read(words.strip())), echo=True)
+
+    def do_save(self, words: str) -> None:
+        if not self.lab.knows_setup or self.lab.port is not None:
+            raise Unknown("a script begins with the setup of its pair: on a server there is none to save")
+        with open(words.strip(), "w", encoding="utf-8") as it:
+            for line, reply in self.lines:
+                it.write("".join(f"{text}\n" for text in (line, *(f"{scripts.REPLY}{part}" for part in reply))))
+        self.tell([f"written: {words.strip()}"])
+
+    def do_help(self, words: str) -> None:
+        word = words.strip()
+        if not word:
+            self.tell(helps.overview())
+        elif word in helps.WORDS:
+            self.tell(helps.about(word))
+        else:
+            raise Unknown(f"there is no word {word}; `help` lists them")
+
+    def do_quit(self, words: str) -> bool:
+        return True
+
+    do_exit = do_quit
+
+    def do_EOF(self, words: str) -> bool:
+        if self.is_typed:
+            self.tell([""])
+        return True
+
+    def completenames(self, text: str, *ignored: object) -> List[str]:
+        return spaced(candidates(self.lab, (), text))
+
+    def completedefault(self, *words: Any) -> List[str]:
+        text, line, begun, _ = words
+        try:
+            return spaced(candidates(self.lab, line[:begun].split(), text))
+        except (Unknown, Ended, OSError):
+            return []
+
+    def complete_help(self, *words: Any) -> List[str]:
+        return self.completedefault(*words)
+
+
+def spaced(words: List[str]) -> List[str]:
+    """The words with the space that ends each, which readline leaves to the completer; a folder goes on."""
+    return [it if os.path.isdir(it) else f"{it} " for it in words]
+
+
+class Verified:
+    """What became of scripts that were run beside their replies: a line for each difference, and one for all."""
+
+    def __init__(self, lines: List[str], differing: int):
+        self.lines, self.differing = lines, differing
+
+
+def verified(program: str, paths: Sequence[str]) -> Verified:
+    """Runs scripts, and tells where their marked lines and the replies differ."""
+    lines: List[str] = []
+    differing = 0
+    for path in paths:
+        found = scripts.verify(program, scripts.read(path))
+        differing += bool(found)
+        lines += [f"{path}:{it}" for it in found]
+    total = f"{len(paths)} script{'s' * (len(paths) != 1)}"
+    lines.append(f"{total}: {f'{differing} differ' if differing else 'all replies as they say'}")
+    return Verified(lines, differing)

@@ -1,0 +1,142 @@
+"""Faulty lines: the word at fault, and that the shell finds the fault that the program finds."""
+from __future__ import annotations
+
+import random
+import unittest
+from typing import List, Optional
+
+from . import program
+from ..reasons.faults import explain_fault
+from ..reasons.line_forms import LineFault, check_line
+from ..programs import check_setup, run_lines
+
+PACKET = "step main packet a in udp 1.2.3.4:1 2.3.4.5:2 3"
+TCP = "step main packet a in tcp 1.2.3.4:1 2.3.4.5:2 S 1 2 3 4"
+V6 = "[0000:0000:0000:0000:0000:0000:0000:0001]:1"
+
+# Of each faulty line: the reply, the word at fault or nothing where one is missing, and a part of what is wrong.
+COMMANDS = [
+    ("show " + "x" * 600, "bad 1 Long", None, "the line has 605 characters"),
+    ("show \x1b[A", "bad 2 NotAscii", None, "character 6"),
+    ("shwo main", "bad 3 Unknown", "shwo", "did you mean `show`?"),
+    ("rule a pass out", "bad 3 Unknown", "rule", "it belongs to the setup"),
+    ("step main flsh a", "bad 3 Unknown", "flsh", "did you mean `flush`?"),
+    ("step main packet a", "bad 4 Missing", "", "in|out is missing: in or out"),
+    ("fork main 3", "bad 4 Missing", "", "NEW is missing"),
+    (PACKET.replace("udp", "UDP"), "bad 5 Number", "UDP", "is no protocol (did you mean `udp`?)"),
+    (PACKET.replace("udp", "256"), "bad 5 Number", "256", "is above 255"),
+    (PACKET.replace("1.2.3.4:1", "[::1]:1"), "bad 5 Number", "[::1]:1", "no `::`"),
+    (PACKET.replace("1.2.3.4:1", "::1"), "bad 5 Number", "::1", "stands in brackets"),
+    (PACKET.replace("1.2.3.4:1", "1.2.3.4"), "bad 5 Number", "1.2.3.4", "has no port"),
+    (PACKET.replace("1.2.3.4:1", "1.2.3.400:1"), "bad 5 Number", "1.2.3.400:1", "has 400 in its address"),
+    (PACKET.replace("2.3.4.5:2", "2.3.4.5:65536"), "bad 5 Number", "2.3.4.5:65536", "has port 65536, above 65535"),
+    (TCP.replace("S 1", "AS 1"), "bad 5 Number", "AS", "write `SA`"),
+    (TCP.replace("S 1", "SE 1"), "bad 5 Number", "SE", "has `E`, which is no flag"),
+    (TCP.replace("S 1", "S 4294967296"), "bad 5 Number", "4294967296", "is above 4294967295"),
+    ("step main flush c", "bad 5 Number", "c", "NODE is a or b"),
+    ("step main kill a 5", "bad 5 Number", "5", "two numbers with one dot"),
+    ("step main tick a -1", "bad 5 Number", "-1", "is no number of decimal digits"),
+    ("show main now", "bad 6 Extra", "now", "the line was complete before `now`"),
+    (PACKET.replace("2 3", "2 65500"), "bad 7 Packet", "65500", "above 65495"),
+    (TCP.replace("S 1", "A 1") + " 5", "bad 7 Packet", "5", "only a packet with SYN has a SCALE"),
+    (TCP + " 15", "bad 7 Packet", "15", "above 14"),
+    (PACKET.replace("1.2.3.4:1", V6), "bad 7 Packet", "2.3.4.5:2", "one end is IPv4 and the other IPv6"),
+    (PACKET.replace("udp", "icmp"), "bad 7 Packet", "2.3.4.5:2", "the same identifier"),
+    (PACKET.replace("udp", "47"), "bad 7 Packet", "1.2.3.4:1", "has no ports"),
+]
+SETUPS = [
+    ("set quee 3", "line 3 Unknown", "quee", "did you mean `queue`?"),
+    ("step main flush a", "line 3 Unknown", "step", "those come behind `open`"),
+    ("set states", "line 4 Missing", "", "N is missing"),
+    ("set defer 2", "line 5 Number", "2", "is above 1"),
+    ("rule a pass in from 10.0.0.1", "line 5 Number", "10.0.0.1", "has no length behind a slash"),
+    ("rule a pass in from 10.0.0.0/33", "line 5 Number", "10.0.0.0/33", "has the length 33, above 32"),
+    ("rule a pass in to 10.0.0.0/8 from 10.0.0.0/8", "line 6 Extra", "from", "out of its order"),
+    ("rule a pass in port 80", "line 3 Unknown", "port", "`fport N` behind `from`"),
+    ("rule a pass in qick", "line 3 Unknown", "qick", "did you mean `quick`?"),
+    ("rule a pass in timeout tcp.last 5", "line 5 Number", "tcp.last", "is no CLASS"),
+    ("rule a pass in timeout udp.first 5 timeout tcp.first 5", "line 6 Extra", "timeout", "in the order of their classes"),
+]
+POOL = (
+    "a b c in out tcp UDP 6 47 256 1.2.3.4:5 1.2.3.4 ::1 S AS - 0 15 65496 65536 4294967296 1.1 1. main step flush packet x"
+).split()
+
+
+def found(line: str, of_setup: bool = False) -> Optional[str]:
+    """The fault that the shell finds."""
+    try:
+        check_line(line, of_setup)
+    except LineFault as fault:
+        return fault.name
+    return None
+
+
+def marked(lines: List[str]) -> Optional[str]:
+    """The word over the mark; nothing where no line is marked."""
+    for line, mark in zip(lines, lines[1:]):
+        if set(mark.strip()) == {"^"}:
+            return line[mark.index("^") : mark.index("^") + mark.count("^")]
+    return None
+
+
+class FaultReasons(unittest.TestCase):
+    def test_commands(self) -> None:
+        replies = run_lines(program(), ["open", *(line for line, *_ in COMMANDS)]).replies
+        for (line, reply, word, part), came in zip(COMMANDS, replies):
+            with self.subTest(line[:60]):
+                self.assertEqual(came, [reply])
+                self.check(line, reply, word, part)
+
+    def test_setups(self) -> None:
+        for line, reply, word, part in SETUPS:
+            with self.subTest(line):
+                fault = check_setup(program(), [line])
+                self.assertEqual(fault and fault.fault, reply)
+                self.check(line, reply, word, part)
+
+    def check(self, line: str, reply: str, word: Optional[str], part: str) -> None:
+        lines = explain_fault(line, reply)
+        self.assertIn(part, lines[0])
+        self.assertEqual(marked(lines), word)
+
+    def test_faults_of_what_a_line_says(self) -> None:
+        cases = [
+            ("set mtu 100", "world 1 TooSmall", "a limit is below its range: `mtu` is from 148 to 9000, and not 100"),
+            ("set batch 300", "world 2 TooLarge", "a limit is above its range: `batch` is from 1 to 256, and not 300"),
+            ("rule b pass in nat 1.2.3.4:5", "rule 2 NatNotOut", "a rule with `nat` has to be for the way `out`"),
+            ("rule a pass out max 0", "rule 3 ZeroMax", "a rule has to allow one state at least, and says `max 0`"),
+        ]
+        for line, reply, why in cases:
+            with self.subTest(line):
+                fault = check_setup(program(), [line])
+                self.assertEqual(fault and fault.fault, reply)
+                self.assertEqual(explain_fault(line, reply), [why])
+
+    def test_a_fault_that_the_shell_does_not_find_is_not_explained(self) -> None:
+        lines = explain_fault("step main flush a", "bad 5 Number")
+        self.assertEqual(lines[0], "a word has not the form that is wanted; which word, the shell cannot tell")
+
+    def test_the_shell_finds_what_the_program_finds(self) -> None:
+        """Lines with a word or two exchanged, left out or added, against the program's check."""
+        chance = random.Random(1)
+        steps = ["step main tick a 5", "step main kill a 1.1", "step main cut 1 5"]
+        good = [PACKET, TCP, *steps, "fork main 1 x", "back main 1", "names"]
+        lines = []
+        for _ in range(3000):
+            words = chance.choice(good).split()
+            for _ in range(chance.randrange(3)):
+                place = chance.randrange(len(words) + 1)
+                words[place : place + chance.randrange(2)] = [chance.choice(POOL)] * chance.randrange(2)
+            lines.append(" ".join(words) or "names")
+        told = {}
+        for reply in run_lines(program(), ["open", *lines], "check").replies:
+            words = reply[0].split()
+            if words[0] == "line":
+                told[int(words[1]) - 2] = words[-1]
+        self.assertGreater(len(told), 1000)
+        for place, line in enumerate(lines):
+            self.assertEqual(found(line), told.get(place), line)
+
+
+if __name__ == "__main__":
+    unittest.main()

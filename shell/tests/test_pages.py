@@ -1,0 +1,43 @@
+"""The pages tell of the shell what is so: their dialogues, and the pictures beside the lessons."""
+from __future__ import annotations
+
+import unittest
+from glob import glob
+
+from .. import helps, scripts
+from ..charts.picture import draw
+from ..main import drawn_from, title_of
+from ..programs import lines_of
+from . import TOP, program
+from .dialogues import dialogues, printed, typed
+
+
+def read(path: str) -> str:
+    with open(f"{TOP}/{path}", encoding="utf-8") as it:
+        return it.read()
+
+
+class Pages(unittest.TestCase):
+    def test_dialogues_are_what_the_shell_says(self) -> None:
+        pages = ["docs/SHELL.md", "README.md"]
+        found = [it for page in pages for it in dialogues(read(page))]
+        self.assertTrue(found)
+        for it in found:
+            self.assertEqual(it, printed(typed(it)))
+
+    def test_pictures_are_those_of_the_scripts(self) -> None:
+        pictures = glob(f"{TOP}/examples/*.svg")
+        self.assertTrue(pictures)
+        for it in pictures:
+            script = lines_of(scripts.read(it.replace(".svg", ".pfl")))
+            self.assertEqual(scripts.read(it), draw(drawn_from(program(), script, "main"), title_of(script)), it)
+
+    def test_the_page_has_each_word_of_the_shell(self) -> None:
+        page = read("docs/SHELL.md")
+        for word, it in helps.SHELL.items():
+            for form in it.form.split("\n"):
+                self.assertIn(f"`{form}`", page, word)
+
+
+if __name__ == "__main__":
+    unittest.main()

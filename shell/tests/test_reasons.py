@@ -1,0 +1,320 @@
+"""`why`: the reason of each kind of reply to an event. The numbers are worked out by hand from docs/FORMATS.md."""
+from __future__ import annotations
+
+import unittest
+from typing import Dict, List, Tuple
+
+from . import laboratory
+from ..colours import PLAIN
+from ..laboratory import Asked, Unknown
+from ..reasons.why import why, why_event, why_last
+
+WALLS = "rule a block any\nrule a pass out\nrule b block any\nrule b pass out\nopen\n"
+OPEN = "rule a pass any flags any\nrule b pass any flags any\nopen\n"
+QUERY = "step main packet a out udp 10.0.0.1:1000 192.0.2.9:53 40\n"
+SECOND = "step main packet a out udp 10.0.0.2:1000 192.0.2.9:53 40\n"
+ANSWER_AT_B = "step main packet b in udp 192.0.2.9:53 10.0.0.1:1000 80\n"
+FLUSH = "step main flush a\n"
+SYNC = "step main flush a\nstep main deliver 1\n"
+# A connection: the source's lo is 5000 and its hi 5002; then the destination's lo is 9001, and the source's hi 5001 + 60000.
+SYN = "step main packet a out tcp 10.0.0.1:1000 192.0.2.9:80 S 5000 0 65535 0 2\n"
+SYN_ACK = "step main packet a in tcp 192.0.2.9:80 10.0.0.1:1000 SA 9000 5001 60000 0 3\n"
+ACK = "step main packet a out tcp 10.0.0.1:1000 192.0.2.9:80 A {} {} 100 1000\n"
+RESET = "step main packet a out tcp 10.0.0.1:1000 192.0.2.9:80 RA 5001 9001 100 0\n"
+FLOW = "state 1.1 (udp 10.0.0.1:1000 -> 192.0.2.9:53)"
+TCP_FLOW = "state 1.1 (tcp 10.0.0.1:1000 -> 192.0.2.9:80)"
+ABSENT = f"node a has {FLOW} for this flow; b does not: "
+
+# Of each case: a script, and lines of the reason of its last reply.
+Cases = Dict[str, Tuple[str, List[str]]]
+
+DROPS: Cases = {
+    "block, the last rule": (WALLS + ANSWER_AT_B, ["rule 0 of b (block any) decided: it is the last rule that matches"]),
+    "block, quick": (
+        "rule a block in quick proto udp\nrule a pass any\nopen\nstep main packet a in udp 1.2.3.4:5 2.3.4.5:6 7",
+        ["rule 0 of a (block in quick proto udp) decided: it is the first `quick` rule that matches"],
+    ),
+    "block, a rule with words that have no effect": (
+        "rule a pass any\nrule a block out no-sync max 1 nat 203.0.113.1:9\nopen\n" + QUERY,
+        ["rule 1 of a (block out no-sync max 1 nat 203.0.113.1:9) decided: it is the last rule that matches"],
+    ),
+    "block, but for its flags": (
+        WALLS + "step main packet b out tcp 10.0.0.1:1000 192.0.2.9:80 A 1 2 3 4",
+        [
+            "rule 0 of b (block any) decided: it is the last rule that matches",
+            "rule 1 of b (pass out) would pass it, but for its flags A",
+            "a pass rule without `flags any` takes only a TCP packet that begins a connection: SYN without ACK",
+        ],
+    ),
+    "block, the insertion was lost": (
+        WALLS + QUERY + FLUSH + "step main lose 1\n" + ANSWER_AT_B,
+        [ABSENT + "its insertion was lost in frame 1 (event 3)"],
+    ),
+    "block, the insertion is in flight": (
+        WALLS + QUERY + FLUSH + ANSWER_AT_B,
+        [ABSENT + "frame 1, which brings it (event 2), is still in flight"],
+    ),
+    "block, the insertion is queued": (
+        WALLS + QUERY + ANSWER_AT_B,
+        [ABSENT + "a has it on its insert queue, and has not sent it yet (`flush a`)"],
+    ),
+    "block, the insertion was cut": (
+        WALLS + QUERY + FLUSH + "step main cut 1 50\nstep main deliver 1\n" + ANSWER_AT_B,
+        [ABSENT + "frame 1, which brought it, could not be read (event 4: broken 3)"],
+    ),
+    "block, the state was killed": (
+        WALLS + QUERY + SYNC + "step main kill b 1.1\n" + ANSWER_AT_B,
+        [ABSENT + "it was there until event 4, `kill b 1.1` (killed)"],
+    ),
+    "block, the insertion was bad": (
+        "set states 1\nrule a pass out\nrule b block in\nrule b pass out\nopen\n"
+        + (QUERY + SECOND.replace(" a ", " b ") + SYNC)
+        + ANSWER_AT_B,
+        [
+            ABSENT + "its insertion in frame 1 was delivered (event 4): "
+            "bad: the state table of b is full: 1 entry, and the limit `states` is 1"
+        ],
+    ),
+    "block, the state is not told": (
+        "rule a pass out no-sync\nrule b block any\nopen\n" + QUERY + ANSWER_AT_B,
+        [ABSENT + "rule 0 of a (pass out no-sync) made it with `no-sync`, so a never tells of it"],
+    ),
+    "block, the state expired at both": (
+        "rule a pass out timeout udp.first 5\nrule b block any\nopen\n"
+        + (QUERY + SYNC + "step main tick b 60000\nstep main purge b\nstep main flush b\nstep main deliver 2\n")
+        + ANSWER_AT_B,
+        [f"node b had {FLOW} for this flow until event 5, `purge b` (purged 1); no node has one now"],
+    ),
+    "block, the other way": (
+        WALLS + QUERY + "step main packet a in udp 10.0.0.1:1000 192.0.2.9:53 40",
+        [f"{FLOW} of a has these ends, but matches this packet on its way out alone"],
+    ),
+    "max": (
+        "rule a pass out max 1\nopen\n" + QUERY + SECOND,
+        ["rule 0 of a (pass out max 1) decided: it may have 1 state, and has 1 now: 1.1"],
+    ),
+    "full": (
+        "set states 1\nrule a pass out\nopen\n" + QUERY + SECOND,
+        [
+            "the state table of a has 1 entry, and the limit `states` is 1",
+            "rule 0 of a (pass out) decided, and would make a state",
+        ],
+    ),
+    "key": (
+        "rule a pass out nat 203.0.113.1:999\nopen\n" + QUERY + SECOND,
+        [
+            "state 1.1 (udp 203.0.113.1:999 (10.0.0.1:1000) -> 192.0.2.9:53) of a has its wire key already: "
+            "203.0.113.1:999 and 192.0.2.9:53"
+        ],
+    ),
+    "window, the right edge": (
+        WALLS + SYN + SYN_ACK + ACK.format(126001, 9001),
+        [
+            "seq 126001 ends at 127001, 62000 above 65001 (hi of the source end)",
+            f"{TCP_FLOW} of a matches it, and it comes from the source end",
+            "packet: flags A seq 126001 ack 9001 win 100 len 1000",
+            "source end: ESTABLISHED lo 5000 hi 65001 win 65535 wscale 2",
+        ],
+    ),
+    "window, the left edge": (
+        # 60000 at scale 3 is 480000, and 5000 less 480000 is 4294492296 in 32 bits.
+        WALLS + SYN + SYN_ACK + ACK.format((5000 - 480000 - 100) % 2**32, 9001),
+        [
+            "seq 4294492196 begins 100 below 4294492296 (lo 5000 of the source end less the window 480000 (60000 at scale 3) "
+            "of the destination end)"
+        ],
+    ),
+    "window, an acknowledgement ahead": (
+        WALLS + SYN + SYN_ACK + ACK.format(5001, 9001 + 67036),
+        ["ack 76037 is 67036 ahead of 9001 (lo of the destination end), and at most 67035 is allowed"],
+    ),
+    "window, an acknowledgement behind": (
+        # At the sender's scale 2 it may be 268140 behind.
+        WALLS + SYN + SYN_ACK + ACK.format(5001, (9001 - 268141) % 2**32),
+        ["ack 4294708156 is 268141 behind 9001 (lo of the destination end), and at most 268140 is allowed"],
+    ),
+    "window, an update was lost": (
+        WALLS
+        + (SYN + SYNC + SYN_ACK + ACK.format(5001, 9001) + FLUSH + "step main lose 2\n")
+        + ACK.format(6001, 9001).replace(" a ", " b "),
+        [
+            "seq 6001 ends at 7001, 1999 above 5002 (hi of the source end)",
+            "node a has other numbers for state 1.1: the same packet at a gives `pass 1.1`",
+            "the newest that a told of it: its short update was lost in frame 2 (event 7)",
+        ],
+    ),
+}
+
+PASSES: Cases = {
+    "a new state": (WALLS + QUERY, ["no state matched; rule 1 of a (pass out) passed it, and made state 1.1"]),
+    "a known state": (
+        WALLS + QUERY + QUERY,
+        [f"{FLOW} of a matches it by its stack key; a packet of a state is not tested against rules"],
+    ),
+    "no rules": ("open\n" + QUERY, ["no rule of a matches it, which has 0 rules: what no rule matches passes, without a state"]),
+    "no rule": (
+        "rule a block in\nopen\n" + QUERY,
+        ["no rule of a matches it, which has 1 rule: what no rule matches passes, without a state"],
+    ),
+    "a new connection": (
+        OPEN + SYN + SYN_ACK + RESET + SYN,
+        [f"{TCP_FLOW} was closed at both ends, and this packet begins a new connection: so it was deleted first"],
+    ),
+    "held": (
+        "set defer 1\n" + WALLS + "step main tick a 100\n" + QUERY,
+        ["or it goes out with the next packet of the state, or once it is due: `release a` from 120 ms on a's clock"],
+    ),
+    "held, and another let go": (
+        "set defer 1\nset held 1\n" + WALLS + QUERY + SECOND,
+        ["the packet of 1.1 went out at once: a held 1, and the limit `held` is 1"],
+    ),
+}
+
+REFUSALS: Cases = {
+    "no such frame": (
+        WALLS + QUERY + FLUSH + "step main lose 1\nstep main deliver 1",
+        ["no frame in flight has the ticket 1; in flight: none", "frame 1 was lost by event 3"],
+    ),
+    "not sent yet": (
+        WALLS + QUERY + FLUSH + "step main deliver 7",
+        [
+            "no frame in flight has the ticket 7; in flight: 1 (to b)",
+            "frame 7 was not sent yet: the next frame gets the ticket 2",
+        ],
+    ),
+    "nothing to send": (
+        WALLS + FLUSH,
+        ["node a has nothing to send: no state is queued, and no request, bulk status or clear is listed"],
+    ),
+    "nothing held": (WALLS + "step main release a", ["node a holds no packet, so there is none to release"]),
+    "no such state": (WALLS + QUERY + "step main kill a 1.2", ["node a has no state 1.2", "it has 1.1; nearest: 1.1"]),
+    "a state of the peer": (WALLS + QUERY + "step main kill b 1.1", ["its table is empty", "node a has a state 1.1"]),
+    "link full": (
+        "set frames 1\n" + WALLS + QUERY + FLUSH + SECOND + FLUSH,
+        ["the link carries 1 frame, and the limit `frames` is 1"],
+    ),
+    "queue full": (
+        "set queue 1\n" + WALLS + QUERY + SECOND,
+        [
+            "at some point of the event more would be pending at a than the limit `queue` allows, 1",
+            "pending before it: 1 (1 state, 0 requests, 0 bulk statuses, 0 clears)",
+        ],
+    ),
+    "clock full": (
+        WALLS + "step main tick a 999999999999\nstep main tick a 2",
+        [
+            "the clock of a stands at 999999999999 ms, and 2 ms more would pass its last, 1000000000000 ms",
+            "it can go on by 1 ms at most",
+        ],
+    ),
+    "serving nobody": (
+        WALLS + "step main turn a",
+        ["node a serves no bulk update: nobody has asked it for all its states, or all are sent"],
+    ),
+    "waiting for nothing": (
+        WALLS + "step main retry a",
+        ["node a waits for no bulk update: it has asked for none, or its end has come"],
+    ),
+    "too early to release": (
+        "set defer 1\n" + WALLS + QUERY + "step main tick a 15\nstep main release a",
+        [
+            "the oldest packet that a holds (of state 1.1) is due at 20 ms: it has waited since 0 ms, and `defer_ms` is 20 ms",
+            "the clock of a stands at 15 ms: `tick a 5` first",
+        ],
+    ),
+    "too early to retry": (
+        WALLS + "step main restart a\nstep main tick a 1\nstep main retry a",
+        [
+            "a can ask for all states again at 10000 ms: it has waited since 0 ms, and `bulk_ms` is 10000 ms",
+            "the clock of a stands at 1 ms: `tick a 9999` first",
+        ],
+    ),
+}
+
+COMMANDS: Cases = {
+    "no branch": (WALLS + "step man flush a", ["there is no branch man; did you mean main?", "the branches: main"]),
+    "name taken": (WALLS + "fork main 0 main", ["there is a branch main already"]),
+    "bad name, its first letter": (WALLS + "fork main 0 X", ["`X` begins with `X`"]),
+    "bad name, another letter": (WALLS + "fork main 0 a_b", ["`a_b` has a `_`"]),
+    "bad name, too long": (WALLS + "fork main 0 abcdefghijklmnopq", ["`abcdefghijklmnopq` has 17 characters"]),
+    "too far back": (WALLS + QUERY + "back main 3", ["3 events cannot be undone: 1 event of main stands"]),
+    "nothing forward": (
+        WALLS + QUERY + "back main 1\nforward main 2",
+        ["2 events cannot happen again: 1 undone event of main is behind the cursor"],
+    ),
+    "a fork of too many": (WALLS + QUERY + "fork main 2 x", ["main has 1 event, so there are no first 2 of them"]),
+    "last branch": (WALLS + "drop main", ["main is the only branch, and one has to be left: fork another one first"]),
+    "branches full": (
+        WALLS + "".join(f"fork main 0 b{it}\n" for it in range(16)),
+        ["there are 16 branches, and at most 16 can be: `drop` one first"],
+    ),
+    "no event 0": (WALLS + QUERY + "excise main 0", ["events are counted from 1"]),
+    "no event": (WALLS + QUERY + "excise main 2", ["main has 1 event: there is no event 2"]),
+    "nothing excised": (
+        WALLS + "restore main",
+        ["main has nothing to bring back: no event was taken out, or an event was accepted or restored since"],
+    ),
+    "a faulty line": (WALLS + "step main flush c", ["`c` is no NODE; NODE is a or b", "wanted: step BRANCH flush NODE"]),
+}
+
+
+class Reasons(unittest.TestCase):
+    def check(self, cases: Cases) -> None:
+        for name, (script, expected) in cases.items():
+            with self.subTest(name):
+                lab = laboratory(script)
+                lines = [it.strip() for it in why_last(lab, PLAIN)[1:]]
+                lab.close()
+                for line in expected:
+                    self.assertIn(line, lines)
+                self.assertNotIn("cannot tell", " ".join(lines))
+
+    def test_drops(self) -> None:
+        self.check(DROPS)
+
+    def test_passes(self) -> None:
+        self.check(PASSES)
+
+    def test_refusals(self) -> None:
+        self.check(REFUSALS)
+
+    def test_commands(self) -> None:
+        self.check(COMMANDS)
+
+    def test_the_outcome_comes_first(self) -> None:
+        lab = laboratory(WALLS + ANSWER_AT_B)
+        self.addCleanup(lab.close)
+        self.assertEqual(why_last(lab, PLAIN)[0], "packet b in udp 192.0.2.9:53 10.0.0.1:1000 80: drop block")
+
+    def test_an_event_in_the_middle_is_explained_as_it_was(self) -> None:
+        lab = laboratory(WALLS + ANSWER_AT_B + QUERY + SYNC + ANSWER_AT_B)
+        self.addCleanup(lab.close)
+        branch = lab.branch("main")
+        self.assertEqual(why_event(lab, branch, 1, PLAIN)[0].split(": ")[1], "drop block")
+        self.assertEqual(why_event(lab, branch, 5, PLAIN)[0].split(": ")[1], "pass 1.1")
+        self.assertRaises(Unknown, why_event, lab, branch, 6, PLAIN)
+
+    def test_an_answer_that_does_not_come_again_is_not_explained(self) -> None:
+        lab = laboratory(WALLS)
+        self.addCleanup(lab.close)
+        event = "packet a out udp 10.0.0.1:1000 192.0.2.9:53 40"
+        lines = why(lab, (), event, "step drop window dropped 0", PLAIN)
+        self.assertIn("a run of its own answers `pass 1.1` behind the same events: the shell cannot tell the reason", lines[1])
+
+    def test_a_new_connection_misses_no_state(self) -> None:
+        lab = laboratory(OPEN + SYN + SYNC + SYN_ACK + RESET + SYN)
+        self.addCleanup(lab.close)
+        self.assertNotIn("other keys", "\n".join(why_last(lab, PLAIN)))
+
+    def test_a_server_does_not_tell_what_went_before(self) -> None:
+        lab = laboratory(WALLS + QUERY)
+        self.addCleanup(lab.close)
+        lab.last = Asked("step main flush a", ("step sent 1 148 dropped 0",))
+        self.assertRaises(Unknown, why_last, lab, PLAIN)
+
+    def test_nothing_was_asked(self) -> None:
+        self.assertRaises(Unknown, why_last, laboratory("open"), PLAIN)
+
+
+if __name__ == "__main__":
+    unittest.main()

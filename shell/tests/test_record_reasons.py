@@ -1,0 +1,162 @@
+"""`why` of deliveries: record by record, and frames that cannot be read. Levels and sequence numbers are worked out by hand."""
+from __future__ import annotations
+
+import unittest
+
+from . import laboratory
+from .test_reasons import ACK, FLUSH, OPEN, QUERY, SECOND, SYN, SYN_ACK, SYNC, Cases
+from ..colours import PLAIN
+from ..reasons.questions import ask
+from ..reasons.why import why_last
+from ..reasons.records import explain_taken
+
+# The source's acknowledgement: its lo is 6001 then, and the destination ESTABLISHED.
+ACKED = ACK.format(5001, 9001)
+FLUSH_B = "step main flush b\n"
+KILL = "step main kill a 1.1\n"
+ANSWER = "step main packet b in udp 192.0.2.9:53 10.0.0.1:1000 80\n"
+# A's update of the SYN and ACK: the source ESTABLISHED at 5000, the destination SYN_SENT at 9001.
+ANSWERED = OPEN + SYN + SYNC + SYN_ACK + FLUSH
+
+CASES: Cases = {
+    "new": (OPEN + QUERY + SYNC, ["frame 1 came to node b with 1 record:", "1. insert 1.1: new: inserted"]),
+    "two new": (OPEN + QUERY + SECOND + SYNC, ["1. insert 1.1: new: inserted", "2. insert 1.2: new: inserted"]),
+    "new, and to be acknowledged": (
+        "set defer 1\n" + OPEN + QUERY + SYNC,
+        ["1. insert 1.1: new: inserted; it asks for an acknowledgement, which is queued"],
+    ),
+    "new, without its rule": (
+        "rule a pass out\nrule b pass any\nopen\n" + QUERY + SYNC,
+        ["without the number of its rule, since the sender's rules are not those of b: 1.1"],
+    ),
+    "acknowledged": (
+        "set defer 1\n" + OPEN + QUERY + SYNC + "step main flush b\nstep main deliver 2",
+        ["1. insert acknowledgement 1.1: acknowledged: its held packet is released"],
+    ),
+    "acknowledged too late": (
+        "set defer 1\n" + OPEN + QUERY + SYNC + FLUSH_B + "step main tick a 20\nstep main release a\nstep main deliver 2",
+        ["1. insert acknowledgement 1.1: acknowledged: nothing waited for it any more"],
+    ),
+    "acknowledged, but deleted": (
+        "set defer 1\n" + OPEN + QUERY + SYNC + "step main flush b\nstep main kill a 1.1\nstep main deliver 2",
+        ["1. insert acknowledgement 1.1: unknown: a has no such state, and passes over it"],
+    ),
+    "merged": (ANSWERED + "step main deliver 2", ["1. short update 1.1: merged: neither end is behind the one here"]),
+    "stale by sequence and level": (
+        ANSWERED + ACKED + FLUSH + "step main deliver 3\nstep main deliver 2",
+        [
+            "1. short update 1.1: stale: the source end's lo 6001 here is after the 5000 that came; "
+            "the destination end came as SYN_SENT, and is ESTABLISHED here"
+        ],
+    ),
+    "merged in part": (
+        # B has heard 1000 bytes more of the destination than a has, and a 1000 more of the source.
+        ANSWERED
+        + "step main deliver 2\nstep main packet b in tcp 192.0.2.9:80 10.0.0.1:1000 A 9001 5001 60000 1000\n"
+        + ACKED
+        + FLUSH
+        + "step main deliver 3",
+        [
+            "1. short update 1.1: merged in part, counted as stale: the source end is taken; "
+            "the destination end's lo 10001 here is after the 9001 that came"
+        ],
+    ),
+    "stale by level, of UDP": (
+        OPEN + QUERY + SYNC + QUERY + FLUSH + ANSWER + "step main deliver 2",
+        [
+            "1. short update 1.1: stale: the source end came as SINGLE, and is MULTIPLE here; "
+            "the destination end came as NO_TRAFFIC, and is SINGLE here"
+        ],
+    ),
+    "unknown": (
+        OPEN + QUERY + FLUSH + QUERY + FLUSH + "step main deliver 2",
+        ["1. short update 1.1: unknown: b has no such state, and asks for it"],
+    ),
+    "unknown again": (
+        OPEN + QUERY + FLUSH + QUERY + FLUSH + QUERY + FLUSH + "step main deliver 2\nstep main deliver 3",
+        ["1. short update 1.1: unknown: b has no such state, and asks for it already"],
+    ),
+    "asked for": (
+        OPEN + QUERY + FLUSH + QUERY + FLUSH + "step main deliver 2\nstep main flush b\nstep main deliver 3",
+        ["1. update request 1.1: asked for: the whole state is queued as an update"],
+    ),
+    "asked for, but deleted": (
+        OPEN + QUERY + FLUSH + QUERY + FLUSH + "step main deliver 2\n" + FLUSH_B + KILL + "step main deliver 3",
+        ["1. update request 1.1: bad: a has no such state to send"],
+    ),
+    "bad, the name is there": (
+        OPEN + QUERY + FLUSH + "step main repeat 1\nstep main deliver 1\nstep main deliver 2",
+        ["1. insert 1.1: bad: b has a state 1.1 already (udp 10.0.0.1:1000, 192.0.2.9:53)"],
+    ),
+    "bad, the key is there": (
+        OPEN + QUERY + QUERY.replace(" a ", " b ") + SYNC,
+        ["1. insert 1.1: bad: its key is in use: b has state 2.1 for 10.0.0.1:1000 and 192.0.2.9:53"],
+    ),
+    "bad, the deletion is to be told": (
+        OPEN + QUERY + FLUSH + "step main repeat 1\nstep main deliver 1\nstep main kill b 1.1\nstep main deliver 2",
+        ["1. insert 1.1: bad: b has deleted the state, and has still to tell so"],
+    ),
+    "bad, the table is full": (
+        "set states 1\n" + OPEN + QUERY + SECOND.replace(" a ", " b ") + SYNC,
+        ["1. insert 1.1: bad: the state table of b is full: 1 entry, and the limit `states` is 1"],
+    ),
+    "deleted": (
+        OPEN + QUERY + SYNC + "step main kill a 1.1\nstep main flush a\nstep main deliver 2",
+        ["1. short delete 1.1: deleted"],
+    ),
+    "deleted already": (
+        OPEN + QUERY + SYNC + KILL + FLUSH + "step main repeat 2\nstep main deliver 2\nstep main deliver 3",
+        ["1. short delete 1.1: bad: b has no such state to delete"],
+    ),
+    "cleared": (
+        OPEN + QUERY + SECOND + SYNC + "step main clear a\nstep main flush a\nstep main deliver 2",
+        ["1. clear: b gave up 2 states of boot 1 up to id 2: 1.1, 1.2"],
+    ),
+    "all asked for": (
+        OPEN + QUERY + SYNC + "step main restart b\nstep main flush b\nstep main deliver 2",
+        ["1. update request of all states: a has 1 state to send"],
+    ),
+    "the end of a bulk update": (
+        OPEN + "step main restart b\nstep main flush b\nstep main deliver 1\nstep main flush a\nstep main deliver 2",
+        ["1. bulk status end: the bulk update is complete, and b waits for one"],
+    ),
+    "broken, cut within its records": (
+        OPEN + QUERY + FLUSH + "step main cut 1 40\nstep main repeat 1\nstep main deliver 2",
+        [
+            "Length: bytes 2 and 3 of its header say 148 bytes, and 40 are there",
+            "frame 2 is a copy of frame 1 (event 4)",
+            "event 3 cut frame 1 from 148 bytes to 40",
+        ],
+    ),
+    "broken, cut within its header": (
+        OPEN + QUERY + FLUSH + "step main cut 1 4\nstep main deliver 1",
+        ["Short: it has 4 bytes, and a header alone has 20", "event 3 cut frame 1 from 148 bytes to 4"],
+    ),
+}
+
+
+class RecordReasons(unittest.TestCase):
+    def test_records(self) -> None:
+        for name, (script, expected) in CASES.items():
+            with self.subTest(name):
+                lab = laboratory(script)
+                lines = [it.strip() for it in why_last(lab, PLAIN)[1:]]
+                lab.close()
+                for line in expected:
+                    self.assertIn(line, lines)
+                self.assertFalse([it for it in lines if "cannot tell" in it or "the program's" in it])
+
+    def test_counters_that_move_otherwise_are_told(self) -> None:
+        lab = laboratory(OPEN + QUERY + FLUSH)
+        self.addCleanup(lab.close)
+        question = ask(lab, tuple(lab.branch("main").events), "deliver 1", "step taken 1 dropped 0", PLAIN)
+        # As if the program had counted a record as bad, and not inserted the state.
+        question.after.b.counters["bad"] += 1
+        question.after.b.states.clear()
+        lines = explain_taken(question)
+        self.assertIn("the program counted 1 bad, and the shell 0: it cannot tell which record that was", lines)
+        self.assertIn("the program's table of b has other states than these records would leave: trust the program", lines)
+
+
+if __name__ == "__main__":
+    unittest.main()

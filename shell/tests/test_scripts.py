@@ -1,0 +1,94 @@
+"""Scripts beside their replies: what verify tells, and what annotate writes."""
+from __future__ import annotations
+
+import os
+import stat
+import tempfile
+import unittest
+from glob import glob
+
+from .. import scripts
+from ..shell import verified
+from . import TOP, program
+
+RIGHT = """# A story.
+rule a pass out
+open
+
+step main packet a out udp 10.0.0.1:1000 192.0.2.9:53 40
+#> step pass 1.1 dropped 0
+names
+#> names main
+"""
+
+
+class Verify(unittest.TestCase):
+    def told(self, text: str) -> str:
+        return "\n".join(str(it) for it in scripts.verify(program(), text))
+
+    def test_a_right_script_says_nothing(self) -> None:
+        self.assertEqual(self.told(RIGHT), "")
+
+    def test_a_wrong_reply_is_told_with_its_line(self) -> None:
+        text = RIGHT.replace("pass 1.1", "pass 1.2")
+        self.assertEqual(self.told(text), "6: reply\n  wanted: step pass 1.2 dropped 0\n  came:   step pass 1.1 dropped 0")
+
+    def test_a_reply_that_is_not_expected_is_told_at_its_command(self) -> None:
+        text = RIGHT.replace("#> names main\n", "")
+        self.assertEqual(self.told(text), "7: reply\n  wanted: nothing\n  came:   names main")
+
+    def test_a_reply_that_does_not_come_is_told(self) -> None:
+        text = RIGHT.replace("#> names main\n", "#> names main\n#> names other\n")
+        self.assertEqual(self.told(text), "9: reply\n  wanted: names other\n  came:   nothing")
+
+    def test_a_reply_above_the_first_command_belongs_to_no_line(self) -> None:
+        self.assertEqual(
+            self.told(RIGHT.replace("# A story.\n", "#> names\n")), "1: reply to no line\n  wanted: names\n  came:   nothing"
+        )
+
+    def test_each_command_is_compared_by_itself(self) -> None:
+        text = RIGHT.replace("1.1", "1.7").replace("names main", "names all")
+        self.assertEqual([it.line for it in scripts.verify(program(), text)], [6, 8])
+
+    def test_faults_and_the_status_are_compared(self) -> None:
+        self.assertEqual(self.told("rule a pss\nopen\n#! pfl_lab: setup line 1: line 5\n#= 1\n"), "")
+        said = self.told("rule a pss\nopen\n")
+        self.assertIn("2: fault\n  wanted: nothing\n  came:   pfl_lab: setup line 1: line 5", said)
+        self.assertIn("2: status\n  wanted: 0\n  came:   1", said)
+
+    def test_lines_of_check_are_compared(self) -> None:
+        text = "open\nback main\n#> bad 4 Missing\n#? line 2 bad 4 Missing\n#? good 0\n#= 1\n"
+        self.assertEqual(self.told(text), "")
+        self.assertEqual(self.told(text.replace("good 0", "good 1")), "5: check\n  wanted: good 1\n  came:   good 0")
+
+    def test_the_examples_reply_as_they_say(self) -> None:
+        paths = sorted(glob(f"{TOP}/examples/*.pfl"))
+        found = verified(program(), paths)
+        self.assertEqual(found.lines, [f"{len(paths)} scripts: all replies as they say"])
+
+
+class Annotate(unittest.TestCase):
+    def test_it_writes_what_comes_and_keeps_the_rest(self) -> None:
+        bare = "".join(line for line in RIGHT.splitlines(keepends=True) if not line.startswith("#>"))
+        self.assertEqual(scripts.annotated(program(), bare), RIGHT)
+        self.assertEqual(scripts.annotated(program(), RIGHT.replace("1.1", "1.2")), RIGHT)
+
+    def test_it_writes_faults_and_the_status(self) -> None:
+        text = "open\nback main\n"
+        self.assertEqual(scripts.annotated(program(), text), "open\nback main\n#> bad 4 Missing\n#= 1\n")
+        self.assertEqual(scripts.annotated(program(), "rule a\n"), "rule a\n#! pfl_lab: setup line 1: line 4\n#= 1\n")
+
+    def test_the_file_keeps_its_mode_and_nothing_else_is_left(self) -> None:
+        with tempfile.TemporaryDirectory() as folder:
+            path = f"{folder}/case.pfl"
+            with open(path, "w", encoding="utf-8") as it:
+                it.write("open\nnames\n")
+            os.chmod(path, 0o640)
+            self.assertTrue(scripts.annotate(program(), path))
+            self.assertFalse(scripts.annotate(program(), path))
+            self.assertEqual(scripts.read(path), "open\nnames\n#> names main\n")
+            self.assertEqual((stat.S_IMODE(os.stat(path).st_mode), os.listdir(folder)), (0o640, ["case.pfl"]))
+
+
+if __name__ == "__main__":
+    unittest.main()

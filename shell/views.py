@@ -1,0 +1,167 @@
+"""The pair in the words of `pfctl -vss` and `pfctl -si`, and its link in those of tcpdump."""
+from __future__ import annotations
+
+import textwrap
+from typing import Dict, List, Optional
+
+from .checksums import rules_checksum
+from .colours import Paint
+from .frames import HEADER, Broken, checksum, decode, summary
+from .names import COUNTERS, NODES, QUEUES
+from .pair import Frame, Held, Node, Pair, State, other
+from .records import record_line
+from .setups import Setup
+from .words import (
+    FLAGS,
+    bulk_client,
+    bulk_server,
+    bulk_status,
+    cleared,
+    counted,
+    expiry,
+    milliseconds_left,
+    near_and_far,
+    request,
+    rule_number,
+    seconds,
+    sequence,
+    state_line,
+)
+
+UNKNOWN_SETUP = "the setup is not known here: times of expiry are those of the default timeouts and limits"
+WIDTH = 120
+TRIES = 12
+
+
+def view(pair: Pair, setup: Optional[Setup], paint: Paint) -> List[str]:
+    """All of a pair: both nodes, and what is in flight."""
+    undone = pair.events - pair.cursor
+    behind = f", {undone} undone" if undone else ""
+    lines = [paint.head(f"branch {pair.branch}") + f"  {counted(pair.cursor, 'event')}{behind}"]
+    if setup is None:
+        lines.append(paint.note(UNKNOWN_SETUP))
+    for node in NODES:
+        lines += _node(pair.nodes[node], setup, paint)
+    return lines + _link(pair, setup, paint)
+
+
+# ---- nodes
+
+
+def _node(node: Node, setup: Optional[Setup], paint: Paint) -> List[str]:
+    numbers = f"clock {seconds(node.clock)}, boot {node.boot}, next id {node.next_id}, next queueing number {node.next_number}"
+    lines = [paint.head(f"node {node.id}") + f"  {numbers}"]
+    if not node.states:
+        lines.append("  no states")
+    for name in sorted(node.states):
+        lines += _state(node.states[name], node, setup, paint)
+    lines.append(_counters(node))
+    lines += _to_be_told(node, paint)
+    lines += [_held(it, node, setup, paint) for it in node.held]
+    return lines + _bulk_update(node, setup, paint)
+
+
+def _state(state: State, node: Node, setup: Optional[Setup], paint: Paint) -> List[str]:
+    """A state as `pfctl -vss` prints it: its flow and levels; of TCP its sequence numbers; and what else is known of it."""
+    lines = [f"  {state_line(state)}"]
+    indent = " " * (len(str(state.name)) + 4)
+    if state.protocol == "tcp":
+        lines.append(indent + "  ".join(map(sequence, near_and_far(state))))
+    return [*lines, indent + ", ".join(_verbose(state, node, setup, paint))]
+
+
+def _verbose(state: State, node: Node, setup: Optional[Setup], paint: Paint) -> List[str]:
+    left = milliseconds_left(setup, node, state)
+    said = [expiry(left) if left > 0 else paint.note(expiry(left)), state.timeout_class]
+    said.append(f"last used {seconds(node.clock - state.last)} ago")
+    if state.flags != "-":
+        said.append(FLAGS.get(state.flags, state.flags))
+    if state.updates:
+        said.append(f"update count {state.updates}")
+    if state.peer is not None:
+        said.append(f"changed by the peer {seconds(node.clock - state.peer)} ago")
+    rule = setup.rule(node.id, state.rule) if setup else None
+    return [*said, rule_number(state.rule) + (f": {rule.text}" if rule else "")]
+
+
+def _counters(node: Node) -> str:
+    """The counters: those that are not 0, each with what it counts."""
+    said = [f"{it.counts} {node.counters[it.name]}" for it in COUNTERS if node.counters[it.name]]
+    if not said:
+        return "  counters: all 0"
+    rest = len(COUNTERS) - len(said)
+    return f"  counters: {', '.join(said)}" + (f"; the other {rest} are 0" if rest else "")
+
+
+def _to_be_told(node: Node, paint: Paint) -> List[str]:
+    """What a flush has to send, by kind, and whether it is wanted soon."""
+    kinds: Dict[str, List[str]] = {}
+    for it in node.queue:
+        kinds.setdefault(QUEUES[it.kind], []).append(str(it.name))
+    if node.asks:
+        kinds["update request"] = [request(it) for it in node.asks]
+    if node.statuses:
+        kinds["bulk status"] = [bulk_status(it) for it in node.statuses]
+    if node.clears:
+        kinds["clear"] = [cleared(it) for it in node.clears]
+    push = ", push asked" if node.push else ""
+    if not kinds:
+        return [paint.note("  nothing to be told to the peer, push asked")] if push else []
+    text = "; ".join(f"{kind} {', '.join(those)}" for kind, those in kinds.items())
+    lines = textwrap.wrap(f"to be told to {other(node.id)} ({node.pending}{push}): {text}", WIDTH, break_long_words=False)
+    return [paint.note(("  " if at == 0 else "    ") + it) for at, it in enumerate(lines)]
+
+
+def _held(it: Held, node: Node, setup: Optional[Setup], paint: Paint) -> str:
+    due = it.since + (setup or Setup()).limits["defer_ms"]
+    when = f"due since {seconds(due)}" if due <= node.clock else f"due at {seconds(due)}"
+    packet = f" ({it.packet})" if it.packet else ""
+    return paint.note(f"  held packet of {it.name}{packet}: since {seconds(it.since)}, {when}")
+
+
+def _bulk_update(node: Node, setup: Optional[Setup], paint: Paint) -> List[str]:
+    lines: List[str] = []
+    if node.serve != "-":
+        lines.append(f"  serves a bulk update, {bulk_server(node.serve)}")
+    if node.sync != "-":
+        tries, _, asked = node.sync.partition("/")
+        again = seconds(int(asked) + (setup or Setup()).limits["bulk_ms"])
+        then = f"asks again at {again} at the earliest" if int(tries) < TRIES else f"gives up at {again} at the earliest"
+        lines.append(f"  {bulk_client(node.sync)}; {then}")
+    return [paint.note(it) for it in lines]
+
+
+# ---- the link
+
+
+def _link(pair: Pair, setup: Optional[Setup], paint: Paint) -> List[str]:
+    what = counted(len(pair.frames), "frame") + " in flight" if pair.frames else "nothing in flight"
+    lines = [paint.head("link") + f"  {what}, next ticket {pair.next_ticket}, next boot {pair.next_boot}"]
+    for ticket in sorted(pair.frames):
+        lines += _frame(pair.frames[ticket], setup, paint)
+    return lines
+
+
+def _frame(frame: Frame, setup: Optional[Setup], paint: Paint) -> List[str]:
+    """A frame in flight, and its records one a line."""
+    head = f"  frame {frame.ticket} to {frame.to}, {counted(len(frame.data), 'byte')}{_rules(frame, setup)}"
+    try:
+        records = decode(frame.data)
+    except Broken:
+        return [f"{head}: {paint.bad(summary(frame.data))}"]
+    return [f"{head}: {summary(frame.data)}", *(f"    {record_line(it)}" for it in records)]
+
+
+def _rules(frame: Frame, setup: Optional[Setup]) -> str:
+    """The checksum in the header, beside those of the rules of the sender and of the receiver."""
+    if len(frame.data) < HEADER:
+        return ""
+    told = checksum(frame.data)
+    text = f", rules {told[:8]}"
+    if setup is None:
+        return text
+    sender = other(frame.to)
+    if told != rules_checksum(setup.rules[sender]):
+        return f"{text}, not those of {sender}"
+    same = told == rules_checksum(setup.rules[frame.to])
+    return f"{text} of {sender}, {frame.to} has {'the same' if same else 'others'}"
