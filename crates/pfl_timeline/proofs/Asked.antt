@@ -14,9 +14,9 @@ use Rattle.pfl_timeline.specs.declared.command.Command.{Command}
 use Rattle.pfl_timeline.specs.declared.command.Command.TheVariants as command
 use Rattle.pfl_timeline.specs.declared.refused.Refused.{Refused}
 use Rattle.pfl_timeline.specs.declared.refused.Refused.TheVariants as refused
-use Rattle.pfl_timeline.specs.Commands.{replied, answered, with_branch, with_changed, extended, undone, at_cursor, step_answered, step_reply, back_reply, forward_reply, fork_reply, drop_reply, show_reply, step_command, back_command, forward_command, fork_command, drop_command, show_command, names_command, excise_reply, restore_reply, excise_command, restore_command, command_step}
+use Rattle.pfl_timeline.specs.Commands.{replied, answered, with_branch, with_changed, extended, undone, at_cursor, step_answered, step_reply, back_reply, forward_reply, fork_reply, drop_reply, show_reply, step_command, back_command, forward_command, fork_command, drop_command, show_command, names_command, excise_reply, restore_reply, excise_command, restore_command, log_reply, log_command, command_step}
 use Rattle.pfl_timeline.specs.Excisions.{has_event, excised, fallen_places, restored}
-use Rattle.pfl_timeline.specs.Replies.{Reply, Replied, Stepped as StepReply, At, Shown, Names, Excised, Restored, Refused as Refusing}
+use Rattle.pfl_timeline.specs.Replies.{Reply, Replied, Stepped as StepReply, At, Shown, Names, Excised, Restored, Logged, Refused as Refusing}
 use Rattle.pfl_timeline.specs.inner.Replies.{moved, fell_out, brought_back}
 use Rattle.pfl_timeline.specs.Rooted.{Rooted, shown}
 use Rattle.pfl_timeline.specs.inner.Rooted.{with_cursor, with_former}
@@ -167,6 +167,18 @@ pub shown_as : (name name' : List ℕ) (events events' cursor cursor' : ℕ) (w 
 shown_as name name' events events' cursor cursor' w w' a b c d =
     ap (λ (x : List ℕ). Shown x events cursor w) a ∙ ap (λ n. Shown name' n cursor w) b ∙ ap (λ n. Shown name' events' n w) c ∙ ap (Shown name' events' cursor') d
 
+-- the branch's events are told
+pub told-logged : (r : Rooted) → IsReplyOf log_reply r r (Logged r.branch.name r.branch.events r.branch.cursor)
+told-logged r = record {
+  opening = refl;
+  name = refl;
+  told = λ t stands. same_branch r t (Logged r.branch.name r.branch.events r.branch.cursor) stands;
+}
+
+pub logged_as : (name name' : List ℕ) (events events' : List Event) (cursor cursor' : ℕ) → name ≡ name' → events ≡ events' → cursor ≡ cursor' → Logged name events cursor ≡ Logged name' events' cursor'
+logged_as name name' events events' cursor cursor' a b c =
+    ap (λ (x : List ℕ). Logged x events cursor) a ∙ ap (λ (es : List Event). Logged name' es cursor) b ∙ ap (Logged name' events') c
+
 -- what holds anyway holds after want of memory
 pub anyway : {X Y P : Type 0} (r : Result X Y) → P → OnErr r P
 anyway (Ok x) p = tt
@@ -258,3 +270,11 @@ is-restore t c name is = ap (command_step t) is
 pub is-show : (t : Timeline) (c : Command) (name : List ℕ) → c ≡ command.Show name → command_step t c ≡ show_command t name
 unfolding command_step
 is-show t c name is = ap (command_step t) is
+
+pub log-asks : (t : Timeline) (name : List ℕ) → log_command t name ≡ with_branch t name (λ b. log_reply t b)
+unfolding log_command
+log-asks t name = refl
+
+pub is-log : (t : Timeline) (c : Command) (name : List ℕ) → c ≡ command.Log name → command_step t c ≡ log_command t name
+unfolding command_step
+is-log t c name is = ap (command_step t) is

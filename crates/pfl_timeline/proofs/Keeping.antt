@@ -17,7 +17,7 @@ use Rattle.pfl_timeline.specs.declared.command.Command.{Command}
 use Rattle.pfl_timeline.specs.declared.command.Command.TheVariants as command
 use Rattle.pfl_timeline.specs.declared.refused.Refused.{Refused}
 use Rattle.pfl_timeline.specs.declared.refused.Refused.TheVariants as refused
-use Rattle.pfl_timeline.specs.Commands.{replied, answered, with_branch, with_changed, extended, undone, at_cursor, step_answered, step_reply, back_reply, forward_reply, first_events, fork_refusal, fork_reply, drop_reply, show_reply, step_command, back_command, forward_command, fork_command, drop_command, show_command, names_command, excise_reply, restore_reply, excise_command, restore_command, command_step, replayed}
+use Rattle.pfl_timeline.specs.Commands.{replied, answered, with_branch, with_changed, extended, undone, at_cursor, step_answered, step_reply, back_reply, forward_reply, first_events, fork_refusal, fork_reply, drop_reply, show_reply, step_command, back_command, forward_command, fork_command, drop_command, show_command, names_command, excise_reply, restore_reply, excise_command, restore_command, log_reply, log_command, command_step, replayed}
 use Rattle.pfl_timeline.specs.Excisions.{has_event, excised, fallen_places, restored}
 use Rattle.pfl_timeline.specs.Laws.{CommandsKeepTimelines, BranchesShowWorlds}
 use Rattle.pfl_timeline.specs.Replies.{Replied, Forked, Removed, Shown, Excised, Restored, Refused as Refusing}
@@ -248,7 +248,7 @@ named_keeps t name done is keep =
     ] refl
 
 pub command_keeps : (t : Timeline) (c : Command) → IsTimeline t → IsTimeline (command_step t c).timeline
-unfolding command_step step_command back_command forward_command fork_command drop_command show_command names_command excise_command restore_command
+unfolding command_step step_command back_command forward_command fork_command drop_command show_command names_command excise_command restore_command log_command
 command_keeps t (command.Step name e) is = named_keeps t name (step_reply t e) is (λ b _ branch. step_keeps t e b is branch)
 command_keeps t (command.Back name n) is = named_keeps t name (back_reply t n) is (λ b _ branch. back_keeps t n b is branch)
 command_keeps t (command.Forward name n) is = named_keeps t name (forward_reply t n) is (λ b _ branch. forward_keeps t n b is branch)
@@ -258,6 +258,7 @@ command_keeps t (command.Show name) is = named_keeps t name (show_reply t) is (�
 command_keeps t command.Names is = is
 command_keeps t (command.Excise name k) is = named_keeps t name (excise_reply t k) is (λ b _ branch. excise_keeps t k b is branch)
 command_keeps t (command.Restore name) is = named_keeps t name (restore_reply t) is (λ b _ branch. restore_keeps t b is branch)
+command_keeps t (command.Log name) is = named_keeps t name (log_reply t) is (λ _ _ _. is)
 
 pub commands-keep : CommandsKeepTimelines
 unfolding replayed

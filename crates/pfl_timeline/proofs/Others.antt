@@ -10,7 +10,7 @@ use Rattle.pfl_world.specs.Events.{step}
 use Rattle.pfl_timeline.specs.declared.command.Command.TheVariants as command
 use Rattle.pfl_timeline.specs.declared.refused.Refused.{Refused}
 use Rattle.pfl_timeline.specs.declared.refused.Refused.TheVariants as refused
-use Rattle.pfl_timeline.specs.Commands.{replied, answered, with_branch, with_changed, extended, undone, step_answered, step_reply, back_reply, forward_reply, first_events, fork_refusal, fork_reply, drop_reply, show_reply, step_command, back_command, forward_command, fork_command, drop_command, show_command, names_command, excise_reply, restore_reply, excise_command, restore_command, command_step}
+use Rattle.pfl_timeline.specs.Commands.{replied, answered, with_branch, with_changed, extended, undone, step_answered, step_reply, back_reply, forward_reply, first_events, fork_refusal, fork_reply, drop_reply, show_reply, step_command, back_command, forward_command, fork_command, drop_command, show_command, names_command, excise_reply, restore_reply, excise_command, restore_command, log_reply, log_command, command_step}
 use Rattle.pfl_timeline.specs.Excisions.{has_event, excised, restored}
 use Rattle.pfl_timeline.specs.Laws.{CommandsLeaveOthers}
 use Rattle.pfl_timeline.specs.Replies.{Replied, Shown, Restored, Refused as Refusing}
@@ -124,7 +124,7 @@ leaves_drop t of name apart b has =
     leaves_answered t name (refused_by ((nat_le (length t.branches) 1, refused.LastBranch) ∷ [])) _ (find_others b.name name (other t of name apart b has) t.branches)
 
 pub others-stay : CommandsLeaveOthers
-unfolding command_step step_command back_command forward_command fork_command drop_command show_command names_command excise_command restore_command
+unfolding command_step step_command back_command forward_command fork_command drop_command show_command names_command excise_command restore_command log_command
 others-stay t (command.Step of e) name apart = leaves_named t of name (step_reply t e) (leaves_step t of name apart e)
 others-stay t (command.Back of n) name apart = leaves_named t of name (back_reply t n) (leaves_back t of name apart n)
 others-stay t (command.Forward of n) name apart = leaves_named t of name (forward_reply t n) (leaves_forward t of name apart n)
@@ -134,3 +134,4 @@ others-stay t (command.Show of) name apart = leaves_named t of name (show_reply 
 others-stay t command.Names name apart = refl
 others-stay t (command.Excise of k) name apart = leaves_named t of name (excise_reply t k) (leaves_excise t of name apart k)
 others-stay t (command.Restore of) name apart = leaves_named t of name (restore_reply t) (leaves_restore t of name apart)
+others-stay t (command.Log of) name apart = leaves_named t of name (log_reply t) (λ b _. refl)

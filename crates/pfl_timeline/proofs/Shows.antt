@@ -13,10 +13,10 @@ use Rattle.pfl_timeline.specs.declared.command.Command.{Command}
 use Rattle.pfl_timeline.specs.declared.command.Command.TheVariants as command
 use Rattle.pfl_timeline.specs.declared.refused.Refused.{Refused}
 use Rattle.pfl_timeline.specs.declared.refused.Refused.TheVariants as refused
-use Rattle.pfl_timeline.specs.Commands.{replied, answered, with_branch, with_changed, undone, step_answered, step_reply, back_reply, forward_reply, fork_refusal, fork_reply, drop_reply, show_reply, step_command, back_command, forward_command, fork_command, drop_command, show_command, names_command, excise_reply, restore_reply, excise_command, restore_command, command_step, replayed}
+use Rattle.pfl_timeline.specs.Commands.{replied, answered, with_branch, with_changed, undone, step_answered, step_reply, back_reply, forward_reply, fork_refusal, fork_reply, drop_reply, show_reply, step_command, back_command, forward_command, fork_command, drop_command, show_command, names_command, excise_reply, restore_reply, excise_command, restore_command, log_reply, log_command, command_step, replayed}
 use Rattle.pfl_timeline.specs.Excisions.{has_event, restored}
 use Rattle.pfl_timeline.specs.Laws.{ShowsItsRun, BranchesShowTheirRuns}
-use Rattle.pfl_timeline.specs.Replies.{Replied, Shown, Restored, Refused as Refusing}
+use Rattle.pfl_timeline.specs.Replies.{Replied, Shown, Restored, Logged, Refused as Refusing}
 use Rattle.pfl_timeline.specs.Timelines.{Branch, Timeline, IsTimeline, branch_of, same_name, new_timeline, standing, world_of}
 use Rattle.pfl_timeline.proofs.Keeping.{commands-keep, branches-show}
 use Rattle.pfl_timeline.proofs.NewTimelines.{new_timeline-is}
@@ -62,7 +62,7 @@ begins_restore t b =
     ]
 
 opening_kept : (t : Timeline) (c : Command) → Begins t (command_step t c)
-unfolding command_step step_command back_command forward_command fork_command drop_command show_command names_command excise_command restore_command
+unfolding command_step step_command back_command forward_command fork_command drop_command show_command names_command excise_command restore_command log_command
 opening_kept t (command.Step of e) = begins_named t of (step_reply t e) (begins_step t e)
 opening_kept t (command.Back of n) = begins_named t of (back_reply t n) (λ b. begins_answered t (refused_by ((nat_lt b.cursor n, refused.TooFarBack) ∷ [])) _ refl)
 opening_kept t (command.Forward of n) = begins_named t of (forward_reply t n) (λ b. begins_answered t (refused_by ((nat_lt (undone b) n, refused.NothingForward) ∷ [])) _ refl)
@@ -72,6 +72,7 @@ opening_kept t (command.Show of) = begins_named t of (show_reply t) (begins_show
 opening_kept t command.Names = refl
 opening_kept t (command.Excise of k) = begins_named t of (excise_reply t k) (λ b. begins_answered t (refused_by ((not (has_event k b), refused.NoEvent) ∷ [])) _ refl)
 opening_kept t (command.Restore of) = begins_named t of (restore_reply t) (begins_restore t)
+opening_kept t (command.Log of) = begins_named t of (log_reply t) (λ b. refl)
 
 opening_stays : (t : Timeline) (cs : List Command) → (replayed t cs).opening ≡ t.opening
 unfolding replayed
@@ -107,6 +108,10 @@ told_shown t b w named here =
     ap (λ (o : Option Branch). (option_map_or (show_reply t) o (replied t (Refusing refused.NoBranch))).reply) named
     ∙ ap (λ (o : Option World). (option_map_or (λ v. replied t (Shown b.name (length b.events) b.cursor v)) o (replied t (Refusing refused.NoBranch))).reply) here
 
+told_logged : (t : Timeline) (b : Branch) → named_in t.branches b → (log_command t b.name).reply ≡ Logged b.name b.events b.cursor
+unfolding log_command
+told_logged t b named = ap (λ (o : Option Branch). (option_map_or (log_reply t) o (replied t (Refusing refused.NoBranch))).reply) named
+
 shows_run : (opening : World) (t : Timeline) (b : Branch) → t.opening ≡ opening → named_in t.branches b → IsTrue (is_some (world_of t b)) → ShowsItsRun opening t b
 unfolding world_of
 shows_run opening t b begins named is =
@@ -115,6 +120,7 @@ shows_run opening t b begins named is =
       world = w.0;
       runs = ap (λ (o : World). run o (standing b)) (sym begins) ∙ w.1;
       shown = told_shown t b w.0 named w.1;
+      logged = told_logged t b named;
     }
 
 all_show : (opening : World) (t : Timeline) (bs : List Branch) → t.opening ≡ opening → AllByRecursion (named_in t.branches) bs → AllByRecursion (λ b. IsTrue (is_some (world_of t b))) bs → AllByRecursion (ShowsItsRun opening t) bs

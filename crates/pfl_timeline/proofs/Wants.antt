@@ -33,7 +33,7 @@ use Rattle.pfl_world.specs.Worlds.{World, node_at}
 use Rattle.pfl_timeline.specs.declared.command.Command.{Command}
 use Rattle.pfl_timeline.specs.declared.command.Command.TheVariants as command
 use Rattle.pfl_timeline.specs.declared.refused.Refused.TheVariants as refused
-use Rattle.pfl_timeline.specs.Commands.{replied, answered, with_branch, with_changed, undone, at_cursor, step_answered, step_reply, back_reply, forward_reply, first_events, fork_reply, drop_reply, show_reply, step_command, back_command, forward_command, fork_command, drop_command, show_command, names_command, excise_reply, restore_reply, excise_command, restore_command, command_step}
+use Rattle.pfl_timeline.specs.Commands.{replied, answered, with_branch, with_changed, undone, at_cursor, step_answered, step_reply, back_reply, forward_reply, first_events, fork_reply, drop_reply, show_reply, step_command, back_command, forward_command, fork_command, drop_command, show_command, names_command, excise_reply, restore_reply, excise_command, restore_command, log_reply, log_command, command_step}
 use Rattle.pfl_timeline.specs.Excisions.{has_event, excised, fallen_places, restored}
 use Rattle.pfl_timeline.specs.Laws.{NoReplyTellsWantOfMemory}
 use Rattle.pfl_timeline.specs.Memory.{is_refusal, IsAccepted, makes_something, Reads, StepMayWant, IsNotRefused, MayWantMemory}
@@ -42,7 +42,7 @@ use Rattle.pfl_timeline.specs.Rooted.{Rooted, shown}
 use Rattle.pfl_timeline.proofs.Rooted.{Accepts}
 use Rattle.pfl_timeline.specs.Timelines.{Branch, Timeline, branch_of, is_branch_name, same_name, world_of}
 use Rattle.pfl_timeline.specs.Kept.{timeline_of, StandByName}
-use Rattle.pfl_timeline.proofs.Asked.{asked_of, step-asks, is-forward, is-fork, is-show, is-names, is-excise}
+use Rattle.pfl_timeline.proofs.Asked.{asked_of, step-asks, is-forward, is-fork, is-show, is-names, is-excise, is-log}
 use Rattle.pfl_timeline.proofs.Places.{Entries, accepted-at, shows-at}
 use Rattle.pfl_timeline.proofs.Refusals.{told-apart}
 
@@ -193,6 +193,12 @@ show_wants t c name is accepted = record {
   not_refused = subst (λ (k : Command). IsNotRefused t k) (sym is) (subst IsAccepted (sym (is-show t (command.Show name) name refl)) accepted);
 }
 
+pub log_wants : (t : Timeline) (c : Command) (name : List ℕ) → c ≡ command.Log name → IsAccepted (log_command t name) → MayWantMemory t c
+log_wants t c name is accepted = record {
+  makes = ap makes_something is;
+  not_refused = subst (λ (k : Command). IsNotRefused t k) (sym is) (subst IsAccepted (sym (is-log t (command.Log name) name refl)) accepted);
+}
+
 -- ---- no reply tells want of memory
 
 abbrev wanted : Reply
@@ -273,7 +279,7 @@ named_tells t name done tells =
     ]
 
 pub no_reply-tells : NoReplyTellsWantOfMemory
-unfolding command_step step_command back_command forward_command fork_command drop_command show_command names_command excise_command restore_command
+unfolding command_step step_command back_command forward_command fork_command drop_command show_command names_command excise_command restore_command log_command
 no_reply-tells t (command.Step name e) = named_tells t name (step_reply t e) (step_tells t e)
 no_reply-tells t (command.Back name n) = named_tells t name (back_reply t n) (back_tells t n)
 no_reply-tells t (command.Forward name n) = named_tells t name (forward_reply t n) (forward_tells t n)
@@ -283,3 +289,4 @@ no_reply-tells t (command.Show name) = named_tells t name (show_reply t) (show_t
 no_reply-tells t command.Names = λ is. cc
 no_reply-tells t (command.Excise name k) = named_tells t name (excise_reply t k) (excise_tells t k)
 no_reply-tells t (command.Restore name) = named_tells t name (restore_reply t) (restore_tells t)
+no_reply-tells t (command.Log name) = named_tells t name (log_reply t) (λ b is. cc)

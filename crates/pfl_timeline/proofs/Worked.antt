@@ -12,7 +12,7 @@ use Rattle.pfl_timeline.specs.declared.refused.Refused.TheVariants as refused
 use Rattle.pfl_timeline.specs.Timelines.{Timeline, new_timeline, main_name}
 use Rattle.pfl_timeline.specs.Timelines as timelines
 use Rattle.pfl_timeline.specs.Commands as commands
-use Rattle.pfl_timeline.specs.Commands.{step_command, back_command, forward_command, fork_command, drop_command, show_command, names_command, excise_command, restore_command}
+use Rattle.pfl_timeline.specs.Commands.{step_command, back_command, forward_command, fork_command, drop_command, show_command, names_command, excise_command, restore_command, log_command}
 use Rattle.pfl_timeline.specs.Excisions as excisions
 use Rattle.pfl_timeline.specs.Replies as reply
 use Rattle.pfl_timeline.specs.Replies.{Reply, Replied}
@@ -30,6 +30,7 @@ data Asked : Type 0 where
   names : Asked
   excise : ℕ → Asked
   restore : Asked
+  log : List ℕ → Asked
 
 -- what it gives; steps, moves, excisions and restorations are on `main`
 unfoldable gives : Timeline → Asked → Replied
@@ -42,6 +43,7 @@ gives t (show of) = show_command t of
 gives t names = names_command t
 gives t (excise k) = excise_command t main_name k
 gives t restore = restore_command t main_name
+gives t (log of) = log_command t of
 
 abbrev packet : Packet → Asked
 packet p = step (event.Packet A Outbound p)
@@ -60,7 +62,7 @@ final t [] = t
 final t (c ∷ cs) = final (gives t c).timeline cs
 
 unfoldable computing : ℕ
-unfolding of_worlds replies final gives timelines.world_of commands.step_command commands.back_command commands.forward_command commands.fork_command commands.drop_command commands.show_command commands.names_command commands.excise_command commands.restore_command excisions.sieve summary
+unfolding of_worlds replies final gives timelines.world_of commands.step_command commands.back_command commands.forward_command commands.fork_command commands.drop_command commands.show_command commands.names_command commands.excise_command commands.restore_command commands.log_command excisions.sieve summary
 computing = 0
 
 abbrev t : Timeline
@@ -134,6 +136,13 @@ last_event : asked_then (excise 4 ∷ step (event.Lose 9) ∷ restore ∷ excise
     ≡ reply.Excised [] ∷ reply.Refused (refused.Event refusal.NoSuchFrame) ∷ reply.Restored 4 ∷ reply.Excised [] ∷ reply.Stepped (outcome.Clock 1) 0 ∷ reply.Refused refused.NothingExcised ∷ []
 unfolding computing
 last_event = refl
+
+-- a log tells all events, those behind the cursor too; a fork's those that it took
+told : asked_then (back 3 ∷ log main_name ∷ fork main_name 2 (codes "t") ∷ log (codes "t") ∷ excise 1 ∷ log main_name ∷ log (codes "x") ∷ [])
+    ≡ reply.At 1 ∷ reply.Logged main_name (event.Packet A Outbound u1 ∷ event.Flush A ∷ event.Deliver 1 ∷ event.Packet A Outbound u2 ∷ []) 1 ∷ reply.Forked
+    ∷ reply.Logged (codes "t") (event.Packet A Outbound u1 ∷ event.Flush A ∷ []) 2 ∷ reply.Excised (2 ∷ 3 ∷ []) ∷ reply.Logged main_name (event.Packet A Outbound u2 ∷ []) 0 ∷ reply.Refused refused.NoBranch ∷ []
+unfolding computing
+told = refl
 
 -- the former list and cursor are not counted
 counted_without : summary (final after_four (excise 1 ∷ [])) 5 ≡ 5 ∷ 1 ∷ 1 ∷ 1 ∷ 1 ∷ 0 ∷ 0 ∷ 1 ∷ []

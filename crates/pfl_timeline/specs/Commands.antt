@@ -12,7 +12,7 @@ use Rattle.pfl_timeline.specs.declared.command.Command.TheVariants as command
 use Rattle.pfl_timeline.specs.declared.refused.Refused.{Refused}
 use Rattle.pfl_timeline.specs.declared.refused.Refused.TheVariants as refused
 use Rattle.pfl_timeline.specs.Excisions.{has_event, excised, fallen_places, restored}
-use Rattle.pfl_timeline.specs.Replies.{Reply, Stepped as StepReply, At, Forked, Removed, Shown, Names, Excised, Restored, Refused as Refusing, Replied}
+use Rattle.pfl_timeline.specs.Replies.{Reply, Stepped as StepReply, At, Forked, Removed, Shown, Names, Excised, Restored, Logged, Refused as Refusing, Replied}
 use Rattle.pfl_timeline.specs.Timelines.{Branch, Timeline, branch_of, same_name, is_branch_name, standing, world_of}
 
 -- the timeline with a reply
@@ -100,6 +100,10 @@ excise_reply t k b =
 abbrev pub restore_reply : Timeline → Branch → Replied
 restore_reply t b = option_map_or (λ f. replied (with_changed t (restored b f)) (Restored f.cursor)) b.former (replied t (Refusing refused.NothingExcised))
 
+-- the events of the branch, those behind the cursor too, and its cursor
+abbrev pub log_reply : Timeline → Branch → Replied
+log_reply t b = replied t (Logged b.name b.events b.cursor)
+
 -- ---- each command, by the branch that it names
 
 -- an event behind those that stand
@@ -134,6 +138,10 @@ excise_command t name k = with_branch t name (excise_reply t k)
 unfoldable pub restore_command : Timeline → List ℕ → Replied
 restore_command t name = with_branch t name (restore_reply t)
 
+-- the events of a branch
+unfoldable pub log_command : Timeline → List ℕ → Replied
+log_command t name = with_branch t name (log_reply t)
+
 -- the branches by name
 unfoldable pub names_command : Timeline → Replied
 names_command t = replied t (Names (map (λ b. b.name) t.branches))
@@ -149,6 +157,7 @@ command_step t (command.Show name) = show_command t name
 command_step t command.Names = names_command t
 command_step t (command.Excise name k) = excise_command t name k
 command_step t (command.Restore name) = restore_command t name
+command_step t (command.Log name) = log_command t name
 
 -- the timeline after commands
 unfoldable pub replayed : Timeline → List Command → Timeline

@@ -12,7 +12,7 @@ use Rattle.pfl_world.specs.Worlds.{World, IsWorld}
 use Rattle.pfl_timeline.specs.declared.command.Command.{Command}
 use Rattle.pfl_timeline.specs.declared.command.Command.TheVariants as command
 use Rattle.pfl_timeline.specs.declared.refused.Refused.TheVariants as refused
-use Rattle.pfl_timeline.specs.Commands.{show_command, command_step, replayed}
+use Rattle.pfl_timeline.specs.Commands.{show_command, log_command, command_step, replayed}
 use Rattle.pfl_timeline.specs.Excisions.{without, has_event}
 use Rattle.pfl_timeline.specs.Replies as reply
 use Rattle.pfl_timeline.specs.Timelines.{Branch, Timeline, IsTimeline, branch_of, new_timeline, main_name, same_name, standing, world_of}
@@ -61,18 +61,20 @@ touches (command.Show of) name = false
 touches command.Names name = false
 touches (command.Excise of k) name = same_name of name
 touches (command.Restore of) name = same_name of name
+touches (command.Log of) name = false
 
 -- a command leaves every other branch as it was
 abbrev pub CommandsLeaveOthers : Type 0
 CommandsLeaveOthers = (t : Timeline) (c : Command) (name : List ℕ) → IsFalse (touches c name) → branch_of (command_step t c).timeline name ≡ branch_of t name
 
--- the events before the branch's cursor have a run from the opening, and the branch shows the world of it
+-- the events before the branch's cursor have a run from the opening, the branch shows the world of it, and a log tells the events
 pub record ShowsItsRun (opening : World) (t : Timeline) (b : Branch) : Type 0 where
   pub world : World
   pub runs : run opening (standing b) ≡ Some world
   pub shown : (show_command t b.name).reply ≡ reply.Shown b.name (length b.events) b.cursor world
+  pub logged : (log_command t b.name).reply ≡ reply.Logged b.name b.events b.cursor
 
--- whatever commands came, each branch shows the run of the events before its cursor
+-- whatever commands came, each branch shows the run of those events before its cursor that its log tells
 abbrev pub BranchesShowTheirRuns : Type 0
 BranchesShowTheirRuns =
     (opening : World) (cs : List Command) → IsWorld opening

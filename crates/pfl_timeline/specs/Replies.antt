@@ -1,5 +1,6 @@
 -- What a timeline answers (this project's profile).
 use Rattle.std.specs.Prelude.{ℕ, List}
+use Rattle.pfl_world.specs.declared.event.Event.{Event}
 use Rattle.pfl_world.specs.Outcomes.{Outcome, told}
 use Rattle.pfl_world.specs.Worlds.{World}
 use Rattle.pfl_timeline.specs.declared.refused.Refused.{Refused as Refusal}
@@ -17,6 +18,7 @@ pub data Reply : Type 0 where
   Names : List (List ℕ) → Reply
   Excised : List ℕ → Reply
   Restored : ℕ → Reply
+  Logged : List ℕ → List Event → ℕ → Reply
   Refused : Refusal → Reply
 
 -- what a reply of the code tells
@@ -29,6 +31,7 @@ reply_of (given.Shown name events cursor world) = Shown name events cursor world
 reply_of (given.Names names) = Names names.items
 reply_of (given.Excised places) = Excised places.items
 reply_of (given.Restored cursor) = Restored cursor
+reply_of (given.Logged name events cursor) = Logged name events.items cursor
 reply_of (given.Refused why) = Refused why
 
 -- the timeline after a command, and its reply

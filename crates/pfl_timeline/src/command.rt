@@ -46,4 +46,8 @@ pub enum Command {
     Restore {
         branch: BranchWord,
     },
+    /// Asks for the branch's events, those behind the cursor too, and for its cursor.
+    Log {
+        branch: BranchWord,
+    },
 }

@@ -2,7 +2,7 @@
 
 use crate::refused::Refused;
 use crate::word::BranchWord;
-use pfl_world::{Outcome, World};
+use pfl_world::{Event, Outcome, World};
 use std::alloc::Allocator;
 
 /// The reply to a command. Clauses say by `reply_of` what it tells.
@@ -32,6 +32,12 @@ pub enum Reply<A: Allocator> {
     Excised(Vec<usize, A>),
     /// The branch is as it was before its newest excision, and so many of its events stand.
     Restored(usize),
+    /// The branch: its name, all its events in order, and how many of them stand.
+    Logged {
+        name: BranchWord,
+        events: Vec<Event, A>,
+        cursor: usize,
+    },
     /// The command is refused.
     Refused(Refused),
 }

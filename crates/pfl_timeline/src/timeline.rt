@@ -3,7 +3,7 @@
 ghost use Rattle.std.specs.Prelude.{◌≡◌, ◌≢◌, map, IfOk, OnErr};
 ghost use Rattle.std.specs.List.{AllByRecursion};
 ghost use Rattle.std.specs.Option.{option_map};
-ghost use Rattle.pfl_timeline.specs.Commands.{replied, step_command, back_command, forward_command, fork_refusal, fork_command, drop_command, show_command, names_command, excise_command, restore_command, command_step};
+ghost use Rattle.pfl_timeline.specs.Commands.{replied, step_command, back_command, forward_command, fork_refusal, fork_command, drop_command, show_command, names_command, excise_command, restore_command, log_command, command_step};
 ghost use Rattle.pfl_timeline.specs.Memory.{IsAccepted, MayWantMemory, StepMayWant};
 ghost use Rattle.pfl_timeline.specs.Replies.{reply_of, Refused as Refusing};
 ghost use Rattle.pfl_timeline.specs.inner.Replies.{moved, fell_out, brought_back};
@@ -281,6 +281,23 @@ impl<A: Allocator + Copy> Timeline<A> {
         })
     }
 
+    /// The branch's events, those behind the cursor too, in memory of their own, and its cursor. No pair is copied.
+    fn log(&self, name: &BranchWord) -> Result<Reply<A>, NoMemory>
+        ensures step { IfOk result (λ reply. log_command self.now name.now ≡ replied self.now (reply_of reply)) }
+        ensures memory { OnErr result (IsAccepted (log_command self.now name.now)) }
+    {
+        let Some(branch) = self.branches.get(name) else {
+            return Ok(Reply::Refused(Refused::NoBranch));
+        };
+        let alloc = *self.branches.allocator();
+        let events = Vec::from_slice(alloc, branch.events())?;
+        Ok(Reply::Logged {
+            name: *branch.name(),
+            events,
+            cursor: branch.cursor(),
+        })
+    }
+
     /// Carries a command out: the reply and the timeline are those of its definition, so a refusal changes nothing. Where
     /// there is no memory, nothing changes either. Memory is wanted last: by no way back, no drop and no restoration, and by no
     /// command that is refused, but for the delivery of a frame that can be read, whose records want it before they are
@@ -300,6 +317,7 @@ impl<A: Allocator + Copy> Timeline<A> {
             Command::Names => self.names(),
             Command::Excise { branch, place } => self.excise(&branch, place),
             Command::Restore { branch } => Ok(self.restore(&branch)),
+            Command::Log { branch } => self.log(&branch),
         }
     }
 }

@@ -1,7 +1,7 @@
 use Rattle.std.proofs.Common.{◌∙◌}
 use Rattle.std.proofs.lemmas.Result.{IfOk-weaker, on_err_weaker}
-use Rattle.pfl_timeline.proofs.Asked.{is-step, is-back, is-forward, is-fork, is-drop, is-show, is-names, is-excise, is-restore, anyway}
-use Rattle.pfl_timeline.proofs.Wants.{step_wants, forward_wants, fork_wants, show_wants, names_wants, excise_wants}
+use Rattle.pfl_timeline.proofs.Asked.{is-step, is-back, is-forward, is-fork, is-drop, is-show, is-names, is-excise, is-restore, is-log, anyway}
+use Rattle.pfl_timeline.proofs.Wants.{step_wants, forward_wants, fork_wants, show_wants, names_wants, excise_wants, log_wants}
 use Rattle.pfl_timeline.proofs.timeline.Timeline.command.Goals as goal
 
 pub returns-in-Step-clause-step : goal.returns-in-Step-clause-step
@@ -31,6 +31,9 @@ returns-in-Excise-clause-step g c = IfOk-weaker c.excise.result _ _ (λ reply h.
 pub returns-in-Restore-clause-step : goal.returns-in-Restore-clause-step
 returns-in-Restore-clause-step g c = is-restore _ _ _ c.in-Restore.is ∙ c.restore.ensures.step
 
+pub returns-in-Log-clause-step : goal.returns-in-Log-clause-step
+returns-in-Log-clause-step g c = IfOk-weaker c.log.result _ _ (λ reply h. is-log _ _ _ c.in-Log.is ∙ h) c.log.ensures.step
+
 pub returns-in-Step-clause-memory : goal.returns-in-Step-clause-memory
 returns-in-Step-clause-memory g c = on_err_weaker c.step.result (λ accepted. step_wants _ _ _ _ c.in-Step.is accepted) c.step.ensures.memory
 
@@ -48,3 +51,6 @@ returns-in-Names-clause-memory g c = anyway c.names.result (names_wants _ _ c.in
 
 pub returns-in-Excise-clause-memory : goal.returns-in-Excise-clause-memory
 returns-in-Excise-clause-memory g c = on_err_weaker c.excise.result (λ accepted. excise_wants _ _ _ _ c.in-Excise.is accepted) c.excise.ensures.memory
+
+pub returns-in-Log-clause-memory : goal.returns-in-Log-clause-memory
+returns-in-Log-clause-memory g c = on_err_weaker c.log.result (λ accepted. log_wants _ _ _ c.in-Log.is accepted) c.log.ensures.memory
