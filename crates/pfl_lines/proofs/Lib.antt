@@ -2,3 +2,9 @@ pub mod Values
 pub mod Fronts
 pub mod Timeouts
 pub mod Letters
+pub mod WrittenNumbers
+pub mod WrittenWords
+pub mod WrittenAddresses
+pub mod WrittenPackets
+pub mod WrittenEvents
+pub mod WrittenLines

@@ -201,6 +201,12 @@ restore_at ws = do
   branch ← branch_at ws
   Ok (draft.Whole (commands.Restore branch.0), branch.1)
 
+-- BR
+unfoldable pub log_at : List (List ℕ) → Reading CommandDraft
+log_at ws = do
+  branch ← branch_at ws
+  Ok (draft.Whole (commands.Log branch.0), branch.1)
+
 -- nothing
 abbrev pub names_at : List (List ℕ) → Reading CommandDraft
 names_at ws = Ok (draft.Whole commands.Names, ws)
@@ -216,7 +222,8 @@ command_by word ws =
     if bytes_eq word (codes "show") then show_at ws else
     if bytes_eq word (codes "names") then names_at ws else
     if bytes_eq word (codes "excise") then excise_at ws else
-    if bytes_eq word (codes "restore") then restore_at ws else Err faults.Unknown
+    if bytes_eq word (codes "restore") then restore_at ws else
+    if bytes_eq word (codes "log") then log_at ws else Err faults.Unknown
 
 -- a command's word and what belongs to it
 unfoldable pub command_at : List (List ℕ) → Reading CommandDraft

@@ -9,4 +9,6 @@ pub mod Commands
 pub mod Rules
 pub mod Setup
 pub mod Session
+pub mod Written
+pub mod Laws
 pub mod inner

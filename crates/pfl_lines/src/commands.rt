@@ -4,7 +4,7 @@ ghost use Rattle.std.specs.Prelude.{◌≡◌};
 ghost use Rattle.std.specs.List.{list_all};
 ghost use Rattle.pfl_lines.specs.Words.{words};
 ghost use Rattle.pfl_lines.specs.inner.Readings.{Gives};
-ghost use Rattle.pfl_lines.specs.Commands.{packet_at, flush_at, ticket_at, deliver_at, lose_at, repeat_at, cut_at, tick_at, purge_at, release_at, kill_at, clear_at, restart_at, turn_at, retry_at, own_event_by, event_by, event_at, step_at, back_at, forward_at, fork_at, drop_at, show_at, excise_at, restore_at, names_at, command_by, command_at, finished, whole_event, whole_step, whole_command, command_of, is_text, checked, parsed};
+ghost use Rattle.pfl_lines.specs.Commands.{packet_at, flush_at, ticket_at, deliver_at, lose_at, repeat_at, cut_at, tick_at, purge_at, release_at, kill_at, clear_at, restart_at, turn_at, retry_at, own_event_by, event_by, event_at, step_at, back_at, forward_at, fork_at, drop_at, show_at, excise_at, restore_at, log_at, names_at, command_by, command_at, finished, whole_event, whole_step, whole_command, command_of, is_text, checked, parsed};
 
 use crate::draft::{CommandDraft, EventDraft};
 use crate::fault::LineFault;
@@ -306,6 +306,15 @@ fn restore_at(line: &[u8]) -> Result<(CommandDraft, &[u8]), LineFault>
     Ok((CommandDraft::Whole(Command::Restore { branch }), rest))
 }
 
+/// `BR`.
+#[tactic(auto, unfolding(crate::specs::Commands::log_at))]
+fn log_at(line: &[u8]) -> Result<(CommandDraft, &[u8]), LineFault>
+    ensures { Gives (λ x. (x.0, words x.1.now)) result (log_at (words line.now)) }
+{
+    let (branch, rest) = try_read!(branch_at(line));
+    Ok((CommandDraft::Whole(Command::Log { branch }), rest))
+}
+
 /// Nothing.
 fn names_at(line: &[u8]) -> Result<(CommandDraft, &[u8]), LineFault>
     ensures { Gives (λ x. (x.0, words x.1.now)) result (names_at (words line.now)) }
@@ -343,6 +352,9 @@ fn command_by<'a>(word: &[u8], line: &'a [u8]) -> Result<(CommandDraft, &'a [u8]
     }
     if is_word(word, "restore") {
         return restore_at(line);
+    }
+    if is_word(word, "log") {
+        return log_at(line);
     }
     Err(LineFault::Unknown)
 }

@@ -11,7 +11,7 @@ use Rattle.pfl_timeline.specs.declared.command.Command.{Command}
 use Rattle.pfl_timeline.specs.declared.command.Command.TheVariants as command
 use Rattle.pfl_timeline.specs.declared.refused.Refused.{Refused}
 use Rattle.pfl_timeline.specs.declared.refused.Refused.TheVariants as refused
-use Rattle.pfl_timeline.specs.Commands.{replied, answered, with_branch, with_changed, extended, undone, at_cursor, step_answered, step_reply, back_reply, forward_reply, first_events, fork_refusal, fork_reply, drop_reply, show_reply, excise_reply, restore_reply, step_command, back_command, forward_command, fork_command, drop_command, show_command, excise_command, restore_command, names_command, command_step}
+use Rattle.pfl_timeline.specs.Commands.{replied, answered, with_branch, with_changed, extended, undone, at_cursor, step_answered, step_reply, back_reply, forward_reply, first_events, fork_refusal, fork_reply, drop_reply, show_reply, excise_reply, restore_reply, step_command, back_command, forward_command, fork_command, drop_command, show_command, excise_command, restore_command, log_reply, log_command, names_command, command_step}
 use Rattle.pfl_timeline.specs.Excisions.{has_event, excised, fallen_places, restored}
 use Rattle.pfl_timeline.specs.Replies.{Reply, Replied, Forked, Removed, Shown, Excised, Restored, Refused as Refusing}
 use Rattle.pfl_timeline.specs.Timelines.{Branch, Former, Timeline, branch_of, same_name, standing, world_of}
@@ -126,7 +126,7 @@ module _ (t : Timeline) (n : ℕ) (few : HasFewEvents n t) where
       ] is.1
 
   pub command-grows : (c : Command) → HasFewEvents (n + 1) (command_step t c).timeline
-  unfolding command_step step_command back_command forward_command fork_command drop_command show_command excise_command restore_command names_command
+  unfolding command_step step_command back_command forward_command fork_command drop_command show_command excise_command restore_command names_command log_command
   command-grows (command.Step name e) = named_grown name (step_reply t e) (step_grown e)
   command-grows (command.Back name k) = named_grown name (back_reply t k) (λ b is. answered_grown (refused_by ((nat_lt b.cursor k, refused.TooFarBack) ∷ [])) (at_cursor t b (b.cursor - k)) (moved_grown b (b.cursor - k) is))
   command-grows (command.Forward name k) = named_grown name (forward_reply t k) (λ b is. answered_grown (refused_by ((nat_lt (undone b) k, refused.NothingForward) ∷ [])) (at_cursor t b (b.cursor + k)) (moved_grown b (b.cursor + k) is))
@@ -138,6 +138,7 @@ module _ (t : Timeline) (n : ℕ) (few : HasFewEvents n t) where
   command-grows command.Names = roomy
   command-grows (command.Excise name k) = named_grown name (excise_reply t k) (excise_grown k)
   command-grows (command.Restore name) = named_grown name (restore_reply t) restore_grown
+  command-grows (command.Log name) = named_grown name (log_reply t) (λ b _. roomy)
 
 -- ... and so the timeline after it
 pub grown : (t u : Timeline) (n m : ℕ) (c : Command) (r : Reply) → HasFewEvents n t → command_step t c ≡ replied u r → n + 1 ≤ m → HasFewEvents m u

@@ -1,4 +1,4 @@
--- A command whose reply shows a branch, or names the branches, changes nothing.
+-- A command whose reply shows a branch or tells its events, or names the branches, changes nothing.
 use Rattle.std.specs.Prelude.{◌≡◌, ℕ, ◌-◌, ◌+◌, Bool, true, false, List, [], ◌∷◌, ◌++◌, map, filter, not, length, nat_lt, nat_le, Option, Some, None, Result, Ok, Err, IsTrue, refl}
 use Rattle.std.specs.Option.{option_map_or}
 use Rattle.std.proofs.Common.{sym, ◌∙◌, ap, subst}
@@ -11,7 +11,7 @@ use Rattle.pfl_timeline.specs.declared.command.Command.{Command}
 use Rattle.pfl_timeline.specs.declared.command.Command.TheVariants as command
 use Rattle.pfl_timeline.specs.declared.refused.Refused.{Refused}
 use Rattle.pfl_timeline.specs.declared.refused.Refused.TheVariants as refused
-use Rattle.pfl_timeline.specs.Commands.{replied, answered, with_branch, with_changed, extended, undone, at_cursor, step_answered, step_reply, back_reply, forward_reply, first_events, fork_refusal, fork_reply, drop_reply, show_reply, excise_reply, restore_reply, step_command, back_command, forward_command, fork_command, drop_command, show_command, excise_command, restore_command, names_command, command_step}
+use Rattle.pfl_timeline.specs.Commands.{replied, answered, with_branch, with_changed, extended, undone, at_cursor, step_answered, step_reply, back_reply, forward_reply, first_events, fork_refusal, fork_reply, drop_reply, show_reply, excise_reply, restore_reply, step_command, back_command, forward_command, fork_command, drop_command, show_command, excise_command, restore_command, log_reply, log_command, names_command, command_step}
 use Rattle.pfl_timeline.specs.Excisions.{has_event, excised, fallen_places, restored}
 use Rattle.pfl_timeline.specs.Replies.{Reply, Replied, Forked, Removed, Shown, Excised, Restored, Refused as Refusing}
 use Rattle.pfl_timeline.specs.Timelines.{Branch, Timeline, branch_of, same_name, world_of}
@@ -59,7 +59,7 @@ restore_keeps t b =
     ]
 
 keeps : (t : Timeline) (c : Command) → Keeps t (command_step t c)
-unfolding command_step step_command back_command forward_command fork_command drop_command show_command excise_command restore_command names_command
+unfolding command_step step_command back_command forward_command fork_command drop_command show_command excise_command restore_command names_command log_command
 keeps t (command.Step name e) = named_keeps t name (step_reply t e) (step_keeps t e)
 keeps t (command.Back name n) = named_keeps t name (back_reply t n) (λ b. answered_keeps t (refused_by ((nat_lt b.cursor n, refused.TooFarBack) ∷ [])) (at_cursor t b (b.cursor - n)) (λ is. absurd (both_ways false refl is)))
 keeps t (command.Forward name n) = named_keeps t name (forward_reply t n) (λ b. answered_keeps t (refused_by ((nat_lt (undone b) n, refused.NothingForward) ∷ [])) (at_cursor t b (b.cursor + n)) (λ is. absurd (both_ways false refl is)))
@@ -69,6 +69,7 @@ keeps t (command.Show name) = named_keeps t name (show_reply t) (show_keeps t)
 keeps t command.Names = λ _. refl
 keeps t (command.Excise name k) = named_keeps t name (excise_reply t k) (λ b. answered_keeps t (refused_by ((not (has_event k b), refused.NoEvent) ∷ [])) (replied (with_changed t (excised t.opening k b)) (Excised (fallen_places t.opening k b))) (λ is. absurd (both_ways false refl is)))
 keeps t (command.Restore name) = named_keeps t name (restore_reply t) (restore_keeps t)
+keeps t (command.Log name) = named_keeps t name (log_reply t) (λ b _. refl)
 
 -- the timeline after a command whose reply is so
 pub listing-keeps : (t u : Timeline) (c : Command) (r : Reply) → command_step t c ≡ replied u r → IsTrue (is_listing r) → u ≡ t

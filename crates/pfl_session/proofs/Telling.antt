@@ -10,7 +10,7 @@ use Rattle.pfl_timeline.specs.declared.command.Command.{Command}
 use Rattle.pfl_timeline.specs.declared.command.Command.TheVariants as command
 use Rattle.pfl_timeline.specs.declared.refused.Refused.{Refused}
 use Rattle.pfl_timeline.specs.declared.refused.Refused.TheVariants as refused
-use Rattle.pfl_timeline.specs.Commands.{replied, answered, with_branch, with_changed, undone, at_cursor, step_answered, step_reply, back_reply, forward_reply, first_events, fork_refusal, fork_reply, drop_reply, show_reply, excise_reply, restore_reply, step_command, back_command, forward_command, fork_command, drop_command, show_command, excise_command, restore_command, names_command, command_step}
+use Rattle.pfl_timeline.specs.Commands.{replied, answered, with_branch, with_changed, undone, at_cursor, step_answered, step_reply, back_reply, forward_reply, first_events, fork_refusal, fork_reply, drop_reply, show_reply, excise_reply, restore_reply, step_command, back_command, forward_command, fork_command, drop_command, show_command, excise_command, restore_command, log_reply, log_command, names_command, command_step}
 use Rattle.pfl_timeline.specs.Excisions.{has_event, excised, fallen_places, restored}
 use Rattle.pfl_timeline.specs.Replies.{Reply, Replied, Forked, Removed, Shown, Excised, Restored, Refused as Refusing}
 use Rattle.pfl_timeline.specs.Rooted.{Rooted}
@@ -65,7 +65,7 @@ excise_tells t k b =
     (fallen-few t.opening k b)
 
 tells : (t : Timeline) (c : Command) → Tells (most_places t c) (command_step t c)
-unfolding command_step step_command back_command forward_command fork_command drop_command show_command excise_command restore_command names_command
+unfolding command_step step_command back_command forward_command fork_command drop_command show_command excise_command restore_command names_command log_command
 tells t (command.Step name e) = named_tells t name (step_reply t e) (step_tells t e)
 tells t (command.Back name n) = named_tells t name (back_reply t n) (λ b. answered_tells 0 t (refused_by ((nat_lt b.cursor n, refused.TooFarBack) ∷ [])) (at_cursor t b (b.cursor - n)) (omega arith))
 tells t (command.Forward name n) = named_tells t name (forward_reply t n) (λ b. answered_tells 0 t (refused_by ((nat_lt (undone b) n, refused.NothingForward) ∷ [])) (at_cursor t b (b.cursor + n)) (omega arith))
@@ -79,6 +79,7 @@ tells t (command.Excise name k) =
       | Some b ↦ excise_tells t k b
     ]
 tells t (command.Restore name) = named_tells t name (restore_reply t) (restore_tells t)
+tells t (command.Log name) = named_tells t name (log_reply t) (λ b. omega arith)
 
 -- room for the most places is room for those that the reply tells
 pub room-is-enough : (t u : Timeline) (c : Command) (r : Reply) (most room : ℕ) → command_step t c ≡ replied u r → most ≡ most_places t c → most ≤ room → length (places_in r) ≤ room

@@ -11,8 +11,8 @@ use pfl_edits::NoMemory;
 use pfl_timeline::{Command, Reply, Timeline};
 use std::alloc::Allocator;
 
-/// An equal reply, whose places are in the room that was made for them. It wants memory only for what shows a branch, or names
-/// the branches.
+/// An equal reply, whose places are in the room that was made for them. It wants memory only for what shows a branch or tells its
+/// events, or names the branches.
 fn copy_reply<A: Allocator + Copy>(
     reply: &Reply<A>,
     room: Vec<usize, A>,
@@ -44,6 +44,15 @@ fn copy_reply<A: Allocator + Copy>(
         Reply::Names(names) => Reply::Names(Vec::from_slice(*names.allocator(), names)?),
         Reply::Excised(places) => Reply::Excised(filled(room, places)),
         Reply::Restored(cursor) => Reply::Restored(*cursor),
+        Reply::Logged {
+            name,
+            events,
+            cursor,
+        } => Reply::Logged {
+            name: *name,
+            events: Vec::from_slice(*events.allocator(), events)?,
+            cursor: *cursor,
+        },
         Reply::Refused(why) => Reply::Refused(*why),
     })
 }

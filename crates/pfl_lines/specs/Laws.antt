@@ -1,0 +1,61 @@
+-- Laws of lines, in their own words (this project's profile).
+use Rattle.std.specs.Prelude.{⊤, ◌≡◌, ◌<◌, ◌≤◌, ◌^◌, ℕ, List, IsTrue, Ok}
+use Rattle.pfl_base.specs.declared.addr.Addr.{Addr}
+use Rattle.pfl_base.specs.declared.addr.Addr.TheVariants.{V4, V6}
+use Rattle.pfl_base.specs.declared.addr.End.{End}
+use Rattle.pfl_base.specs.declared.fields.PacketFields.{PacketFields}
+use Rattle.pfl_base.specs.declared.state_name.StateName.{StateName}
+use Rattle.pfl_base.specs.Ends.{proto_number}
+use Rattle.pfl_base.specs.Numbers.{greatest}
+use Rattle.pfl_base.specs.Packets.{IsPacket}
+use Rattle.pfl_world.specs.declared.event.Event.{Event}
+use Rattle.pfl_world.specs.declared.event.Event.TheVariants as events
+use Rattle.pfl_timeline.specs.declared.command.Command.TheVariants as commands
+use Rattle.pfl_timeline.specs.Timelines.{is_branch_name}
+use Rattle.pfl_lines.specs.Commands.{parsed}
+use Rattle.pfl_lines.specs.Written.{step_text}
+
+-- ---- which events there are: each number is one of its type's, and a packet is one
+
+-- an address of 32 or 128 bits
+abbrev pub IsAddr : Addr → Type 0
+IsAddr (V4 n) = n < 2 ^ 32
+IsAddr (V6 n) = n < 2 ^ 128
+
+-- an address, and a port of 16 bits
+pub record IsEnd (e : End) : Type 0 where
+  pub addr : IsAddr e.addr
+  pub port : e.port < 2 ^ 16
+
+-- a packet
+pub record IsTyped (p : PacketFields) : Type 0 where
+  pub packet : IsPacket p
+  pub proto : proto_number p.proto < 2 ^ 8
+  pub src : IsEnd p.src
+  pub dst : IsEnd p.dst
+  pub flags : p.flags < 64
+  pub seq : p.seq ≤ greatest
+  pub ack : p.ack ≤ greatest
+  pub window : p.window < 2 ^ 16
+
+-- a state's name
+pub record IsStateName (name : StateName) : Type 0 where
+  pub creator : name.creator ≤ greatest
+  pub id : name.id < 2 ^ 64
+
+-- an event
+abbrev pub IsEvent : Event → Type 0
+IsEvent (events.Packet node dir p) = IsTyped p
+IsEvent (events.Deliver ticket) = ticket ≤ greatest
+IsEvent (events.Lose ticket) = ticket ≤ greatest
+IsEvent (events.Repeat ticket) = ticket ≤ greatest
+IsEvent (events.Cut ticket len) = (ticket ≤ greatest) × (len ≤ greatest)
+IsEvent (events.Tick node ms) = ms < 2 ^ 64
+IsEvent (events.Kill node name) = IsStateName name
+IsEvent _ = ⊤
+
+-- ---- laws
+
+-- the line that steps an event is read as that command
+abbrev pub StepsReadBack : Type 0
+StepsReadBack = (name : List ℕ) (e : Event) → IsTrue (is_branch_name name) → IsEvent e → parsed (step_text name e) ≡ Ok (commands.Step name e)

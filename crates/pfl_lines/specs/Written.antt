@@ -1,0 +1,63 @@
+-- How an event is written, word by word: in the form of its line, with numbers in plain decimal and one space between two words
+-- (this project's profile).
+use Rattle.std.specs.Prelude.{ℕ, List, [], ◌∷◌, ◌++◌, codes, Option, Some, None, ◌==◌, if◌then◌else◌}
+use Rattle.std.specs.Fmt.{decimal}
+use Rattle.std.specs.List.{flat_map, join_with_byte}
+use Rattle.pfl_base.specs.declared.fields.PacketFields.{PacketFields}
+use Rattle.pfl_base.specs.declared.proto.Proto.{Proto}
+use Rattle.pfl_base.specs.Flags.{has}
+use Rattle.pfl_base.specs.Packets.{is_tcp}
+use Rattle.pfl_base.specs.Texts.{dir_text, end_text, name_text, node_text, proto_text}
+use Rattle.pfl_world.specs.declared.event.Event.{Event}
+use Rattle.pfl_world.specs.declared.event.Event.TheVariants as events
+use Rattle.pfl_lines.specs.Parts.{flag_letters}
+
+-- the letter of a flag that is set
+abbrev pub letter_of : ℕ → ℕ × ℕ → List ℕ
+letter_of flags (letter, bit) = if has flags bit then letter ∷ [] else []
+
+-- flags of TCP: `-` for none, or the letters of those that are set
+unfoldable pub flags_text : ℕ → List ℕ
+flags_text flags = if flags == 0 then codes "-" else flat_map (letter_of flags) flag_letters
+
+-- [SCALE]
+abbrev pub scale_words : Option ℕ → List (List ℕ)
+scale_words None = []
+scale_words (Some scale) = decimal scale ∷ []
+
+-- FLAGS SEQ ACK WINDOW LEN [SCALE]
+abbrev pub tcp_words : PacketFields → List (List ℕ)
+tcp_words p = flags_text p.flags ∷ decimal p.seq ∷ decimal p.ack ∷ decimal p.window ∷ decimal p.len ∷ scale_words p.scale
+
+-- what the protocol has behind the ends: LEN alone where it is none of TCP
+abbrev pub segment_words : Proto → PacketFields → List (List ℕ)
+segment_words proto p = if is_tcp proto then tcp_words p else decimal p.len ∷ []
+
+-- PROTO SRC DST, and what the protocol has behind them
+abbrev pub fields_words : PacketFields → List (List ℕ)
+fields_words p = proto_text p.proto ∷ end_text p.src ∷ end_text p.dst ∷ segment_words p.proto p
+
+-- an event's word, and what belongs to it
+abbrev pub event_words : Event → List (List ℕ)
+event_words (events.Packet node dir p) = codes "packet" ∷ node_text node ∷ dir_text dir ∷ fields_words p
+event_words (events.Flush node) = codes "flush" ∷ node_text node ∷ []
+event_words (events.Deliver ticket) = codes "deliver" ∷ decimal ticket ∷ []
+event_words (events.Lose ticket) = codes "lose" ∷ decimal ticket ∷ []
+event_words (events.Repeat ticket) = codes "repeat" ∷ decimal ticket ∷ []
+event_words (events.Cut ticket len) = codes "cut" ∷ decimal ticket ∷ decimal len ∷ []
+event_words (events.Tick node ms) = codes "tick" ∷ node_text node ∷ decimal ms ∷ []
+event_words (events.Purge node) = codes "purge" ∷ node_text node ∷ []
+event_words (events.Release node) = codes "release" ∷ node_text node ∷ []
+event_words (events.Kill node name) = codes "kill" ∷ node_text node ∷ name_text name ∷ []
+event_words (events.Clear node) = codes "clear" ∷ node_text node ∷ []
+event_words (events.Restart node) = codes "restart" ∷ node_text node ∷ []
+event_words (events.BulkTurn node) = codes "turn" ∷ node_text node ∷ []
+event_words (events.BulkRetry node) = codes "retry" ∷ node_text node ∷ []
+
+-- an event
+unfoldable pub event_text : Event → List ℕ
+event_text e = join_with_byte 32 (event_words e)
+
+-- the command that steps an event on a branch
+abbrev pub step_text : List ℕ → Event → List ℕ
+step_text name e = codes "step " ++ name ++ codes " " ++ event_text e
