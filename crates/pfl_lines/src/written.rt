@@ -2,9 +2,10 @@
 
 ghost use Rattle.std.specs.Prelude.{◌≡◌, Some, [], ◌∷◌, if◌then◌else◌};
 ghost use Rattle.std.specs.List.{join_with_byte};
+ghost use Rattle.pfl_lines.specs.Laws.{IsAddr, IsEnd, IsEvent, IsStateName, IsTyped};
 ghost use Rattle.pfl_lines.specs.Written.{flags_text, tcp_words, fields_words, event_text};
 
-use pfl_base::{PacketFields, Proto, TcpFlags};
+use pfl_base::{Addr, End, Packet, PacketFields, Proto, StateName, TcpFlags};
 use pfl_world::Event;
 use std::fmt;
 
@@ -96,6 +97,80 @@ impl fmt::Display for Fields {
 /// An event, as it stands behind the branch of a step.
 #[derive(Clone, Copy)]
 pub struct EventWords(pub Event);
+
+/// The bits of an address.
+fn known_addr(addr: Addr)
+    ensures { IsAddr addr }
+{
+    match addr {
+        Addr::V4(number) => {
+            let _number = number;
+        }
+        Addr::V6(number) => {
+            let _number = number;
+        }
+    }
+}
+
+/// What an end is.
+fn known_end(end: End)
+    ensures { IsEnd end }
+{
+    known_addr(end.addr);
+    let _port = end.port;
+}
+
+/// What a state's name is.
+fn known_name(name: StateName)
+    ensures { IsStateName name }
+{
+    let _creator = name.creator;
+    let _id = name.id;
+}
+
+/// What a packet is.
+fn known_packet(packet: Packet)
+    ensures { IsTyped packet }
+{
+    let PacketFields {
+        seq: _seq,
+        ack: _ack,
+        window: _window,
+        len: _,
+        proto,
+        src,
+        dst,
+        flags,
+        scale: _,
+    } = packet.fields();
+    let _number = proto.number();
+    let _bits = flags.bits();
+    known_end(src);
+    known_end(dst);
+}
+
+impl EventWords {
+    /// Tells a proof what is true of each event. It does nothing.
+    pub fn known(&self)
+        ensures event { IsEvent self.now.0 }
+    {
+        match self.0 {
+            Event::Packet { packet, .. } => known_packet(packet),
+            Event::Deliver { ticket } | Event::Lose { ticket } | Event::Repeat { ticket } => {
+                let _ticket = ticket;
+            }
+            Event::Cut { ticket, len } => {
+                let _ticket = ticket;
+                let _len = len;
+            }
+            Event::Tick { ms, .. } => {
+                let _ms = ms;
+            }
+            Event::Kill { name, .. } => known_name(name),
+            _ => {}
+        }
+    }
+}
 
 impl fmt::Display for EventWords {
     ghost output = { λ words. Some (event_text words.0) };

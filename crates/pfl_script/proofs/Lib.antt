@@ -4,6 +4,7 @@ pub mod Pieces
 pub mod Running
 pub mod CheckedLines
 pub mod Lists
+pub mod Logging
 pub mod Setting
 pub mod Turns
 pub mod Scans

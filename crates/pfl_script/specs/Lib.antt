@@ -3,6 +3,7 @@ pub mod Scans
 pub mod Readers
 pub mod Texts
 pub mod Shows
+pub mod Logs
 pub mod Replies
 pub mod Answers
 pub mod Checks

@@ -2,8 +2,9 @@
 use Rattle.std.specs.Prelude.{ℕ, List, ◌∷◌, ◌++◌, codes}
 use Rattle.std.specs.List.{flat_map}
 use Rattle.std.specs.Fmt.{decimal}
-use Rattle.pfl_timeline.specs.Replies.{Reply, Stepped, At, Forked, Removed, Shown, Names, Excised, Restored, Refused}
+use Rattle.pfl_timeline.specs.Replies.{Reply, Stepped, At, Forked, Removed, Shown, Names, Excised, Restored, Logged, Refused}
 use Rattle.pfl_script.specs.Texts.{outcome_text, refused_text}
+use Rattle.pfl_script.specs.Logs.{log_text}
 use Rattle.pfl_script.specs.Shows.{show_text}
 
 -- a name, behind a space
@@ -24,4 +25,5 @@ reply_text (Shown name events cursor world) = show_text name events cursor world
 reply_text (Names names) = codes "names" ++ flat_map named names ++ codes "\n"
 reply_text (Excised places) = codes "excised" ++ flat_map placed places ++ codes "\n"
 reply_text (Restored cursor) = codes "restored " ++ decimal cursor ++ codes "\n"
+reply_text (Logged name events cursor) = log_text name events cursor
 reply_text (Refused why) = codes "refused " ++ refused_text why ++ codes "\n"

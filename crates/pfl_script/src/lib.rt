@@ -10,6 +10,7 @@ mod line;
 mod line_reader;
 mod link_lines;
 mod listed;
+mod logged;
 mod node_lines;
 mod optional;
 mod outcomes;

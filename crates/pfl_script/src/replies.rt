@@ -9,6 +9,7 @@ ghost use Rattle.pfl_script.specs.Texts.{bad_text};
 ghost use Rattle.pfl_script.specs.Replies.{named, placed, reply_text};
 
 use crate::listed::push_shown;
+use crate::logged::logged_text;
 use crate::outcomes::OutcomeWords;
 use crate::refusals::RefusedWords;
 use crate::shown::shown_text;
@@ -139,6 +140,11 @@ pub fn reply_text<A: Allocator, B: Allocator + Copy>(
         } => shown_text(alloc, name.bytes(), *events, *cursor, world),
         Reply::Excised(places) => excised_line(alloc, places.as_slice()),
         Reply::Restored(cursor) => restored_line(alloc, *cursor),
+        Reply::Logged {
+            name,
+            events,
+            cursor,
+        } => logged_text(alloc, name.bytes(), events.as_slice(), *cursor),
         Reply::Refused(why) => refused_line(alloc, *why),
     }
 }

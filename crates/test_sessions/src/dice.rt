@@ -127,6 +127,7 @@ impl Dice {
                 Some(Command::Drop { branch })
             }
             95 => Some(Command::Show { branch }),
+            96..=97 => Some(Command::Log { branch }),
             _ => Some(Command::Names),
         }
     }

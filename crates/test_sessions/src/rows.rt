@@ -28,6 +28,11 @@ pub(super) enum Answer {
     Excised(Option<[usize; 2]>),
     /// So many events stand again.
     Restored(usize),
+    /// The branch has so many events, and so many of them stand.
+    Logged {
+        events: usize,
+        cursor: usize,
+    },
     /// The command is refused.
     Refused(Refused),
 }
@@ -75,6 +80,9 @@ pub(super) fn is_wanted<A: Allocator>(wanted: Answer, reply: &Reply<A>) -> bool 
         }
         Answer::Restored(standing) => {
             matches!(reply, Reply::Restored(cursor) if *cursor == standing)
+        }
+        Answer::Logged { events, cursor } => {
+            matches!(reply, Reply::Logged { events: es, cursor: c, .. } if (es.len(), *c) == (events, cursor))
         }
         Answer::Refused(why) => matches!(reply, Reply::Refused(other) if *other == why),
     }

@@ -100,6 +100,13 @@ pub(super) fn same_reply<A: Allocator>(one: &Reply<A>, two: &Reply<A>) -> bool {
         Reply::Names(names) => matches!(two, Reply::Names(others) if same_names(names, others)),
         Reply::Excised(places) => matches!(two, Reply::Excised(others) if **others == **places),
         Reply::Restored(cursor) => matches!(two, Reply::Restored(c) if c == cursor),
+        Reply::Logged {
+            name,
+            events,
+            cursor,
+        } => {
+            matches!(two, Reply::Logged { name: n, events: es, cursor: c } if same_name(name, n) && **es == **events && c == cursor)
+        }
         Reply::Refused(why) => matches!(two, Reply::Refused(other) if other == why),
     }
 }
@@ -131,6 +138,9 @@ pub(super) fn same_command(one: &Command, two: &Command) -> bool {
         }
         Command::Restore { branch } => {
             matches!(two, Command::Restore { branch: b } if same_name(branch, b))
+        }
+        Command::Log { branch } => {
+            matches!(two, Command::Log { branch: b } if same_name(branch, b))
         }
     }
 }
