@@ -105,7 +105,7 @@ fn fork(place: u32) -> Option<Command> {
 }
 
 /// The calls whose requests are refused.
-fn trials() -> Option<[Trial; 12]> {
+fn trials() -> Option<[Trial; 13]> {
     let branch = BranchWord::main();
     let node = NodeId::A;
     let shown = Answer::Shown {
@@ -113,6 +113,10 @@ fn trials() -> Option<[Trial; 12]> {
         cursor: 4,
         states: 1,
         port: Some(1000),
+    };
+    let logged = Answer::Logged {
+        events: 4,
+        cursor: 4,
     };
     let no_event = Answer::Refused(Refused::NoEvent);
     Some([
@@ -123,6 +127,7 @@ fn trials() -> Option<[Trial; 12]> {
         once_answered(fork(2)?, Answer::Forked, 0)?,
         once_answered(Command::Show { branch }, shown, 0)?,
         once_answered(Command::Names, Answer::Names(1), 0)?,
+        once_answered(Command::Log { branch }, logged, 0)?,
         once_answered(excise(1), Answer::Excised(Some([2, 3])), 0)?,
         once_answered(excise(4), Answer::Excised(None), 0)?,
         once_answered(excise(5), no_event, 0)?,
