@@ -1,6 +1,6 @@
--- An answer that is not written whole.
+-- An answer that is written whole, and one that is not.
 use Rattle.std.proofs.Common.{◌≡◌, ℕ, ◌≤◌, Bool, true, List, length, take, refl, ap, inl, Option, Some, None, Ok, Err}
-use Rattle.std.specs.Prelude.{Result, IfErr, OnErr}
+use Rattle.std.specs.Prelude.{Result, IfErr, IfOk, OnErr, OnOk}
 use Rattle.std.specs.Io.KnownBytes.{Appends, Keeps as KeepsBytes}
 use Rattle.pfl_timeline.specs.declared.command.Command.{Command}
 use Rattle.pfl_timeline.specs.Replies.{Reply}
@@ -17,7 +17,7 @@ use Rattle.pfl_script.specs.declared.fault.EngineFault.{EngineFault}
 use Rattle.pfl_script.specs.declared.fault.EngineFault.TheVariants as engine
 use Rattle.pfl_script.specs.Readers.{IsWriteFault}
 use Rattle.pfl_serve.specs.Services.{HasAsked, IsCalled, IsReplied, IsUnanswered}
-use Rattle.pfl_serve.specs.inner.Answers.{kept_said, Breaks}
+use Rattle.pfl_serve.specs.inner.Answers.{kept_said, Breaks, Writes}
 
 -- nothing was written
 keeps-same : (w v : Option (List ℕ)) → v ≡ w → KeepsBytes w v
@@ -52,6 +52,12 @@ module _ {M : Type 0} (opening : Timeline) (n limit : ℕ) (old new : Seen M) (c
 
   unanswered : IsUnanswered opening n limit old new command
   unanswered = record { asked = asked; done = inl (reply, called) }
+
+  -- the reply to a call was written whole
+  pub whole-reply : {X D : Type 0} (r : Result X EngineFault) (written : D → Option (List ℕ)) (before after : D) →
+      OnOk r (Appends (written before) (written after) (reply_text reply)) → IfOk r (λ _. Writes (IsReplied opening n limit old new command) (written before) (written after))
+  whole-reply (Ok x) written before after whole = (reply_text reply, replied, whole)
+  whole-reply (Err e) written before after whole = tt
 
   -- the reply to a call was written in part, or for want of memory not at all
   pub breaks-reply : {X D : Type 0} (r : Result X EngineFault) (written : D → Option (List ℕ)) (before after : D) (failed : Bool) →
