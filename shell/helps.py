@@ -140,6 +140,7 @@ SHELL: Dict[str, Help] = {
     "chart": Help(
         "chart [BRANCH] [FILE.svg]", "draws what happened: two lanes, frames as arrows; as text, or as a picture into a file"
     ),
+    "summary": Help("summary", "asks a server for a few numbers of all branches, which is no command and waits for nobody"),
     "use": Help("use BRANCH", "makes a branch the one that events and questions without a branch are meant of"),
     "verify": Help("verify FILE..", "runs scripts by themselves, and tells where their lines `#>` and the replies differ"),
     "annotate": Help("annotate FILE..", "writes the replies into scripts, as lines `#>`"),

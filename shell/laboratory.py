@@ -1,13 +1,18 @@
 """A laboratory that a person works with: its setup, the program behind it, and the runs that answer her questions."""
 from __future__ import annotations
 
-from dataclasses import dataclass
-from typing import List, Optional, Sequence, Tuple
+from dataclasses import dataclass, replace
+from typing import Dict, List, Optional, Sequence, Tuple
 
-from .branches import Branch, Branches
+from .branches import Branch, read_log
+from .names import NODES, Name
 from .pair import Pair, read_shown
 from .programs import Client, Ended, Run, Session, check_setup, has_reply, run_lines
 from .setups import Setup
+
+
+# What the numbers of a server's summary count, behind the number of commands.
+SUMMARY = ("branches", "events", "their cursors together", "states at a", "states at b", "frames in flight", "pending")
 
 
 class Unknown(Exception):
@@ -16,11 +21,10 @@ class Unknown(Exception):
 
 @dataclass(frozen=True)
 class Asked:
-    """A line that was asked, its reply, and the events before it where it was a step and they are known."""
+    """A line that was asked, and its reply."""
 
     line: str
     reply: Tuple[str, ...]
-    before: Optional[Tuple[str, ...]] = None
 
 
 @dataclass(frozen=True)
@@ -42,7 +46,6 @@ class Laboratory:
         self.setup = setup or Setup()
         self.knows_setup = port is None or setup is not None
         self.session: Optional[Session] = Client(port) if port else None
-        self.branches = Branches()
         self.last: Optional[Asked] = None
         # The branch that is meant where none is named.
         self.in_use = "main"
@@ -76,13 +79,8 @@ class Laboratory:
         if self.session is None:
             raise Unknown("the pair is not set up: say `rule NODE ..` for its rules, and then `open`")
         words = line.split()
-        is_known = self.port is None and len(words) > 2 and words[0] == "step" and words[1] in self.branches.all
-        branch = self.branches.all[words[1]] if is_known else None
-        before = tuple(branch.events[: branch.cursor]) if branch else None
         reply = self.session.ask(line)
-        self.last = Asked(" ".join(words), tuple(reply), before)
-        if self.port is None:
-            self.branches.follow(line, reply)
+        self.last = Asked(" ".join(words), tuple(reply))
         if reply[0] == "removed" and words[1] == self.in_use:
             self.in_use = self.names()[0]
         return reply
@@ -91,8 +89,35 @@ class Laboratory:
         """The pair that a branch shows."""
         reply = self._quietly(f"show {branch}")
         if not reply[0].startswith("branch "):
-            raise Unknown(f"show {branch}: {reply[0]}")
+            raise Unknown(no_branch(branch))
         return read_shown(reply)
+
+    def summary(self) -> str:
+        """What a server answers to a viewer, who waits for nobody: a few numbers of one moment, each with its name."""
+        if self.port is None:
+            raise Unknown("`summary` asks a server; here `view` shows the pair")
+        words = self._quietly("view")[0].split()
+        if words[0] != "view":
+            return f"overtaken by other sessions in each of three tries, the last one from {words[1]} to {words[2]} commands"
+        numbers = zip(SUMMARY, words[2:])
+        return f"after {words[1]} commands of all sessions: " + ", ".join(f"{name} {number}" for name, number in numbers)
+
+    def branch(self, name: str) -> Branch:
+        """A branch with its events, those that were undone too."""
+        reply = self._quietly(f"log {name}")
+        if not reply[0].startswith("log "):
+            raise Unknown(no_branch(name))
+        return read_log(reply)
+
+    def show_whole(self, branch: str) -> Pair:
+        """The pair that a branch shows, with the packets that are held, which a shown branch does not tell: those that came."""
+        pair = self.show(branch)
+        if self.knows_setup and any(node.held for node in pair.nodes.values()):
+            log = self.branch(branch)
+            came = held_packets(log.events[: log.cursor], self.outcomes(log.events[: log.cursor]))
+            for node in pair.nodes.values():
+                node.held = [replace(it, packet=came.get((node.id, it.name), "")) for it in node.held]
+        return pair
 
     def names(self) -> List[str]:
         """The names of the branches, in the order of their making."""
@@ -110,22 +135,10 @@ class Laboratory:
 
     # ---- questions, each answered by a run of its own
 
-    def branch(self, name: str) -> Branch:
-        """A branch with its events, those that were undone too."""
-        if self.port is not None:
-            raise Unknown("the events of a branch are known only to the one who stepped them all: not on a server")
-        if name not in self.branches.all:
-            raise Unknown(f"there is no branch {name}; `names` tells them")
-        return self.branches.all[name]
-
     def outcomes(self, events: Sequence[str]) -> List[str]:
         """What became of each event, from the opening on."""
         replies = self.run([f"step main {it}" for it in events])
         return [outcome_of(it[0]) for it in replies]
-
-    def pair_after(self, events: Sequence[str]) -> Pair:
-        """The pair after the events, from the opening on."""
-        return read_shown(self.run([*(f"step main {it}" for it in events), "show main"])[-1])
 
     def steps(self, events: Sequence[str], first: int = 1) -> List[Step]:
         """The events from a place on, each with the pair before and after it."""
@@ -148,6 +161,23 @@ class Laboratory:
         if len(ran.replies) != len(lines):
             raise Ended("; ".join(ran.faults) or f"the program ended with status {ran.status}")
         return ran.replies
+
+
+def no_branch(name: str) -> str:
+    """That there is no such branch; a node is none."""
+    if name in NODES:
+        return f"{name} is a node, and there is no branch of that name: `view` shows both nodes, and `diff` compares them"
+    return f"there is no branch {name}; `names` tells them"
+
+
+def held_packets(events: Sequence[str], outcomes: Sequence[str]) -> Dict[Tuple[str, Name], str]:
+    """The packet that was held last, by its node and its state, as the words behind its node."""
+    held: Dict[Tuple[str, Name], str] = {}
+    for event, outcome in zip(events, outcomes):
+        if event.startswith("packet ") and outcome.startswith("held "):
+            _, node, packet = event.split(" ", 2)
+            held[node, Name.read(outcome.split()[1])] = packet
+    return held
 
 
 def outcome_of(reply: str) -> str:

@@ -10,8 +10,10 @@ from .laboratory import Laboratory
 
 def log(lab: Laboratory, branch: Branch, paint: Paint) -> List[str]:
     """A headline, and each event of the branch with its number, its line and what became of it."""
-    lines = [paint.head(_headline(branch))]
-    outcomes = lab.outcomes(branch.events)
+    unknown = "" if lab.knows_setup else "; the outcomes are known with --setup FILE, the file that the server read"
+    lines = [paint.head(_headline(branch) + unknown)]
+    # (without the setup they cannot be run again)
+    outcomes = lab.outcomes(branch.events) if lab.knows_setup else [""] * len(branch.events)
     number_width = len(str(len(branch.events)))
     event_width = max((len(it) for it in branch.events), default=0)
     for number, (event, outcome) in enumerate(zip(branch.events, outcomes), 1):
@@ -20,7 +22,7 @@ def log(lab: Laboratory, branch: Branch, paint: Paint) -> List[str]:
         stands = number <= branch.cursor
         text = f"  {number:>{number_width}}  {event:<{event_width}}  "
         if stands:
-            lines.append(text + _painted(outcome, paint))
+            lines.append((text + _painted(outcome, paint)).rstrip())
         else:
             lines.append(paint.dim(f"{text}{outcome}  (undone)"))
     if branch.events and branch.cursor == len(branch.events):
@@ -42,7 +44,7 @@ def _cursor(branch: Branch, width: int) -> str:
 
 
 def _painted(outcome: str, paint: Paint) -> str:
-    first = outcome.split()[0]
+    first = outcome.partition(" ")[0]
     if first in ("drop", "broken", "refused", "bad", "lost"):
         return paint.bad(outcome)
     return paint.good(outcome) if first in ("pass", "held") else outcome

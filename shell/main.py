@@ -2,9 +2,10 @@
 from __future__ import annotations
 
 import argparse
+import io
 import os
 import sys
-from typing import List, Sequence
+from typing import Iterator, List, Sequence
 
 from . import scripts
 from .charts.chart import Chart, chart as chart_of
@@ -12,9 +13,9 @@ from .charts.picture import draw
 from .charts.text import text as chart_text
 from .colours import PLAIN, Paint
 from .laboratory import Laboratory, Unknown
-from .programs import Ended, SetupFault, has_reply, lines_of
+from .programs import Client, Ended, SetupFault, check_setup, has_reply, lines_of, run_lines, setup_fault
 from .setups import Setup
-from .shell import STRICT_STATUS, Shell, Stopped, verified
+from .shell import STRICT_STATUS, Shell, Stopped
 
 HISTORY = "~/.pfl_lab_history"
 
@@ -29,10 +30,8 @@ def parser() -> argparse.ArgumentParser:
         description="A dialogue with the laboratory; `help` in it lists its words.",
     )
     shell.add_argument("files", nargs="*", metavar="FILE", help="scripts that are read first")
-    shell.add_argument(
-        "--port", type=int, metavar="P", help="a session of the server at this port, in place of a pair of its own"
-    )
-    shell.add_argument("--setup", metavar="FILE", help="the setup that the server read, for questions that need it")
+    shell.add_argument("--port", type=port, metavar="P", help="a session of the server at this port, and no pair of its own")
+    shell.add_argument("--setup", metavar="FILE", help="with --port: the setup that the server read, for questions that need it")
     shell.add_argument("--echo", action="store_true", help="tells each line before its reply")
     shell.add_argument(
         "--strict", action="store_true", help=f"stops at the first refused or faulty line, with status {STRICT_STATUS}"
@@ -43,35 +42,69 @@ def parser() -> argparse.ArgumentParser:
     annotate.add_argument("files", nargs="+", metavar="FILE")
     chart = kinds.add_parser("chart", help="draws what happened in a script")
     chart.add_argument("file", metavar="FILE")
-    chart.add_argument("picture", nargs="?", metavar="FILE.svg", help="the picture's file; without it the chart comes as text")
+    chart.add_argument(
+        "picture", nargs="?", type=picture, metavar="FILE.svg", help="the picture's file; without it the chart comes as text"
+    )
     chart.add_argument("--branch", default="main", metavar="BRANCH")
     return words
 
 
+def port(word: str) -> int:
+    if not word.isdecimal() or len(word) > 5 or not 1 <= int(word) <= 65535:
+        raise argparse.ArgumentTypeError("a port is a number from 1 to 65535")
+    return int(word)
+
+
+def picture(word: str) -> str:
+    if not word.endswith(".svg"):
+        raise argparse.ArgumentTypeError(f"{word}: the name of a picture ends in .svg")
+    return word
+
+
 def main(arguments: Sequence[str]) -> int:
     """Carries out the words behind `./lab`: the status."""
-    words = parser().parse_args(arguments)
+    kinds = parser()
+    words = kinds.parse_args(arguments)
+    if words.word == "shell" and words.setup and not words.port:
+        kinds.error("--setup tells what a server read, and goes with --port; a pair of your own has its setup from lines")
+    for stream in (sys.stdin, sys.stdout):
+        if isinstance(stream, io.TextIOWrapper):
+            # A line has whatever bytes it has: the program judges them.
+            stream.reconfigure(errors="surrogateescape")
     try:
         return {"shell": shell, "verify": verify, "annotate": annotate, "chart": chart}[words.word](words)
-    except (Ended, Unknown, SetupFault, OSError) as error:
-        print(f"lab: {error}", file=sys.stderr)
+    except BrokenPipeError:
+        # Who reads has had enough; what is left to write goes nowhere.
+        os.dup2(os.open(os.devnull, os.O_WRONLY), sys.stdout.fileno())
         return 1
+    except OSError as error:
+        print(f"lab: {error.filename}: {error.strerror}" if error.filename else f"lab: {error}", file=sys.stderr)
+    except SetupFault as fault:
+        print(f"lab: setup line {fault.line}: {fault.words}", file=sys.stderr)
+    except (Ended, Unknown, scripts.NotWritten) as why:
+        print(f"lab: {why}", file=sys.stderr)
+    return 1
 
 
 def verify(words: argparse.Namespace) -> int:
-    found = verified(words.program, words.files)
+    found = scripts.verified(words.program, words.files)
     print("\n".join(found.lines))
     return int(found.differing > 0)
 
 
 def annotate(words: argparse.Namespace) -> int:
-    for path in words.files:
-        print(f"{path}: {'replies written' if scripts.annotate(words.program, path) else 'as it was'}")
+    for line in scripts.annotated_all(words.program, words.files):
+        print(line)
     return 0
 
 
 def chart(words: argparse.Namespace) -> int:
     script = lines_of(scripts.read(words.file))
+    faulty = list(faulty_lines(words.program, script))
+    for line in faulty:
+        print(f"lab: {words.file}:{line}", file=sys.stderr)
+    if faulty:
+        return 1
     drawn = drawn_from(words.program, script, words.branch)
     if words.picture:
         with open(words.picture, "w", encoding="utf-8") as it:
@@ -79,6 +112,18 @@ def chart(words: argparse.Namespace) -> int:
     else:
         print("\n".join(chart_text(drawn, paint(sys.stdout.isatty()))))
     return 0
+
+
+def faulty_lines(program: str, script: Sequence[str]) -> Iterator[str]:
+    """The lines of a script that the program finds faulty, each with its number and its fault."""
+    checked = run_lines(program, script, "check")
+    fault = setup_fault(checked.faults)
+    if fault:
+        yield f"{fault.line}: {fault.words}"
+    for reply in checked.replies:
+        words = reply[0].split()
+        if words[0] == "line":
+            yield f"{words[1]}: {' '.join(words[2:])}"
 
 
 def drawn_from(program: str, script: Sequence[str], branch: str) -> Chart:
@@ -107,14 +152,16 @@ def paint(is_terminal: bool) -> Paint:
 
 def shell(words: argparse.Namespace) -> int:
     is_typed = sys.stdin.isatty()
-    setup = Setup.of(setup_lines(words.setup)) if words.setup else None
+    setup = setup_from(words.program, words.setup) if words.setup else None
     lab = Laboratory(words.program, words.port, setup)
+    if isinstance(lab.session, Client):
+        wait(lab.session)
     it = Shell(lab, sys.stdout, paint(sys.stdout.isatty()), words.echo, words.strict, is_typed)
     try:
         ended = any(it.take(lines_of(scripts.read(path)), echo=is_typed or words.echo) for path in words.files)
         if not ended and is_typed:
             dialogue(it)
-        elif not ended and not words.files:
+        elif not ended:
             it.take((line.rstrip("\n") for line in sys.stdin), words.echo)
     except Stopped as why:
         print(f"lab: stopped at {why}", file=sys.stderr)
@@ -124,15 +171,28 @@ def shell(words: argparse.Namespace) -> int:
     return int(it.has_faults and not is_typed)
 
 
-def setup_lines(path: str) -> List[str]:
-    """The lines of a setup, up to `open` if it is there."""
+def wait(session: Client) -> None:
+    """Waits for the other sessions of a server, and says so; an interrupt gives up."""
+    print("lab: connected; the server answers once all its sessions are", file=sys.stderr)
+    try:
+        session.wait()
+    except KeyboardInterrupt:
+        session.close()
+        raise Ended("given up before all sessions were connected") from None
+
+
+def setup_from(program: str, path: str) -> Setup:
+    """The setup that a file has, up to `open` if it is there, where the program finds no fault in it."""
     lines: List[str] = []
     for line in lines_of(scripts.read(path)):
         if line.split() == ["open"]:
             break
         if has_reply(line):
             lines.append(line)
-    return lines
+    fault = check_setup(program, lines)
+    if fault:
+        raise fault
+    return Setup.of(lines)
 
 
 def dialogue(it: Shell) -> None:

@@ -18,11 +18,14 @@ TCP_LEVELS = (
     "FIN_WAIT_2",
     "TIME_WAIT",
 )
+SYN_SENT = TCP_LEVELS.index("SYN_SENT")
 OTHER_LEVELS = ("NO_TRAFFIC", "SINGLE", "MULTIPLE")
 
 
 def level_name(protocol: str, level: int) -> str:
-    """An end's level as `pfctl -ss` prints it."""
+    """An end's level as `pfctl -ss` prints it; for ICMP that is its number."""
+    if protocol == "icmp":
+        return str(level)
     names = TCP_LEVELS if protocol == "tcp" else OTHER_LEVELS
     return names[level] if level < len(names) else str(level)
 
@@ -85,7 +88,13 @@ QUEUES: Dict[str, str] = {
     "del": "short delete",
 }
 
-BULK_STATUS: Dict[int, str] = {1: "start", 2: "end"}
+BULK_START, BULK_END = 1, 2
+BULK_STATUS: Dict[int, str] = {BULK_START: "start", BULK_END: "end"}
+# Who asks for all states gives up behind so many tries.
+MOST_TRIES = 12
+
+# What a frame is broken for, by the number of the fault less 1.
+FRAME_FAULTS = ("Short", "Version", "Length", "Action", "Count", "Value")
 
 # The event whose line has a node behind its first word, or a ticket.
 OF_NODE = ("packet", "flush", "tick", "purge", "release", "kill", "clear", "restart", "turn", "retry")

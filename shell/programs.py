@@ -20,14 +20,21 @@ class SetupFault(Exception):
     """A line of the setup is faulty: its number, counted from 1 over the lines that were given, and the fault."""
 
     def __init__(self, line: int, fault: str):
-        super().__init__(f"setup line {line}: {fault}")
+        super().__init__(fault)
         self.line, self.fault = line, fault
+
+    @property
+    def words(self) -> str:
+        """The fault, with the list of docs/FORMATS.md that its number is of."""
+        kind, _, rest = self.fault.partition(" ")
+        return f"{_LISTS[kind]} {rest}" if kind in _LISTS else self.fault
 
 
 LINE_FAULTS = ("Long", "NotAscii", "Unknown", "Missing", "Number", "Extra", "Packet")
 RULE_FAULTS = ("TooMany", "NatNotOut", "ZeroMax", "NoMemory")
 LIMIT_FAULTS = ("TooSmall", "TooLarge", "NoMemory")
 _FAULTS = {"line": LINE_FAULTS, "rule": RULE_FAULTS, "world": LIMIT_FAULTS}
+_LISTS = {"line": "bad", "rule": "rules", "world": "limits"}
 
 
 def has_reply(line: str) -> bool:
@@ -64,6 +71,8 @@ def uninterrupted() -> Iterator[None]:
 class Session:
     """A program that answers one line after another."""
 
+    gone = "the program has ended"
+
     def __init__(self, to: IO[str], replies: Iterator[str]):
         self._to, self._replies = to, replies
 
@@ -75,9 +84,9 @@ class Session:
                 self._to.flush()
                 reply = read_reply(self._replies)
         except OSError as error:
-            raise Ended(str(error)) from error
+            raise Ended(self.gone) from error
         if not reply:
-            raise Ended("no reply came")
+            raise Ended(self.gone)
         return reply
 
     def close(self) -> None:
@@ -115,10 +124,24 @@ class Run(Session):
 class Client(Session):
     """A session of a server that listens on a port of this machine."""
 
+    gone = "the server has ended, or has ended this session"
+
     def __init__(self, port: int):
         self.connection = socket.create_connection(("127.0.0.1", port))
         stream = self.connection.makefile("rw", encoding="utf-8", errors="surrogateescape", newline="\n")
         super().__init__(stream, iter(stream))
+
+    def wait(self) -> None:
+        """Waits until the server answers, which it does once all its sessions are connected; an interrupt ends that.
+        A `view` is no command, so that nothing is kept of it."""
+        try:
+            self._to.write("view\n")
+            self._to.flush()
+            if read_reply(self._replies):
+                return
+        except OSError as error:
+            raise Ended(self.gone) from error
+        raise Ended(self.gone)
 
     def close(self) -> None:
         super().close()

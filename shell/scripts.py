@@ -2,13 +2,20 @@
 from __future__ import annotations
 
 import os
+import re
 import tempfile
 from dataclasses import dataclass, field
-from typing import Dict, Iterator, List, Tuple
+from typing import Dict, Iterator, List, Sequence, Tuple
 
 from .programs import has_reply, lines_of, run_lines
 
 REPLY, FAULT, CHECKED, STATUS = "#> ", "#! ", "#? ", "#= "
+# A line that somebody wrote as one of these, and that is a comment.
+LIKE_A_MARK = re.compile(r"\s*#[>!?=]")
+
+
+class NotWritten(Exception):
+    """Replies that would be lost: nothing was written."""
 
 
 @dataclass(frozen=True)
@@ -39,16 +46,20 @@ class Script:
     lines: List[str]
     commands: List[Command] = field(default_factory=list)
     stray: List[Tuple[int, str]] = field(default_factory=list)
+    unread: List[Tuple[int, str]] = field(default_factory=list)
     marked: Dict[str, List[Tuple[int, str]]] = field(default_factory=lambda: {it: [] for it in (FAULT, CHECKED, STATUS)})
 
     @classmethod
     def of(cls, text: str) -> "Script":
         script, is_open = cls(lines_of(text)), False
         for number, line in enumerate(script.lines, 1):
+            line = line[:-1] if line.endswith("\r") else line
             if line.startswith(REPLY):
                 script._expect(number, line[len(REPLY) :])
             elif line[:3] in script.marked:
                 script.marked[line[:3]].append((number, line[3:]))
+            elif LIKE_A_MARK.match(line):
+                script.unread.append((number, line))
             elif has_reply(line) and is_open:
                 script.commands.append(Command(number))
             elif has_reply(line):
@@ -70,6 +81,10 @@ def verify(program: str, text: str) -> List[Difference]:
     script = Script.of(text)
     ran = run_lines(program, script.lines)
     found = [Difference(number, "reply to no line", text, "") for number, text in script.stray]
+    found += [
+        Difference(number, "no mark: these are `#> `, `#! `, `#= `, `#? ` at the start", text, "")
+        for number, text in script.unread
+    ]
     for at, command in enumerate(script.commands):
         found += _replies(command, ran.replies[at] if at < len(ran.replies) else [])
     last = len(script.lines)
@@ -99,6 +114,9 @@ def annotated(program: str, text: str) -> str:
     """The script with the replies, the faults and the status as they come, in place of those that it has."""
     script = Script.of(text)
     ran = run_lines(program, script.lines)
+    if len(ran.replies) < len(script.commands) and not (ran.faults and (script.marked[FAULT] or script.marked[STATUS])):
+        had = "the replies that the script has are kept" if any(it.expected for it in script.commands) else "nothing is written"
+        raise NotWritten(f"{'; '.join(ran.faults) or 'not every line was answered'}: {had}")
     below = {command.number: reply for command, reply in zip(script.commands, ran.replies)}
     checked = iter(_checked(program, script))
     lines: List[str] = []
@@ -121,13 +139,49 @@ def _checked(program: str, script: Script) -> List[str]:
 
 def annotate(program: str, path: str) -> bool:
     """Writes the replies into a script: whether anything changed. The file is whole at every moment."""
+    path = os.path.realpath(path)
     text = read(path)
     new = annotated(program, text)
     if new == text:
         return False
-    folder = os.path.dirname(os.path.abspath(path))
+    folder = os.path.dirname(path)
     with tempfile.NamedTemporaryFile("w", dir=folder, delete=False, encoding="utf-8", errors="surrogateescape", newline="") as it:
         it.write(new)
     os.chmod(it.name, os.stat(path).st_mode)
     os.replace(it.name, path)
     return True
+
+
+@dataclass(frozen=True)
+class Verified:
+    """What became of scripts that were run beside their replies: a line for each difference, and one for all."""
+
+    lines: List[str]
+    differing: int
+
+
+def verified(program: str, paths: Sequence[str]) -> Verified:
+    """Runs scripts, and tells where their marked lines and the replies differ, or why one could not be read."""
+    lines: List[str] = []
+    differing = 0
+    for path in paths:
+        try:
+            found = [f"{path}:{it}" for it in verify(program, read(path))]
+        except OSError as error:
+            found = [f"{path}: {error.strerror}"]
+        differing += bool(found)
+        lines += found
+    total = f"{len(paths)} script{'s' * (len(paths) != 1)}"
+    lines.append(
+        f"{total}: {f'{differing} differ' if differing > 1 else '1 differs' if differing else 'all replies as they say'}"
+    )
+    return Verified(lines, differing)
+
+
+def annotated_all(program: str, paths: Sequence[str]) -> Iterator[str]:
+    """Writes the replies into scripts, and tells of each what became of it; stops at one that could not be written."""
+    for path in paths:
+        try:
+            yield f"{path}: {'replies written' if annotate(program, path) else 'as it was'}"
+        except NotWritten as why:
+            raise NotWritten(f"{path}: {why}") from why

@@ -2,6 +2,7 @@
 from __future__ import annotations
 
 import cmd
+import difflib
 import os
 from typing import IO, Any, Iterable, List, Sequence, Tuple
 
@@ -13,7 +14,7 @@ from .charts.text import text as chart_text
 from .colours import Paint
 from .completion import candidates
 from .laboratory import Laboratory, Unknown
-from .names import COMMANDS, EVENTS, SETUP
+from .names import EVENTS, NODES, SETUP
 from .programs import Ended, SetupFault, has_reply, lines_of
 from .reasons.faults import explain_fault
 from .reasons.why import why_event, why_last
@@ -40,6 +41,8 @@ class Shell(cmd.Cmd):
         self.use_rawinput = is_typed
         self.lines: List[Tuple[str, Sequence[str]]] = []
         self.has_faults = False
+        # The files that are being read, the newest last.
+        self.reading: List[str] = []
         self.set_prompt()
 
     # ---- the loop
@@ -57,11 +60,17 @@ class Shell(cmd.Cmd):
         """Takes one line: whether it ends the shell. What goes wrong with a question is told, and nothing has changed."""
         try:
             return bool(super().onecmd(line))
-        except (Unknown, macros.NotQuiet, OSError) as error:
-            self.fault(str(error))
+        except (Stopped, Ended, BrokenPipeError):
+            raise
         except SetupFault as fault:
             self.tell(explain_fault(line, fault.fault))
-            self.fault(f"the setup is without this line: {fault.fault}")
+            self.fault(f"the setup is without this line: {fault.words}")
+        except OSError as error:
+            self.fault(f"{error.filename}: {error.strerror}" if error.filename else str(error))
+        except (Unknown, macros.NotQuiet, scripts.NotWritten) as error:
+            self.fault(str(error))
+        except Exception as error:  # a fault of the shell's own must not cost the pair
+            self.fault(f"the shell failed here, and the pair is as it was: {error!r}")
         return False
 
     def postcmd(self, stop: bool, line: str) -> bool:
@@ -77,8 +86,11 @@ class Shell(cmd.Cmd):
             return
         where = "setup"
         if self.lab.is_open:
-            known = self.lab.branches.all.get(self.lab.in_use) if self.lab.port is None else None
-            where = f"{self.lab.in_use} {known.cursor}/{len(known.events)}" if known else self.lab.in_use
+            where = self.lab.in_use
+            # (a server keeps every command that it was asked, so none is asked for a prompt)
+            if self.lab.port is None:
+                branch = self.lab.branch(where)
+                where = f"{where} {branch.cursor}/{len(branch.events)}"
         self.prompt = f"{where}> "
 
     def tell(self, lines: Sequence[str]) -> None:
@@ -99,7 +111,9 @@ class Shell(cmd.Cmd):
         words = line.split()
         if not has_reply(line):
             self.lines.append((line, ()))
-        elif words[0] in SETUP or not self.lab.is_open and words[0] not in (*COMMANDS, *EVENTS):
+        elif not self.lab.is_open and words[0] not in helps.WORDS:
+            raise Unknown(unknown_word(words[0]))
+        elif words[0] in SETUP:
             self.setup_line(line)
         elif words[0] in EVENTS:
             self.events(self.lab.in_use, " ".join(words))
@@ -143,15 +157,19 @@ class Shell(cmd.Cmd):
 
     def ask(self, line: str) -> bool:
         """Asks a line and tells the reply: whether it was neither refused nor faulty."""
+        in_use = self.lab.in_use
         reply = self.lab.ask(line)
         self.lines.append((line, tuple(reply)))
         self.tell([self.painted(it) for it in reply])
+        if self.lab.in_use != in_use:
+            self.tell([self.paint.note(f"the branch in use is now {self.lab.in_use}")])
         words = reply[0].split()
         if words[0] not in BAD_WORDS:
             return True
         self.has_faults = self.has_faults or words[0] == "bad"
         if self.is_typed and words[0] == "bad":
-            self.tell(explain_fault(line, reply[0]))
+            word = line.split()[0]
+            self.tell(explain_fault(line, reply[0]) if word in helps.WORDS else [unknown_word(word)])
         if self.strict:
             raise Stopped(f"`{line}`: {reply[0]}")
         return False
@@ -170,22 +188,26 @@ class Shell(cmd.Cmd):
     def place(self, words: Sequence[str], what: str) -> Tuple[Branch, int]:
         """The branch and the place of an event that words tell: `[BRANCH] [K]`, the newest that stands where K is left out."""
         rest = list(words)
-        number = int(rest.pop()) if rest and rest[-1].isdigit() else 0
+        number = rest.pop() if rest and rest[-1].isdecimal() else ""
         if len(rest) > 1:
             raise Unknown(f"usage: {helps.SHELL[what].form}")
         branch = self.branch(rest[0] if rest else "")
-        number = number or branch.cursor
-        if not 1 <= number <= len(branch.events):
-            raise Unknown(f"{branch.name} has no event {number}; it has {len(branch.events)}")
-        return branch, number
+        if not branch.events:
+            raise Unknown(f"{branch.name} has no events")
+        places = {str(place): place for place in range(1, len(branch.events) + 1)}
+        if number and number not in places:
+            raise Unknown(f"{branch.name} has no event {number}: they are counted from 1 to {len(branch.events)}")
+        return branch, places[number] if number else max(branch.cursor, 1)
 
     def do_view(self, words: str) -> None:
         setup = self.lab.setup if self.lab.knows_setup else None
-        self.tell(views.view(self.lab.show(words.strip() or self.lab.in_use), setup, self.paint))
+        self.tell(views.view(self.lab.show_whole(words.strip() or self.lab.in_use), setup, self.paint))
 
     def do_diff(self, words: str) -> None:
         names = words.split()
         setup = self.lab.setup if self.lab.knows_setup else None
+        if names == list(NODES) and not {*names} <= {*self.lab.names()}:
+            names = []
         if len(names) > 2:
             raise Unknown(f"usage: {helps.SHELL['diff'].form}")
         if len(names) == 2:
@@ -227,37 +249,63 @@ class Shell(cmd.Cmd):
 
     # ---- the shell itself
 
+    def needed(self, words: str, what: str) -> str:
+        """The words behind one that needs some."""
+        if not words.strip():
+            raise Unknown(f"usage: {helps.SHELL[what].form}")
+        return words.strip()
+
     def do_use(self, words: str) -> None:
-        if words.strip() not in self.lab.names():
-            raise Unknown(f"there is no branch {words.strip()}; `names` tells them")
-        self.lab.in_use = words.strip()
+        name = self.needed(words, "use")
+        if name not in self.lab.names():
+            raise Unknown(f"there is no branch {name}; `names` tells them")
+        self.lab.in_use = name
+
+    def do_summary(self, words: str) -> None:
+        self.tell([self.lab.summary()])
 
     def do_verify(self, words: str) -> None:
-        self.tell(verified(self.lab.program, words.split()).lines)
+        found = scripts.verified(self.lab.program, self.needed(words, "verify").split())
+        self.tell(found.lines[:-1])
+        if found.differing:
+            self.fault(found.lines[-1])
+        else:
+            self.tell(found.lines[-1:])
 
     def do_annotate(self, words: str) -> None:
-        for path in words.split():
-            self.tell([f"{path}: {'replies written' if scripts.annotate(self.lab.program, path) else 'as it was'}"])
+        for line in scripts.annotated_all(self.lab.program, self.needed(words, "annotate").split()):
+            self.tell([line])
 
     def do_read(self, words: str) -> bool:
-        return self.take(lines_of(scripts.read(words.strip())), echo=True)
+        path = self.needed(words, "read")
+        if os.path.realpath(path) in self.reading:
+            raise Unknown(f"{path} is being read already")
+        lines = lines_of(scripts.read(path))
+        self.reading.append(os.path.realpath(path))
+        try:
+            return self.take(lines, echo=True)
+        finally:
+            self.reading.pop()
 
     def do_save(self, words: str) -> None:
-        if not self.lab.knows_setup or self.lab.port is not None:
+        path = self.needed(words, "save")
+        if self.lab.port is not None:
             raise Unknown("a script begins with the setup of its pair: on a server there is none to save")
-        with open(words.strip(), "w", encoding="utf-8") as it:
+        with open(path, "w", encoding="utf-8", errors="surrogateescape") as it:
             for line, reply in self.lines:
-                it.write("".join(f"{text}\n" for text in (line, *(f"{scripts.REPLY}{part}" for part in reply))))
-        self.tell([f"written: {words.strip()}"])
+                # (a faulty line is a slip of the dialogue, and no part of its script)
+                if not reply or not reply[0].startswith("bad "):
+                    it.write("".join(f"{text}\n" for text in (line, *(f"{scripts.REPLY}{part}" for part in reply))))
+        self.tell([f"written: {path}"])
 
     def do_help(self, words: str) -> None:
-        word = words.strip()
+        word = {"exit": "quit"}.get(words.strip(), words.strip())
         if not word:
             self.tell(helps.overview())
         elif word in helps.WORDS:
             self.tell(helps.about(word))
         else:
-            raise Unknown(f"there is no word {word}; `help` lists them")
+            raise Unknown(unknown_word(word))
 
     def do_quit(self, words: str) -> bool:
         return True
@@ -283,26 +331,12 @@ class Shell(cmd.Cmd):
         return self.completedefault(*words)
 
 
+def unknown_word(word: str) -> str:
+    """That there is no such word, with the nearest one that there is."""
+    near = difflib.get_close_matches(word, helps.WORDS, 1)
+    return f"there is no word {word}" + (f"; did you mean `{near[0]}`?" if near else "; `help` lists them")
+
+
 def spaced(words: List[str]) -> List[str]:
     """The words with the space that ends each, which readline leaves to the completer; a folder goes on."""
     return [it if os.path.isdir(it) else f"{it} " for it in words]
-
-
-class Verified:
-    """What became of scripts that were run beside their replies: a line for each difference, and one for all."""
-
-    def __init__(self, lines: List[str], differing: int):
-        self.lines, self.differing = lines, differing
-
-
-def verified(program: str, paths: Sequence[str]) -> Verified:
-    """Runs scripts, and tells where their marked lines and the replies differ."""
-    lines: List[str] = []
-    differing = 0
-    for path in paths:
-        found = scripts.verify(program, scripts.read(path))
-        differing += bool(found)
-        lines += [f"{path}:{it}" for it in found]
-    total = f"{len(paths)} script{'s' * (len(paths) != 1)}"
-    lines.append(f"{total}: {f'{differing} differ' if differing else 'all replies as they say'}")
-    return Verified(lines, differing)

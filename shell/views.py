@@ -7,7 +7,7 @@ from typing import Dict, List, Optional
 from .checksums import rules_checksum
 from .colours import Paint
 from .frames import HEADER, Broken, checksum, decode, summary
-from .names import COUNTERS, NODES, QUEUES
+from .names import COUNTERS, MOST_TRIES, NODES, QUEUES
 from .pair import Frame, Held, Node, Pair, State, other
 from .records import record_line
 from .setups import Setup
@@ -30,7 +30,6 @@ from .words import (
 
 UNKNOWN_SETUP = "the setup is not known here: times of expiry are those of the default timeouts and limits"
 WIDTH = 120
-TRIES = 12
 
 
 def view(pair: Pair, setup: Optional[Setup], paint: Paint) -> List[str]:
@@ -126,7 +125,7 @@ def _bulk_update(node: Node, setup: Optional[Setup], paint: Paint) -> List[str]:
     if node.sync != "-":
         tries, _, asked = node.sync.partition("/")
         again = seconds(int(asked) + (setup or Setup()).limits["bulk_ms"])
-        then = f"asks again at {again} at the earliest" if int(tries) < TRIES else f"gives up at {again} at the earliest"
+        then = f"asks again at {again} at the earliest" if int(tries) < MOST_TRIES else f"gives up at {again} at the earliest"
         lines.append(f"  {bulk_client(node.sync)}; {then}")
     return [paint.note(it) for it in lines]
 

@@ -11,12 +11,11 @@ from dataclasses import dataclass, field, replace
 from typing import Callable, Dict, Iterable, List, Optional, Sequence, Tuple
 
 from ..branches import Branch
-from .frames import LOOKS, asides, counted, frames_sent, record_words
+from .frames import LOOKS, asides, frames_sent, record_words
 from ..laboratory import Laboratory, Unknown
-from ..names import OF_TICKET
+from ..names import FRAME_FAULTS, OF_TICKET
 from ..pair import other
-
-FRAME_FAULTS = ("Short", "Version", "Length", "Action", "Count", "Value")
+from ..words import counted, seconds
 
 
 @dataclass(frozen=True)
@@ -57,6 +56,18 @@ class Flight:
     how: str = "in flight"
 
 
+def frame_words(row: Row, place: int, flight: Flight) -> Tuple[str, Tuple[str, ...]]:
+    """What the link tells of a frame in a row: which frame it is, and what it has or what happens to it."""
+    frame = f"#{flight.ticket}"
+    if row.kind == "flush":
+        return f"{frame}:", tuple(f"{it}{',' * (it != flight.records[-1])}" for it in flight.records)
+    if row.kind == "repeat":
+        return f"{frame}:", (f"copy of #{flight.origin}",)
+    if row.kind == "cut":
+        return f"{frame}:", (f"cut to {next(length for at, length in flight.cuts if at == place)} bytes",)
+    return frame, ()
+
+
 @dataclass
 class Chart:
     """A branch to be drawn."""
@@ -78,7 +89,9 @@ class Chart:
     @property
     def heading(self) -> str:
         undone = f", {self.undone} undone and not drawn" if self.undone else ""
-        return f"{self.branch}, {counted(self.events, 'event')}{undone}"
+        # Frames are told by their tickets: in 80 columns there is no room for the word.
+        legend = "; #N is frame N" if self.flights else ""
+        return f"{self.branch}, {counted(self.events, 'event')}{undone}{legend}"
 
     @property
     def footing(self) -> str:
@@ -98,7 +111,7 @@ def broken(text: str, fits: Callable[[str], bool]) -> List[str]:
 
 def duration(milliseconds: int) -> str:
     """A time on a clock: in seconds, but for less than one."""
-    return f"{milliseconds} ms" if 0 < milliseconds < 1000 else f"{milliseconds / 1000:.3f}".rstrip("0").rstrip(".") + " s"
+    return f"{milliseconds} ms" if 0 < milliseconds < 1000 else seconds(milliseconds)
 
 
 def chart(lab: Laboratory, branch: Branch) -> Chart:

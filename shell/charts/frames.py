@@ -5,8 +5,9 @@ from typing import Dict, List, NamedTuple, Sequence, Tuple
 
 from ..frames import Broken, ClearRecord, Record, StateRecord, StatusRecord, decode
 from ..laboratory import Laboratory, Unknown
-from ..names import BULK_STATUS, COUNTERS, NODES, OF_TICKET
+from ..names import COUNTERS, NODES, OF_TICKET
 from ..pair import other
+from ..words import ALL_STATES, bulk_status, counted
 
 # So many copies of frames are in flight before they are shown. A show tells the whole pair, so one for many frames is quick.
 COPIES = 256
@@ -24,11 +25,6 @@ class _Sight(NamedTuple):
 
     counters: Dict[str, int]
     asks: Tuple[str, ...]
-
-
-def counted(number: int, thing: str) -> str:
-    """A number with its thing, in the plural where it has to be."""
-    return f"{number} {thing}{'' if number == 1 else 's'}"
 
 
 def frames_sent(lab: Laboratory, events: Sequence[str]) -> Dict[int, bytes]:
@@ -111,7 +107,7 @@ def _beside(before: _Sight, after: _Sight) -> str:
     parts = [f"{number} {words}" for number, words in risen if number > 0]
     asks = [it for it in after.asks if it not in before.asks]
     if asks:
-        parts.append("asks for all" if asks == ["0.0"] else f"asks for {_names(asks)}")
+        parts.append("asks for all" if asks == [str(ALL_STATES)] else f"asks for {_names(asks)}")
     return ", ".join(parts)
 
 
@@ -133,14 +129,14 @@ def record_words(frame: bytes) -> Tuple[str, ...]:
 def _group_words(records: Sequence[Record]) -> str:
     first = records[0]
     if isinstance(first, StatusRecord):
-        return f"bulk {BULK_STATUS.get(first.status, str(first.status))}"
+        return f"bulk {bulk_status(first.status)}"
     if isinstance(first, ClearRecord):
         return f"clear boot {first.creator} up to {first.creator}.{first.bound}"
     wanted = all(isinstance(it, StateRecord) and it.asks_for_acknowledgement for it in records)
     names = [str(it.name) for it in records if not isinstance(it, (StatusRecord, ClearRecord))]
     action = _SHORTER.get(first.action, first.action)
     if len(records) == 1:
-        return f"{action} {'0.0 (all)' if names == ['0.0'] else names[0]}{' (wants ack)' if wanted else ''}"
+        return f"{action} {'0.0 (all)' if names == [str(ALL_STATES)] else names[0]}{' (wants ack)' if wanted else ''}"
     told = f"{action}s {', '.join(names)}" if len(records) == 2 else f"{len(records)} {action}s"
     return f"{told}{' (want ack)' if wanted else ''}"
 

@@ -4,8 +4,8 @@ from __future__ import annotations
 from typing import Dict, List, Sequence, Tuple
 from xml.sax.saxutils import escape
 
-from .chart import Chart, Flight, Mark, Row
-from .svg import Piece, Point, Sheet, in_lines, number, text_width
+from .chart import Chart, Flight, Mark, Row, frame_words
+from .svg import BOLDER, Piece, Point, Sheet, in_lines, number, text_width
 
 WIDTH = 1280
 LANES = {"a": 368.0, "b": 948.0}
@@ -22,6 +22,8 @@ HEAD = 118
 
 INK, FAINT, BAND = "#1c2733", "#66727f", "#f4f6f8"
 FRAME, GOOD, BAD, NOTE = "#1f5fa8", "#1b6e3a", "#c41e1e", "#8a5200"
+# What happens to a frame on its way.
+FRAME_TONES = {"repeat": NOTE, "cut": BAD}
 TONES = {"good": GOOD, "bad": BAD, "note": NOTE, "": INK}
 
 
@@ -65,17 +67,13 @@ class _Picture:
 
     def _label(self, place: int, row: Row, flight: Flight) -> List[List[Piece]]:
         """The words within the link: of the frame where it is sent, and of what happens to it on its way."""
-        ticket: Piece = (str(flight.ticket), FRAME, True)
-        if row.kind == "flush":
-            words: List[Piece] = [(f"{it}{',' * (it != flight.records[-1])}", FRAME, False) for it in flight.records]
-            lines = in_lines(words, (ZONE - 16 if self._is_crossed(place) else 400) - text_width(f"{flight.ticket} "))
-            return [[ticket, *lines[0]], *lines[1:]]
-        if row.kind == "repeat":
-            return [[(f"{flight.origin} repeated as", NOTE, False), ticket]]
-        if row.kind == "cut":
-            length = next(it for at, it in flight.cuts if at == place)
-            return [[ticket, (f"cut to {length} bytes", BAD, False)]]
-        return [[ticket]] if row.kind == "deliver" else [[]]
+        if row.kind == "lose":
+            return [[]]
+        frame, words = frame_words(row, place, flight)
+        colour = FRAME_TONES.get(row.kind, FRAME)
+        room = (ZONE - 16 if self._is_crossed(place) else 400) - text_width(f"{frame} ") * BOLDER
+        lines = in_lines([(it, colour, False) for it in words], room) or [[]]
+        return [[(frame, FRAME, True), *lines[0]], *lines[1:]]
 
     def _is_crossed(self, place: int) -> bool:
         """Whether a row has a sloped line, or is crossed by one."""
@@ -197,7 +195,7 @@ class _Picture:
             return
         flight = self.chart.flights[row.ticket]
         if flight.how == "lost" and flight.ended == place:
-            pieces: List[Piece] = [(str(flight.ticket), FRAME, True)] if row.kind == "lose" else []
+            pieces: List[Piece] = [(f"#{flight.ticket}", FRAME, True)] if row.kind == "lose" else []
             x, anchor = self._inner(flight.to) - OUTWARDS[flight.source] * 2, "start" if flight.source == "a" else "end"
             self.sheet.text((x, y + 5), [*pieces, ("lost", BAD, True)], anchor)
         node = flight.to if row.kind == "deliver" else flight.source
@@ -241,7 +239,8 @@ class _Picture:
     def _ends(self) -> None:
         waiting = self._waiting()
         if waiting:
-            told: List[Piece] = [("still in flight:", FRAME, False), (", ".join(str(it.ticket) for it in waiting), FRAME, True)]
+            tickets = ", ".join(f"#{it.ticket}" for it in waiting)
+            told: List[Piece] = [("still in flight:", FRAME, False), (tickets, FRAME, True)]
             self.sheet.text(((LANES["a"] + LANES["b"]) / 2, self.end + 24), told, "middle")
         if self.chart.footing:
             self.sheet.text((float(MARGIN), self.height - 12), [(self.chart.footing, FAINT, False)], size=SMALL)

@@ -4,7 +4,7 @@ from __future__ import annotations
 import sys
 from typing import Dict, List, NamedTuple, Optional, Sequence, Tuple
 
-from .chart import Chart, Flight, Mark, Row, broken
+from .chart import Chart, Flight, Mark, Row, broken, frame_words
 from ..colours import Paint
 
 
@@ -34,6 +34,8 @@ Piece = Tuple[str, str]
 # Of the events' numbers at the left, for up to 99 events.
 NUMBERS = 6
 NARROWEST = 72
+# What happens to a frame on its way.
+FRAME_STYLES = {"repeat": "note", "cut": "bad"}
 # Between a lane and the words at its side: an arrow and a space.
 GUTTER = 4
 
@@ -101,7 +103,7 @@ class _Drawing:
         self.chart, self.width, self.glyphs = chart, width, glyphs
         self.numbers = max(NUMBERS, len(f"{chart.events}-{chart.events}") + 1)
         room = width - self.numbers - 2 - 2 * GUTTER
-        self.link = max(24, room * 36 // 100)
+        self.link = max(26, room * 36 // 100)
         self.side = (room - self.link) // 2
         left = self.numbers + self.side + GUTTER
         self.lanes: Dict[str, int] = {"a": left, "b": left + 1 + self.link}
@@ -116,7 +118,7 @@ class _Drawing:
             head.put(at - len(words) // 2, words, "head")
         for place, row in enumerate(self.chart.rows):
             self._row(place, row)
-        waiting = ", ".join(f"{it.ticket} to {it.to}" for it in self.chart.in_flight)
+        waiting = ", ".join(f"#{it.ticket} to {it.to}" for it in self.chart.in_flight)
         for words in (f"still in flight: {waiting}" if waiting else "", self.chart.footing):
             for line in wrapped([(it, "note") for it in words.split()], self.width):
                 self._new_line(False).put_pieces(0, line)
@@ -186,14 +188,8 @@ class _Drawing:
         return [*wrapped(told, self.link - 3), []]
 
     def _label(self, place: int, row: Row, flight: Flight) -> List[Piece]:
-        ticket = (str(flight.ticket), "head")
-        if row.kind == "flush":
-            return [ticket, *((f"{it}{',' * (it != flight.records[-1])}", "") for it in flight.records)]
-        if row.kind == "repeat":
-            return [(f"{flight.origin} repeated as", "note"), ticket]
-        if row.kind == "cut":
-            return [ticket, (f"cut to {next(length for at, length in flight.cuts if at == place)} bytes", "bad")]
-        return [ticket]
+        frame, words = frame_words(row, place, flight)
+        return [(frame, "head"), *((it, FRAME_STYLES.get(row.kind, "")) for it in words)]
 
     def _ends(self, place: int, flight: Flight) -> Tuple[str, Piece]:
         """How a frame's line begins and ends in a row: at a lane, with its loss, or farther on its way."""

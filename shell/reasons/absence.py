@@ -2,17 +2,21 @@
 from __future__ import annotations
 
 from dataclasses import replace
-from typing import Dict, List, Optional, Tuple, Union
+from typing import Container, Dict, List, Optional, Sequence, Tuple, Union
 
-from ..frames import Broken, ShortUpdate, StateRecord, decode
+from ..frames import Record, ShortUpdate, StateRecord
+from .histories import Flight
 from ..laboratory import Step
 from ..names import QUEUES, Name
 from .packets import PacketEvent, found
 from ..pair import Node, State, other
 from .questions import Question, peer_of, told_state
 from .records import what_became
+from ..words import counted
 
 Kinds = Union[type, Tuple[type, ...]]
+# So many frames that told of a state are spoken of.
+MOST_FATES = 4
 
 
 def explain_absence(question: Question) -> List[str]:
@@ -33,13 +37,18 @@ def explain_absence(question: Question) -> List[str]:
 
 def _gone_by_flow(question: Question) -> List[str]:
     """The last event that took a state of this flow from the node, where neither node has one now."""
-    packet = question.packet
-    for step in reversed(question.history):
-        state = found(step.before.nodes[packet.node], packet)
-        if state is not None and state.name not in step.after.nodes[packet.node].states:
-            until = f"until event {step.number}, `{step.event}` ({step.outcome})"
-            return [f"node {packet.node} had {told_state(state)} for this flow {until}; no node has one now"]
-    return []
+    packet, history = question.packet, question.history
+
+    def is_loss(before: Node, after: Node) -> bool:
+        state = found(before, packet)
+        return state is not None and state.name not in after.states
+
+    step = history.newest_loss(packet.node, packet, history.names_of(packet), is_loss)
+    state = found(step.before.nodes[packet.node], packet) if step else None
+    if step is None or state is None:
+        return []
+    until = f"until event {step.number}, `{step.event}` ({step.outcome})"
+    return [f"node {packet.node} had {told_state(state)} for this flow {until}; no node has one now"]
 
 
 def _turned(node: Node, packet: PacketEvent) -> List[str]:
@@ -62,78 +71,80 @@ def _turned(node: Node, packet: PacketEvent) -> List[str]:
 
 def _why_absent(question: Question, name: Name, node: str) -> List[str]:
     """What kept or took the state from the node, newest first where several things did."""
-    gone = _gone(question.history, name, node)
-    if gone is not None:
-        return [f"it was there until event {gone.number}, `{gone.event}` ({gone.outcome})"]
-    carriers = _carriers(question.history, name, node, StateRecord)
-    if carriers:
-        fates = [_fate(question, ticket, number, name) for ticket, number in carriers.items()]
-        return [fates[-1], *(f"before that, {it}" for it in reversed(fates[:-1]))]
-    return [_untold(question, peer_of(question, node), name)]
+
+    def is_loss(before: Node, after: Node) -> bool:
+        return name in before.states and name not in after.states
+
+    gone = question.history.newest_loss(node, question.packet, [name], is_loss)
+    since = gone.number if gone else 0
+    carriers = [it for it in _carriers(question, name, node, StateRecord) if it.ended is None or it.ended.number > since]
+    told = _fates(question, carriers, name)
+    if gone is None:
+        return told or [_untold(question, peer_of(question, node), name)]
+    there = f"it was there until event {gone.number}, `{gone.event}` ({gone.outcome})"
+    # A short update would not bring it.
+    queued = _queued(peer_of(question, node), name, ("ins", "upd"))
+    parts = [*([queued] if queued else []), *told]
+    return [*parts[:-1], f"{parts[-1]}; before that {there}"] if parts else [there]
+
+
+def _fates(question: Question, carriers: Sequence[Flight], name: Name) -> List[str]:
+    """What became of frames with the state, the newest first; of many only the newest."""
+    newest = list(reversed(carriers))[:MOST_FATES]
+    landed = [it.ended.number for it in newest if it.ended and it.ended.outcome[0] == "taken"]
+    steps = question.history.steps_at(landed) if landed else {}
+    lines = [f"{'before that, ' * bool(at)}{_fate(question, it, steps, name)}" for at, it in enumerate(newest)]
+    more = len(carriers) - len(newest)
+    return [*lines, f"before that, {counted(more, 'frame')} more had it"] if more else lines
 
 
 def explain_lag(question: Question, name: Name, node: str) -> List[str]:
     """Why a node's copy of a state is not what the peer has: what the peer has still to tell, or what was lost of it."""
     peer = peer_of(question, node)
-    if any(it.name == name for it in peer.queue):
-        return [_untold(question, peer, name)]
-    carriers = _carriers(question.history, name, node, (StateRecord, ShortUpdate))
-    if not carriers:
-        return []
-    ticket, number = list(carriers.items())[-1]
-    return [f"the newest that {peer.id} told of it: {_fate(question, ticket, number, name)}"]
+    queued = _queued(peer, name)
+    if queued:
+        return [queued]
+    fates = _fates(question, _carriers(question, name, node, (StateRecord, ShortUpdate))[-1:], name)
+    return [f"the newest that {peer.id} told of it: {it}" for it in fates]
 
 
-def _gone(steps: List[Step], name: Name, node: str) -> Optional[Step]:
-    """The last event that took the state from the node."""
-    for step in reversed(steps):
-        if name in step.before.nodes[node].states and name not in step.after.nodes[node].states:
-            return step
-    return None
+def _carriers(question: Question, name: Name, node: str, kinds: Kinds) -> List[Flight]:
+    """The frames to the node with such records of the state, in the order in which they were sent."""
+    history = question.history
+    flights = [it for it in history.flights.values() if it.to == node]
+    return [it for it in flights if _carried(history.sent_records(it), name, kinds)]
 
 
-def _carriers(steps: List[Step], name: Name, node: str, kinds: Kinds) -> Dict[int, int]:
-    """The frames to the node with such records of the state, by ticket, each with the event that sent it."""
-    carriers = {}
-    for step in steps:
-        for ticket, frame in step.after.frames.items():
-            if ticket not in step.before.frames and frame.to == node and _carried(frame.data, name, kinds):
-                carriers[ticket] = step.number
-    return carriers
-
-
-def _carried(data: bytes, name: Name, kinds: Kinds) -> Optional[str]:
-    """The first action by which the bytes tell of the state, if they do."""
-    try:
-        records = decode(data)
-    except Broken:
-        return None
+def _carried(records: Sequence[Record], name: Name, kinds: Kinds) -> Optional[str]:
+    """The first action by which records tell of the state, if they do."""
     told = [it for it in records if isinstance(it, (StateRecord, ShortUpdate)) and isinstance(it, kinds)]
     actions = [it.action for it in told if it.name == name and it.action != "delete"]
     return actions[0] if actions else None
 
 
-def _fate(question: Question, ticket: int, sent: int, name: Name) -> str:
+def _fate(question: Question, flight: Flight, steps: Dict[int, Step], name: Name) -> str:
     """What became of a frame that told of the state."""
-    flying = question.pair.frames.get(ticket)
-    if flying is not None and _carried(flying.data, name, (StateRecord, ShortUpdate)):
-        return f"frame {ticket}, which brings it (event {sent}), is still in flight"
-    for step in question.history:
-        if ticket in step.before.frames and ticket not in step.after.frames:
-            return _landed(question, step, ticket, name)
-    return f"frame {ticket}, which brought it (event {sent}), is in flight, but was cut short"
+    frame, sent, ended = f"frame {flight.ticket}", f"(event {flight.sent.number})", flight.ended
+    if ended is None:
+        if flight.cuts:
+            return f"{frame}, which brought it {sent}, is in flight, but was cut short"
+        return f"{frame}, which brings it {sent}, is still in flight"
+    action = _carried(question.history.sent_records(flight), name, (StateRecord, ShortUpdate))
+    what = "insertion" if action == "insert" else action
+    if ended.words[0] == "lose":
+        return f"its {what} was lost in {frame} (event {ended.number})"
+    if ended.outcome[0] == "broken":
+        return f"{frame}, which brought it, could not be read (event {ended.number}: {' '.join(ended.outcome)})"
+    became = what_became(steps[ended.number], question.lab.setup.limits, name)
+    return f"its {what} in {frame} was delivered (event {ended.number}): {became}"
 
 
-def _landed(question: Question, step: Step, ticket: int, name: Name) -> str:
-    """How a frame that told of the state left the link."""
-    action = _carried(step.before.frames[ticket].data, name, (StateRecord, ShortUpdate))
-    what = "insertion" if action in ("insert", None) else action
-    if step.event.split()[0] == "lose":
-        return f"its {what} was lost in frame {ticket} (event {step.number})"
-    if step.outcome.startswith("broken"):
-        return f"frame {ticket}, which brought it, could not be read (event {step.number}: {step.outcome})"
-    became = what_became(step, question.lab.setup.limits, name)
-    return f"its {what} in frame {ticket} was delivered (event {step.number}): {became}"
+def _queued(peer: Node, name: Name, kinds: Container[str] = QUEUES) -> str:
+    """That the peer has still to tell of a state, by these queues; empty where it has not."""
+    for it in peer.queue:
+        if it.name == name and it.kind in kinds:
+            return f"{peer.id} has it on its {QUEUES[it.kind]} queue, and has not sent it yet (`flush {peer.id}`)"
+    return ""
 
 
 def _untold(question: Question, peer: Node, name: Name) -> str:
@@ -141,7 +152,4 @@ def _untold(question: Question, peer: Node, name: Name) -> str:
     state: State = peer.states[name]
     if "n" in state.flags:
         return f"{question.rule_words(peer.id, state.rule)} made it with `no-sync`, so {peer.id} never tells of it"
-    for queued in peer.queue:
-        if queued.name == name:
-            return f"{peer.id} has it on its {QUEUES[queued.kind]} queue, and has not sent it yet (`flush {peer.id}`)"
-    return f"no frame to {other(peer.id)} has carried it"
+    return _queued(peer, name) or f"no frame to {other(peer.id)} has carried it"

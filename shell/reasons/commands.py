@@ -6,11 +6,12 @@ from typing import Callable, Dict, List, Sequence
 
 from ..laboratory import Laboratory
 from ..pair import Pair
+from .word_forms import BRANCH
 from ..words import counted
 
 MOST_BRANCHES = 16
 NOT_SHOWN = "the branches as they are now do not show it: the shell cannot tell more"
-NAME_FORM = "a branch's name is a letter from a to z and at most 15 more of a to z, 0 to 9 and `-`"
+NAME_FORM = f"a branch's name is {BRANCH.what}"
 
 
 def _branch(lab: Laboratory, words: Sequence[str]) -> Pair:
@@ -101,3 +102,17 @@ _REFUSALS: Dict[str, Callable[[Laboratory, Sequence[str]], List[str]]] = {
 def explain_command(lab: Laboratory, line: str, reply: str) -> List[str]:
     """Why a command was refused, by the name at the end of the reply, as the branches are now."""
     return _REFUSALS[reply.split()[-1]](lab, line.split())
+
+
+def explain_done(words: Sequence[str], reply: str) -> List[str]:
+    """What a command that was done tells of reasons: of an excision, why other events fell out."""
+    places = reply.split()[1:]
+    if words[0] != "excise":
+        return ["it was done: `why` has reasons of events, refusals and faulty lines"]
+    if not places:
+        return [f"every other event of {words[1]} was accepted without event {words[2]} too: none fell out with it"]
+    gone = f"events {', '.join(places[:-1])} and {places[-1]}" if len(places) > 1 else f"event {places[0]}"
+    return [
+        f"without event {words[2]} {gone} of {words[1]} would be refused, and fell out too, by the places in the list as it was",
+        f"`restore {words[1]}` brings all of them back, until an event is accepted",
+    ]

@@ -3,13 +3,11 @@ from __future__ import annotations
 
 from typing import Callable, Dict, List
 
-from ..frames import summary
-from ..names import Name
+from ..frames import HEADER, summary
+from ..names import MOST_TRIES, Name
 from ..pair import Node, State, other
 from .questions import Question, name_list, told_state
 from ..words import counted
-
-MOST_TRIES = 12
 
 
 def _node(question: Question) -> Node:
@@ -103,6 +101,8 @@ def _cut(question: Question) -> List[str]:
     was, now = len(question.pair.frames[ticket].data), len(question.after.frames[ticket].data)
     if was == now:
         return [f"frame {ticket} had {was} bytes, and keeps them all"]
+    if now < HEADER:
+        return [f"frame {ticket} had {was} bytes; {now} are less than a header, so that its receiver cannot read it (Short)"]
     return [f"frame {ticket} had {was} bytes; its header tells its first length still, so that its receiver cannot read it"]
 
 

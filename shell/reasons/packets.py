@@ -5,10 +5,10 @@ import ipaddress
 from dataclasses import dataclass
 from typing import Dict, Optional, Tuple
 
+from ..frames import PROTOCOLS
 from ..pair import Key, Node, State
 
 CIRCLE = 2**32
-_PROTOCOL_WORDS = {"6": "tcp", "17": "udp", "1": "icmp"}
 
 
 @dataclass(frozen=True)
@@ -56,7 +56,7 @@ class PacketEvent:
 def read_packet(event: str) -> PacketEvent:
     """The packet of an event's line that the program has taken."""
     _, node, direction, word, source, destination, *rest = event.split()
-    protocol = _PROTOCOL_WORDS.get(word.lstrip("0"), word.lstrip("0") or "0") if word.isdigit() else word
+    protocol = PROTOCOLS.get(int(word), str(int(word))) if word.isdigit() else word
     source, destination = plain_end(source), plain_end(destination)
     if protocol != "tcp":
         return PacketEvent(node, direction, protocol, source, destination, int(rest[0]))

@@ -6,6 +6,7 @@ from functools import cached_property
 from typing import List, Optional, Sequence, Tuple
 
 from ..colours import Paint
+from .histories import History
 from ..laboratory import Laboratory, Step, outcome_of
 from ..names import Name
 from .packets import PacketEvent, read_packet
@@ -53,9 +54,9 @@ class Question:
         return read_packet(self.event)
 
     @cached_property
-    def history(self) -> List[Step]:
-        """All events before, each with the pair before and after it; asked of the program once for a question."""
-        return self.lab.steps(self.before)
+    def history(self) -> History:
+        """All events before; asked of the program only as far as a reason needs them."""
+        return History(self.lab, self.before)
 
     def table(self, node: str) -> Node:
         """A node before the event."""

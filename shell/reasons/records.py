@@ -5,16 +5,14 @@ from __future__ import annotations
 from dataclasses import dataclass, replace
 from typing import Dict, List, NamedTuple, Optional, Set, Tuple, Union
 
+from .bulk_updates import without_start
 from ..frames import ClearRecord, Named, Record, ShortUpdate, StateRecord, StatusRecord, decode
 from ..laboratory import Step
-from ..names import Name, level_name
+from ..names import BULK_END, SYN_SENT, Name, level_name
 from .packets import CIRCLE
 from ..pair import End, Frame, Node, Pair, State
 from .questions import Question, name_list
-from ..words import counted
-
-NO_NAME = Name(0, 0)
-SYN_SENT = 2
+from ..words import ALL_STATES, bulk_status, counted
 
 
 def is_after(number: int, other: int) -> bool:
@@ -32,13 +30,16 @@ class Receiver:
     kinds: Dict[Name, str]
     asks: List[Name]
     held: Set[Name]
+    # Whether it waits for the end of a bulk update.
+    is_waiting: bool
     bad: int = 0
     stale: int = 0
 
     @classmethod
     def of(cls, node: Node, limit: int) -> "Receiver":
         kinds = {it.name: it.kind for it in node.queue}
-        return cls(node, limit, dict(node.states), kinds, list(node.asks), {it.name for it in node.held})
+        held = {it.name for it in node.held}
+        return cls(node, limit, dict(node.states), kinds, list(node.asks), held, node.sync != "-")
 
     def take(self, record: Record) -> str:
         """Takes a record, and says what it did and why."""
@@ -133,7 +134,8 @@ def _staleness(end: str, known: State, here: End, came: End) -> Optional[str]:
     """Why an end that came is behind the one here, if it is."""
     if here.level > came.level:
         names = (level_name(known.protocol, came.level), level_name(known.protocol, here.level))
-        return f"the {end} end came as {names[0]}, and is {names[1]} here"
+        level = "level " if known.protocol == "icmp" else ""
+        return f"the {end} end came as {level}{names[0]}, and is {level}{names[1]} here"
     if known.protocol != "tcp" or not is_after(here.lo, came.lo):
         return None
     counts = here.level == came.level if end == "source" else here.level >= SYN_SENT
@@ -172,7 +174,7 @@ def _deleted(to: Receiver, name: Name) -> str:
 
 
 def _requested(to: Receiver, name: Name) -> str:
-    if name == NO_NAME:
+    if name == ALL_STATES:
         return f"{to.node.id} has {counted(len(to.states), 'state')} to send" + ("" if to.states else ", and is done at once")
     known = to.states.get(name)
     if known is None:
@@ -194,8 +196,12 @@ def _cleared(to: Receiver, record: ClearRecord) -> str:
 
 
 def _status_taken(to: Receiver, record: StatusRecord) -> str:
-    what = "the bulk update begins" if record.status == 1 else "the bulk update is complete"
-    return f"{what}, and {to.node.id} " + ("waits for one" if to.node.sync != "-" else "waits for none")
+    node, waits = to.node.id, to.is_waiting
+    if record.status == BULK_END:
+        to.is_waiting = False
+        ended = f"{node}, which was waiting, waits no more, whatever came" if waits else f"{node} was not waiting for it"
+        return f"the server says that it is at the end; {ended}"
+    return f"the bulk update begins, and {node} " + ("goes on waiting for its end" if waits else "was not waiting for one")
 
 
 def _subject(record: Record) -> str:
@@ -203,8 +209,8 @@ def _subject(record: Record) -> str:
     if isinstance(record, ClearRecord):
         return record.action
     if isinstance(record, StatusRecord):
-        return f"{record.action} {'start' if record.status == 1 else 'end'}"
-    return f"{record.action} {record.name if record.name != NO_NAME else 'of all states'}"
+        return f"{record.action} {bulk_status(record.status)}"
+    return f"{record.action} {record.name if record.name != ALL_STATES else 'of all states'}"
 
 
 class Delivery(NamedTuple):
@@ -227,7 +233,13 @@ def explain_taken(question: Question) -> List[str]:
     frame, records, to = delivery(question.step, question.lab.setup.limits)
     lines = [f"frame {frame.ticket} came to node {frame.to} with {counted(len(records), 'record')}:"]
     lines += [f"{place}. {_subject(record)}: {what}" for place, (record, what) in enumerate(records, 1)]
-    return lines + _disagreements(to, question.after) + _without_rule([it for it, _ in records], to.node, question)
+    told = [it for it, _ in records]
+    return [
+        *lines,
+        *without_start(question, told, to.node),
+        *_disagreements(to, question.after),
+        *_without_rule(told, to.node, question),
+    ]
 
 
 def what_became(step: Step, limits: Dict[str, int], name: Name) -> str:
@@ -262,6 +274,10 @@ def _disagreements(to: Receiver, after: Pair) -> List[str]:
     ends = [it for it in to.states if it in now.states and _ends(now.states[it]) != _ends(to.states[it])]
     if ends:
         lines.append(f"the program's ends differ from what the shell computed: {name_list(sorted(ends))}")
+    if (now.sync != "-") != to.is_waiting:
+        lines.append(
+            f"the program's {now.id} {'waits' if now.sync != '-' else 'does not wait'} for a bulk update: trust the program"
+        )
     if now.asks != to.asks:
         lines.append(f"the program's list of what {now.id} asks for is another than these records would leave")
     return lines

@@ -4,7 +4,7 @@ from __future__ import annotations
 from difflib import get_close_matches
 from typing import Callable, Dict, List
 
-from ..names import OF_TICKET, Name
+from ..names import DEFAULT_LIMITS, OF_TICKET, Name
 from ..pair import Node, other
 from .questions import Question, name_list
 from ..words import counted
@@ -12,6 +12,11 @@ from ..words import counted
 LAST_MILLISECOND = 1000000000000
 GREATEST = 4294967295
 NOT_SHOWN = "the pair before the event does not show it: the shell cannot tell more"
+
+
+def _unknown(limit: str) -> str:
+    """That a limit of a server is not known."""
+    return f"the server's `{limit}` is not known here ({DEFAULT_LIMITS[limit]} unless its setup says otherwise; see --setup)"
 
 
 def _node(question: Question) -> Node:
@@ -62,18 +67,21 @@ def _no_such_state(question: Question) -> List[str]:
 
 def _link_full(question: Question) -> List[str]:
     limit, flying = question.lab.setup.limits["frames"], len(question.pair.frames)
-    if flying < limit:
+    known = question.lab.knows_setup
+    if known and flying < limit:
         return [NOT_SHOWN]
     return [
-        f"the link carries {counted(flying, 'frame')}, and the limit `frames` is {limit}",
+        f"the link carries {counted(flying, 'frame')}, and "
+        + (f"the limit `frames` is {limit}" if known else _unknown("frames")),
         f"deliver or lose one first: {', '.join(str(it) for it in list(question.pair.frames)[:8])}",
     ]
 
 
 def _queue_full(question: Question) -> List[str]:
     node, limit = _node(question), question.lab.setup.limits["queue"]
+    allowed = f", {limit}" if question.lab.knows_setup else f": {_unknown('queue')}"
     lines = [
-        f"at some point of the event more would be pending at {node.id} than the limit `queue` allows, {limit}",
+        f"at some point of the event more would be pending at {node.id} than the limit `queue` allows{allowed}",
         f"pending before it: {node.pending} ({_pending_parts(node)})",
     ]
     return [*lines, f"`flush {node.id}` makes room"] if node.pending else lines
@@ -126,11 +134,19 @@ def _not_syncing(question: Question) -> List[str]:
 def _too_early(question: Question) -> List[str]:
     node, limits = _node(question), question.lab.setup.limits
     if question.words[0] == "release":
+        if not node.held:
+            return [NOT_SHOWN]
         since, limit = node.held[0].since, "defer_ms"
-        what = f"the oldest packet that {node.id} holds (of state {node.held[0].name}) is due at"
+        who = f"the oldest packet that {node.id} holds (of state {node.held[0].name})"
+        what = f"{who} is due at"
     else:
+        if node.sync == "-":
+            return [NOT_SHOWN]
         since, limit = int(node.sync.split("/")[1]), "bulk_ms"
-        what = f"{node.id} can ask for all states again at"
+        who, what = node.id, f"{node.id} can ask for all states again at"
+    if not question.lab.knows_setup:
+        waited = f"{who} has waited since {since} ms, and the clock of {node.id} stands at {node.clock} ms"
+        return [waited, _unknown(limit)]
     due = since + limits[limit]
     if node.clock >= due:
         return [NOT_SHOWN]
@@ -160,4 +176,7 @@ _REFUSALS: Dict[str, Callable[[Question], List[str]]] = {
 
 def explain_refusal(question: Question) -> List[str]:
     """Why the event was refused, by the name at the end of the reply."""
-    return _REFUSALS[question.reply.split()[-1]](question)
+    refusal, words = question.reply.split()[-1], question.words
+    if words[0] in OF_TICKET and refusal != "NoSuchFrame" and int(words[1]) not in question.pair.frames:
+        return [NOT_SHOWN]
+    return _REFUSALS[refusal](question)

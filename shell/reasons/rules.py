@@ -88,13 +88,18 @@ def explain_block(question: Question) -> List[str]:
     rule = question.lab.setup.rules[node][number]
     place = "the first `quick` rule that matches" if "quick" in rule.words else "the last rule that matches"
     lines = [f"{question.rule_words(node, number)} decided: it is {place}"]
+    return lines + _but_for_flags(question)
+
+
+def _but_for_flags(question: Question) -> List[str]:
+    """The pass rule that matches the packet but for its flags, and what it wants of them; nothing where there is none."""
     passing = rule_but_for_flags(question)
-    if passing is not None:
-        lines += [
-            f"{question.rule_words(node, passing)} would pass it, but for its flags {question.packet.flags}",
-            "a pass rule without `flags any` takes only a TCP packet that begins a connection: SYN without ACK",
-        ]
-    return lines
+    if passing is None:
+        return []
+    return [
+        f"{question.rule_words(question.packet.node, passing)} would pass it, but for its flags {question.packet.flags}",
+        "a pass rule without `flags any` takes only a TCP packet that begins a connection: SYN without ACK",
+    ]
 
 
 def explain_max(question: Question) -> List[str]:
@@ -148,7 +153,8 @@ def explain_without_state(question: Question) -> List[str]:
     if judge(question.lab, question.packet, question.event).outcome != "pass -":
         return ["no rule made a state; asked again, the program answered otherwise, and the shell cannot tell why"]
     rules = counted(len(question.lab.setup.rules[node]), "rule")
-    return [f"no rule of {node} matches it, which has {rules}: what no rule matches passes, without a state"]
+    without = f"no rule of {node} matches it, which has {rules}: what no rule matches passes, without a state"
+    return [without, *_but_for_flags(question)]
 
 
 def _standing(question: Question) -> List[State]:

@@ -7,11 +7,11 @@ from typing import Callable, Dict, List, Sequence
 from .absence import explain_absence
 from ..branches import Branch
 from ..colours import Paint
-from .commands import explain_command
+from .commands import explain_command, explain_done
 from .events import explain_other
 from .faults import explain_fault
 from .frames import explain_broken
-from ..laboratory import Laboratory, Unknown, outcome_of
+from ..laboratory import Laboratory, Step, Unknown, outcome_of
 from .outcomes import explain_held, explain_pass, replaced
 from .questions import Question, ask
 from .records import explain_taken
@@ -80,10 +80,21 @@ def why_last(lab: Laboratory, paint: Paint) -> List[str]:
     if kind == "refused" and "Event" not in reply.split():
         return [paint.head(f"{line}: {reply}"), *_indented(explain_command(lab, line, reply))]
     if words[0] != "step":
-        return [paint.head(f"{line}: {reply}"), "  it was done: `why` has reasons of events, refusals and faulty lines"]
-    if lab.last.before is None:
-        raise Unknown("the events before it are known only to the one who stepped them all: not on a server")
-    return why(lab, lab.last.before, " ".join(words[2:]), reply, paint)
+        return [paint.head(f"{line}: {reply}"), *_indented(explain_done(words, reply))]
+    branch = lab.branch(words[1])
+    stood = branch.events[: branch.cursor]
+    if kind == "refused" and not lab.knows_setup:
+        return _refused_as_shown(lab, branch, " ".join(words[2:]), reply, paint)
+    return why(lab, stood[:-1] if kind == "step" else stood, " ".join(words[2:]), reply, paint)
+
+
+def _refused_as_shown(lab: Laboratory, branch: Branch, event: str, reply: str, paint: Paint) -> List[str]:
+    """The reason of a refusal where no run can tell what was before it: it changed nothing, so the branch still shows it."""
+    pair = lab.show(branch.name)
+    step = Step(branch.cursor + 1, event, outcome_of(reply), pair, pair)
+    question = Question(lab, tuple(branch.events[: branch.cursor]), event, reply, paint, step)
+    told = paint.dim("told from the branch as it is now, which other sessions may have changed since")
+    return [paint.head(f"{event}: {outcome_of(reply)}"), *_indented([*explain_refusal(question), told])]
 
 
 def _indented(lines: Sequence[str]) -> List[str]:

@@ -4,12 +4,11 @@ from __future__ import annotations
 from typing import List, NamedTuple, Tuple
 
 from .absence import explain_lag
-from ..names import level_name
+from ..names import SYN_SENT, level_name
 from .packets import CIRCLE, PacketEvent, found
 from ..pair import End, State
 from .questions import Question, peer_of, told_state
 
-SYN_SENT = 2
 # How far an acknowledged number may be from what the other end sent: pf's MAXACKWINDOW, 65535 + 1500.
 MOST_ACK_WINDOW = 67035
 
@@ -64,9 +63,10 @@ def _left_edge(sender: End, receiver: End, packet: PacketEvent, scaled: bool, na
     window = receiver.window << (receiver.scale or 0) if scaled else receiver.window
     least = (sender.lo - window) % CIRCLE
     how = f"lo {sender.lo} of the {names[0]} end less the window {_window(receiver, scaled)} of the {names[1]} end"
+    edge = f"{sender.lo - window} ({how}" + (f"; {least} mod 2^32)" if sender.lo < window else ")")
     if is_at_or_after(packet.seq, least):
-        return WindowTest(True, f"seq {packet.seq} begins not below {least} ({how})")
-    return WindowTest(False, f"seq {packet.seq} begins {(least - packet.seq) % CIRCLE} below {least} ({how})")
+        return WindowTest(True, f"seq {packet.seq} begins not below {edge}")
+    return WindowTest(False, f"seq {packet.seq} begins {(least - packet.seq) % CIRCLE} below {edge}")
 
 
 def _window(end: End, scaled: bool) -> str:

@@ -6,6 +6,7 @@ from dataclasses import dataclass
 from difflib import get_close_matches
 from typing import Callable, Optional, Sequence
 
+from ..frames import PROTOCOLS
 from ..names import CLASSES, DEFAULT_LIMITS, NODES
 
 GREATEST = 4294967295
@@ -121,18 +122,19 @@ def _name_wrong(word: str) -> Optional[str]:
 
 
 def _protocol_wrong(word: str) -> Optional[str]:
-    if word in ("tcp", "udp", "icmp") or re.fullmatch("[0-9]+", word) and int(word) <= 255:
+    if word in PROTOCOLS.values() or re.fullmatch("[0-9]+", word) and int(word) <= 255:
         return None
     if word.isdigit():
         return "is above 255"
-    return f"is no protocol{nearest(word, ('tcp', 'udp', 'icmp'))}"
+    return f"is no protocol{nearest(word, list(PROTOCOLS.values()))}"
 
 
 def _branch_wrong(word: str) -> Optional[str]:
+    # Up to 32 characters the line is read, and the name answered with NoBranch or BadName.
     return f"has {len(word)} characters" if len(word) > 32 else None
 
 
-BRANCH = Form("BRANCH", "a word of at most 32 characters", _branch_wrong)
+BRANCH = Form("BRANCH", "a letter from a to z and at most 15 more of a to z, 0 to 9 and `-`", _branch_wrong)
 NODE = choice("NODE", NODES)
 DIRECTION = choice("in|out", ("in", "out"))
 RULE_DIRECTION = choice("in|out|any", ("in", "out", "any"))

@@ -4,6 +4,7 @@ from __future__ import annotations
 import unittest
 from typing import List
 
+from ..pair import read_shown
 from . import laboratory
 
 SETUP = """
@@ -24,7 +25,8 @@ class Followed(unittest.TestCase):
         self.assertEqual((known.events, known.cursor), (events, cursor))
         shown = lab.show(branch)
         self.assertEqual((shown.events, shown.cursor), (len(events), cursor))
-        self.assertEqual(lab.pair_after(events[:cursor]).nodes, shown.nodes)
+        replayed = lab.run([*(f"step main {it}" for it in events[:cursor]), "show main"])[-1]
+        self.assertEqual(read_shown(replayed).nodes, shown.nodes)
 
     def test_undone_events_stay_until_another_is_accepted(self) -> None:
         ticks = ["step main tick a 1", "step main tick a 2", "back main 1"]

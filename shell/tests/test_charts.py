@@ -92,7 +92,7 @@ class Models(unittest.TestCase):
 
     def test_what_was_undone_is_left_out(self) -> None:
         it = drawn(f"{LOST_INSERTION}back main 9\n")
-        self.assertEqual((it.events, it.undone, it.heading), (2, 9, "main, 2 events, 9 undone and not drawn"))
+        self.assertEqual((it.events, it.undone, it.heading), (2, 9, "main, 2 events, 9 undone and not drawn; #N is frame N"))
         self.assertEqual([(way.ticket, way.ended) for way in it.in_flight], [(1, None)])
 
     def test_held_packets(self) -> None:
@@ -135,34 +135,34 @@ class Frames(unittest.TestCase):
         with mock.patch("shell.charts.frames.COPIES", 2):
             found = chart_frames.frames_sent(lab, [*events, "repeat 2", "lose 6", "lose 1"])
         lab.close()
-        sent = lab.pair_after(events).frames
+        sent = lab.steps(events, len(events))[0].after.frames
         self.assertEqual(found, {ticket: frame.data for ticket, frame in sent.items()})
 
 
-# At 80 columns the link has 24, and each side 20: `192.0.2.9:53 pass 1.1` is too long for a line.
+# At 80 columns the link has 26, and each side 19: `192.0.2.9:53 pass 1.1` is too long for a line.
 BOXES = """\
-main, 14 events
-                         a (boot 1)               b (boot 2)
-    1  udp 10.0.0.1:1000 → ◀──│                        │
-              192.0.2.9:53    │                        │
-                  pass 1.1    │                        │
-    2                         ├─ 1 insert 1.1 ───┄┄    │
-    3  udp 10.0.0.2:1000 → ◀──│                        │
-              192.0.2.9:53    │                        │
-                  pass 1.2    │                        │
-    4                         ├─ 2 insert 1.2 ───┄┄    │
-    5                         │┄┄ 1 repeated as 3 ───┄┄│
-    6                         │               ┄┄ 2 ───▶│    taken 1
-    7                         │               ┄┄ 1 ───▶│    taken 1
-    8                         │               ┄┄ 3 ───▶│    taken 1: 1 bad
- 9-10  +1.5 s, clock 1.5 s    ●                        ●    +1.5 s, clock 1.5 s
-   11                         │                        ╧    restart: boot 3
-                              │                        ╤
-                              │   4 update request 0.0 │
-                              │                  (all) │
-   12                         │         ┄┄─────────────┤
-   13                         │┄┄─ 4 cut to 30 bytes ┄┄│
-   14       broken: Length    │◀─── 4 ┄┄               │
+main, 14 events; #N is frame N
+                        a (boot 1)                 b (boot 2)
+    1 udp 10.0.0.1:1000 → ◀──│                          │
+             192.0.2.9:53    │                          │
+                 pass 1.1    │                          │
+    2                        ├─ #1: insert 1.1 ───┄┄    │
+    3 udp 10.0.0.2:1000 → ◀──│                          │
+             192.0.2.9:53    │                          │
+                 pass 1.2    │                          │
+    4                        ├─ #2: insert 1.2 ───┄┄    │
+    5                        │ ┄┄ #3: copy of #1 ───┄┄  │
+    6                        │                ┄┄ #2 ───▶│    taken 1
+    7                        │                ┄┄ #1 ───▶│    taken 1
+    8                        │                ┄┄ #3 ───▶│    taken 1: 1 bad
+ 9-10 +1.5 s, clock 1.5 s    ●                          ●    +1.5 s, clock 1.5 s
+   11                        │                          ╧    restart: boot 3
+                             │                          ╤
+                             │   #4: update request 0.0 │
+                             │                    (all) │
+   12                        │          ┄┄──────────────┤
+   13                        │┄┄─ #4: cut to 30 bytes ┄┄│
+   14      broken: Length    │◀─── #4 ┄┄                │
 """
 
 
@@ -176,8 +176,8 @@ class Texts(unittest.TestCase):
     def test_ascii_where_boxes_cannot_be_written(self) -> None:
         told = chart_text.text(drawn(LOST_INSERTION), PLAIN, 100, "ascii")
         self.assertTrue("\n".join(told).isascii())
-        self.assertEqual(told[4], "  2-3                                |- 1 insert 1.1 ---X lost      |")
-        update = "  5-6                                |- 2 short update 1.1 -------->|    taken 1: asks for 1.1"
+        self.assertEqual(told[4], "  2-3                                |- #1: insert 1.1 ---X lost    |")
+        update = "  5-6                                |- #2: short update 1.1 ------>|    taken 1: asks for 1.1"
         self.assertEqual(told[7], update)
 
     def test_lines_keep_the_width(self) -> None:
@@ -188,7 +188,7 @@ class Texts(unittest.TestCase):
     def test_long_numbers_have_room(self) -> None:
         ticks = "step main tick a 1\nstep main tick b 1\n" * 60
         told = chart_text.text(drawn(f"{RULES}{ticks}"), PLAIN, 80, "utf-8")
-        self.assertTrue(told[-1].startswith("119-120  +1 ms, clock 60 ms"), told[-1])
+        self.assertTrue(told[-1].startswith("119-120 +1 ms, clock 60 ms"), told[-1])
 
     def test_colours_change_no_word(self) -> None:
         it = drawn(CROSSING)
@@ -196,9 +196,15 @@ class Texts(unittest.TestCase):
         self.assertEqual(coloured, chart_text.text(it, PLAIN, 100, "utf-8"))
         self.assertNotEqual(coloured, chart_text.text(it, Paint(True), 100, "utf-8"))
 
+    def test_a_frame_is_told_from_the_number_of_its_records(self) -> None:
+        seconds = "".join(f"step main packet a out udp 10.0.0.{it}:1000 192.0.2.9:53 40\n" for it in range(1, 6))
+        told = chart_text.text(drawn(f"{RULES}{seconds}step main flush a\nstep main deliver 1\n"), PLAIN, 80, "ascii")
+        self.assertTrue(told[-1].endswith("|- #1: 5 inserts --------->|    taken 5"), told[-1])
+        self.assertEqual(told[0], "main, 7 events; #N is frame N")
+
     def test_what_is_in_flight_is_told(self) -> None:
         told = chart_text.text(drawn(f"{RULES}{QUERY}step main flush a\n"), PLAIN, 100, "utf-8")
-        self.assertEqual(told[-1], "still in flight: 1 to b")
+        self.assertEqual(told[-1], "still in flight: #1 to b")
 
 
 class Box(NamedTuple):
@@ -246,7 +252,7 @@ class Pictures(unittest.TestCase):
 
     def test_what_happened_is_in_words(self) -> None:
         words = [it.words for it in boxes(chart_svg.draw(drawn(LOST_INSERTION), "A chart"))]
-        for told in ("lost", "1 insert 1.1", "udp 192.0.2.9:53 → 10.0.0.1:1000", "drop block", "taken 1: asks for 1.1"):
+        for told in ("lost", "#1: insert 1.1", "udp 192.0.2.9:53 → 10.0.0.1:1000", "drop block", "taken 1: asks for 1.1"):
             self.assertIn(told, words)
 
     def test_a_chart_without_events(self) -> None:

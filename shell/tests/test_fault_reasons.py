@@ -22,6 +22,7 @@ COMMANDS = [
     ("rule a pass out", "bad 3 Unknown", "rule", "it belongs to the setup"),
     ("step main flsh a", "bad 3 Unknown", "flsh", "did you mean `flush`?"),
     ("step main packet a", "bad 4 Missing", "", "in|out is missing: in or out"),
+    ("show " + "x" * 33, "bad 5 Number", "x" * 33, "has 33 characters; BRANCH is a letter from a to z and at most 15 more of"),
     ("fork main 3", "bad 4 Missing", "", "NEW is missing"),
     (PACKET.replace("udp", "UDP"), "bad 5 Number", "UDP", "is no protocol (did you mean `udp`?)"),
     (PACKET.replace("udp", "256"), "bad 5 Number", "256", "is above 255"),

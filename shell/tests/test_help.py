@@ -55,6 +55,17 @@ class AtOnce(unittest.TestCase):
         self.assertEqual((ran.returncode, ran.stdout), (2, ""))
         self.assertEqual(ran.stderr, "lab: there is no command 'rum'; did you mean 'run'?\n")
 
+    def test_a_word_that_is_like_no_other_is_told_too(self) -> None:
+        ran = lab("xyzzy")
+        self.assertEqual((ran.returncode, ran.stderr), (2, "lab: there is no command 'xyzzy'\n"))
+        script = f"{TOP}/examples/one-packet.pfl"
+        self.assertIn(f"./lab shell {script}", lab(script).stderr)
+
+    def test_help_of_a_word_is_that_words(self) -> None:
+        self.assertEqual(lab("help", "serve").stdout, lab("serve", "--help").stdout)
+        self.assertIn("--port", lab("help", "shell").stdout)
+        self.assertEqual(lab("help", "xyzzy").returncode, 2)
+
     def test_try_knows_its_words(self) -> None:
         self.assertEqual(lab("try", "serve").returncode, 2)
 

@@ -3,10 +3,11 @@ from __future__ import annotations
 
 import unittest
 from typing import Dict, List, Tuple
+from unittest import mock
 
 from . import laboratory
 from ..colours import PLAIN
-from ..laboratory import Asked, Unknown
+from ..laboratory import Unknown
 from ..reasons.why import why, why_event, why_last
 
 WALLS = "rule a block any\nrule a pass out\nrule b block any\nrule b pass out\nopen\n"
@@ -23,6 +24,8 @@ ACK = "step main packet a out tcp 10.0.0.1:1000 192.0.2.9:80 A {} {} 100 1000\n"
 RESET = "step main packet a out tcp 10.0.0.1:1000 192.0.2.9:80 RA 5001 9001 100 0\n"
 FLOW = "state 1.1 (udp 10.0.0.1:1000 -> 192.0.2.9:53)"
 TCP_FLOW = "state 1.1 (tcp 10.0.0.1:1000 -> 192.0.2.9:80)"
+# B restarts and asks for all states; the update goes out in frame 3.
+BULK = "step main restart b\nstep main flush b\nstep main deliver 2\nstep main turn a\nstep main flush a\n"
 ABSENT = f"node a has {FLOW} for this flow; b does not: "
 
 # Of each case: a script, and lines of the reason of its last reply.
@@ -75,6 +78,61 @@ DROPS: Cases = {
             "bad: the state table of b is full: 1 entry, and the limit `states` is 1"
         ],
     ),
+    "block, the insertion came before a restart, and the update was lost": (
+        WALLS + QUERY + SYNC + BULK + "step main lose 3\n" + ANSWER_AT_B,
+        [ABSENT + "its update was lost in frame 3 (event 9); " "before that it was there until event 4, `restart b` (boot 3)"],
+    ),
+    "block, the update after a restart is in flight": (
+        WALLS + QUERY + SYNC + BULK + ANSWER_AT_B,
+        [
+            ABSENT + "frame 3, which brings it (event 8), is still in flight; "
+            "before that it was there until event 4, `restart b` (boot 3)"
+        ],
+    ),
+    "block, the update after a restart is queued": (
+        WALLS + QUERY + SYNC + BULK.replace("step main flush a\n", "") + ANSWER_AT_B,
+        [
+            ABSENT + "a has it on its update queue, and has not sent it yet (`flush a`); "
+            "before that it was there until event 4, `restart b` (boot 3)"
+        ],
+    ),
+    "block, two frames were lost": (
+        # B hears neither the insertion nor what it asked for when the next update came.
+        WALLS
+        + QUERY
+        + FLUSH
+        + QUERY
+        + FLUSH
+        + "step main lose 1\nstep main deliver 2\nstep main flush b\nstep main deliver 3\nstep main flush a\nstep main lose 4\n"
+        + ANSWER_AT_B,
+        [ABSENT + "its update was lost in frame 4 (event 10)", "before that, its insertion was lost in frame 1 (event 5)"],
+    ),
+    "block, the copy of the insertion was lost after a kill": (
+        WALLS + QUERY + FLUSH + "step main repeat 1\nstep main deliver 1\nstep main kill b 1.1\nstep main lose 2\n" + ANSWER_AT_B,
+        [ABSENT + "its insertion was lost in frame 2 (event 6); before that it was there until event 5, `kill b 1.1` (killed)"],
+    ),
+    "block, the state expired, and then one to the same far end": (
+        "rule a pass out\nrule b block in\nrule b pass out timeout udp.first 5\nopen\n"
+        + (QUERY + SECOND).replace(" a ", " b ")
+        + "step main kill b 2.1\nstep main tick b 5000\nstep main purge b\n"
+        + ANSWER_AT_B,
+        [f"node b had {FLOW.replace('1.1', '2.1', 1)} for this flow until event 3, `kill b 2.1` (killed); no node has one now"],
+    ),
+    "block, a translated state was killed": (
+        # The answer comes to the end that the rule writes in the stead of the near one.
+        "rule b block in\nrule b pass out nat 203.0.113.1:999\nopen\n"
+        + QUERY.replace(" a ", " b ")
+        + "step main kill b 2.1\n"
+        + ANSWER_AT_B.replace("10.0.0.1:1000", "203.0.113.1:999"),
+        [
+            "node b had state 2.1 (udp 203.0.113.1:999 (10.0.0.1:1000) -> 192.0.2.9:53) for this flow until event 2, "
+            "`kill b 2.1` (killed); no node has one now"
+        ],
+    ),
+    "block, the peer gave it up": (
+        WALLS + QUERY + SYNC + "step main clear a\nstep main flush a\nstep main deliver 2\n" + ANSWER_AT_B,
+        [f"node b had {FLOW} for this flow until event 6, `deliver 2` (taken 1); no node has one now"],
+    ),
     "block, the state is not told": (
         "rule a pass out no-sync\nrule b block any\nopen\n" + QUERY + ANSWER_AT_B,
         [ABSENT + "rule 0 of a (pass out no-sync) made it with `no-sync`, so a never tells of it"],
@@ -120,8 +178,8 @@ DROPS: Cases = {
         # 60000 at scale 3 is 480000, and 5000 less 480000 is 4294492296 in 32 bits.
         WALLS + SYN + SYN_ACK + ACK.format((5000 - 480000 - 100) % 2**32, 9001),
         [
-            "seq 4294492196 begins 100 below 4294492296 (lo 5000 of the source end less the window 480000 (60000 at scale 3) "
-            "of the destination end)"
+            "seq 4294492196 begins 100 below -475000 (lo 5000 of the source end less the window 480000 (60000 at scale 3) "
+            "of the destination end; 4294492296 mod 2^32)"
         ],
     ),
     "window, an acknowledgement ahead": (
@@ -155,6 +213,14 @@ PASSES: Cases = {
     "no rule": (
         "rule a block in\nopen\n" + QUERY,
         ["no rule of a matches it, which has 1 rule: what no rule matches passes, without a state"],
+    ),
+    "no rule, but for its flags": (
+        "rule a pass out\nopen\nstep main packet a out tcp 10.0.0.1:1000 192.0.2.9:80 A 1 2 3 4",
+        [
+            "no rule of a matches it, which has 1 rule: what no rule matches passes, without a state",
+            "rule 0 of a (pass out) would pass it, but for its flags A",
+            "a pass rule without `flags any` takes only a TCP packet that begins a connection: SYN without ACK",
+        ],
     ),
     "a new connection": (
         OPEN + SYN + SYN_ACK + RESET + SYN,
@@ -254,6 +320,17 @@ COMMANDS: Cases = {
         WALLS + "restore main",
         ["main has nothing to bring back: no event was taken out, or an event was accepted or restored since"],
     ),
+    "an excision": (
+        WALLS + QUERY + FLUSH + "step main deliver 1\nexcise main 1",
+        [
+            "without event 1 events 2 and 3 of main would be refused, and fell out too, by the places in the list as it was",
+            "`restore main` brings all of them back, until an event is accepted",
+        ],
+    ),
+    "an excision alone": (
+        WALLS + QUERY + SECOND + "excise main 1",
+        ["every other event of main was accepted without event 1 too: none fell out with it"],
+    ),
     "a faulty line": (WALLS + "step main flush c", ["`c` is no NODE; NODE is a or b", "wanted: step BRANCH flush NODE"]),
 }
 
@@ -306,11 +383,41 @@ class Reasons(unittest.TestCase):
         self.addCleanup(lab.close)
         self.assertNotIn("other keys", "\n".join(why_last(lab, PLAIN)))
 
-    def test_a_server_does_not_tell_what_went_before(self) -> None:
+    def test_refusals_of_a_server_without_its_setup(self) -> None:
+        """The branch shows what they need, but for limits."""
+        cases: Cases = {
+            "deliver": (WALLS + FLUSH.replace("flush a", "deliver 9"), ["no frame in flight has the ticket 9; in flight: none"]),
+            "flush": REFUSALS["nothing to send"],
+            "kill": REFUSALS["a state of the peer"],
+            "retry": (
+                WALLS + "step main restart a\nstep main tick a 1\nstep main retry a",
+                [
+                    "a has waited since 0 ms, and the clock of a stands at 1 ms",
+                    "the server's `bulk_ms` is not known here (10000 unless its setup says otherwise; see --setup)",
+                ],
+            ),
+        }
+        for name, (script, expected) in cases.items():
+            with self.subTest(name):
+                lab = laboratory(script)
+                lab.knows_setup = False
+                lines = [it.strip() for it in why_last(lab, PLAIN)]
+                lab.close()
+                for line in [*expected, "told from the branch as it is now, which other sessions may have changed since"]:
+                    self.assertIn(line, lines)
+
+    def test_an_accepted_event_of_a_server_wants_its_setup(self) -> None:
         lab = laboratory(WALLS + QUERY)
         self.addCleanup(lab.close)
-        lab.last = Asked("step main flush a", ("step sent 1 148 dropped 0",))
+        lab.knows_setup = False
         self.assertRaises(Unknown, why_last, lab, PLAIN)
+
+    def test_a_new_flow_after_many_events_is_not_looked_for_in_shows(self) -> None:
+        lab = laboratory(WALLS + (QUERY + SECOND) * 20 + ANSWER_AT_B.replace("192.0.2.9", "192.0.2.77"))
+        self.addCleanup(lab.close)
+        with mock.patch("shell.reasons.histories.read_shown") as shown:
+            self.assertEqual(why_last(lab, PLAIN)[1:], ["  rule 0 of b (block any) decided: it is the last rule that matches"])
+        shown.assert_not_called()
 
     def test_nothing_was_asked(self) -> None:
         self.assertRaises(Unknown, why_last, laboratory("open"), PLAIN)

@@ -17,6 +17,11 @@ KILL = "step main kill a 1.1\n"
 ANSWER = "step main packet b in udp 192.0.2.9:53 10.0.0.1:1000 80\n"
 # A's update of the SYN and ACK: the source ESTABLISHED at 5000, the destination SYN_SENT at 9001.
 ANSWERED = OPEN + SYN + SYNC + SYN_ACK + FLUSH
+# B restarts and asks; the start comes with 1.1 in frame 3, which is lost, and the end with 1.2 in frame 4, which is in flight.
+UNHEARD = (
+    "set batch 1\n" + OPEN + QUERY + SECOND + SYNC + "step main restart b\nstep main flush b\nstep main deliver 2\n"
+    "step main turn a\nstep main flush a\nstep main lose 3\nstep main turn a\nstep main flush a\n"
+)
 
 CASES: Cases = {
     "new": (OPEN + QUERY + SYNC, ["frame 1 came to node b with 1 record:", "1. insert 1.1: new: inserted"]),
@@ -118,7 +123,51 @@ CASES: Cases = {
     ),
     "the end of a bulk update": (
         OPEN + "step main restart b\nstep main flush b\nstep main deliver 1\nstep main flush a\nstep main deliver 2",
-        ["1. bulk status end: the bulk update is complete, and b waits for one"],
+        [
+            "1. bulk status end: the server says that it is at the end; b, which was waiting, waits no more, whatever came",
+        ],
+    ),
+    "the start of a bulk update": (
+        UNHEARD.replace("step main lose 3", "step main deliver 3").partition(
+            "step main turn a\nstep main flush a\nstep main deliver 3"
+        )[0]
+        + "step main turn a\nstep main flush a\nstep main deliver 3",
+        ["2. bulk status start: the bulk update begins, and b goes on waiting for its end"],
+    ),
+    "the end of a bulk update without its start": (
+        UNHEARD + "step main deliver 4",
+        [
+            "1. update 1.2: new: inserted, since b did not know the state",
+            "2. bulk status end: the server says that it is at the end; b, which was waiting, waits no more, whatever came",
+            "b has not heard the start since it asked for all states (event 5, `restart b`): frame 3, which had it, was lost "
+            "(event 10)",
+        ],
+    ),
+    "the end of a bulk update after the start of an older one": (
+        # B hears the first start, asks again after 10 s, and does not hear the second.
+        UNHEARD.replace("step main lose 3", "step main deliver 3")
+        + "step main tick b 10000\nstep main retry b\nstep main flush b\nstep main deliver 5\n"
+        + "step main turn a\nstep main flush a\n"
+        + "step main lose 6\nstep main turn a\nstep main flush a\nstep main deliver 7",
+        [
+            "b has not heard the start since it asked for all states (event 14, `retry b`): frame 6, which had it, was lost "
+            "(event 19)"
+        ],
+    ),
+    "the end of a bulk update before its start": (
+        UNHEARD.replace("step main lose 3\n", "") + "step main deliver 4",
+        [
+            "b has not heard the start since it asked for all states (event 5, `restart b`): frame 3, which has it, "
+            "is still in flight"
+        ],
+    ),
+    "an end that nobody waits for": (
+        UNHEARD + "step main repeat 4\nstep main deliver 4\nstep main deliver 5",
+        ["2. bulk status end: the server says that it is at the end; b was not waiting for it"],
+    ),
+    "cut within its header": (
+        OPEN + QUERY + FLUSH + "step main cut 1 3",
+        ["frame 1 had 148 bytes; 3 are less than a header, so that its receiver cannot read it (Short)"],
     ),
     "broken, cut within its records": (
         OPEN + QUERY + FLUSH + "step main cut 1 40\nstep main repeat 1\nstep main deliver 2",

@@ -8,7 +8,6 @@ import unittest
 from glob import glob
 
 from .. import scripts
-from ..shell import verified
 from . import TOP, program
 
 RIGHT = """# A story.
@@ -56,6 +55,17 @@ class Verify(unittest.TestCase):
         self.assertIn("2: fault\n  wanted: nothing\n  came:   pfl_lab: setup line 1: line 5", said)
         self.assertIn("2: status\n  wanted: 0\n  came:   1", said)
 
+    def test_line_ends_of_other_systems_count_as_the_program_counts_them(self) -> None:
+        self.assertEqual(self.told(RIGHT.replace("\n", "\r\n")), "")
+
+    def test_a_misspelt_mark_is_told(self) -> None:
+        said = self.told(RIGHT + "#>names other\n #> names other\n")
+        self.assertEqual([line.split(":")[0] for line in said.splitlines()[::3]], ["9", "10"])
+
+    def test_a_script_that_is_not_there_hides_no_other(self) -> None:
+        found = scripts.verified(program(), [f"{TOP}/examples/one-packet.pfl", "nowhere.pfl"])
+        self.assertEqual(found.lines, ["nowhere.pfl: No such file or directory", "2 scripts: 1 differs"])
+
     def test_lines_of_check_are_compared(self) -> None:
         text = "open\nback main\n#> bad 4 Missing\n#? line 2 bad 4 Missing\n#? good 0\n#= 1\n"
         self.assertEqual(self.told(text), "")
@@ -63,7 +73,7 @@ class Verify(unittest.TestCase):
 
     def test_the_examples_reply_as_they_say(self) -> None:
         paths = sorted(glob(f"{TOP}/examples/*.pfl"))
-        found = verified(program(), paths)
+        found = scripts.verified(program(), paths)
         self.assertEqual(found.lines, [f"{len(paths)} scripts: all replies as they say"])
 
 
@@ -77,6 +87,12 @@ class Annotate(unittest.TestCase):
         text = "open\nback main\n"
         self.assertEqual(scripts.annotated(program(), text), "open\nback main\n#> bad 4 Missing\n#= 1\n")
         self.assertEqual(scripts.annotated(program(), "rule a\n"), "rule a\n#! pfl_lab: setup line 1: line 4\n#= 1\n")
+
+    def test_a_run_that_fails_costs_no_replies(self) -> None:
+        with self.assertRaisesRegex(scripts.NotWritten, "setup line 2: line 3"):
+            scripts.annotated(program(), RIGHT.replace("rule a", "rul a"))
+        with self.assertRaises(scripts.NotWritten):
+            scripts.annotated("/bin/true", RIGHT)
 
     def test_the_file_keeps_its_mode_and_nothing_else_is_left(self) -> None:
         with tempfile.TemporaryDirectory() as folder:

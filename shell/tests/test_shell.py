@@ -10,9 +10,11 @@ import sys
 import tempfile
 import unittest
 from typing import List
+from unittest import mock
 
 from ..colours import PLAIN
 from ..laboratory import Laboratory
+from ..programs import Ended
 from ..setups import Setup
 from ..shell import Shell, Stopped
 from . import TOP, program
@@ -50,16 +52,17 @@ class Lines(Dialogue):
 
     def test_a_branch_that_is_dropped_is_not_in_use(self) -> None:
         shell = self.shell()
-        self.said(shell, *SETUP, "fork main 0 other", "use other", "drop other")
+        self.said(shell, *SETUP, "fork main 0 other", "use other")
+        self.assertEqual(self.said(shell, "drop other"), ["removed", "the branch in use is now main"])
         self.assertEqual(self.said(shell, "tick a 5"), ["step clock 5 dropped 0"])
 
     def test_a_faulty_setup_line_is_told_at_once_and_not_taken(self) -> None:
         shell = self.shell()
         said = self.said(shell, "rule a pass out proto nosuch")
-        self.assertEqual(said[-1], "the setup is without this line: line 5 Number")
-        self.assertEqual(self.said(shell, "set states 0")[-1], "the setup is without this line: world 1 TooSmall")
+        self.assertEqual(said[-1], "the setup is without this line: bad 5 Number")
+        self.assertEqual(self.said(shell, "set states 0")[-1], "the setup is without this line: limits 1 TooSmall")
         self.assertEqual(
-            self.said(shell, "rule a pass in nat 192.0.2.1:5000")[-1], "the setup is without this line: rule 2 NatNotOut"
+            self.said(shell, "rule a pass in nat 192.0.2.1:5000")[-1], "the setup is without this line: rules 2 NatNotOut"
         )
         self.assertEqual(self.said(shell, "set states 9", "rule a pass out", "open", QUERY), ["step pass 1.1 dropped 0"])
 
@@ -71,12 +74,48 @@ class Lines(Dialogue):
         self.assertEqual(self.said(shell, *SETUP, "frob"), ["bad 3 Unknown"])
         self.assertRegex(self.said(shell, "log other")[0], "no branch other")
         self.assertRegex(self.said(shell, "help frob")[0], "no word frob")
+        self.assertRegex(self.said(shell, "view a")[0], "a is a node")
+        self.assertEqual(self.said(shell, "diff a b"), ["a and b agree"])
+
+    def test_a_word_before_the_setup_is_matched_with_all_words(self) -> None:
+        self.assertEqual(self.said(self.shell(), "veiw"), ["there is no word veiw; did you mean `view`?"])
+
+    def test_odd_places_are_told(self) -> None:
+        shell = self.shell()
+        self.assertEqual(self.said(shell, *SETUP, "why 1"), ["main has no events"])
+        self.said(shell, QUERY)
+        for place in ("0", "2", "9" * 5000, "\u0662"):
+            self.assertRegex(self.said(shell, f"why {place}")[0], "counted from 1 to 1")
+        self.assertRegex(self.said(shell, "changes \u00b2")[0], "no branch")
+
+    def test_a_fault_of_the_shell_costs_no_pair(self) -> None:
+        shell = self.shell()
+        self.said(shell, *SETUP, QUERY)
+        with mock.patch("shell.views.view", side_effect=KeyError("nothing")):
+            self.assertRegex(self.said(shell, "view")[0], "the shell failed here, and the pair is as it was: KeyError")
+        self.assertEqual(self.said(shell, "names"), ["names main"])
 
     def test_every_word_has_its_help(self) -> None:
         shell = self.shell()
         listed = [line.split()[0] for line in self.said(shell, "help") if re.match(r"  \w", line)]
         for word in listed:
             self.assertEqual(self.said(shell, f"help {word}")[0].split()[0], word)
+
+
+class Questions(Dialogue):
+    def test_view_tells_the_packet_that_is_held(self) -> None:
+        shell = self.shell()
+        self.said(shell, "set defer 1", *SETUP, QUERY)
+        self.assertIn(
+            "  held packet of 1.1 (out udp 10.0.0.1:1000 192.0.2.9:53 40): since 0 s, due at 0.02 s", self.said(shell, "view")
+        )
+
+    def test_questions_change_nothing(self) -> None:
+        shell = self.shell()
+        self.said(shell, *SETUP, QUERY, "flush a", "fork main 1 other")
+        before = [shell.lab.show(it) for it in ("main", "other")]
+        self.said(shell, "view", "diff", "diff main other", "log", "changes 2", "why", "why 1", "chart", "names", "show main")
+        self.assertEqual(before, [shell.lab.show(it) for it in ("main", "other")])
 
 
 class Several(Dialogue):
@@ -129,7 +168,24 @@ class Files(Dialogue):
         self.assertEqual(shell.lab.branch("main").cursor, 0)
 
     def test_a_file_that_is_not_there_is_told(self) -> None:
-        self.assertRegex(self.said(self.shell(), "read nowhere.pfl")[0], "nowhere.pfl")
+        self.assertEqual(self.said(self.shell(), "read nowhere.pfl"), ["nowhere.pfl: No such file or directory"])
+        for word in ("read", "save", "verify", "annotate", "use"):
+            self.assertRegex(self.said(self.shell(), word)[0], f"^usage: {word}")
+
+    def test_a_file_that_reads_itself_is_read_once(self) -> None:
+        with tempfile.TemporaryDirectory() as folder:
+            path = f"{folder}/self.pfl"
+            with open(path, "w", encoding="utf-8") as it:
+                it.write(f"open\nread {path}\nnames\n")
+            said = self.said(self.shell(), f"read {path}")
+        self.assertEqual(said[-3:], [f"{path} is being read already", "> names", "names main"])
+
+    def test_slips_are_no_part_of_what_is_saved(self) -> None:
+        shell = self.shell()
+        with tempfile.TemporaryDirectory() as folder:
+            path = f"{folder}/saved.pfl"
+            self.said(shell, *SETUP, "flsh a", QUERY, "# \udcff", f"save {path}")
+            self.assertEqual(self.said(shell, f"verify {path}"), ["1 script: all replies as they say"])
 
 
 class Strict(Dialogue):
@@ -167,6 +223,44 @@ class Command(unittest.TestCase):
         self.assertEqual((ran.returncode, ran.stdout), (4, "refused 8 Event 2 NothingPending\n"))
         self.assertIn("stopped at `step main flush a`: refused 8 Event 2 NothingPending", ran.stderr)
 
+    def test_a_script_is_read_before_the_lines_on_a_pipe(self) -> None:
+        ran = self.ran("shell", f"{TOP}/examples/two-orders.pfl", given="names\n")
+        self.assertEqual(ran.stdout.splitlines()[-1], "names main other")
+
+    def test_a_setup_is_for_a_server_and_has_no_faults(self) -> None:
+        self.assertEqual(self.ran("shell", "--setup", "/dev/null").returncode, 2)
+        self.assertEqual(self.ran("shell", "--port", "0").returncode, 2)
+        with tempfile.TemporaryDirectory() as folder:
+            with open(f"{folder}/setup", "w", encoding="utf-8") as it:
+                it.write("rule c pass\n")
+            ran = self.ran("shell", "--port", "9", "--setup", f"{folder}/setup")
+        self.assertEqual((ran.returncode, ran.stderr), (1, "lab: setup line 1: bad 5 Number\n"))
+
+    def test_a_picture_has_a_name_of_its_own(self) -> None:
+        ran = self.ran("chart", f"{TOP}/examples/one-packet.pfl", f"{TOP}/examples/restart.pfl")
+        self.assertEqual(ran.returncode, 2)
+        self.assertIn("ends in .svg", ran.stderr)
+
+    def test_a_script_with_faulty_lines_is_not_drawn(self) -> None:
+        with tempfile.TemporaryDirectory() as folder:
+            with open(f"{folder}/wrong.pfl", "w", encoding="utf-8") as it:
+                it.write("open\n\nstp main flush a\n")
+            ran = self.ran("chart", f"{folder}/wrong.pfl")
+            self.assertEqual((ran.returncode, ran.stdout, ran.stderr), (1, "", f"lab: {folder}/wrong.pfl:3: bad 3 Unknown\n"))
+
+    def test_bytes_that_are_no_text_are_for_the_program_to_judge(self) -> None:
+        command = (sys.executable, f"{TOP}/lab", "shell")
+        environment = {**os.environ, "PFL_LAB": program(), "PYTHONIOENCODING": "utf-8:strict"}
+        ran = subprocess.run(command, input=b"open\nn\xff\nnames\n", env=environment, capture_output=True, timeout=60)
+        self.assertEqual(ran.stdout, b"bad 2 NotAscii\nnames main\n")
+
+    def test_a_reader_that_has_enough_ends_it_quietly(self) -> None:
+        words = f"{sys.executable} {TOP}/lab shell < {TOP}/examples/two-orders.pfl | head -1"
+        ran = subprocess.run(
+            words, shell=True, env={**os.environ, "PFL_LAB": program()}, capture_output=True, text=True, timeout=60
+        )
+        self.assertEqual((ran.stdout, ran.stderr), ("forked\n", ""))
+
     def test_faulty_lines_end_with_status_1(self) -> None:
         self.assertEqual(self.ran("shell", given="open\nfrob\n").returncode, 1)
 
@@ -176,7 +270,7 @@ class Command(unittest.TestCase):
             with open(f"{folder}/wrong.pfl", "w", encoding="utf-8") as it:
                 it.write("open\nnames\n#> names other\n")
             ran = self.ran("verify", f"{folder}/wrong.pfl")
-        told = f"{folder}/wrong.pfl:3: reply\n  wanted: names other\n  came:   names main\n1 script: 1 differ\n"
+        told = f"{folder}/wrong.pfl:3: reply\n  wanted: names other\n  came:   names main\n1 script: 1 differs\n"
         self.assertEqual((ran.stdout, ran.returncode), (told, 1))
 
     def test_a_program_that_is_not_there_is_told(self) -> None:
@@ -222,8 +316,39 @@ class Server(Dialogue):
         self.said(two, "quiet")
         self.assertEqual(self.said(one, "diff")[0], "a and b agree in 1 state")
 
-    def test_what_only_the_setup_tells_is_refused_with_the_reason(self) -> None:
-        self.assertRegex(self.said(self.shells[0], "log")[0], "server")
+    def test_a_summary_is_no_command(self) -> None:
+        one, two = self.shells
+        self.said(one, QUERY)
+        told = "after 1 commands of all sessions: branches 1, events 1, their cursors together 1, states at a 1, states at b 0, frames in flight 0, pending 1"
+        self.assertEqual(self.said(two, "summary", "summary"), [told, told])
+        self.assertRegex(self.said(self.shell(), "summary")[0], "asks a server")
+
+    def test_a_server_that_has_ended_is_told(self) -> None:
+        self.server.kill()
+        self.server.wait()
+        with self.assertRaisesRegex(Ended, "the server has ended"):
+            self.said(self.shells[0], "names")
+
+    def test_the_events_are_those_of_all_sessions(self) -> None:
+        one, two = self.shells
+        self.said(one, QUERY)
+        self.said(two, "flush a")
+        said = self.said(one, "log")
+        self.assertRegex(said[0], "^main: 2 events, 2 stand; the outcomes are known with --setup FILE")
+        self.assertEqual(said[1:], [f"  1  {QUERY}", f"  2  flush a{' ' * (len(QUERY) - 7)}".rstrip(), "  >  cursor at 2"])
+
+    def test_a_question_that_needs_the_setup_says_so(self) -> None:
+        one, _ = self.shells
+        self.said(one, QUERY)
+        self.assertRegex(self.said(one, "why")[0], "setup of the server")
+
+    def test_with_the_setup_all_questions_are_answered(self) -> None:
+        one, two = self.shells
+        one.lab.setup, one.lab.knows_setup = Setup.of(SETUP[:-1]), True
+        self.said(two, QUERY, "flush a")
+        self.assertEqual(self.said(one, "log")[2].split()[-3:], ["sent", "1", "148"])
+        self.assertRegex(self.said(one, "why 1")[1], "rule 0 of a")
+        self.assertRegex("\n".join(self.said(one, "changes 2")), "frame 1 new: to b")
 
 
 class KnownSetup(unittest.TestCase):

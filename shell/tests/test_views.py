@@ -140,7 +140,8 @@ class States(unittest.TestCase):
         self.assertEqual(self.one(state(f"udp in {keys}"))[0], "udp 10.0.0.1:1000 (198.51.100.1:4000) <- 192.0.2.9:53")
         # The identifier of an echo is both ports; it stands in brackets once.
         keys = "192.0.2.9:4000 198.51.100.1:4000 192.0.2.9:7 10.0.0.1:7"
-        self.assertEqual(self.one(state(f"icmp out {keys}"))[0], "icmp 198.51.100.1:4000 (10.0.0.1:7) -> 192.0.2.9:4000")
+        # Of ICMP pfctl prints the levels' numbers.
+        self.assertEqual(self.one(state(f"icmp out {keys}")), ("icmp 198.51.100.1:4000 (10.0.0.1:7) -> 192.0.2.9:4000", "1:0"))
 
     def test_tcp_with_its_sequence_numbers(self) -> None:
         keys = "192.0.2.9:5353 10.0.0.1:22 192.0.2.9:5353 10.0.0.1:22"
