@@ -18,6 +18,7 @@ from .setups import Setup
 from .shell import STRICT_STATUS, Shell, Stopped
 
 HISTORY = "~/.pfl_lab_history"
+INTERRUPTED_STATUS = 130
 
 
 def parser() -> argparse.ArgumentParser:
@@ -73,6 +74,8 @@ def main(arguments: Sequence[str]) -> int:
             stream.reconfigure(errors="surrogateescape")
     try:
         return {"shell": shell, "verify": verify, "annotate": annotate, "chart": chart}[words.word](words)
+    except KeyboardInterrupt:
+        return INTERRUPTED_STATUS
     except BrokenPipeError:
         # Who reads has had enough; what is left to write goes nowhere.
         os.dup2(os.open(os.devnull, os.O_WRONLY), sys.stdout.fileno())
@@ -156,7 +159,7 @@ def shell(words: argparse.Namespace) -> int:
     lab = Laboratory(words.program, words.port, setup)
     if isinstance(lab.session, Client):
         wait(lab.session)
-    it = Shell(lab, sys.stdout, paint(sys.stdout.isatty()), words.echo, words.strict, is_typed)
+    it = Shell(lab, sys.stdout, paint(sys.stdout.isatty()), words.strict, is_typed)
     try:
         ended = any(it.take(lines_of(scripts.read(path)), echo=is_typed or words.echo) for path in words.files)
         if not ended and is_typed:

@@ -19,7 +19,7 @@ class NotWritten(Exception):
 
 
 @dataclass(frozen=True)
-class Difference:
+class Mismatch:
     """A place where a script's marked lines and what came differ."""
 
     line: int
@@ -76,14 +76,13 @@ def read(path: str) -> str:
         return it.read()
 
 
-def verify(program: str, text: str) -> List[Difference]:
+def verify(program: str, text: str) -> List[Mismatch]:
     """Where the script's marked lines and the replies, faults and status differ: each place, from the first on."""
     script = Script.of(text)
     ran = run_lines(program, script.lines)
-    found = [Difference(number, "reply to no line", text, "") for number, text in script.stray]
+    found = [Mismatch(number, "reply to no line", text, "") for number, text in script.stray]
     found += [
-        Difference(number, "no mark: these are `#> `, `#! `, `#= `, `#? ` at the start", text, "")
-        for number, text in script.unread
+        Mismatch(number, "no mark: these are `#> `, `#! `, `#= `, `#? ` at the start", text, "") for number, text in script.unread
     ]
     for at, command in enumerate(script.commands):
         found += _replies(command, ran.replies[at] if at < len(ran.replies) else [])
@@ -96,17 +95,17 @@ def verify(program: str, text: str) -> List[Difference]:
     return found
 
 
-def _replies(command: Command, reply: List[str]) -> Iterator[Difference]:
+def _replies(command: Command, reply: List[str]) -> Iterator[Mismatch]:
     return _differ("reply", command.expected, reply, command.number)
 
 
-def _differ(what: str, wanted: List[Tuple[int, str]], came: List[str], at: int) -> Iterator[Difference]:
+def _differ(what: str, wanted: List[Tuple[int, str]], came: List[str], at: int) -> Iterator[Mismatch]:
     """The first place where two lists of lines differ, if they do; at is the line for what stands in no line of the script."""
     for place in range(max(len(wanted), len(came))):
         number, text = wanted[place] if place < len(wanted) else (at, "")
         line = came[place] if place < len(came) else ""
         if text != line:
-            yield Difference(number, what, text, line)
+            yield Mismatch(number, what, text, line)
             return
 
 

@@ -32,12 +32,10 @@ class Stopped(Exception):
 class Shell(cmd.Cmd):
     """A dialogue with a laboratory."""
 
-    def __init__(
-        self, lab: Laboratory, out: IO[str], paint: Paint, echo: bool = False, strict: bool = False, is_typed: bool = False
-    ):
+    def __init__(self, lab: Laboratory, out: IO[str], paint: Paint, strict: bool = False, is_typed: bool = False):
         super().__init__(stdout=out)
         self.lab, self.out, self.paint = lab, out, paint
-        self.echo, self.strict, self.is_typed = echo, strict, is_typed
+        self.strict, self.is_typed = strict, is_typed
         self.use_rawinput = is_typed
         self.lines: List[Tuple[str, Sequence[str]]] = []
         self.has_faults = False

@@ -5,7 +5,9 @@ import atexit
 import os
 from typing import List
 
+from ..colours import PLAIN
 from ..laboratory import Laboratory
+from ..reasons.why import why_last
 
 TOP = os.path.dirname(os.path.dirname(os.path.dirname(os.path.realpath(__file__))))
 
@@ -25,6 +27,14 @@ def laboratory(script: str) -> Laboratory:
         else:
             lab.tell_setup(line)
     return lab
+
+
+def reasons(script: str) -> List[str]:
+    """The reason of a script's last reply, line by line, without what was asked."""
+    lab = laboratory(script)
+    lines = [it.strip() for it in why_last(lab, PLAIN)[1:]]
+    lab.close()
+    return lines
 
 
 def _lines(script: str) -> List[str]:

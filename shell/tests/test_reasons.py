@@ -5,7 +5,7 @@ import unittest
 from typing import Dict, List, Tuple
 from unittest import mock
 
-from . import laboratory
+from . import laboratory, reasons
 from ..colours import PLAIN
 from ..laboratory import Unknown
 from ..reasons.why import why, why_event, why_last
@@ -339,9 +339,7 @@ class Reasons(unittest.TestCase):
     def check(self, cases: Cases) -> None:
         for name, (script, expected) in cases.items():
             with self.subTest(name):
-                lab = laboratory(script)
-                lines = [it.strip() for it in why_last(lab, PLAIN)[1:]]
-                lab.close()
+                lines = reasons(script)
                 for line in expected:
                     self.assertIn(line, lines)
                 self.assertNotIn("cannot tell", " ".join(lines))

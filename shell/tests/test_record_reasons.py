@@ -3,11 +3,10 @@ from __future__ import annotations
 
 import unittest
 
-from . import laboratory
+from . import laboratory, reasons
 from .test_reasons import ACK, FLUSH, OPEN, QUERY, SECOND, SYN, SYN_ACK, SYNC, Cases
 from ..colours import PLAIN
 from ..reasons.questions import ask
-from ..reasons.why import why_last
 from ..reasons.records import explain_taken
 
 # The source's acknowledgement: its lo is 6001 then, and the destination ESTABLISHED.
@@ -188,9 +187,7 @@ class RecordReasons(unittest.TestCase):
     def test_records(self) -> None:
         for name, (script, expected) in CASES.items():
             with self.subTest(name):
-                lab = laboratory(script)
-                lines = [it.strip() for it in why_last(lab, PLAIN)[1:]]
-                lab.close()
+                lines = reasons(script)
                 for line in expected:
                     self.assertIn(line, lines)
                 self.assertFalse([it for it in lines if "cannot tell" in it or "the program's" in it])

@@ -4,6 +4,7 @@ from __future__ import annotations
 import io
 import os
 import re
+import signal
 import socket
 import subprocess
 import sys
@@ -260,6 +261,18 @@ class Command(unittest.TestCase):
             words, shell=True, env={**os.environ, "PFL_LAB": program()}, capture_output=True, text=True, timeout=60
         )
         self.assertEqual((ran.stdout, ran.stderr), ("forked\n", ""))
+
+    def test_an_interrupt_outside_a_dialogue_ends_it_quietly(self) -> None:
+        command = (sys.executable, f"{TOP}/lab", "shell", "--echo")
+        environment, pipe = {**os.environ, "PFL_LAB": program()}, subprocess.PIPE
+        with subprocess.Popen(command, env=environment, stdin=pipe, stdout=pipe, stderr=pipe) as ran:
+            assert ran.stdin and ran.stdout and ran.stderr
+            ran.stdin.write(b"open\nnames\n" * 3000)
+            ran.stdin.flush()
+            ran.stdout.read(1)
+            ran.send_signal(signal.SIGINT)
+            ran.stdout.read()
+            self.assertEqual((ran.wait(timeout=20), ran.stderr.read()), (130, b""))
 
     def test_faulty_lines_end_with_status_1(self) -> None:
         self.assertEqual(self.ran("shell", given="open\nfrob\n").returncode, 1)
