@@ -131,7 +131,7 @@ def _request(name: Name) -> Item:
 
 
 def _held(node: Node) -> List[Item]:
-    return [(str(it.name), " ".join(("since", seconds(it.since), it.packet)).strip()) for it in node.held]
+    return [(str(it.name), f"{it.packet}, since {seconds(it.since)}") for it in node.held]
 
 
 def _of_node(where: str, before: Node, after: Node) -> List[Difference]:

@@ -1,11 +1,11 @@
 """A laboratory that a person works with: its setup, the program behind it, and the runs that answer her questions."""
 from __future__ import annotations
 
-from dataclasses import dataclass, replace
-from typing import Dict, List, Optional, Sequence, Tuple
+from dataclasses import dataclass
+from typing import List, Optional, Sequence, Tuple
 
 from .branches import Branch, read_log
-from .names import NODES, Name
+from .names import NODES
 from .pair import Pair, read_shown
 from .programs import Client, Ended, Run, Session, check_setup, has_reply, run_lines
 from .setups import Setup
@@ -109,16 +109,6 @@ class Laboratory:
             raise Unknown(no_branch(name))
         return read_log(reply)
 
-    def show_whole(self, branch: str) -> Pair:
-        """The pair that a branch shows, with the packets that are held, which a shown branch does not tell: those that came."""
-        pair = self.show(branch)
-        if self.knows_setup and any(node.held for node in pair.nodes.values()):
-            log = self.branch(branch)
-            came = held_packets(log.events[: log.cursor], self.outcomes(log.events[: log.cursor]))
-            for node in pair.nodes.values():
-                node.held = [replace(it, packet=came.get((node.id, it.name), "")) for it in node.held]
-        return pair
-
     def names(self) -> List[str]:
         """The names of the branches, in the order of their making."""
         return self._quietly("names")[0].split()[1:]
@@ -168,16 +158,6 @@ def no_branch(name: str) -> str:
     if name in NODES:
         return f"{name} is a node, and there is no branch of that name: `view` shows both nodes, and `diff` compares them"
     return f"there is no branch {name}; `names` tells them"
-
-
-def held_packets(events: Sequence[str], outcomes: Sequence[str]) -> Dict[Tuple[str, Name], str]:
-    """The packet that was held last, by its node and its state, as the words behind its node."""
-    held: Dict[Tuple[str, Name], str] = {}
-    for event, outcome in zip(events, outcomes):
-        if event.startswith("packet ") and outcome.startswith("held "):
-            _, node, packet = event.split(" ", 2)
-            held[node, Name.read(outcome.split()[1])] = packet
-    return held
 
 
 def outcome_of(reply: str) -> str:

@@ -89,7 +89,7 @@ class Held:
 
     name: Name
     since: int
-    packet: str = ""
+    packet: str
 
 
 @dataclass(frozen=True)

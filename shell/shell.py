@@ -199,7 +199,7 @@ class Shell(cmd.Cmd):
 
     def do_view(self, words: str) -> None:
         setup = self.lab.setup if self.lab.knows_setup else None
-        self.tell(views.view(self.lab.show_whole(words.strip() or self.lab.in_use), setup, self.paint))
+        self.tell(views.view(self.lab.show(words.strip() or self.lab.in_use), setup, self.paint))
 
     def do_diff(self, words: str) -> None:
         names = words.split()

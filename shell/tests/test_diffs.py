@@ -200,6 +200,17 @@ class BetweenBranches(unittest.TestCase):
         self.assertEqual(between_branches(lab, lab.branch("main"), lab.branch("other"), PLAIN), expected)
         lab.close()
 
+    def test_held_packets_that_differ_in_their_length(self) -> None:
+        longer = QUERY.removesuffix("40").replace("main", "other") + "1400"
+        lab = laboratory(f"set defer 1\n{self.SETUP}fork main 0 other\n{QUERY}\n{longer}")
+        told = between_branches(lab, lab.branch("main"), lab.branch("other"), PLAIN)
+        expected = [
+            "a: held packet 1.1 only in main: udp 10.0.0.1:1000 192.0.2.9:53 40, since 0 s",
+            "a: held packet 1.1 only in other: udp 10.0.0.1:1000 192.0.2.9:53 1400, since 0 s",
+        ]
+        self.assertEqual((told[0], told[-2:]), ("main and other show pairs that differ in 2 places", expected))
+        lab.close()
+
 
 if __name__ == "__main__":
     unittest.main()

@@ -108,7 +108,7 @@ class Questions(Dialogue):
         shell = self.shell()
         self.said(shell, "set defer 1", *SETUP, QUERY)
         self.assertIn(
-            "  held packet of 1.1 (out udp 10.0.0.1:1000 192.0.2.9:53 40): since 0 s, due at 0.02 s", self.said(shell, "view")
+            "  held packet of 1.1 (udp 10.0.0.1:1000 192.0.2.9:53 40): since 0 s, due at 0.02 s", self.said(shell, "view")
         )
 
     def test_questions_change_nothing(self) -> None:

@@ -201,10 +201,10 @@ class Waiting(unittest.TestCase):
         self.assertEqual(node_a(pair)[2:], ["  nothing to be told to the peer, push asked"])
 
     def test_held_packets(self) -> None:
-        pair = shown("held a 1.1 2980", "held a 1.2 2990 udp out 10.0.0.1:1 192.0.2.9:2 40")
+        pair = shown("held a 1.1 2980 udp 10.0.0.1:1 192.0.2.9:2 40", "held a 1.2 2990 tcp 10.0.0.1:1 192.0.2.9:2 S 1 0 9 0 7")
         expected = [
-            "  held packet of 1.1: since 2.98 s, due since 3 s",
-            "  held packet of 1.2 (udp out 10.0.0.1:1 192.0.2.9:2 40): since 2.99 s, due at 3.01 s",
+            "  held packet of 1.1 (udp 10.0.0.1:1 192.0.2.9:2 40): since 2.98 s, due since 3 s",
+            "  held packet of 1.2 (tcp 10.0.0.1:1 192.0.2.9:2 S 1 0 9 0 7): since 2.99 s, due at 3.01 s",
         ]
         self.assertEqual(node_a(pair)[2:], expected)
         self.assertIn("due at 3.08 s", node_a(pair, "set defer_ms 100")[2])

@@ -37,6 +37,10 @@ segment_words proto p = if is_tcp proto then tcp_words p else decimal p.len ∷ 
 abbrev pub fields_words : PacketFields → List (List ℕ)
 fields_words p = proto_text p.proto ∷ end_text p.src ∷ end_text p.dst ∷ segment_words p.proto p
 
+-- a packet
+unfoldable pub packet_text : PacketFields → List ℕ
+packet_text p = join_with_byte 32 (fields_words p)
+
 -- an event's word, and what belongs to it
 abbrev pub event_words : Event → List (List ℕ)
 event_words (events.Packet node dir p) = codes "packet" ∷ node_text node ∷ dir_text dir ∷ fields_words p

@@ -20,4 +20,4 @@ pub use fault::LineFault;
 pub use laws::steps_read_back;
 pub use session::{SessionLine, parse_session};
 pub use setup::{SetupLine, parse_setup};
-pub use written::EventWords;
+pub use written::{EventWords, PacketWords};

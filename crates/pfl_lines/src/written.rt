@@ -3,7 +3,7 @@
 ghost use Rattle.std.specs.Prelude.{◌≡◌, Some, [], ◌∷◌, if◌then◌else◌};
 ghost use Rattle.std.specs.List.{join_with_byte};
 ghost use Rattle.pfl_lines.specs.Laws.{IsAddr, IsEnd, IsEvent, IsStateName, IsTyped};
-ghost use Rattle.pfl_lines.specs.Written.{flags_text, tcp_words, fields_words, event_text};
+ghost use Rattle.pfl_lines.specs.Written.{flags_text, tcp_words, packet_text, event_text};
 
 use pfl_base::{Addr, End, Packet, PacketFields, Proto, StateName, TcpFlags};
 use pfl_world::Event;
@@ -70,23 +70,26 @@ impl fmt::Display for Tcp {
     }
 }
 
-/// A packet: `PROTO SRC DST`, and what the protocol has behind them.
+/// A packet, as it stands behind the node and the direction of its event: `PROTO SRC DST`, and what the
+/// protocol has behind them.
 #[derive(Clone, Copy)]
-struct Fields(PacketFields);
+pub struct PacketWords(pub Packet);
 
-impl fmt::Display for Fields {
-    ghost output = { λ fields. Some (join_with_byte 32 (fields_words fields.0)) };
+impl fmt::Display for PacketWords {
+    ghost output = { λ words. Some (packet_text words.0) };
 
+    #[tactic(auto, unfolding(crate::specs::Written::packet_text))]
     fn fmt<W: fmt::Write>(&self, f: &mut fmt::Formatter<W>) -> fmt::Result {
+        let fields = self.0.fields();
         let PacketFields {
             len,
             proto,
             src,
             dst,
             ..
-        } = self.0;
+        } = fields;
         if matches!(proto, Proto::Tcp) {
-            let tcp = Tcp(self.0);
+            let tcp = Tcp(fields);
             write!(f, "{proto} {src} {dst} {tcp}")
         } else {
             write!(f, "{proto} {src} {dst} {len}")
@@ -175,12 +178,12 @@ impl EventWords {
 impl fmt::Display for EventWords {
     ghost output = { λ words. Some (event_text words.0) };
 
-    #[tactic(auto, unfolding(crate::specs::Written::event_text))]
+    #[tactic(auto, unfolding(crate::specs::Written::event_text, crate::specs::Written::packet_text))]
     fn fmt<W: fmt::Write>(&self, f: &mut fmt::Formatter<W>) -> fmt::Result {
         match self.0 {
             Event::Packet { node, dir, packet } => {
-                let fields = Fields(packet.fields());
-                write!(f, "packet {node} {dir} {fields}")
+                let packet = PacketWords(packet);
+                write!(f, "packet {node} {dir} {packet}")
             }
             Event::Flush { node } => write!(f, "flush {node}"),
             Event::Deliver { ticket } => write!(f, "deliver {ticket}"),

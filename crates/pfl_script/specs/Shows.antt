@@ -28,6 +28,7 @@ use Rattle.pfl_parts.specs.declared.counters.Counters.{Counters}
 use Rattle.pfl_parts.specs.Nodes.{Node}
 use Rattle.pfl_link.specs.Links.{InFlight, Link}
 use Rattle.pfl_world.specs.Worlds.{World}
+use Rattle.pfl_lines.specs.Written.{packet_text}
 use Rattle.pfl_script.specs.Texts.{or_dash}
 
 -- ---- a branch
@@ -136,9 +137,10 @@ bus_line id status = codes "bus " ++ node_text id ++ codes " " ++ decimal (statu
 abbrev pub clear_line : NodeId → Cleared → List ℕ
 clear_line id c = codes "clr " ++ node_text id ++ codes " " ++ decimal c.creator ++ codes " " ++ decimal c.bound ++ codes "\n"
 
--- a held packet
+-- a held packet: its state, since when it is held, and the packet as its event says it
 abbrev pub held_line : NodeId → Held → List ℕ
-held_line id h = codes "held " ++ node_text id ++ codes " " ++ name_text h.name ++ codes " " ++ decimal h.held_at ++ codes "\n"
+held_line id h =
+    codes "held " ++ node_text id ++ codes " " ++ name_text h.name ++ codes " " ++ decimal h.held_at ++ codes " " ++ packet_text h.packet ++ codes "\n"
 
 -- what is to be told to the peer: marks by kind and number, and the lists in their order
 abbrev pub queue_lines : NodeId → Queue → List ℕ

@@ -6,6 +6,7 @@ ghost use Rattle.pfl_script.specs.Shows.{bit_text, server_text, client_text, num
 use pfl_base::{Millis, NodeId, StateName};
 use pfl_bulk::{BulkClient, BulkServer};
 use pfl_defer::Held;
+use pfl_lines::PacketWords;
 use pfl_parts::Counters;
 use pfl_queue::{Cleared, Kind, Mark};
 use pfl_wire::BulkStatus;
@@ -240,7 +241,7 @@ impl fmt::Display for ClearLine {
     }
 }
 
-/// A held packet, as a line.
+/// A held packet, as a line: its state, since when it is held, and the packet.
 #[derive(Clone, Copy)]
 pub struct HeldLine {
     pub node: NodeId,
@@ -254,6 +255,7 @@ impl fmt::Display for HeldLine {
         let node = self.node;
         let name = self.held.name;
         let held_at = self.held.held_at;
-        writeln!(f, "held {node} {name} {held_at}")
+        let packet = PacketWords(self.held.packet);
+        writeln!(f, "held {node} {name} {held_at} {packet}")
     }
 }
