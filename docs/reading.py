@@ -8,17 +8,25 @@ A page quotes by a comment on a line of its own, and the fenced block behind it 
     <!-- contracts CRATE FUNCTION.. -->      signatures and clauses of public functions, as in `Pending::mark` or `merge`
     <!-- function CRATE FUNCTION -->         a whole function
     <!-- file PATH -->                       a whole file
+    <!-- naming PATTERN -->                  the files, folder by folder, in which a word fits a regular expression, whatever its case
+    <!-- reached CRATE NAME .. -->           how many definitions these definitions of specs/ are made of, crate by crate
+    <!-- reached PAGE -->                    the same of the definitions that the contracts cite which the page quotes
 
-Names are looked up in the crate, whatever file they stand in; a name that is gone or that stands twice is an error.
+Names are looked up in the crate, whatever file they stand in; a name that is gone or that stands twice is an error. On a page that
+says what is reached, a definition that is quoted and not reached is an error: nobody has to believe it.
 
     docs/reading.py            writes the blocks
     docs/reading.py --check    changes nothing, and ends with 1 where a block is stale or a name is not found
 """
 
+import collections
 import re
 import sys
 import textwrap
 from pathlib import Path
+
+sys.dont_write_bytecode = True
+import definitions
 
 TOP = Path(__file__).resolve().parent.parent
 # Crates that are one to a page, so that it need not know in which of them a name stands.
@@ -29,11 +37,14 @@ FAMILIES = {
     "test_states": ("test_states", "pfl_state_tests"),
 }
 WIDTH = 120
-MARKER = re.compile(r"<!-- (definition|theorem|contracts|function|file) (.+?) -->$")
+MARKER = re.compile(r"<!-- (definition|theorem|contracts|function|file|naming|reached) (.+?) -->$")
 DEFINITION = r"^ *(?:abbrev pub|unfoldable pub|pub record|pub data) {name}(?= |$)"
 THEOREM = r"^{name} :"
 FUNCTION = r"^ *(?:pub(?:\(crate\))? )?(?:const )?fn {name}[(<]"
 CLAUSE = re.compile(r" *(?:ensures|requires)\b")
+# What a change is looked for in: the crates, and what stands around the program.
+WITH_SOURCES = ("crates/*/src", "crates/*/specs", "crates/*/proofs", "shell")
+SOURCES = (".rt", ".antt", ".py")
 
 
 class Missing(Exception):
@@ -174,7 +185,67 @@ def file(path):
     return (TOP / path).read_text().splitlines()
 
 
-LANGUAGES = {definition: "antt", theorem: "antt", contracts: "rust", function: "rust", file: "text"}
+def naming(pattern):
+    """Wrong bodies and cases are left out: they are listed by their folders."""
+    word = re.compile(pattern, re.IGNORECASE)
+    out = []
+    for folder in sorted(it for glob in WITH_SOURCES for it in TOP.glob(glob)):
+        found = [str(it.relative_to(folder)) for it in sorted(folder.rglob("*"))
+                 if it.suffix in SOURCES and word.search(it.read_text())]
+        if found:
+            out += textwrap.wrap(f"{folder.relative_to(TOP)}/: {' '.join(found)}", WIDTH, subsequent_indent="    ")
+    return out
+
+
+def place(crate, name):
+    """Where a crate of a family defines the name."""
+    found = [it for one in crates(crate) for it in definitions.places_of(one, name)]
+    if len(found) != 1:
+        raise Missing(f"definition {name} of {crate}: " + ("stands in more than one place" if found else "not found"))
+    return found[0]
+
+
+def markers(page):
+    """The words of the comments by which a page quotes, each with what it quotes."""
+    return [(found[1], found[2].split()) for found in map(MARKER.match, page.read_text().splitlines()) if found]
+
+
+def cited_by(family, name):
+    """The definitions that a function's clauses cite."""
+    _path, lines, at = find_function(family, name)
+    clauses = "\n".join(it for it in lines[at:body_start(lines, at)] if CLAUSE.match(it) or it.startswith("        "))
+    return {it for it in definitions.Scope.of(lines).cited(clauses) if it in definitions.all_definitions()}
+
+
+def reached_from(words):
+    """The definitions that those are made of which the words of a comment name."""
+    if len(words) > 1:
+        roots = {place(crate, name) for crate, name in zip(words[::2], words[1::2])}
+    else:
+        quoted = [its for quote, its in markers(TOP / words[0]) if quote == "contracts"]
+        roots = {it for family, *names in quoted for name in names for it in cited_by(family, name)}
+    return definitions.reached(roots)
+
+
+def reached(*words):
+    found = reached_from(words)
+    (count, lines), (all_count, all_lines) = definitions.size(found), definitions.size(definitions.all_definitions())
+    by_crate = collections.Counter(module.split(".")[0] for module, _name in found)
+    told = ", ".join(f"{crate} {by_crate[crate]}" for crate in sorted(by_crate))
+    return [f"{count} of {all_count} definitions, {lines} of {all_lines} lines:", *textwrap.wrap(told, WIDTH)]
+
+
+def not_reached(page):
+    """The definitions that a page shows, and that are reached from none of those of which it says what they reach."""
+    told = [its for quote, its in markers(page) if quote == "reached"]
+    if not told:
+        return []
+    known = set().union(*map(reached_from, told))
+    shown = [its for quote, its in markers(page) if quote == "definition"]
+    return [f"{page.relative_to(TOP)}: {' '.join(its)} is shown, and not reached" for its in shown if place(*its) not in known]
+
+
+LANGUAGES = {definition: "antt", theorem: "antt", contracts: "rust", function: "rust", file: "text", naming: "text", reached: "text"}
 QUOTES = {quote.__name__: quote for quote in LANGUAGES}
 
 
@@ -210,7 +281,7 @@ def main(words):
         return 2
     for page in pages():
         text, missing = refreshed(page)
-        faults += missing
+        faults += missing or not_reached(page)
         if text == page.read_text():
             continue
         if check:

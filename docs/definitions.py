@@ -1,0 +1,118 @@
+"""The definitions of `crates/*/specs/`, and which of them others are made of: what a reader has to believe of one of them."""
+from __future__ import annotations
+
+import functools
+import re
+from dataclasses import dataclass, field
+from pathlib import Path
+from typing import Dict, Iterable, Iterator, List, Set, Tuple
+
+CRATES = Path(__file__).resolve().parent.parent / "crates"
+HEAD = re.compile(r" *(?:(?:abbrev|unfoldable) )?(?:pub )?(?:record |data )?(?P<name>[^\W\d][\w']*|◌\S+◌) (?=[:({])")
+STARTS = re.compile(r" *(?:abbrev|unfoldable|pub record|pub data) ")
+IMPORT = re.compile(r"(?:ghost )?use Rattle\.(?P<module>[\w.]+?)(?:\.\{(?P<names>.*)\}| as (?P<alias>\w+));?$")
+BINDERS = re.compile(r"λ ([^.]*)\.|\blet ([\w']+) |[({]([\w' ]+) :")
+# A name with the names before its dots; of a name that is set in a record the sign behind it.
+NAME = re.compile(r"(?<![\w'.])(?P<before>(?:[^\W\d][\w']*\.)*)(?P<name>[^\W\d][\w']*)")
+
+# A definition's module and its name.
+Place = Tuple[str, str]
+
+
+@dataclass
+class Definition:
+    """A definition, without the comment above it, and those that it cites."""
+
+    lines: List[str]
+    cites: Set[Place] = field(default_factory=set)
+
+
+@dataclass(frozen=True)
+class Scope:
+    """What the names of others mean in a file: definitions, and modules that have a name there."""
+
+    names: Dict[str, Place]
+    modules: Dict[str, str]
+
+    @classmethod
+    def of(cls, lines: Iterable[str]) -> Scope:
+        names: Dict[str, Place] = {}
+        modules: Dict[str, str] = {}
+        for found in filter(None, map(IMPORT.match, lines)):
+            if found["alias"]:
+                modules[found["alias"]] = found["module"]
+            for item in filter(None, (found["names"] or "").split(", ")):
+                there, _, here = item.partition(" as ")
+                names[here or there] = (found["module"], there)
+        return cls(names, modules)
+
+    def cited(self, text: str, own: Set[str] = frozenset()) -> Iterator[Place]:
+        """The places of the names in a text, but for its own."""
+        for found in NAME.finditer(text):
+            before = found["before"].rstrip(".")
+            if before in self.modules:
+                yield self.modules[before], found["name"]
+            name = before.split(".")[0] or found["name"]
+            if name in self.names and name not in own:
+                yield self.names[name]
+
+
+def _bound(name: str, lines: List[str]) -> Set[str]:
+    """The names that a definition gives to values: on left sides, and where a `λ`, a `let` or a type's parenthesis binds them."""
+    lefts = (re.match(rf" *{re.escape(name)} ([^=]*)=(?: |$)", line) for line in lines[1:])
+    parts = [left[1] for left in lefts if left]
+    parts += (part for binder in BINDERS.findall("\n".join(lines)) for part in binder)
+    return {word for part in parts for word in re.findall(r"(?<![\w.'])[a-z_][\w']*", part)}
+
+
+def _definitions(lines: List[str]) -> Iterator[Tuple[str, List[str]]]:
+    """Each definition's name and lines: from its head to a blank line."""
+    at = 0
+    while at < len(lines):
+        start, at = at, at + 1
+        head = STARTS.match(lines[start]) and HEAD.match(lines[start])
+        if head:
+            while at < len(lines) and lines[at].strip() and not STARTS.match(lines[at]):
+                at += 1
+            yield head["name"], [it for it in lines[start:at] if not it.lstrip().startswith("--")]
+
+
+@functools.lru_cache(maxsize=None)
+def all_definitions() -> Dict[Place, Definition]:
+    """The definitions of all crates by their places."""
+    found: Dict[Place, Definition] = {}
+    scopes: Dict[str, Scope] = {}
+    for path in sorted(CRATES.glob("*/specs/**/*.antt")):
+        module = ".".join(path.relative_to(CRATES).with_suffix("").parts)
+        lines = path.read_text().splitlines()
+        scopes[module] = Scope.of(lines)
+        for name, text in _definitions(lines):
+            found[module, name] = Definition(text)
+            scopes[module].names[name] = (module, name)
+    for (module, name), it in found.items():
+        places = scopes[module].cited("\n".join(it.lines), _bound(name, it.lines))
+        it.cites = {place for place in places if place in found and place != (module, name)}
+    return found
+
+
+def places_of(crate: str, name: str) -> List[Place]:
+    """Where a crate has a definition of the name."""
+    return [it for it in all_definitions() if it[1] == name and it[0].startswith(f"{crate}.")]
+
+
+def reached(roots: Iterable[Place]) -> Set[Place]:
+    """The roots, and all that they are made of."""
+    seen: Set[Place] = set()
+    waiting = list(roots)
+    while waiting:
+        place = waiting.pop()
+        if place not in seen:
+            seen.add(place)
+            waiting += all_definitions()[place].cites
+    return seen
+
+
+def size(places: Iterable[Place]) -> Tuple[int, int]:
+    """How many definitions, and how many lines they have."""
+    lines = [len(all_definitions()[it].lines) for it in places]
+    return len(lines), sum(lines)
