@@ -7,9 +7,9 @@ use Rattle.pfl_edits.specs.Changes.{Fits, back}
 use Rattle.pfl_edits.proofs.Leading.{LeadsBack-append}
 use Rattle.pfl_world.specs.declared.edit.WorldEdit.{WorldEdit}
 use Rattle.pfl_world.specs.declared.event.Event.{Event}
-use Rattle.pfl_world.specs.declared.outcome.Outcome.{Outcome as Answer}
+use Rattle.pfl_world.specs.declared.outcome.Outcome.{Outcome}
 use Rattle.pfl_world.specs.Events.{step}
-use Rattle.pfl_world.specs.Outcomes.{Stepped, told}
+use Rattle.pfl_world.specs.Outcomes.{Stepped}
 use Rattle.pfl_world.specs.Runs.{run, after}
 use Rattle.pfl_world.specs.WorldEdits.{Finds, put_back, WorldLeadsBack}
 use Rattle.pfl_world.specs.Worlds.{World, IsWorld}
@@ -17,8 +17,8 @@ use Rattle.pfl_laws.specs.Reverting.{IsRefusalAlong}
 use Rattle.pfl_laws.specs.inner.Reverting.{LeadsOn}
 
 -- the answer is the outcome of the step
-pub accepted-outcome : (w v : World) (e : Event) (a : Answer) → step w e ≡ Ok (record { world = v; outcome = told a }) → IsOkAnd (step w e) (λ s. s.outcome ≡ told a)
-accepted-outcome w v e a is = subst (λ (at : Result Stepped Refusal). IsOkAnd at (λ s. s.outcome ≡ told a)) (sym is) refl
+pub accepted-outcome : (w v : World) (e : Event) (a : Outcome) → step w e ≡ Ok (record { world = v; outcome = a }) → IsOkAnd (step w e) (λ s. s.outcome ≡ a)
+accepted-outcome w v e a is = subst (λ (at : Result Stepped Refusal). IsOkAnd at (λ s. s.outcome ≡ a)) (sym is) refl
 
 -- no event is accepted
 run-none : (w : World) → IsSome (run w [])

@@ -8,10 +8,10 @@ use Rattle.pfl_base.specs.declared.node_id.NodeId.{NodeId}
 use Rattle.pfl_edits.specs.Maps as maps
 use Rattle.pfl_edits.proofs.Places.{get-set_at_cases}
 use Rattle.pfl_edits.proofs.RowMaps.{some_is_none}
-use Rattle.pfl_track.specs.declared.state.State.{State}
 use Rattle.pfl_link.specs.Links.{Link, InFlight, sent, without_frame, cut_to}
 use Rattle.pfl_world.specs.declared.event.Event.{Event}
 use Rattle.pfl_world.specs.declared.event.Event.TheVariants as event
+use Rattle.pfl_world.specs.declared.event.FrameEvent.TheVariants as frame
 use Rattle.pfl_world.specs.Events.{step}
 use Rattle.pfl_world.specs.Runs.{run, after}
 use Rattle.pfl_world.specs.Steps.{sent_frame}
@@ -19,7 +19,7 @@ use Rattle.pfl_world.specs.Worlds.{World, node_at}
 use Rattle.pfl_laws.specs.Laws.{Begins, WasInFlight, WasSentBy, WasSentAlong, EventsSendOnlySo, FramesWereSent}
 use Rattle.pfl_laws.proofs.Following.{inner}
 use Rattle.pfl_laws.proofs.Running.{on-run, at-end}
-use Rattle.pfl_laws.proofs.Stepped.{result, of_frame, of_state, stepped-world}
+use Rattle.pfl_laws.proofs.Stepped.{result, of_frame, stepped-world}
 
 -- ---- beginnings
 
@@ -63,27 +63,16 @@ frame-came : (w : World) (e : Event) (o : Option InFlight) (done : InFlight → 
 frame-came w e None done came = came-same w e
 frame-came w e (Some f) done came = came f refl
 
-state-came : (w : World) (e : Event) (id : NodeId) (o : Option State) → Came w e (of_state w id o).link
-state-came w e id None = came-same w e
-state-came w e id (Some s) = came-same w e
-
 result-came : (w : World) (e : Event) → Came w e (result w e).link
-result-came w (event.Packet id dir p) = came-same w (event.Packet id dir p)
+result-came w (event.At id e) = came-same w (event.At id e)
 result-came w (event.Flush id) = came-put w (event.Flush id) w.link.next (sent_frame w id) (inr (begins-itself (sent_frame w id)))
-result-came w (event.Deliver ticket) = frame-came w (event.Deliver ticket) (maps.get w.link.frames ticket) _ (λ f at. came-without w (event.Deliver ticket) ticket)
-result-came w (event.Lose ticket) = frame-came w (event.Lose ticket) (maps.get w.link.frames ticket) _ (λ f at. came-without w (event.Lose ticket) ticket)
-result-came w (event.Repeat ticket) = frame-came w (event.Repeat ticket) (maps.get w.link.frames ticket) _
-    (λ f at. came-put w (event.Repeat ticket) w.link.next f (inl (record { ticket = ticket; whole = f; at = at; begins = begins-itself f })))
-result-came w (event.Cut ticket len) = frame-came w (event.Cut ticket len) (maps.get w.link.frames ticket) _
-    (λ f at. came-put w (event.Cut ticket len) ticket (cut_to f len) (inl (record { ticket = ticket; whole = f; at = at; begins = begins-cut f len })))
-result-came w (event.Tick id ms) = came-same w (event.Tick id ms)
-result-came w (event.Purge id) = came-same w (event.Purge id)
-result-came w (event.Release id) = came-same w (event.Release id)
-result-came w (event.Kill id name) = state-came w (event.Kill id name) id (maps.get (node_at w id).states name)
-result-came w (event.Clear id) = came-same w (event.Clear id)
+result-came w (event.Of ticket frame.Deliver) = frame-came w (event.Of ticket frame.Deliver) (maps.get w.link.frames ticket) _ (λ f at. came-without w (event.Of ticket frame.Deliver) ticket)
+result-came w (event.Of ticket frame.Lose) = frame-came w (event.Of ticket frame.Lose) (maps.get w.link.frames ticket) _ (λ f at. came-without w (event.Of ticket frame.Lose) ticket)
+result-came w (event.Of ticket frame.Repeat) = frame-came w (event.Of ticket frame.Repeat) (maps.get w.link.frames ticket) _
+    (λ f at. came-put w (event.Of ticket frame.Repeat) w.link.next f (inl (record { ticket = ticket; whole = f; at = at; begins = begins-itself f })))
+result-came w (event.Of ticket (frame.Cut len)) = frame-came w (event.Of ticket (frame.Cut len)) (maps.get w.link.frames ticket) _
+    (λ f at. came-put w (event.Of ticket (frame.Cut len)) ticket (cut_to f len) (inl (record { ticket = ticket; whole = f; at = at; begins = begins-cut f len })))
 result-came w (event.Restart id) = came-same w (event.Restart id)
-result-came w (event.BulkTurn id) = came-same w (event.BulkTurn id)
-result-came w (event.BulkRetry id) = came-same w (event.BulkRetry id)
 
 pub sent-only : EventsSendOnlySo
 sent-only w e v accepted = subst (λ (u : World). Came w e u.link) (stepped-world w e v accepted) (result-came w e)
@@ -92,20 +81,13 @@ sent-only w e v accepted = subst (λ (u : World). Came w e u.link) (stepped-worl
 
 -- what begins a frame that an event sent was sent by it too
 sent-on : (w : World) (e : Event) (f g : InFlight) → Begins f g → WasSentBy w e g → WasSentBy w e f
-sent-on w (event.Packet id dir p) f g begins sent = sent
+sent-on w (event.At id e) f g begins sent = sent
 sent-on w (event.Flush id) f g begins sent = begins-then f g (sent_frame w id) begins sent
-sent-on w (event.Deliver ticket) f g begins sent = sent
-sent-on w (event.Lose ticket) f g begins sent = sent
-sent-on w (event.Repeat ticket) f g begins sent = sent
-sent-on w (event.Cut ticket len) f g begins sent = sent
-sent-on w (event.Tick id ms) f g begins sent = sent
-sent-on w (event.Purge id) f g begins sent = sent
-sent-on w (event.Release id) f g begins sent = sent
-sent-on w (event.Kill id name) f g begins sent = sent
-sent-on w (event.Clear id) f g begins sent = sent
+sent-on w (event.Of ticket frame.Deliver) f g begins sent = sent
+sent-on w (event.Of ticket frame.Lose) f g begins sent = sent
+sent-on w (event.Of ticket frame.Repeat) f g begins sent = sent
+sent-on w (event.Of ticket (frame.Cut len)) f g begins sent = sent
 sent-on w (event.Restart id) f g begins sent = sent
-sent-on w (event.BulkTurn id) f g begins sent = sent
-sent-on w (event.BulkRetry id) f g begins sent = sent
 
 -- a frame of a world that an event led to, or a beginning of one
 one-back : (w : World) (e : Event) (u : World) (f : InFlight) → after (step w e) ≡ Some u → WasInFlight u f → WasInFlight w f ⊎ WasSentBy w e f

@@ -34,11 +34,9 @@ use Rattle.pfl_defer.specs.Deferring.{Deferrals, pushed_out}
 use Rattle.pfl_node.specs.declared.fate.Fate.TheVariants as fate
 use Rattle.pfl_parts.specs.Nodes.{Node, IsNode, IsGiven}
 use Rattle.pfl_parts.specs.Changes.{put_state, mark, freed, changed, deleted, released}
-use Rattle.pfl_node.specs.Ticking.{ticked}
-use Rattle.pfl_node.specs.Purging.{purged}
-use Rattle.pfl_node.specs.Releasing.{released_due}
-use Rattle.pfl_node.specs.Killing.{killed}
-use Rattle.pfl_node.specs.Clearing.{cleared}
+use Rattle.pfl_node.specs.declared.event.NodeEvent.{NodeEvent}
+use Rattle.pfl_node.specs.declared.event.NodeEvent.TheVariants as own
+use Rattle.pfl_node.specs.Stepping.{node_after}
 use Rattle.pfl_node.specs.Events.{restarted}
 use Rattle.pfl_node.specs.Turning as turning
 use Rattle.pfl_node.specs.Retrying.{retried_client}
@@ -47,9 +45,10 @@ use Rattle.pfl_node.specs.Packets.{handled, handled_by, followed, accepted, befo
 use Rattle.pfl_node.specs.Starting.{Handled, pass, hold, started, judged, by_rule, announced, with_room, with_new, new_state, is_at_max, is_deferred}
 use Rattle.pfl_world.specs.declared.event.Event.{Event}
 use Rattle.pfl_world.specs.declared.event.Event.TheVariants as event
+use Rattle.pfl_world.specs.declared.event.FrameEvent.TheVariants as frame
 use Rattle.pfl_receive.specs.Delivering.{records_of}
 use Rattle.pfl_world.specs.Worlds.{World, node_at, with_node}
-use Rattle.pfl_laws.specs.Laws.{FrameLetsOut, HeldPacketsLeaveOnlySo, Holds, LetsGo, LetsOldestGo, OneLetsOut, asked_at}
+use Rattle.pfl_laws.specs.Laws.{FrameLetsOut, HeldPacketsLeaveOnlySo, Holds, LetsGo, NodeLetsGo, LetsOldestGo, OneLetsOut, asked_at}
 use Rattle.pfl_laws.proofs.Following.{Alike, Filed}
 use Rattle.pfl_laws.proofs.Keeping.{deleted-keeps, keeps-given}
 use Rattle.pfl_laws.proofs.Handling.{filed-without, judged-keeps}
@@ -225,32 +224,25 @@ anew-lets w A m B h holds = inl holds
 anew-lets w B m A h holds = inl holds
 anew-lets w B m B h holds = inr refl
 
+-- a node's own event
+after-lets : (n : Node) (e : NodeEvent) (h : Held) → IsNode n → Holds n h → Holds (node_after n e).node h ⊎ NodeLetsGo n (node_after n e).node e h
+after-lets n (own.Packet dir p) h is holds = handled-gone n dir p h is holds
+after-lets n (own.Tick ms) h is holds = inl holds
+after-lets n own.Purge h is holds = purged-lets n h holds
+after-lets n own.Release h is holds = released_due-lets n h is holds
+after-lets n (own.Kill name) h is holds = killed-lets n name h is.parts.states.filed holds
+after-lets n own.Clear h is holds = cleared-lets n h holds
+after-lets n own.BulkTurn h is holds = inl (basis-holds h n (turning.turned n) (turned-basis n) holds)
+after-lets n own.BulkRetry h is holds = inl (basis-holds h n (retried_client n) (retried-basis n) holds)
+
 turned-lets : (w : World) (e : Event) (at : NodeId) (h : Held) → IsNode (node_at w at) → Holds (node_at w at) h → Holds (turned w e at) h ⊎ LetsGo w at (node_at w at) (turned w e at) e h
-turned-lets w (event.Packet id dir p) at h is holds =
-    put-lets (λ old new. Gone old dir p h (record { fate = (handled old dir p).fate; node = new }) (asked_at old dir p)) w id (handled (node_at w id) dir p).node at h
-    (handled-gone (node_at w id) dir p h) is holds
+turned-lets w (event.At id e) at h is holds = put-lets (λ old new. NodeLetsGo old new e h) w id (node_after (node_at w id) e).node at h (after-lets (node_at w id) e h) is holds
 turned-lets w (event.Flush id) at h is holds = let n = node_at w id in inl (put-stays w id (flushed n) at h (same-holds h n (flushed n) (flushed-held n)) holds)
-turned-lets w (event.Deliver ticket) at h is holds = arrived-lets w (maps.get w.link.frames ticket) at h is holds
-turned-lets w (event.Lose ticket) at h is holds = inl holds
-turned-lets w (event.Repeat ticket) at h is holds = inl holds
-turned-lets w (event.Cut ticket len) at h is holds = inl holds
-turned-lets w (event.Tick id ms) at h is holds = inl (put-stays w id (ticked (node_at w id) ms) at h (λ same. same) holds)
-turned-lets w (event.Purge id) at h is holds =
-    put-lets (λ old new. maps.get new.states h.name ≡ None) w id (purged (node_at w id)) at h (λ node. purged-lets (node_at w id) h) is holds
-turned-lets w (event.Release id) at h is holds =
-    put-lets (λ old new. h.held_at + old.limits.defer_ms ≤ old.clock) w id (released_due (node_at w id)) at h (released_due-lets (node_at w id) h) is holds
-turned-lets w (event.Kill id name) at h is holds =
-    put-lets (λ old new. (name ≡ h.name) × (maps.get new.states h.name ≡ None)) w id (killed (node_at w id) name) at h
-    (λ node. killed-lets (node_at w id) name h node.parts.states.filed) is holds
-turned-lets w (event.Clear id) at h is holds =
-    put-lets (λ old new. maps.get new.states h.name ≡ None) w id (cleared (node_at w id)) at h (λ node. cleared-lets (node_at w id) h) is holds
+turned-lets w (event.Of ticket frame.Deliver) at h is holds = arrived-lets w (maps.get w.link.frames ticket) at h is holds
+turned-lets w (event.Of ticket frame.Lose) at h is holds = inl holds
+turned-lets w (event.Of ticket frame.Repeat) at h is holds = inl holds
+turned-lets w (event.Of ticket (frame.Cut len)) at h is holds = inl holds
 turned-lets w (event.Restart id) at h is holds = anew-lets w id (restarted (node_at w id) w.next_boot) at h holds
-turned-lets w (event.BulkTurn id) at h is holds =
-    let n = node_at w id in
-    inl (put-stays w id (turning.turned n) at h (basis-holds h n (turning.turned n) (turned-basis n)) holds)
-turned-lets w (event.BulkRetry id) at h is holds =
-    let n = node_at w id in
-    inl (put-stays w id (retried_client n) at h (basis-holds h n (retried_client n) (retried-basis n)) holds)
 
 pub leaves-only : HeldPacketsLeaveOnlySo
 leaves-only w e v is accepted id h holds =

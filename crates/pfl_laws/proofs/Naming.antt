@@ -12,6 +12,7 @@ use Rattle.pfl_parts.specs.Nodes.{Node, IsNode, IsGiven}
 use Rattle.pfl_node.specs.Events.{restarted}
 use Rattle.pfl_world.specs.declared.event.Event.{Event}
 use Rattle.pfl_world.specs.declared.event.Event.TheVariants as event
+use Rattle.pfl_world.specs.declared.event.FrameEvent.TheVariants as frame
 use Rattle.pfl_world.specs.Events.{step}
 use Rattle.pfl_world.specs.Runs.{after}
 use Rattle.pfl_world.specs.Worlds.{World, node_at, with_node}
@@ -63,21 +64,14 @@ anew-none w B B boot name s none some = absurd (some_is_none s (sym some ∙ res
 
 turned-named : (w : World) (e : Event) (at : NodeId) (m : Node) (name : StateName) (s : State) → IsNode (node_at w at) → IsNode m → turned w e at ≡ m
     → maps.get (node_at w at).states name ≡ None → maps.get m.states name ≡ Some s → Gives (node_at w at) m name ⊎ IsDelivery e
-turned-named w (event.Packet id dir p) at m name s is is_m turns none some = local-names w (event.Packet id dir p) at m name s tt is is_m turns none some
+turned-named w (event.At id e) at m name s is is_m turns none some = local-names w (event.At id e) at m name s tt is is_m turns none some
 turned-named w (event.Flush id) at m name s is is_m turns none some = local-names w (event.Flush id) at m name s tt is is_m turns none some
-turned-named w (event.Deliver ticket) at m name s is is_m turns none some = inr tt
-turned-named w (event.Lose ticket) at m name s is is_m turns none some = local-names w (event.Lose ticket) at m name s tt is is_m turns none some
-turned-named w (event.Repeat ticket) at m name s is is_m turns none some = local-names w (event.Repeat ticket) at m name s tt is is_m turns none some
-turned-named w (event.Cut ticket len) at m name s is is_m turns none some = local-names w (event.Cut ticket len) at m name s tt is is_m turns none some
-turned-named w (event.Tick id ms) at m name s is is_m turns none some = local-names w (event.Tick id ms) at m name s tt is is_m turns none some
-turned-named w (event.Purge id) at m name s is is_m turns none some = local-names w (event.Purge id) at m name s tt is is_m turns none some
-turned-named w (event.Release id) at m name s is is_m turns none some = local-names w (event.Release id) at m name s tt is is_m turns none some
-turned-named w (event.Kill id gone) at m name s is is_m turns none some = local-names w (event.Kill id gone) at m name s tt is is_m turns none some
-turned-named w (event.Clear id) at m name s is is_m turns none some = local-names w (event.Clear id) at m name s tt is is_m turns none some
+turned-named w (event.Of ticket frame.Deliver) at m name s is is_m turns none some = inr tt
+turned-named w (event.Of ticket frame.Lose) at m name s is is_m turns none some = local-names w (event.Of ticket frame.Lose) at m name s tt is is_m turns none some
+turned-named w (event.Of ticket frame.Repeat) at m name s is is_m turns none some = local-names w (event.Of ticket frame.Repeat) at m name s tt is is_m turns none some
+turned-named w (event.Of ticket (frame.Cut len)) at m name s is is_m turns none some = local-names w (event.Of ticket (frame.Cut len)) at m name s tt is is_m turns none some
 turned-named w (event.Restart id) at m name s is is_m turns none some =
     absurd (anew-none w id at w.next_boot name s none (ap (λ (k : Node). maps.get k.states name) turns ∙ some))
-turned-named w (event.BulkTurn id) at m name s is is_m turns none some = local-names w (event.BulkTurn id) at m name s tt is is_m turns none some
-turned-named w (event.BulkRetry id) at m name s is is_m turns none some = local-names w (event.BulkRetry id) at m name s tt is is_m turns none some
 
 pub new-named : NewStatesAreNamed
 new-named w e v is is_v accepted id name s none some =

@@ -5,7 +5,6 @@ use Rattle.pfl_base.specs.declared.node_id.NodeId.{NodeId}
 use Rattle.pfl_base.specs.declared.node_id.NodeId.TheVariants.{A, B}
 use Rattle.pfl_base.specs.declared.state_name.StateName.{StateName}
 use Rattle.pfl_edits.specs.Maps as maps
-use Rattle.pfl_track.specs.declared.state.State.{State}
 use Rattle.pfl_table.specs.Tables.{AreStates}
 use Rattle.pfl_wire.specs.Reading.{reading}
 use Rattle.pfl_link.specs.Links.{InFlight}
@@ -13,6 +12,7 @@ use Rattle.pfl_parts.specs.Nodes.{Node, IsGiven}
 use Rattle.pfl_node.specs.Events.{restarted}
 use Rattle.pfl_world.specs.declared.event.Event.{Event}
 use Rattle.pfl_world.specs.declared.event.Event.TheVariants as event
+use Rattle.pfl_world.specs.declared.event.FrameEvent.TheVariants as frame
 use Rattle.pfl_world.specs.Events.{step}
 use Rattle.pfl_world.specs.Runs.{run, after}
 use Rattle.pfl_world.specs.Worlds.{World, node_at, with_node}
@@ -21,7 +21,7 @@ use Rattle.pfl_laws.proofs.Delivering.{Ids, ids, received, received-ids}
 use Rattle.pfl_laws.proofs.Restarting.{restarted-creator}
 use Rattle.pfl_laws.proofs.Running.{on-run, at-end}
 use Rattle.pfl_laws.proofs.Stepping.{turned, arrived, IsLocal, turned-keeps, stepped-node, stepped-apart}
-use Rattle.pfl_laws.proofs.Stepped.{result, of_frame, of_state, stepped-world}
+use Rattle.pfl_laws.proofs.Stepped.{result, of_frame, stepped-world}
 
 -- ---- tickets and boots
 
@@ -37,25 +37,14 @@ frame-on : (w : World) (o : Option InFlight) (done : InFlight → World) → ((f
 frame-on w None done on = stays w
 frame-on w (Some f) done on = on f
 
-state-on : (w : World) (id : NodeId) (o : Option State) → GoesOn w (of_state w id o)
-state-on w id None = stays w
-state-on w id (Some s) = record { ticket = omega arith; boot = omega arith }
-
 result-on : (w : World) (e : Event) → GoesOn w (result w e)
-result-on w (event.Packet id dir p) = record { ticket = omega arith; boot = omega arith }
+result-on w (event.At id e) = record { ticket = omega arith; boot = omega arith }
 result-on w (event.Flush id) = record { ticket = omega arith; boot = omega arith }
-result-on w (event.Deliver ticket) = frame-on w (maps.get w.link.frames ticket) _ (λ f. record { ticket = omega arith; boot = omega arith })
-result-on w (event.Lose ticket) = frame-on w (maps.get w.link.frames ticket) _ (λ f. record { ticket = omega arith; boot = omega arith })
-result-on w (event.Repeat ticket) = frame-on w (maps.get w.link.frames ticket) _ (λ f. record { ticket = omega arith; boot = omega arith })
-result-on w (event.Cut ticket len) = frame-on w (maps.get w.link.frames ticket) _ (λ f. record { ticket = omega arith; boot = omega arith })
-result-on w (event.Tick id ms) = record { ticket = omega arith; boot = omega arith }
-result-on w (event.Purge id) = record { ticket = omega arith; boot = omega arith }
-result-on w (event.Release id) = record { ticket = omega arith; boot = omega arith }
-result-on w (event.Kill id name) = state-on w id (maps.get (node_at w id).states name)
-result-on w (event.Clear id) = record { ticket = omega arith; boot = omega arith }
+result-on w (event.Of ticket frame.Deliver) = frame-on w (maps.get w.link.frames ticket) _ (λ f. record { ticket = omega arith; boot = omega arith })
+result-on w (event.Of ticket frame.Lose) = frame-on w (maps.get w.link.frames ticket) _ (λ f. record { ticket = omega arith; boot = omega arith })
+result-on w (event.Of ticket frame.Repeat) = frame-on w (maps.get w.link.frames ticket) _ (λ f. record { ticket = omega arith; boot = omega arith })
+result-on w (event.Of ticket (frame.Cut len)) = frame-on w (maps.get w.link.frames ticket) _ (λ f. record { ticket = omega arith; boot = omega arith })
 result-on w (event.Restart id) = record { ticket = omega arith; boot = omega arith }
-result-on w (event.BulkTurn id) = record { ticket = omega arith; boot = omega arith }
-result-on w (event.BulkRetry id) = record { ticket = omega arith; boot = omega arith }
 
 goes-on : (w : World) (e : Event) (v : World) → after (step w e) ≡ Some v → GoesOn w v
 goes-on w e v accepted = subst (GoesOn w) (stepped-world w e v accepted) (result-on w e)
@@ -126,20 +115,13 @@ anew-names w B A = same-names w (event.Restart B) A w.a refl
 anew-names w B B = inr (restarted-creator w.b w.next_boot, refl)
 
 turned-names : (w : World) (e : Event) (at : NodeId) → AreStates (node_at w at).states → Names w e at (turned w e at)
-turned-names w (event.Packet id dir p) at are = local-names w (event.Packet id dir p) at tt are
+turned-names w (event.At id e) at are = local-names w (event.At id e) at tt are
 turned-names w (event.Flush id) at are = local-names w (event.Flush id) at tt are
-turned-names w (event.Deliver ticket) at are = arrived-names w (event.Deliver ticket) (maps.get w.link.frames ticket) at
-turned-names w (event.Lose ticket) at are = local-names w (event.Lose ticket) at tt are
-turned-names w (event.Repeat ticket) at are = local-names w (event.Repeat ticket) at tt are
-turned-names w (event.Cut ticket len) at are = local-names w (event.Cut ticket len) at tt are
-turned-names w (event.Tick id ms) at are = local-names w (event.Tick id ms) at tt are
-turned-names w (event.Purge id) at are = local-names w (event.Purge id) at tt are
-turned-names w (event.Release id) at are = local-names w (event.Release id) at tt are
-turned-names w (event.Kill id name) at are = local-names w (event.Kill id name) at tt are
-turned-names w (event.Clear id) at are = local-names w (event.Clear id) at tt are
+turned-names w (event.Of ticket frame.Deliver) at are = arrived-names w (event.Of ticket frame.Deliver) (maps.get w.link.frames ticket) at
+turned-names w (event.Of ticket frame.Lose) at are = local-names w (event.Of ticket frame.Lose) at tt are
+turned-names w (event.Of ticket frame.Repeat) at are = local-names w (event.Of ticket frame.Repeat) at tt are
+turned-names w (event.Of ticket (frame.Cut len)) at are = local-names w (event.Of ticket (frame.Cut len)) at tt are
 turned-names w (event.Restart id) at are = anew-names w id at
-turned-names w (event.BulkTurn id) at are = local-names w (event.BulkTurn id) at tt are
-turned-names w (event.BulkRetry id) at are = local-names w (event.BulkRetry id) at tt are
 
 stepped-names : (w : World) (e : Event) (v : World) (at : NodeId) → after (step w e) ≡ Some v → AreStates (node_at w at).states → Names w e at (node_at v at)
 stepped-names w e v at accepted are = subst (Names w e at) (stepped-node w e v at accepted) (turned-names w e at are)

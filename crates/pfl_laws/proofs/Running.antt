@@ -18,6 +18,7 @@ use Rattle.pfl_parts.specs.Nodes.{Node, IsNode, IsGiven}
 use Rattle.pfl_node.specs.Events.{restarted}
 use Rattle.pfl_world.specs.declared.event.Event.{Event}
 use Rattle.pfl_world.specs.declared.event.Event.TheVariants as event
+use Rattle.pfl_world.specs.declared.event.FrameEvent.TheVariants as frame
 use Rattle.pfl_world.specs.Events.{step}
 use Rattle.pfl_world.specs.Runs.{run, after}
 use Rattle.pfl_world.specs.Worlds.{World, IsWorld, node_at, with_node}
@@ -143,36 +144,22 @@ anew-stood w B B boot q has stood = absurd (restarted-has_none w.b boot q has)
 
 turned-rises : (w : World) (e : Event) (at : NodeId) (q : StateName) → Stood q (node_at w at) → StandsIn w e at q
     → (s t : State) → maps.get (node_at w at).states q ≡ Some s → maps.get (turned w e at).states q ≡ Some t → HasRisen s t
-turned-rises w (event.Packet id dir p) at q stood stands = local-rises w (event.Packet id dir p) at q tt stood
+turned-rises w (event.At id e) at q stood stands = local-rises w (event.At id e) at q tt stood
 turned-rises w (event.Flush id) at q stood stands = local-rises w (event.Flush id) at q tt stood
-turned-rises w (event.Deliver ticket) at q stood stands = arrived-rises w (maps.get w.link.frames ticket) at q stood.states stands
-turned-rises w (event.Lose ticket) at q stood stands = local-rises w (event.Lose ticket) at q tt stood
-turned-rises w (event.Repeat ticket) at q stood stands = local-rises w (event.Repeat ticket) at q tt stood
-turned-rises w (event.Cut ticket len) at q stood stands = local-rises w (event.Cut ticket len) at q tt stood
-turned-rises w (event.Tick id ms) at q stood stands = local-rises w (event.Tick id ms) at q tt stood
-turned-rises w (event.Purge id) at q stood stands = local-rises w (event.Purge id) at q tt stood
-turned-rises w (event.Release id) at q stood stands = local-rises w (event.Release id) at q tt stood
-turned-rises w (event.Kill id name) at q stood stands = local-rises w (event.Kill id name) at q tt stood
-turned-rises w (event.Clear id) at q stood stands = local-rises w (event.Clear id) at q tt stood
+turned-rises w (event.Of ticket frame.Deliver) at q stood stands = arrived-rises w (maps.get w.link.frames ticket) at q stood.states stands
+turned-rises w (event.Of ticket frame.Lose) at q stood stands = local-rises w (event.Of ticket frame.Lose) at q tt stood
+turned-rises w (event.Of ticket frame.Repeat) at q stood stands = local-rises w (event.Of ticket frame.Repeat) at q tt stood
+turned-rises w (event.Of ticket (frame.Cut len)) at q stood stands = local-rises w (event.Of ticket (frame.Cut len)) at q tt stood
 turned-rises w (event.Restart id) at q stood stands = anew-rises w id at w.next_boot q
-turned-rises w (event.BulkTurn id) at q stood stands = local-rises w (event.BulkTurn id) at q tt stood
-turned-rises w (event.BulkRetry id) at q stood stands = local-rises w (event.BulkRetry id) at q tt stood
 
 turned-stood : (w : World) (e : Event) (at : NodeId) (q : StateName) → IsEvent e → HasState q (turned w e at) → Stood q (node_at w at) → Stood q (turned w e at)
-turned-stood w (event.Packet id dir p) at q fits has = local-stood w (event.Packet id dir p) at q tt fits
+turned-stood w (event.At id e) at q fits has = local-stood w (event.At id e) at q tt fits
 turned-stood w (event.Flush id) at q fits has = local-stood w (event.Flush id) at q tt fits
-turned-stood w (event.Deliver ticket) at q fits has = arrived-stood q w (maps.get w.link.frames ticket) at
-turned-stood w (event.Lose ticket) at q fits has = local-stood w (event.Lose ticket) at q tt fits
-turned-stood w (event.Repeat ticket) at q fits has = local-stood w (event.Repeat ticket) at q tt fits
-turned-stood w (event.Cut ticket len) at q fits has = local-stood w (event.Cut ticket len) at q tt fits
-turned-stood w (event.Tick id ms) at q fits has = local-stood w (event.Tick id ms) at q tt fits
-turned-stood w (event.Purge id) at q fits has = local-stood w (event.Purge id) at q tt fits
-turned-stood w (event.Release id) at q fits has = local-stood w (event.Release id) at q tt fits
-turned-stood w (event.Kill id name) at q fits has = local-stood w (event.Kill id name) at q tt fits
-turned-stood w (event.Clear id) at q fits has = local-stood w (event.Clear id) at q tt fits
+turned-stood w (event.Of ticket frame.Deliver) at q fits has = arrived-stood q w (maps.get w.link.frames ticket) at
+turned-stood w (event.Of ticket frame.Lose) at q fits has = local-stood w (event.Of ticket frame.Lose) at q tt fits
+turned-stood w (event.Of ticket frame.Repeat) at q fits has = local-stood w (event.Of ticket frame.Repeat) at q tt fits
+turned-stood w (event.Of ticket (frame.Cut len)) at q fits has = local-stood w (event.Of ticket (frame.Cut len)) at q tt fits
 turned-stood w (event.Restart id) at q fits has = anew-stood w id at w.next_boot q has
-turned-stood w (event.BulkTurn id) at q fits has = local-stood w (event.BulkTurn id) at q tt fits
-turned-stood w (event.BulkRetry id) at q fits has = local-stood w (event.BulkRetry id) at q tt fits
 
 stepped-rises : (w : World) (e : Event) (v : World) (at : NodeId) (q : StateName) → after (step w e) ≡ Some v → Stood q (node_at w at) → StandsIn w e at q
     → (s t : State) → maps.get (node_at w at).states q ≡ Some s → maps.get (node_at v at).states q ≡ Some t → HasRisen s t
@@ -225,20 +212,13 @@ first-stands w (e ∷ es) id q stands = stands.0
 
 -- where a state stands at each record, it does so in a delivery
 stands-in : (w : World) (e : Event) (id : NodeId) (q : StateName) → All (HasState q) (points_at w e id) → StandsIn w e id q
-stands-in w (event.Packet node dir p) id q all = tt
+stands-in w (event.At at e) id q all = tt
 stands-in w (event.Flush node) id q all = tt
-stands-in w (event.Deliver ticket) id q all = all
-stands-in w (event.Lose ticket) id q all = tt
-stands-in w (event.Repeat ticket) id q all = tt
-stands-in w (event.Cut ticket len) id q all = tt
-stands-in w (event.Tick node ms) id q all = tt
-stands-in w (event.Purge node) id q all = tt
-stands-in w (event.Release node) id q all = tt
-stands-in w (event.Kill node name) id q all = tt
-stands-in w (event.Clear node) id q all = tt
+stands-in w (event.Of ticket frame.Deliver) id q all = all
+stands-in w (event.Of ticket frame.Lose) id q all = tt
+stands-in w (event.Of ticket frame.Repeat) id q all = tt
+stands-in w (event.Of ticket (frame.Cut len)) id q all = tt
 stands-in w (event.Restart node) id q all = tt
-stands-in w (event.BulkTurn node) id q all = tt
-stands-in w (event.BulkRetry node) id q all = tt
 
 risen-then : (s t u : State) → HasRisen s t → HasRisen t u → HasRisen s u
 risen-then s t u first next =

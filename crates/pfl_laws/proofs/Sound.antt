@@ -30,6 +30,9 @@ use Rattle.pfl_queue.specs.declared.Entry.TheVariants.{Marked, Request, Status, 
 use Rattle.pfl_queue.specs.Taking.{next_frame, left_by}
 use Rattle.pfl_parts.specs.Nodes.{Node}
 use Rattle.pfl_parts.specs.Changes.{put_state, count_blocked, is_held, deleted}
+use Rattle.pfl_node.specs.declared.event.NodeEvent.{NodeEvent}
+use Rattle.pfl_node.specs.declared.event.NodeEvent.TheVariants as own
+use Rattle.pfl_node.specs.Stepping.{node_after}
 use Rattle.pfl_node.specs.Ticking.{ticked}
 use Rattle.pfl_node.specs.Purging.{purged}
 use Rattle.pfl_node.specs.Releasing.{released_due}
@@ -43,6 +46,7 @@ use Rattle.pfl_node.specs.Packets.{handled, handled_by, followed, accepted}
 use Rattle.pfl_node.proofs.OneState.{handled-apart}
 use Rattle.pfl_world.specs.declared.event.Event.{Event}
 use Rattle.pfl_world.specs.declared.event.Event.TheVariants as event
+use Rattle.pfl_world.specs.declared.event.FrameEvent.TheVariants as frame
 use Rattle.pfl_world.specs.Events.{step}
 use Rattle.pfl_world.specs.Runs.{run, after}
 use Rattle.pfl_world.specs.Worlds.{World, IsWorld, node_at, with_node, new_world}
@@ -162,6 +166,16 @@ received-sound n r is = record {
 restarted-sound : (n : Node) (boot : ℕ) → Sound (restarted n boot)
 restarted-sound n boot = record { states = restarted-apart n boot; given = restarted-given n boot; tied = restarted-tied n boot }
 
+after-sound : (n : Node) (e : NodeEvent) → Sound n → Sound (node_after n e).node
+after-sound n (own.Packet dir p) is = handled-sound n dir p is
+after-sound n (own.Tick ms) is = record { states = is.states; given = is.given; tied = tied-same n (ticked n ms) is.tied refl refl }
+after-sound n own.Purge is = purged-sound n is
+after-sound n own.Release is = released_due-sound n is
+after-sound n (own.Kill name) is = killed-sound n name is
+after-sound n own.Clear is = cleared-sound n is
+after-sound n own.BulkTurn is = basis-sound n (turning.turned n) (turned-basis n) is
+after-sound n own.BulkRetry is = basis-sound n (retried_client n) (retried-basis n) is
+
 -- ---- the pair
 
 put-sound : (w : World) (id : NodeId) (m : Node) (at : NodeId) → (Sound (node_at w id) → Sound m) → Sound (node_at w at) → Sound (node_at (with_node w id m) at)
@@ -175,21 +189,13 @@ arrived-sound w None at is = is
 arrived-sound w (Some f) at is = put-sound w f.to (received (node_at w f.to) (reading f.bytes)) at (received-sound (node_at w f.to) (reading f.bytes)) is
 
 turned-sound : (w : World) (e : Event) (at : NodeId) → Sound (node_at w at) → Sound (turned w e at)
-turned-sound w (event.Packet id dir p) at is = put-sound w id (handled (node_at w id) dir p).node at (handled-sound (node_at w id) dir p) is
+turned-sound w (event.At id e) at is = put-sound w id (node_after (node_at w id) e).node at (after-sound (node_at w id) e) is
 turned-sound w (event.Flush id) at is = put-sound w id (flushed (node_at w id)) at (flushed-sound (node_at w id)) is
-turned-sound w (event.Deliver ticket) at is = arrived-sound w (maps.get w.link.frames ticket) at is
-turned-sound w (event.Lose ticket) at is = is
-turned-sound w (event.Repeat ticket) at is = is
-turned-sound w (event.Cut ticket len) at is = is
-turned-sound w (event.Tick id ms) at is =
-    put-sound w id (ticked (node_at w id) ms) at (λ s. record { states = s.states; given = s.given; tied = tied-same (node_at w id) (ticked (node_at w id) ms) s.tied refl refl }) is
-turned-sound w (event.Purge id) at is = put-sound w id (purged (node_at w id)) at (purged-sound (node_at w id)) is
-turned-sound w (event.Release id) at is = put-sound w id (released_due (node_at w id)) at (released_due-sound (node_at w id)) is
-turned-sound w (event.Kill id name) at is = put-sound w id (killed (node_at w id) name) at (killed-sound (node_at w id) name) is
-turned-sound w (event.Clear id) at is = put-sound w id (cleared (node_at w id)) at (cleared-sound (node_at w id)) is
+turned-sound w (event.Of ticket frame.Deliver) at is = arrived-sound w (maps.get w.link.frames ticket) at is
+turned-sound w (event.Of ticket frame.Lose) at is = is
+turned-sound w (event.Of ticket frame.Repeat) at is = is
+turned-sound w (event.Of ticket (frame.Cut len)) at is = is
 turned-sound w (event.Restart id) at is = put-sound w id (restarted (node_at w id) w.next_boot) at (λ s. restarted-sound (node_at w id) w.next_boot) is
-turned-sound w (event.BulkTurn id) at is = let n = node_at w id in put-sound w id (turning.turned n) at (basis-sound n (turning.turned n) (turned-basis n)) is
-turned-sound w (event.BulkRetry id) at is = let n = node_at w id in put-sound w id (retried_client n) at (basis-sound n (retried_client n) (retried-basis n)) is
 
 stepped-sound : (w : World) (e : Event) (v : World) (at : NodeId) → after (step w e) ≡ Some v → Sound (node_at w at) → Sound (node_at v at)
 stepped-sound w e v at accepted is = subst Sound (stepped-node w e v at accepted) (turned-sound w e at is)

@@ -6,67 +6,47 @@ use Rattle.std.proofs.Common.{sym}
 use Rattle.pfl_base.specs.Lists.{folds}
 use Rattle.pfl_base.specs.declared.node_id.NodeId.{NodeId}
 use Rattle.pfl_base.specs.declared.refusal.Refusal.{Refusal}
-use Rattle.pfl_base.specs.declared.refusal.Refusal.TheVariants.{NoSuchFrame, NoSuchState, NothingPending, LinkFull, QueueFull, ClockFull, CountFull, NotSyncing, TooEarly}
+use Rattle.pfl_base.specs.declared.refusal.Refusal.TheVariants.{NoSuchFrame, LinkFull, CountFull}
 use Rattle.pfl_edits.specs.Maps as maps
 use Rattle.pfl_edits.proofs.RowMaps.{some_is_none}
-use Rattle.pfl_track.specs.declared.state.State.{State}
 use Rattle.pfl_wire.specs.declared.fault.BadFrame.{BadFrame}
 use Rattle.pfl_wire.specs.Frames.{Frame}
 use Rattle.pfl_wire.specs.Reading.{reading}
 use Rattle.pfl_link.specs.Links.{Link, InFlight, is_full, is_counted_out, sent, without_frame, with_frame, cut_to}
-use Rattle.pfl_bulk.specs.Bulk.{is_serving, is_waiting, is_due}
-use Rattle.pfl_parts.specs.Nodes.{refused_by, full_tests, is_overfull, is_overcounted, greatest, last_millisecond}
-use Rattle.pfl_parts.specs.Changes.{deleted, count_broken}
+use Rattle.pfl_parts.specs.Nodes.{refused_by, full_tests, greatest}
+use Rattle.pfl_parts.specs.Changes.{count_broken}
 use Rattle.pfl_receive.specs.Receiving.{taken}
 use Rattle.pfl_node.specs.Flushing.{flushed}
-use Rattle.pfl_node.specs.Ticking.{ticked}
-use Rattle.pfl_node.specs.Purging.{purged, purge_points, expired_states}
-use Rattle.pfl_node.specs.Releasing.{released_due, due_names}
-use Rattle.pfl_node.specs.Clearing.{cleared}
 use Rattle.pfl_node.specs.Events.{restarted}
-use Rattle.pfl_node.specs.Turning as turning
-use Rattle.pfl_node.specs.Turning.{turn_of}
-use Rattle.pfl_node.specs.Retrying.{retried_client, retry_answer}
-use Rattle.pfl_node.specs.Packets.{handled, packet_points}
+use Rattle.pfl_node.specs.Stepping.{node_refusal, node_after}
 use Rattle.pfl_world.specs.declared.event.Event.{Event}
 use Rattle.pfl_world.specs.declared.event.Event.TheVariants as event
+use Rattle.pfl_world.specs.declared.event.FrameEvent.TheVariants as frame
 use Rattle.pfl_world.specs.Events.{step}
-use Rattle.pfl_world.specs.Outcomes as outcome
-use Rattle.pfl_world.specs.Outcomes.{Outcome}
+use Rattle.pfl_world.specs.declared.outcome.Outcome.TheVariants as outcome
+use Rattle.pfl_world.specs.declared.outcome.Outcome.{Outcome}
 use Rattle.pfl_world.specs.Runs.{after}
 use Rattle.pfl_world.specs.Steps as steps
 use Rattle.pfl_receive.specs.Delivering.{records_of, same_rules}
-use Rattle.pfl_world.specs.Steps.{answered, outcome_of, retry_outcome, packet_step, flush_refusal, sent_frame, flush_step, read_taken, deliver_step, lose_step, repeat_step, cut_step, tick_step, purge_step, release_step, kill_step, clear_step, restart_step, turn_step, retry_step}
+use Rattle.pfl_world.specs.Steps.{answered, flush_refusal, sent_frame, flush_step, read_taken, deliver_step, lose_step, repeat_step, cut_step, restart_step}
 use Rattle.pfl_world.specs.Worlds.{World, node_at, with_node, with_link}
 use Rattle.pfl_laws.proofs.Delivering.{received}
-use Rattle.pfl_laws.proofs.Stepping.{answered-world}
+use Rattle.pfl_laws.proofs.Stepping.{answered-world, own-world}
 
 -- the pair with what becomes of a frame, if it is in flight
 abbrev pub of_frame : World → Option InFlight → (InFlight → World) → World
 of_frame w None done = w
 of_frame w (Some f) done = done f
 
--- the pair without a state, if it is there
-abbrev pub of_state : World → NodeId → Option State → World
-of_state w id None = w
-of_state w id (Some s) = with_node w id (deleted (node_at w id) s)
-
 -- the pair after an event that is not refused
 abbrev pub result : World → Event → World
-result w (event.Packet id dir p) = with_node w id (handled (node_at w id) dir p).node
+result w (event.At id e) = with_node w id (node_after (node_at w id) e).node
 result w (event.Flush id) = with_link (with_node w id (flushed (node_at w id))) (sent w.link (sent_frame w id))
-result w (event.Deliver ticket) = of_frame w (maps.get w.link.frames ticket) (λ f. with_node (steps.without w ticket) f.to (received (node_at w f.to) (reading f.bytes)))
-result w (event.Lose ticket) = of_frame w (maps.get w.link.frames ticket) (λ f. with_link w (without_frame w.link ticket))
-result w (event.Repeat ticket) = of_frame w (maps.get w.link.frames ticket) (λ f. with_link w (sent w.link f))
-result w (event.Cut ticket len) = of_frame w (maps.get w.link.frames ticket) (λ f. with_link w (with_frame w.link ticket (cut_to f len)))
-result w (event.Tick id ms) = with_node w id (ticked (node_at w id) ms)
-result w (event.Purge id) = with_node w id (purged (node_at w id))
-result w (event.Release id) = with_node w id (released_due (node_at w id))
-result w (event.Kill id name) = of_state w id (maps.get (node_at w id).states name)
-result w (event.Clear id) = with_node w id (cleared (node_at w id))
+result w (event.Of ticket frame.Deliver) = of_frame w (maps.get w.link.frames ticket) (λ f. with_node (steps.without w ticket) f.to (received (node_at w f.to) (reading f.bytes)))
+result w (event.Of ticket frame.Lose) = of_frame w (maps.get w.link.frames ticket) (λ f. with_link w (without_frame w.link ticket))
+result w (event.Of ticket frame.Repeat) = of_frame w (maps.get w.link.frames ticket) (λ f. with_link w (sent w.link f))
+result w (event.Of ticket (frame.Cut len)) = of_frame w (maps.get w.link.frames ticket) (λ f. with_link w (with_frame w.link ticket (cut_to f len)))
 result w (event.Restart id) = record (with_node w id (restarted (node_at w id) w.next_boot)) { next_boot = w.next_boot + 1 }
-result w (event.BulkTurn id) = with_node w id (turning.turned (node_at w id))
-result w (event.BulkRetry id) = with_node w id (retried_client (node_at w id))
 
 read-world : (w : World) (ticket : ℕ) (to : NodeId) (r : Result Frame BadFrame) (v : World)
     → after (read_taken (steps.without w ticket) to (node_at w to) r) ≡ Some v → with_node (steps.without w ticket) to (received (node_at w to) r) ≡ v
@@ -89,48 +69,19 @@ frame-world : (w : World) (frame : Option InFlight) (o : Option Refusal) (l : In
 frame-world w None o l out v e = absurd (some_is_none v (sym e))
 frame-world w (Some f) o l out v e = answered-world o (record { world = with_link w (l f); outcome = out f }) v e
 
-killed-world : (w : World) (id : NodeId) (o : Option State) (v : World) → after (option_map_or (steps.killed w id) o (Err NoSuchState)) ≡ Some v → of_state w id o ≡ v
-killed-world w id None v e = absurd (some_is_none v (sym e))
-killed-world w id (Some s) v e =
-    answered-world (refused_by (full_tests (deleted (node_at w id) s ∷ []))) (record { world = with_node w id (deleted (node_at w id) s); outcome = outcome.Killed }) v e
-
 pub stepped-world : (w : World) (e : Event) (v : World) → after (step w e) ≡ Some v → result w e ≡ v
-unfolding step packet_step flush_step deliver_step lose_step repeat_step cut_step tick_step purge_step release_step kill_step clear_step restart_step turn_step retry_step
-stepped-world w (event.Packet id dir p) v e =
-    answered-world (refused_by (full_tests (packet_points (node_at w id) dir p)))
-    (record { world = with_node w id (handled (node_at w id) dir p).node; outcome = outcome_of (handled (node_at w id) dir p).fate }) v e
+unfolding step flush_step deliver_step lose_step repeat_step cut_step restart_step
+stepped-world w (event.At id e) v is = own-world w id (node_refusal (node_at w id) e) (node_after (node_at w id) e) v is
 stepped-world w (event.Flush id) v e =
     answered-world (flush_refusal w id)
     (record { world = with_link (with_node w id (flushed (node_at w id))) (sent w.link (sent_frame w id)); outcome = outcome.Sent w.link.next (length (sent_frame w id).bytes) }) v e
-stepped-world w (event.Deliver ticket) v e = arrived-world w ticket (maps.get w.link.frames ticket) v e
-stepped-world w (event.Lose ticket) v e = frame-world w (maps.get w.link.frames ticket) None (λ f. without_frame w.link ticket) (λ f. outcome.Lost) v e
-stepped-world w (event.Repeat ticket) v e =
+stepped-world w (event.Of ticket frame.Deliver) v e = arrived-world w ticket (maps.get w.link.frames ticket) v e
+stepped-world w (event.Of ticket frame.Lose) v e = frame-world w (maps.get w.link.frames ticket) None (λ f. without_frame w.link ticket) (λ f. outcome.Lost) v e
+stepped-world w (event.Of ticket frame.Repeat) v e =
     frame-world w (maps.get w.link.frames ticket) (refused_by ((is_full w.link, LinkFull) ∷ (is_counted_out w.link, CountFull) ∷ []))
     (λ f. sent w.link f) (λ f. outcome.Sent w.link.next (length f.bytes)) v e
-stepped-world w (event.Cut ticket len) v e =
+stepped-world w (event.Of ticket (frame.Cut len)) v e =
     frame-world w (maps.get w.link.frames ticket) None (λ f. with_frame w.link ticket (cut_to f len)) (λ f. outcome.CutTo (length (cut_to f len).bytes)) v e
-stepped-world w (event.Tick id ms) v e =
-    answered-world (refused_by ((nat_lt last_millisecond ((node_at w id).clock + ms), ClockFull) ∷ []))
-    (record { world = with_node w id (ticked (node_at w id) ms); outcome = outcome.Clock ((node_at w id).clock + ms) }) v e
-stepped-world w (event.Purge id) v e =
-    answered-world (refused_by (full_tests (purge_points (node_at w id))))
-    (record { world = with_node w id (purged (node_at w id)); outcome = outcome.Purged (length (expired_states (node_at w id))) }) v e
-stepped-world w (event.Release id) v e =
-    let n = node_at w id in
-    answered-world (refused_by ((length n.held.list == 0, NothingPending) ∷ (is_overcounted (released_due n), CountFull) ∷ (length (due_names n) == 0, TooEarly) ∷ []))
-    (record { world = with_node w id (released_due n); outcome = outcome.Released (length (due_names n)) }) v e
-stepped-world w (event.Kill id name) v e = killed-world w id (maps.get (node_at w id).states name) v e
-stepped-world w (event.Clear id) v e =
-    let n = node_at w id in
-    answered-world (refused_by (full_tests (cleared n ∷ []))) (record { world = with_node w id (cleared n); outcome = outcome.Cleared (maps.len n.states) }) v e
 stepped-world w (event.Restart id) v e =
     answered-world (refused_by ((nat_le greatest w.next_boot, CountFull) ∷ []))
     (record { world = record (with_node w id (restarted (node_at w id) w.next_boot)) { next_boot = w.next_boot + 1 }; outcome = outcome.Boot w.next_boot }) v e
-stepped-world w (event.BulkTurn id) v e =
-    let n = node_at w id in
-    answered-world (refused_by ((not (is_serving n.server), NotSyncing) ∷ full_tests (turning.turned n ∷ [])))
-    (record { world = with_node w id (turning.turned n); outcome = outcome.Queued (length (turn_of n)) }) v e
-stepped-world w (event.BulkRetry id) v e =
-    let n = node_at w id in
-    answered-world (refused_by ((not (is_waiting n.client), NotSyncing) ∷ (not (is_due n.client n.limits.bulk_ms n.clock), TooEarly) ∷ (is_overfull (retried_client n), QueueFull) ∷ []))
-    (record { world = with_node w id (retried_client n); outcome = retry_outcome (retry_answer n) }) v e

@@ -7,9 +7,8 @@ use Rattle.pfl_base.specs.Lists.{folds}
 use Rattle.pfl_base.specs.declared.node_id.NodeId.{NodeId}
 use Rattle.pfl_base.specs.declared.node_id.NodeId.TheVariants.{A, B}
 use Rattle.pfl_base.specs.declared.refusal.Refusal.{Refusal}
-use Rattle.pfl_base.specs.declared.refusal.Refusal.TheVariants.{NoSuchFrame, NoSuchState, NothingPending, LinkFull, QueueFull, ClockFull, CountFull, NotSyncing, TooEarly}
+use Rattle.pfl_base.specs.declared.refusal.Refusal.TheVariants.{NoSuchFrame, LinkFull, CountFull}
 use Rattle.pfl_base.specs.declared.state_name.StateName.{StateName}
-use Rattle.pfl_base.specs.Packets.{IsPacket}
 use Rattle.pfl_edits.specs.Maps as maps
 use Rattle.pfl_edits.proofs.RowMaps.{some_is_none}
 use Rattle.pfl_wire.specs.declared.fault.BadFrame.{BadFrame}
@@ -18,33 +17,36 @@ use Rattle.pfl_wire.specs.Reading.{reading}
 use Rattle.pfl_link.specs.Links.{Link, InFlight, is_full, is_counted_out, sent, without_frame, with_frame, cut_to}
 use Rattle.pfl_track.specs.declared.state.State.{State}
 use Rattle.pfl_table.specs.Tables.{AreStates}
-use Rattle.pfl_bulk.specs.Bulk.{is_serving, is_waiting, is_due}
-use Rattle.pfl_parts.specs.Nodes.{Node, IsGiven, refused_by, full_tests, is_overfull, is_overcounted, greatest, last_millisecond}
-use Rattle.pfl_parts.specs.Changes.{deleted, count_broken}
+use Rattle.pfl_parts.specs.Nodes.{Node, IsGiven, refused_by, full_tests, greatest}
+use Rattle.pfl_parts.specs.Changes.{count_broken}
+use Rattle.pfl_node.specs.declared.event.NodeEvent.{NodeEvent}
+use Rattle.pfl_node.specs.declared.event.NodeEvent.TheVariants as own
+use Rattle.pfl_node.specs.Stepping as stepping
+use Rattle.pfl_node.specs.Stepping.{NodeStepped, node_refusal, node_after}
 use Rattle.pfl_node.specs.Flushing.{flushed}
-use Rattle.pfl_node.specs.Ticking.{ticked}
-use Rattle.pfl_node.specs.Purging.{purged, purge_points, expired_states}
-use Rattle.pfl_node.specs.Releasing.{released_due, due_names}
+use Rattle.pfl_node.specs.Purging.{purged}
+use Rattle.pfl_node.specs.Releasing.{released_due}
 use Rattle.pfl_node.specs.Killing.{killed}
 use Rattle.pfl_node.specs.Clearing.{cleared}
 use Rattle.pfl_node.specs.Events.{restarted}
 use Rattle.pfl_node.specs.Turning as turning
-use Rattle.pfl_node.specs.Turning.{turn_of}
-use Rattle.pfl_node.specs.Retrying.{retried_client, retry_answer}
-use Rattle.pfl_node.specs.Packets.{handled, packet_points}
+use Rattle.pfl_node.specs.Retrying.{retried_client}
+use Rattle.pfl_node.specs.Packets.{handled}
 use Rattle.pfl_node.proofs.OneState.{handled-apart}
 use Rattle.pfl_receive.specs.Receiving.{taken}
 use Rattle.pfl_world.specs.declared.event.Event.{Event}
 use Rattle.pfl_world.specs.declared.event.Event.TheVariants as event
+use Rattle.pfl_world.specs.declared.event.FrameEvent.TheVariants as frame
 use Rattle.pfl_world.specs.Events.{step}
-use Rattle.pfl_world.specs.Outcomes as outcome
-use Rattle.pfl_world.specs.Outcomes.{Outcome, Stepped}
+use Rattle.pfl_world.specs.declared.outcome.Outcome.TheVariants as outcome
+use Rattle.pfl_world.specs.declared.outcome.Outcome.{Outcome}
+use Rattle.pfl_world.specs.Outcomes.{Stepped}
 use Rattle.pfl_world.specs.Runs.{after}
 use Rattle.pfl_world.specs.Steps as steps
 use Rattle.pfl_receive.specs.Delivering.{records_of, same_rules}
-use Rattle.pfl_world.specs.Steps.{answered, outcome_of, retry_outcome, packet_step, flush_refusal, sent_frame, flush_step, read_taken, deliver_step, lose_step, repeat_step, cut_step, tick_step, purge_step, release_step, kill_step, clear_step, restart_step, turn_step, retry_step}
+use Rattle.pfl_world.specs.Steps.{answered, from_node, flush_refusal, sent_frame, flush_step, read_taken, deliver_step, lose_step, repeat_step, cut_step, restart_step}
 use Rattle.pfl_world.specs.Worlds.{World, node_at, with_node, with_link}
-use Rattle.pfl_laws.specs.Laws.{IsEvent}
+use Rattle.pfl_laws.specs.Laws.{IsEvent, IsNodeEvent}
 use Rattle.pfl_laws.proofs.Following.{Alike, Follows, alike-follows, inner}
 use Rattle.pfl_laws.proofs.Keeping.{Keeps, keeps-as, keeps-itself}
 use Rattle.pfl_laws.proofs.Handling.{handled-keeps}
@@ -64,20 +66,11 @@ arrived w at (Some f) = node_at (with_node w f.to (received (node_at w f.to) (re
 
 -- each node after the event
 abbrev pub turned : World → Event → NodeId → Node
-turned w (event.Packet id dir p) at = node_at (with_node w id (handled (node_at w id) dir p).node) at
+turned w (event.At id e) at = node_at (with_node w id (node_after (node_at w id) e).node) at
 turned w (event.Flush id) at = node_at (with_node w id (flushed (node_at w id))) at
-turned w (event.Deliver ticket) at = arrived w at (maps.get w.link.frames ticket)
-turned w (event.Lose ticket) at = node_at w at
-turned w (event.Repeat ticket) at = node_at w at
-turned w (event.Cut ticket len) at = node_at w at
-turned w (event.Tick id ms) at = node_at (with_node w id (ticked (node_at w id) ms)) at
-turned w (event.Purge id) at = node_at (with_node w id (purged (node_at w id))) at
-turned w (event.Release id) at = node_at (with_node w id (released_due (node_at w id))) at
-turned w (event.Kill id name) at = node_at (with_node w id (killed (node_at w id) name)) at
-turned w (event.Clear id) at = node_at (with_node w id (cleared (node_at w id))) at
+turned w (event.Of ticket frame.Deliver) at = arrived w at (maps.get w.link.frames ticket)
+turned w (event.Of ticket e) at = node_at w at
 turned w (event.Restart id) at = node_at (with_node w id (restarted (node_at w id) w.next_boot)) at
-turned w (event.BulkTurn id) at = node_at (with_node w id (turning.turned (node_at w id))) at
-turned w (event.BulkRetry id) at = node_at (with_node w id (retried_client (node_at w id))) at
 
 -- the world after an event that is accepted
 pub answered-world : (o : Option Refusal) (s : Stepped) (v : World) → after (answered o s) ≡ Some v → s.world ≡ v
@@ -98,12 +91,10 @@ frame-node : (w : World) (frame : Option InFlight) (o : Option Refusal) (l : InF
 frame-node w None o l out v at e = absurd (some_is_none v (sym e))
 frame-node w (Some f) o l out v at e = link-node w (l f) at ∙ answered-node o (record { world = with_link w (l f); outcome = out f }) v at e
 
--- a state that is there is deleted, at its node
-killed-node : (w : World) (id : NodeId) (o : Option State) (v : World) (at : NodeId)
-    → after (option_map_or (steps.killed w id) o (Err NoSuchState)) ≡ Some v → node_at (with_node w id (option_map_or (deleted (node_at w id)) o (node_at w id))) at ≡ node_at v at
-killed-node w id None v at e = absurd (some_is_none v (sym e))
-killed-node w id (Some s) v at e =
-    answered-node (refused_by (full_tests (deleted (node_at w id) s ∷ []))) (record { world = with_node w id (deleted (node_at w id) s); outcome = outcome.Killed }) v at e
+-- a node takes the place that it was lent from
+pub own-world : (w : World) (id : NodeId) (o : Option Refusal) (s : NodeStepped) (v : World) → after (from_node w id (stepping.answered o s)) ≡ Some v → with_node w id s.node ≡ v
+own-world w id None s v e = inner (with_node w id s.node) v e
+own-world w id (Some r) s v e = absurd (some_is_none v (sym e))
 
 -- neither the link nor the next boot is a node's
 other-link : (w : World) (l : Link) (id : NodeId) (n : Node) (at : NodeId) → node_at (with_node w id n) at ≡ node_at (with_node (with_link w l) id n) at
@@ -136,47 +127,24 @@ arrived-node w ticket None v at e = absurd (some_is_none v (sym e))
 arrived-node w ticket (Some f) v at e = read-node w ticket f.to (reading f.bytes) v at e
 
 pub stepped-node : (w : World) (e : Event) (v : World) (at : NodeId) → after (step w e) ≡ Some v → turned w e at ≡ node_at v at
-unfolding step packet_step flush_step deliver_step lose_step repeat_step cut_step tick_step purge_step release_step kill_step clear_step restart_step turn_step retry_step
-stepped-node w (event.Packet id dir p) v at e =
-    answered-node (refused_by (full_tests (packet_points (node_at w id) dir p)))
-    (record { world = with_node w id (handled (node_at w id) dir p).node; outcome = outcome_of (handled (node_at w id) dir p).fate }) v at e
+unfolding step flush_step deliver_step lose_step repeat_step cut_step restart_step
+stepped-node w (event.At id e) v at is =
+    ap (λ (u : World). node_at u at) (own-world w id (node_refusal (node_at w id) e) (node_after (node_at w id) e) v is)
 stepped-node w (event.Flush id) v at e =
     link-node (with_node w id (flushed (node_at w id))) (sent w.link (sent_frame w id)) at
     ∙ answered-node (flush_refusal w id)
     (record { world = with_link (with_node w id (flushed (node_at w id))) (sent w.link (sent_frame w id)); outcome = outcome.Sent w.link.next (length (sent_frame w id).bytes) }) v at e
-stepped-node w (event.Deliver ticket) v at e = arrived-node w ticket (maps.get w.link.frames ticket) v at e
-stepped-node w (event.Lose ticket) v at e = frame-node w (maps.get w.link.frames ticket) None (λ f. without_frame w.link ticket) (λ f. outcome.Lost) v at e
-stepped-node w (event.Repeat ticket) v at e =
+stepped-node w (event.Of ticket frame.Deliver) v at e = arrived-node w ticket (maps.get w.link.frames ticket) v at e
+stepped-node w (event.Of ticket frame.Lose) v at e = frame-node w (maps.get w.link.frames ticket) None (λ f. without_frame w.link ticket) (λ f. outcome.Lost) v at e
+stepped-node w (event.Of ticket frame.Repeat) v at e =
     frame-node w (maps.get w.link.frames ticket) (refused_by ((is_full w.link, LinkFull) ∷ (is_counted_out w.link, CountFull) ∷ []))
     (λ f. sent w.link f) (λ f. outcome.Sent w.link.next (length f.bytes)) v at e
-stepped-node w (event.Cut ticket len) v at e =
+stepped-node w (event.Of ticket (frame.Cut len)) v at e =
     frame-node w (maps.get w.link.frames ticket) None (λ f. with_frame w.link ticket (cut_to f len)) (λ f. outcome.CutTo (length (cut_to f len).bytes)) v at e
-stepped-node w (event.Tick id ms) v at e =
-    answered-node (refused_by ((nat_lt last_millisecond ((node_at w id).clock + ms), ClockFull) ∷ []))
-    (record { world = with_node w id (ticked (node_at w id) ms); outcome = outcome.Clock ((node_at w id).clock + ms) }) v at e
-stepped-node w (event.Purge id) v at e =
-    answered-node (refused_by (full_tests (purge_points (node_at w id))))
-    (record { world = with_node w id (purged (node_at w id)); outcome = outcome.Purged (length (expired_states (node_at w id))) }) v at e
-stepped-node w (event.Release id) v at e =
-    let n = node_at w id in
-    answered-node (refused_by ((length n.held.list == 0, NothingPending) ∷ (is_overcounted (released_due n), CountFull) ∷ (length (due_names n) == 0, TooEarly) ∷ []))
-    (record { world = with_node w id (released_due n); outcome = outcome.Released (length (due_names n)) }) v at e
-stepped-node w (event.Kill id name) v at e = killed-node w id (maps.get (node_at w id).states name) v at e
-stepped-node w (event.Clear id) v at e =
-    let n = node_at w id in
-    answered-node (refused_by (full_tests (cleared n ∷ []))) (record { world = with_node w id (cleared n); outcome = outcome.Cleared (maps.len n.states) }) v at e
 stepped-node w (event.Restart id) v at e =
     let anew = with_node w id (restarted (node_at w id) w.next_boot) in
     other-boot anew (w.next_boot + 1) at
     ∙ answered-node (refused_by ((nat_le greatest w.next_boot, CountFull) ∷ [])) (record { world = record anew { next_boot = w.next_boot + 1 }; outcome = outcome.Boot w.next_boot }) v at e
-stepped-node w (event.BulkTurn id) v at e =
-    let n = node_at w id in
-    answered-node (refused_by ((not (is_serving n.server), NotSyncing) ∷ full_tests (turning.turned n ∷ [])))
-    (record { world = with_node w id (turning.turned n); outcome = outcome.Queued (length (turn_of n)) }) v at e
-stepped-node w (event.BulkRetry id) v at e =
-    let n = node_at w id in
-    answered-node (refused_by ((not (is_waiting n.client), NotSyncing) ∷ (not (is_due n.client n.limits.bulk_ms n.clock), TooEarly) ∷ (is_overfull (retried_client n), QueueFull) ∷ []))
-    (record { world = with_node w id (retried_client n); outcome = retry_outcome (retry_answer n) }) v at e
 
 -- one node of it is another one, and the other node stays
 put-keeps : (R : State → State → Type 0) (q : StateName) (w : World) (id : NodeId) (m : Node) (at : NodeId) → ((s : State) → R s s)
@@ -203,53 +171,58 @@ put-alike : (q : StateName) (w : World) (id : NodeId) (m : Node) (at : NodeId) �
 put-alike q w id m at keeps =
     put-keeps (Follows (Unit {0})) q w id m at itself (λ are given. keeps-as Alike (Follows (Unit {0})) q (node_at w id) m (alike-follows (Unit {0})) (keeps are))
 
+-- a node's own event
+after-alike : (q : StateName) (n m : Node) → Keeps Alike q n m → Keeps (Follows (Unit {0})) q n m
+after-alike q n m keeps = keeps-as Alike (Follows (Unit {0})) q n m (alike-follows (Unit {0})) keeps
+
+pub after-keeps : (q : StateName) (n : Node) (e : NodeEvent) → AreStates n.states → IsGiven n q → Keeps (Follows (IsNodeEvent e)) q n (node_after n e).node
+after-keeps q n (own.Packet dir p) are given = handled-keeps q n dir p are given
+after-keeps q n (own.Tick ms) are given = keeps-itself (Follows (Unit {0})) q n itself
+after-keeps q n own.Purge are given = after-alike q n (purged n) (purged-keeps q n)
+after-keeps q n own.Release are given = after-alike q n (released_due n) (released_due-keeps q n are)
+after-keeps q n (own.Kill name) are given = after-alike q n (killed n name) (killed-keeps q n name)
+after-keeps q n own.Clear are given = after-alike q n (cleared n) (cleared-keeps q n)
+after-keeps q n own.BulkTurn are given = after-alike q n (turning.turned n) (basis-keeps q n (turning.turned n) (turned-basis n))
+after-keeps q n own.BulkRetry are given = after-alike q n (retried_client n) (basis-keeps q n (retried_client n) (retried-basis n))
+
+pub after-apart : (n : Node) (e : NodeEvent) → AreStates n.states → AreStates (node_after n e).node.states
+after-apart n (own.Packet dir p) are = handled-apart n dir p are
+after-apart n (own.Tick ms) are = are
+after-apart n own.Purge are = purged-apart n are
+after-apart n own.Release are = released_due-apart n are
+after-apart n (own.Kill name) are = killed-apart n name are
+after-apart n own.Clear are = cleared-apart n are
+after-apart n own.BulkTurn are = basis-apart n (turning.turned n) (turned-basis n) are
+after-apart n own.BulkRetry are = basis-apart n (retried_client n) (retried-basis n) are
+
 -- a node does it for itself: no record of the peer's brings a state, and it stays in its boot
 abbrev pub IsLocal : Event → Type 0
-IsLocal (event.Deliver ticket) = ⊥
-IsLocal (event.Restart node) = ⊥
+IsLocal (event.Of ticket frame.Deliver) = ⊥
+IsLocal (event.Restart id) = ⊥
 IsLocal _ = Unit {0}
 
 pub turned-keeps : (q : StateName) (w : World) (e : Event) (at : NodeId) → IsLocal e → AreStates (node_at w at).states → IsGiven (node_at w at) q → Keeps (Follows (IsEvent e)) q (node_at w at) (turned w e at)
-turned-keeps q w (event.Packet id dir p) at local are given =
-    put-keeps (Follows (IsPacket p)) q w id (handled (node_at w id) dir p).node at (λ s. alike-follows (IsPacket p) s s refl) (handled-keeps q (node_at w id) dir p) are given
+turned-keeps q w (event.At id e) at local are given =
+    put-keeps (Follows (IsNodeEvent e)) q w id (node_after (node_at w id) e).node at (λ s. alike-follows (IsNodeEvent e) s s refl) (after-keeps q (node_at w id) e) are given
 turned-keeps q w (event.Flush id) at local are given = put-alike q w id (flushed (node_at w id)) at (flushed-keeps q (node_at w id)) are given
-turned-keeps q w (event.Deliver ticket) at local are given = absurd local
-turned-keeps q w (event.Lose ticket) at local are given = keeps-itself (Follows (Unit {0})) q (node_at w at) itself
-turned-keeps q w (event.Repeat ticket) at local are given = keeps-itself (Follows (Unit {0})) q (node_at w at) itself
-turned-keeps q w (event.Cut ticket len) at local are given = keeps-itself (Follows (Unit {0})) q (node_at w at) itself
-turned-keeps q w (event.Tick id ms) at local are given =
-    put-keeps (Follows (Unit {0})) q w id (ticked (node_at w id) ms) at itself (λ a g. keeps-itself (Follows (Unit {0})) q (node_at w id) itself) are given
-turned-keeps q w (event.Purge id) at local are given = put-alike q w id (purged (node_at w id)) at (λ a. purged-keeps q (node_at w id)) are given
-turned-keeps q w (event.Release id) at local are given = put-alike q w id (released_due (node_at w id)) at (released_due-keeps q (node_at w id)) are given
-turned-keeps q w (event.Kill id name) at local are given = put-alike q w id (killed (node_at w id) name) at (λ a. killed-keeps q (node_at w id) name) are given
-turned-keeps q w (event.Clear id) at local are given = put-alike q w id (cleared (node_at w id)) at (λ a. cleared-keeps q (node_at w id)) are given
+turned-keeps q w (event.Of ticket frame.Deliver) at local are given = absurd local
+turned-keeps q w (event.Of ticket frame.Lose) at local are given = keeps-itself (Follows (Unit {0})) q (node_at w at) itself
+turned-keeps q w (event.Of ticket frame.Repeat) at local are given = keeps-itself (Follows (Unit {0})) q (node_at w at) itself
+turned-keeps q w (event.Of ticket (frame.Cut len)) at local are given = keeps-itself (Follows (Unit {0})) q (node_at w at) itself
 turned-keeps q w (event.Restart id) at local are given = absurd local
-turned-keeps q w (event.BulkTurn id) at local are given =
-    let n = node_at w id in
-    put-alike q w id (turning.turned n) at (λ a. basis-keeps q n (turning.turned n) (turned-basis n)) are given
-turned-keeps q w (event.BulkRetry id) at local are given =
-    let n = node_at w id in
-    put-alike q w id (retried_client n) at (λ a. basis-keeps q n (retried_client n) (retried-basis n)) are given
 
 arrived-apart : (w : World) (at : NodeId) (o : Option InFlight) → AreStates (node_at w at).states → AreStates (arrived w at o).states
 arrived-apart w at None are = are
 arrived-apart w at (Some f) are = put-apart w f.to (received (node_at w f.to) (reading f.bytes)) at (received-apart (node_at w f.to) (reading f.bytes)) are
 
 pub turned-apart : (w : World) (e : Event) (at : NodeId) → AreStates (node_at w at).states → AreStates (turned w e at).states
-turned-apart w (event.Packet id dir p) at are = put-apart w id (handled (node_at w id) dir p).node at (handled-apart (node_at w id) dir p) are
+turned-apart w (event.At id e) at are = put-apart w id (node_after (node_at w id) e).node at (after-apart (node_at w id) e) are
 turned-apart w (event.Flush id) at are = put-apart w id (flushed (node_at w id)) at (flushed-apart (node_at w id)) are
-turned-apart w (event.Deliver ticket) at are = arrived-apart w at (maps.get w.link.frames ticket) are
-turned-apart w (event.Lose ticket) at are = are
-turned-apart w (event.Repeat ticket) at are = are
-turned-apart w (event.Cut ticket len) at are = are
-turned-apart w (event.Tick id ms) at are = put-apart w id (ticked (node_at w id) ms) at (λ a. a) are
-turned-apart w (event.Purge id) at are = put-apart w id (purged (node_at w id)) at (purged-apart (node_at w id)) are
-turned-apart w (event.Release id) at are = put-apart w id (released_due (node_at w id)) at (released_due-apart (node_at w id)) are
-turned-apart w (event.Kill id name) at are = put-apart w id (killed (node_at w id) name) at (killed-apart (node_at w id) name) are
-turned-apart w (event.Clear id) at are = put-apart w id (cleared (node_at w id)) at (cleared-apart (node_at w id)) are
+turned-apart w (event.Of ticket frame.Deliver) at are = arrived-apart w at (maps.get w.link.frames ticket) are
+turned-apart w (event.Of ticket frame.Lose) at are = are
+turned-apart w (event.Of ticket frame.Repeat) at are = are
+turned-apart w (event.Of ticket (frame.Cut len)) at are = are
 turned-apart w (event.Restart id) at are = put-apart w id (restarted (node_at w id) w.next_boot) at (λ a. restarted-apart (node_at w id) w.next_boot) are
-turned-apart w (event.BulkTurn id) at are = let n = node_at w id in put-apart w id (turning.turned n) at (basis-apart n (turning.turned n) (turned-basis n)) are
-turned-apart w (event.BulkRetry id) at are = let n = node_at w id in put-apart w id (retried_client n) at (basis-apart n (retried_client n) (retried-basis n)) are
 
 -- each state stands under its own name and keys after an event that is accepted
 pub stepped-apart : (w : World) (e : Event) (v : World) (at : NodeId) → after (step w e) ≡ Some v → AreStates (node_at w at).states → AreStates (node_at v at).states

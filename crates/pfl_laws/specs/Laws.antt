@@ -26,19 +26,17 @@ use Rattle.pfl_node.specs.declared.fate.Fate.TheVariants as fate
 use Rattle.pfl_parts.specs.declared.limits.Limits.{Limits}
 use Rattle.pfl_parts.specs.Nodes.{Node}
 use Rattle.pfl_parts.specs.Changes.{is_held, count_broken}
-use Rattle.pfl_node.specs.Ticking.{ticked}
+use Rattle.pfl_node.specs.declared.event.NodeEvent.{NodeEvent}
+use Rattle.pfl_node.specs.declared.event.NodeEvent.TheVariants as own
+use Rattle.pfl_node.specs.Stepping.{node_after}
 use Rattle.pfl_node.specs.Purging.{purge_points}
 use Rattle.pfl_node.specs.Flushing.{flushed}
-use Rattle.pfl_node.specs.Releasing.{released_due}
-use Rattle.pfl_node.specs.Killing.{killed}
-use Rattle.pfl_node.specs.Clearing.{cleared}
 use Rattle.pfl_node.specs.Events.{restarted}
-use Rattle.pfl_node.specs.Turning.{turned}
-use Rattle.pfl_node.specs.Retrying.{retried_client}
 use Rattle.pfl_node.specs.Packets.{handled, packet_points, before_rules}
 use Rattle.pfl_receive.specs.Receiving.{taken}
 use Rattle.pfl_world.specs.declared.event.Event.{Event}
 use Rattle.pfl_world.specs.declared.event.Event.TheVariants as event
+use Rattle.pfl_world.specs.declared.event.FrameEvent.TheVariants as frame
 use Rattle.pfl_world.specs.Events.{step}
 use Rattle.pfl_world.specs.Runs.{after, run}
 use Rattle.pfl_receive.specs.Delivering.{records_of, same_rules}
@@ -61,21 +59,20 @@ abbrev pub RecordsLowerNoLevel : Type 0
 RecordsLowerNoLevel = (n : Node) (same_rules : Bool) (m : Message) → AreStates n.states → LevelsRise n (taken n same_rules m)
 
 -- the packet of an event is one
+abbrev pub IsNodeEvent : NodeEvent → Type 0
+IsNodeEvent (own.Packet dir p) = IsPacket p
+IsNodeEvent _ = Unit {0}
+
+-- and so that of an event of the pair
 abbrev pub IsEvent : Event → Type 0
-IsEvent (event.Packet node dir p) = IsPacket p
-IsEvent (event.Flush node) = Unit {0}
-IsEvent (event.Deliver ticket) = Unit {0}
-IsEvent (event.Lose ticket) = Unit {0}
-IsEvent (event.Repeat ticket) = Unit {0}
-IsEvent (event.Cut ticket len) = Unit {0}
-IsEvent (event.Tick node ms) = Unit {0}
-IsEvent (event.Purge node) = Unit {0}
-IsEvent (event.Release node) = Unit {0}
-IsEvent (event.Kill node name) = Unit {0}
-IsEvent (event.Clear node) = Unit {0}
-IsEvent (event.Restart node) = Unit {0}
-IsEvent (event.BulkTurn node) = Unit {0}
-IsEvent (event.BulkRetry node) = Unit {0}
+IsEvent (event.At id e) = IsNodeEvent e
+IsEvent _ = Unit {0}
+
+-- the points that a node goes through at an event of its own
+abbrev pub node_points : Node → NodeEvent → List Node
+node_points n (own.Packet dir p) = packet_points n dir p
+node_points n own.Purge = purge_points n
+node_points n e = (node_after n e).node ∷ []
 
 -- the node after each record of a frame that it can read, or with one more counted that it cannot
 abbrev pub frame_points : Node → Result Frame BadFrame → List Node
@@ -88,20 +85,11 @@ arrival_points w at f = map (λ n. node_at (with_node w f.to n) at) (frame_point
 
 -- the points that an event goes through at one of the nodes: where the event is at the other node, that one stays as it was
 abbrev pub points_at : World → Event → NodeId → List Node
-points_at w (event.Packet id dir p) at = map (λ n. node_at (with_node w id n) at) (packet_points (node_at w id) dir p)
+points_at w (event.At id e) at = map (λ n. node_at (with_node w id n) at) (node_points (node_at w id) e)
 points_at w (event.Flush id) at = node_at (with_node w id (flushed (node_at w id))) at ∷ []
-points_at w (event.Deliver ticket) at = option_map_or (arrival_points w at) (maps.get w.link.frames ticket) []
-points_at w (event.Lose ticket) at = []
-points_at w (event.Repeat ticket) at = []
-points_at w (event.Cut ticket len) at = []
-points_at w (event.Tick id ms) at = node_at (with_node w id (ticked (node_at w id) ms)) at ∷ []
-points_at w (event.Purge id) at = map (λ n. node_at (with_node w id n) at) (purge_points (node_at w id))
-points_at w (event.Release id) at = node_at (with_node w id (released_due (node_at w id))) at ∷ []
-points_at w (event.Kill id name) at = node_at (with_node w id (killed (node_at w id) name)) at ∷ []
-points_at w (event.Clear id) at = node_at (with_node w id (cleared (node_at w id))) at ∷ []
+points_at w (event.Of ticket frame.Deliver) at = option_map_or (arrival_points w at) (maps.get w.link.frames ticket) []
+points_at w (event.Of ticket e) at = []
 points_at w (event.Restart id) at = node_at (with_node w id (restarted (node_at w id) w.next_boot)) at ∷ []
-points_at w (event.BulkTurn id) at = node_at (with_node w id (turned (node_at w id))) at ∷ []
-points_at w (event.BulkRetry id) at = node_at (with_node w id (retried_client (node_at w id))) at ∷ []
 
 -- the name has a state at the node
 abbrev pub HasState : StateName → Node → Type 0
@@ -110,7 +98,7 @@ HasState name n = IsSome (maps.get n.states name)
 -- the name has a state at the node after each record that a delivery brings; of the other events nothing is asked, since none of
 -- them brings a state back under a name that it took out
 abbrev pub StandsIn : World → Event → NodeId → StateName → Type 0
-StandsIn w (event.Deliver ticket) id name = All (HasState name) (points_at w (event.Deliver ticket) id)
+StandsIn w (event.Of ticket frame.Deliver) id name = All (HasState name) (points_at w (event.Of ticket frame.Deliver) id)
 StandsIn w _ id name = Unit {0}
 
 -- an event that is accepted lowers no level, at either node, of a state that was not removed in it
@@ -179,7 +167,7 @@ NoNameIsGivenTwice =
 
 -- a frame comes
 abbrev pub IsDelivery : Event → Type 0
-IsDelivery (event.Deliver ticket) = Unit {0}
+IsDelivery (event.Of ticket frame.Deliver) = Unit {0}
 IsDelivery _ = ⊥
 
 -- where a name has a state that had none, the node gives the name at the event, or a frame brings the state
@@ -312,24 +300,23 @@ FrameLetsOut id name f = (f.to ≡ id) × IsOkAnd (reading f.bytes) (λ frame. O
 abbrev pub LetsOldestGo : Fate → Deferrals → StateName → Type 0
 LetsOldestGo f held name = (s : StateName) × ((f ≡ fate.Held s) × IsSomeAnd (pushed_out held) (λ k. k.name ≡ name))
 
--- why an event at a node lets a packet go that is held there: a later packet of its state is accepted, a full list lets its oldest go, its
--- time has come at a release, its state is deleted or cleared, the peer tells of it, or the node begins anew; no other event does
+-- why a node's own event lets a packet go that is held there: a later packet of its state is accepted, a full list lets its oldest go,
+-- its time has come at a release, or its state is deleted or cleared; no other event of a node does
+abbrev pub NodeLetsGo : Node → Node → NodeEvent → Held → Type 0
+NodeLetsGo old new (own.Packet dir p) h =
+    ((handled old dir p).fate ≡ fate.Pass (Some h.name)) ⊎ (LetsOldestGo (handled old dir p).fate (asked_at old dir p).held h.name ⊎ (maps.get new.states h.name ≡ None))
+NodeLetsGo old new own.Purge h = maps.get new.states h.name ≡ None
+NodeLetsGo old new own.Release h = h.held_at + old.limits.defer_ms ≤ old.clock
+NodeLetsGo old new (own.Kill name) h = (name ≡ h.name) × (maps.get new.states h.name ≡ None)
+NodeLetsGo old new own.Clear h = maps.get new.states h.name ≡ None
+NodeLetsGo old new _ h = ⊥
+
+-- why an event lets it go: the node's own does, the peer tells of it, or the node begins anew; no other event does
 abbrev pub LetsGo : World → NodeId → Node → Node → Event → Held → Type 0
-LetsGo w id old new (event.Packet node dir p) h =
-    (node ≡ id) × (((handled old dir p).fate ≡ fate.Pass (Some h.name)) ⊎ (LetsOldestGo (handled old dir p).fate (asked_at old dir p).held h.name ⊎ (maps.get new.states h.name ≡ None)))
-LetsGo w id old new (event.Flush node) h = ⊥
-LetsGo w id old new (event.Deliver ticket) h = IsSomeAnd (maps.get w.link.frames ticket) (FrameLetsOut id h.name)
-LetsGo w id old new (event.Lose ticket) h = ⊥
-LetsGo w id old new (event.Repeat ticket) h = ⊥
-LetsGo w id old new (event.Cut ticket len) h = ⊥
-LetsGo w id old new (event.Tick node ms) h = ⊥
-LetsGo w id old new (event.Purge node) h = (node ≡ id) × (maps.get new.states h.name ≡ None)
-LetsGo w id old new (event.Release node) h = (node ≡ id) × (h.held_at + old.limits.defer_ms ≤ old.clock)
-LetsGo w id old new (event.Kill node name) h = (node ≡ id) × ((name ≡ h.name) × (maps.get new.states h.name ≡ None))
-LetsGo w id old new (event.Clear node) h = (node ≡ id) × (maps.get new.states h.name ≡ None)
-LetsGo w id old new (event.Restart node) h = node ≡ id
-LetsGo w id old new (event.BulkTurn node) h = ⊥
-LetsGo w id old new (event.BulkRetry node) h = ⊥
+LetsGo w id old new (event.At at e) h = (at ≡ id) × NodeLetsGo old new e h
+LetsGo w id old new (event.Of ticket frame.Deliver) h = IsSomeAnd (maps.get w.link.frames ticket) (FrameLetsOut id h.name)
+LetsGo w id old new (event.Restart at) h = at ≡ id
+LetsGo w id old new _ h = ⊥
 
 -- whatever event is accepted, a packet that was held is still held, since the same time, or was let go for such a reason
 abbrev pub HeldPacketsLeaveOnlySo : Type 0

@@ -2,7 +2,6 @@
 
 ghost use Rattle.std.specs.Prelude.{◌≡◌, ◌≤◌, ◌++◌, Some, length, IfErr, IfOk, IsOkAnd, IsSome, OnErr, OnOk};
 ghost use Rattle.pfl_world.specs.Events.{step, IsEventRefusal};
-ghost use Rattle.pfl_world.specs.Outcomes.{told};
 ghost use Rattle.pfl_world.specs.Runs.{after, run};
 ghost use Rattle.pfl_laws.specs.Reverting.{IsRefusalAlong};
 ghost use Rattle.pfl_laws.specs.inner.Reverting.{LeadsOn};
@@ -19,7 +18,7 @@ pub fn there_and_back<A: Allocator + Copy>(
 ) -> Result<Outcome, Refusal>
     ensures same { world.new ≡ world.old }
     ensures refused { IfErr result (IsEventRefusal world.old event.now) }
-    ensures outcome { IfOk result (λ answer. IsOkAnd (step world.old event.now) (λ s. s.outcome ≡ told answer)) }
+    ensures outcome { IfOk result (λ answer. IsOkAnd (step world.old event.now) (λ s. s.outcome ≡ answer)) }
 {
     let (outcome, change) = world.apply(event)?;
     world.revert(change);

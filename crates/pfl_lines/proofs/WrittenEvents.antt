@@ -15,7 +15,9 @@ use Rattle.pfl_base.specs.Numbers.{greatest}
 use Rattle.pfl_base.specs.Packets.{bad_packet, is_tcp, has_tcp_part, ports_fit, scale_too_large, syn, IsPacket}
 use Rattle.pfl_base.specs.Texts.{dir_text, name_text, node_text}
 use Rattle.pfl_world.specs.declared.event.Event.{Event}
+use Rattle.pfl_node.specs.declared.event.NodeEvent.TheVariants as own
 use Rattle.pfl_world.specs.declared.event.Event.TheVariants as events
+use Rattle.pfl_world.specs.declared.event.FrameEvent.TheVariants as frame
 use Rattle.pfl_lines.specs.declared.draft.EventDraft.{EventDraft}
 use Rattle.pfl_lines.specs.declared.draft.EventDraft.TheVariants as event_draft
 use Rattle.pfl_lines.specs.Commands.{packet_at, flush_at, deliver_at, lose_at, repeat_at, cut_at, tick_at, purge_at, release_at, kill_at, clear_at, restart_at, turn_at, retry_at, event_at, whole_event, packet_unless}
@@ -83,7 +85,7 @@ packet-is p is =
 
 -- what the words of an event give before its packet is judged
 abbrev pub draft_of : Event → EventDraft
-draft_of (events.Packet node dir p) = event_draft.Packet node dir p
+draft_of (events.At node (own.Packet dir p)) = event_draft.Packet node dir p
 draft_of e = event_draft.Whole e
 
 packet_reads : (node : NodeId) (dir : Dir) (p : PacketFields) → IsTyped p → packet_at (node_text node ∷ dir_text dir ∷ fields_words p) ≡ Ok (event_draft.Packet node dir p, [])
@@ -95,36 +97,36 @@ number n small = number-reads greatest n small (omega arith)
 
 pub event-reads : (e : Event) → IsEvent e → event_at (event_words e) ≡ Ok (draft_of e, [])
 unfolding event_at flush_at deliver_at lose_at repeat_at cut_at tick_at purge_at release_at kill_at clear_at restart_at turn_at retry_at
-event-reads (events.Packet node dir p) is = packet_reads node dir p is
+event-reads (events.At node (own.Packet dir p)) is = packet_reads node dir p is
 event-reads (events.Flush node) is = rw (node-reads node []) refl
-event-reads (events.Deliver ticket) is = rw (number ticket is) refl
-event-reads (events.Lose ticket) is = rw (number ticket is) refl
-event-reads (events.Repeat ticket) is = rw (number ticket is) refl
-event-reads (events.Cut ticket len) is = rw (number ticket is.0, number len is.1) refl
-event-reads (events.Tick node ms) is = rw (node-reads node (decimal ms ∷ []), number-reads 18446744073709551615 ms (omega arith) is) refl
-event-reads (events.Purge node) is = rw (node-reads node []) refl
-event-reads (events.Release node) is = rw (node-reads node []) refl
-event-reads (events.Kill node name) is = rw (node-reads node (name_text name ∷ []), name-reads name is) refl
-event-reads (events.Clear node) is = rw (node-reads node []) refl
+event-reads (events.Of ticket frame.Deliver) is = rw (number ticket is.0) refl
+event-reads (events.Of ticket frame.Lose) is = rw (number ticket is.0) refl
+event-reads (events.Of ticket frame.Repeat) is = rw (number ticket is.0) refl
+event-reads (events.Of ticket (frame.Cut len)) is = rw (number ticket is.0, number len is.1) refl
+event-reads (events.At node (own.Tick ms)) is = rw (node-reads node (decimal ms ∷ []), number-reads 18446744073709551615 ms (omega arith) is) refl
+event-reads (events.At node own.Purge) is = rw (node-reads node []) refl
+event-reads (events.At node own.Release) is = rw (node-reads node []) refl
+event-reads (events.At node (own.Kill name)) is = rw (node-reads node (name_text name ∷ []), name-reads name is) refl
+event-reads (events.At node own.Clear) is = rw (node-reads node []) refl
 event-reads (events.Restart node) is = rw (node-reads node []) refl
-event-reads (events.BulkTurn node) is = rw (node-reads node []) refl
-event-reads (events.BulkRetry node) is = rw (node-reads node []) refl
+event-reads (events.At node own.BulkTurn) is = rw (node-reads node []) refl
+event-reads (events.At node own.BulkRetry) is = rw (node-reads node []) refl
 
 pub whole-reads : (e : Event) → IsEvent e → whole_event (draft_of e) ≡ Ok e
-whole-reads (events.Packet node dir p) is = ap (packet_unless node dir p) (packet-is p is.packet)
+whole-reads (events.At node (own.Packet dir p)) is = ap (packet_unless node dir p) (packet-is p is.packet)
 whole-reads (events.Flush node) is = refl
-whole-reads (events.Deliver ticket) is = refl
-whole-reads (events.Lose ticket) is = refl
-whole-reads (events.Repeat ticket) is = refl
-whole-reads (events.Cut ticket len) is = refl
-whole-reads (events.Tick node ms) is = refl
-whole-reads (events.Purge node) is = refl
-whole-reads (events.Release node) is = refl
-whole-reads (events.Kill node name) is = refl
-whole-reads (events.Clear node) is = refl
+whole-reads (events.Of ticket frame.Deliver) is = refl
+whole-reads (events.Of ticket frame.Lose) is = refl
+whole-reads (events.Of ticket frame.Repeat) is = refl
+whole-reads (events.Of ticket (frame.Cut len)) is = refl
+whole-reads (events.At node (own.Tick ms)) is = refl
+whole-reads (events.At node own.Purge) is = refl
+whole-reads (events.At node own.Release) is = refl
+whole-reads (events.At node (own.Kill name)) is = refl
+whole-reads (events.At node own.Clear) is = refl
 whole-reads (events.Restart node) is = refl
-whole-reads (events.BulkTurn node) is = refl
-whole-reads (events.BulkRetry node) is = refl
+whole-reads (events.At node own.BulkTurn) is = refl
+whole-reads (events.At node own.BulkRetry) is = refl
 
 -- ---- the words of an event
 
@@ -156,33 +158,33 @@ name-plain name is =
     })
 
 abbrev pub event_bounds : Event → List ℕ
-event_bounds (events.Packet node dir p) = 6 ∷ 1 ∷ 3 ∷ fields_bounds p
+event_bounds (events.At node (own.Packet dir p)) = 6 ∷ 1 ∷ 3 ∷ fields_bounds p
 event_bounds (events.Flush node) = 5 ∷ 1 ∷ []
-event_bounds (events.Deliver ticket) = 7 ∷ 10 ∷ []
-event_bounds (events.Lose ticket) = 4 ∷ 10 ∷ []
-event_bounds (events.Repeat ticket) = 6 ∷ 10 ∷ []
-event_bounds (events.Cut ticket len) = 3 ∷ 10 ∷ 10 ∷ []
-event_bounds (events.Tick node ms) = 4 ∷ 1 ∷ 20 ∷ []
-event_bounds (events.Purge node) = 5 ∷ 1 ∷ []
-event_bounds (events.Release node) = 7 ∷ 1 ∷ []
-event_bounds (events.Kill node name) = 4 ∷ 1 ∷ 31 ∷ []
-event_bounds (events.Clear node) = 5 ∷ 1 ∷ []
+event_bounds (events.Of ticket frame.Deliver) = 7 ∷ 10 ∷ []
+event_bounds (events.Of ticket frame.Lose) = 4 ∷ 10 ∷ []
+event_bounds (events.Of ticket frame.Repeat) = 6 ∷ 10 ∷ []
+event_bounds (events.Of ticket (frame.Cut len)) = 3 ∷ 10 ∷ 10 ∷ []
+event_bounds (events.At node (own.Tick ms)) = 4 ∷ 1 ∷ 20 ∷ []
+event_bounds (events.At node own.Purge) = 5 ∷ 1 ∷ []
+event_bounds (events.At node own.Release) = 7 ∷ 1 ∷ []
+event_bounds (events.At node (own.Kill name)) = 4 ∷ 1 ∷ 31 ∷ []
+event_bounds (events.At node own.Clear) = 5 ∷ 1 ∷ []
 event_bounds (events.Restart node) = 7 ∷ 1 ∷ []
-event_bounds (events.BulkTurn node) = 4 ∷ 1 ∷ []
-event_bounds (events.BulkRetry node) = 5 ∷ 1 ∷ []
+event_bounds (events.At node own.BulkTurn) = 4 ∷ 1 ∷ []
+event_bounds (events.At node own.BulkRetry) = 5 ∷ 1 ∷ []
 
 pub event-plain : (e : Event) → IsEvent e → ArePlain (event_bounds e) (event_words e)
-event-plain (events.Packet node dir p) is = (plain-is 6 (codes "packet") refl, (node-plain node, (dir-plain dir, fields-plain p is)))
+event-plain (events.At node (own.Packet dir p)) is = (plain-is 6 (codes "packet") refl, (node-plain node, (dir-plain dir, fields-plain p is)))
 event-plain (events.Flush node) is = (plain-is 5 (codes "flush") refl, (node-plain node, tt))
-event-plain (events.Deliver ticket) is = (plain-is 7 (codes "deliver") refl, (number_plain ticket is, tt))
-event-plain (events.Lose ticket) is = (plain-is 4 (codes "lose") refl, (number_plain ticket is, tt))
-event-plain (events.Repeat ticket) is = (plain-is 6 (codes "repeat") refl, (number_plain ticket is, tt))
-event-plain (events.Cut ticket len) is = (plain-is 3 (codes "cut") refl, (number_plain ticket is.0, (number_plain len is.1, tt)))
-event-plain (events.Tick node ms) is = (plain-is 4 (codes "tick") refl, (node-plain node, (long_plain ms is, tt)))
-event-plain (events.Purge node) is = (plain-is 5 (codes "purge") refl, (node-plain node, tt))
-event-plain (events.Release node) is = (plain-is 7 (codes "release") refl, (node-plain node, tt))
-event-plain (events.Kill node name) is = (plain-is 4 (codes "kill") refl, (node-plain node, (name-plain name is, tt)))
-event-plain (events.Clear node) is = (plain-is 5 (codes "clear") refl, (node-plain node, tt))
+event-plain (events.Of ticket frame.Deliver) is = (plain-is 7 (codes "deliver") refl, (number_plain ticket is.0, tt))
+event-plain (events.Of ticket frame.Lose) is = (plain-is 4 (codes "lose") refl, (number_plain ticket is.0, tt))
+event-plain (events.Of ticket frame.Repeat) is = (plain-is 6 (codes "repeat") refl, (number_plain ticket is.0, tt))
+event-plain (events.Of ticket (frame.Cut len)) is = (plain-is 3 (codes "cut") refl, (number_plain ticket is.0, (number_plain len is.1, tt)))
+event-plain (events.At node (own.Tick ms)) is = (plain-is 4 (codes "tick") refl, (node-plain node, (long_plain ms is, tt)))
+event-plain (events.At node own.Purge) is = (plain-is 5 (codes "purge") refl, (node-plain node, tt))
+event-plain (events.At node own.Release) is = (plain-is 7 (codes "release") refl, (node-plain node, tt))
+event-plain (events.At node (own.Kill name)) is = (plain-is 4 (codes "kill") refl, (node-plain node, (name-plain name is, tt)))
+event-plain (events.At node own.Clear) is = (plain-is 5 (codes "clear") refl, (node-plain node, tt))
 event-plain (events.Restart node) is = (plain-is 7 (codes "restart") refl, (node-plain node, tt))
-event-plain (events.BulkTurn node) is = (plain-is 4 (codes "turn") refl, (node-plain node, tt))
-event-plain (events.BulkRetry node) is = (plain-is 5 (codes "retry") refl, (node-plain node, tt))
+event-plain (events.At node own.BulkTurn) is = (plain-is 4 (codes "turn") refl, (node-plain node, tt))
+event-plain (events.At node own.BulkRetry) is = (plain-is 5 (codes "retry") refl, (node-plain node, tt))

@@ -5,7 +5,9 @@ use Rattle.std.specs.List.{list_all, join_with_byte}
 use Rattle.pfl_base.specs.declared.proto.Proto.{Proto}
 use Rattle.pfl_base.specs.declared.proto.Proto.TheVariants.{Tcp, Udp, Icmp, Other}
 use Rattle.pfl_world.specs.declared.event.Event.{Event}
+use Rattle.pfl_node.specs.declared.event.NodeEvent.TheVariants as own
 use Rattle.pfl_world.specs.declared.event.Event.TheVariants as events
+use Rattle.pfl_world.specs.declared.event.FrameEvent.TheVariants as frame
 use Rattle.pfl_timeline.specs.declared.command.Command.TheVariants as commands
 use Rattle.pfl_timeline.specs.Timelines.{is_letter, is_name_byte, is_branch_name}
 use Rattle.pfl_lines.specs.Commands.{step_at, command_at, command_of, whole_step, parsed}
@@ -56,20 +58,20 @@ join-next w [] some = absurd (omega arith)
 join-next w (v ∷ ws) some = refl
 
 some_words : (e : Event) → 0 < length (event_words e)
-some_words (events.Packet node dir p) = omega arith
+some_words (events.At node (own.Packet dir p)) = omega arith
 some_words (events.Flush node) = omega arith
-some_words (events.Deliver ticket) = omega arith
-some_words (events.Lose ticket) = omega arith
-some_words (events.Repeat ticket) = omega arith
-some_words (events.Cut ticket len) = omega arith
-some_words (events.Tick node ms) = omega arith
-some_words (events.Purge node) = omega arith
-some_words (events.Release node) = omega arith
-some_words (events.Kill node name) = omega arith
-some_words (events.Clear node) = omega arith
+some_words (events.Of ticket frame.Deliver) = omega arith
+some_words (events.Of ticket frame.Lose) = omega arith
+some_words (events.Of ticket frame.Repeat) = omega arith
+some_words (events.Of ticket (frame.Cut len)) = omega arith
+some_words (events.At node (own.Tick ms)) = omega arith
+some_words (events.At node own.Purge) = omega arith
+some_words (events.At node own.Release) = omega arith
+some_words (events.At node (own.Kill name)) = omega arith
+some_words (events.At node own.Clear) = omega arith
 some_words (events.Restart node) = omega arith
-some_words (events.BulkTurn node) = omega arith
-some_words (events.BulkRetry node) = omega arith
+some_words (events.At node own.BulkTurn) = omega arith
+some_words (events.At node own.BulkRetry) = omega arith
 
 abbrev step_words : List ℕ → Event → List (List ℕ)
 step_words name e = codes "step" ∷ name ∷ event_words e
@@ -89,20 +91,20 @@ segment_room Icmp scale = omega arith
 segment_room (Other n) scale = omega arith
 
 event_room : (e : Event) → room (event_bounds e) ≤ 400
-event_room (events.Packet node dir p) = let h : room (segment_bounds p.proto p.scale) ≤ 44 = segment_room p.proto p.scale in omega arith
+event_room (events.At node (own.Packet dir p)) = let h : room (segment_bounds p.proto p.scale) ≤ 44 = segment_room p.proto p.scale in omega arith
 event_room (events.Flush node) = omega arith
-event_room (events.Deliver ticket) = omega arith
-event_room (events.Lose ticket) = omega arith
-event_room (events.Repeat ticket) = omega arith
-event_room (events.Cut ticket len) = omega arith
-event_room (events.Tick node ms) = omega arith
-event_room (events.Purge node) = omega arith
-event_room (events.Release node) = omega arith
-event_room (events.Kill node name) = omega arith
-event_room (events.Clear node) = omega arith
+event_room (events.Of ticket frame.Deliver) = omega arith
+event_room (events.Of ticket frame.Lose) = omega arith
+event_room (events.Of ticket frame.Repeat) = omega arith
+event_room (events.Of ticket (frame.Cut len)) = omega arith
+event_room (events.At node (own.Tick ms)) = omega arith
+event_room (events.At node own.Purge) = omega arith
+event_room (events.At node own.Release) = omega arith
+event_room (events.At node (own.Kill name)) = omega arith
+event_room (events.At node own.Clear) = omega arith
 event_room (events.Restart node) = omega arith
-event_room (events.BulkTurn node) = omega arith
-event_room (events.BulkRetry node) = omega arith
+event_room (events.At node own.BulkTurn) = omega arith
+event_room (events.At node own.BulkRetry) = omega arith
 
 -- ---- the command
 

@@ -8,7 +8,9 @@ use Rattle.pfl_base.specs.declared.fields.BadPacket.{BadPacket}
 use Rattle.pfl_base.specs.Numbers.{greatest}
 use Rattle.pfl_base.specs.Packets.{bad_packet}
 use Rattle.pfl_world.specs.declared.event.Event.{Event}
+use Rattle.pfl_node.specs.declared.event.NodeEvent.TheVariants as own
 use Rattle.pfl_world.specs.declared.event.Event.TheVariants as events
+use Rattle.pfl_world.specs.declared.event.FrameEvent.TheVariants as frame
 use Rattle.pfl_timeline.specs.declared.command.Command.{Command}
 use Rattle.pfl_timeline.specs.declared.command.Command.TheVariants as commands
 use Rattle.pfl_lines.specs.declared.fault.LineFault.{LineFault}
@@ -46,58 +48,58 @@ ticket_at ws = number_at greatest ws
 unfoldable pub deliver_at : List (List ℕ) → Reading EventDraft
 deliver_at ws = do
   ticket ← ticket_at ws
-  Ok (event_draft.Whole (events.Deliver ticket.0), ticket.1)
+  Ok (event_draft.Whole (events.Of ticket.0 frame.Deliver), ticket.1)
 
 -- TICKET
 unfoldable pub lose_at : List (List ℕ) → Reading EventDraft
 lose_at ws = do
   ticket ← ticket_at ws
-  Ok (event_draft.Whole (events.Lose ticket.0), ticket.1)
+  Ok (event_draft.Whole (events.Of ticket.0 frame.Lose), ticket.1)
 
 -- TICKET
 unfoldable pub repeat_at : List (List ℕ) → Reading EventDraft
 repeat_at ws = do
   ticket ← ticket_at ws
-  Ok (event_draft.Whole (events.Repeat ticket.0), ticket.1)
+  Ok (event_draft.Whole (events.Of ticket.0 frame.Repeat), ticket.1)
 
 -- TICKET LEN
 unfoldable pub cut_at : List (List ℕ) → Reading EventDraft
 cut_at ws = do
   ticket ← ticket_at ws
   len ← number_at greatest ticket.1
-  Ok (event_draft.Whole (events.Cut ticket.0 len.0), len.1)
+  Ok (event_draft.Whole (events.Of ticket.0 (frame.Cut len.0)), len.1)
 
 -- NODE MS
 unfoldable pub tick_at : List (List ℕ) → Reading EventDraft
 tick_at ws = do
   node ← node_at ws
   ms ← number_at 18446744073709551615 node.1
-  Ok (event_draft.Whole (events.Tick node.0 ms.0), ms.1)
+  Ok (event_draft.Whole (events.At node.0 (own.Tick ms.0)), ms.1)
 
 -- NODE
 unfoldable pub purge_at : List (List ℕ) → Reading EventDraft
 purge_at ws = do
   node ← node_at ws
-  Ok (event_draft.Whole (events.Purge node.0), node.1)
+  Ok (event_draft.Whole (events.At node.0 own.Purge), node.1)
 
 -- NODE
 unfoldable pub release_at : List (List ℕ) → Reading EventDraft
 release_at ws = do
   node ← node_at ws
-  Ok (event_draft.Whole (events.Release node.0), node.1)
+  Ok (event_draft.Whole (events.At node.0 own.Release), node.1)
 
 -- NODE NAME
 unfoldable pub kill_at : List (List ℕ) → Reading EventDraft
 kill_at ws = do
   node ← node_at ws
   name ← name_at node.1
-  Ok (event_draft.Whole (events.Kill node.0 name.0), name.1)
+  Ok (event_draft.Whole (events.At node.0 (own.Kill name.0)), name.1)
 
 -- NODE
 unfoldable pub clear_at : List (List ℕ) → Reading EventDraft
 clear_at ws = do
   node ← node_at ws
-  Ok (event_draft.Whole (events.Clear node.0), node.1)
+  Ok (event_draft.Whole (events.At node.0 own.Clear), node.1)
 
 -- NODE
 unfoldable pub restart_at : List (List ℕ) → Reading EventDraft
@@ -109,13 +111,13 @@ restart_at ws = do
 unfoldable pub turn_at : List (List ℕ) → Reading EventDraft
 turn_at ws = do
   node ← node_at ws
-  Ok (event_draft.Whole (events.BulkTurn node.0), node.1)
+  Ok (event_draft.Whole (events.At node.0 own.BulkTurn), node.1)
 
 -- NODE
 unfoldable pub retry_at : List (List ℕ) → Reading EventDraft
 retry_at ws = do
   node ← node_at ws
-  Ok (event_draft.Whole (events.BulkRetry node.0), node.1)
+  Ok (event_draft.Whole (events.At node.0 own.BulkRetry), node.1)
 
 -- what belongs to the word of an event that happens at a node by itself
 abbrev pub own_event_by : List ℕ → List (List ℕ) → Reading EventDraft
@@ -240,7 +242,7 @@ finished (x, word ∷ ws) = Err faults.Extra
 
 -- a packet is one, unless its fields have a fault
 abbrev pub packet_unless : NodeId → Dir → PacketFields → Option BadPacket → Result Event LineFault
-packet_unless node dir fields None = Ok (events.Packet node dir fields)
+packet_unless node dir fields None = Ok (events.At node (own.Packet dir fields))
 packet_unless node dir fields (Some why) = Err (faults.Packet why)
 
 -- the event, once its packet is judged

@@ -9,7 +9,11 @@ use Rattle.pfl_base.specs.Ends.{proto_number}
 use Rattle.pfl_base.specs.Numbers.{greatest}
 use Rattle.pfl_base.specs.Packets.{IsPacket}
 use Rattle.pfl_world.specs.declared.event.Event.{Event}
+use Rattle.pfl_node.specs.declared.event.NodeEvent.{NodeEvent}
+use Rattle.pfl_node.specs.declared.event.NodeEvent.TheVariants as own
 use Rattle.pfl_world.specs.declared.event.Event.TheVariants as events
+use Rattle.pfl_world.specs.declared.event.FrameEvent.{FrameEvent}
+use Rattle.pfl_world.specs.declared.event.FrameEvent.TheVariants as frame
 use Rattle.pfl_timeline.specs.declared.command.Command.TheVariants as commands
 use Rattle.pfl_timeline.specs.Timelines.{is_branch_name}
 use Rattle.pfl_lines.specs.Commands.{parsed}
@@ -43,15 +47,22 @@ pub record IsStateName (name : StateName) : Type 0 where
   pub creator : name.creator ≤ greatest
   pub id : name.id < 2 ^ 64
 
+-- an event of a node
+abbrev pub IsNodeEvent : NodeEvent → Type 0
+IsNodeEvent (own.Packet dir p) = IsTyped p
+IsNodeEvent (own.Tick ms) = ms < 2 ^ 64
+IsNodeEvent (own.Kill name) = IsStateName name
+IsNodeEvent _ = ⊤
+
+-- an event of a frame
+abbrev pub IsFrameEvent : FrameEvent → Type 0
+IsFrameEvent (frame.Cut len) = len ≤ greatest
+IsFrameEvent _ = ⊤
+
 -- an event
 abbrev pub IsEvent : Event → Type 0
-IsEvent (events.Packet node dir p) = IsTyped p
-IsEvent (events.Deliver ticket) = ticket ≤ greatest
-IsEvent (events.Lose ticket) = ticket ≤ greatest
-IsEvent (events.Repeat ticket) = ticket ≤ greatest
-IsEvent (events.Cut ticket len) = (ticket ≤ greatest) × (len ≤ greatest)
-IsEvent (events.Tick node ms) = ms < 2 ^ 64
-IsEvent (events.Kill node name) = IsStateName name
+IsEvent (events.At node e) = IsNodeEvent e
+IsEvent (events.Of ticket e) = (ticket ≤ greatest) × IsFrameEvent e
 IsEvent _ = ⊤
 
 -- ---- laws

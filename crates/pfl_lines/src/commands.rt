@@ -11,12 +11,27 @@ use crate::fault::LineFault;
 use crate::packets::fields_at;
 use crate::parts::{branch_at, dir_at, name_at, node_at, number_at};
 use crate::words::{is_word, try_read, word_at};
-use pfl_base::{GREATEST_NUMBER, Packet};
+use pfl_base::{GREATEST_NUMBER, NodeId, Packet};
+use pfl_node::NodeEvent;
 use pfl_timeline::{BranchWord, Command};
-use pfl_world::Event;
+use pfl_world::{Event, FrameEvent};
 
 /// The most bytes of a line, its end not counted.
 pub const LONGEST: usize = 512;
+
+/// What happens at a node by itself, but for a packet.
+fn at_node(node: NodeId, event: NodeEvent) -> EventDraft
+    ensures { result ≡ EventDraft.Whole (Event.At node event) }
+{
+    EventDraft::Whole(Event::At { node, event })
+}
+
+/// What happens to a frame in flight.
+fn of_frame(ticket: u32, event: FrameEvent) -> EventDraft
+    ensures { result ≡ EventDraft.Whole (Event.Of ticket event) }
+{
+    EventDraft::Whole(Event::Of { ticket, event })
+}
 
 /// `NODE in|out`, and a packet's fields.
 #[tactic(auto, unfolding(crate::specs::Commands::packet_at))]
@@ -52,7 +67,7 @@ fn deliver_at(line: &[u8]) -> Result<(EventDraft, &[u8]), LineFault>
     ensures { Gives (λ x. (x.0, words x.1.now)) result (deliver_at (words line.now)) }
 {
     let (ticket, rest) = ticket_at(line)?;
-    Ok((EventDraft::Whole(Event::Deliver { ticket }), rest))
+    Ok((of_frame(ticket, FrameEvent::Deliver), rest))
 }
 
 /// `TICKET`.
@@ -61,7 +76,7 @@ fn lose_at(line: &[u8]) -> Result<(EventDraft, &[u8]), LineFault>
     ensures { Gives (λ x. (x.0, words x.1.now)) result (lose_at (words line.now)) }
 {
     let (ticket, rest) = ticket_at(line)?;
-    Ok((EventDraft::Whole(Event::Lose { ticket }), rest))
+    Ok((of_frame(ticket, FrameEvent::Lose), rest))
 }
 
 /// `TICKET`.
@@ -70,7 +85,7 @@ fn repeat_at(line: &[u8]) -> Result<(EventDraft, &[u8]), LineFault>
     ensures { Gives (λ x. (x.0, words x.1.now)) result (repeat_at (words line.now)) }
 {
     let (ticket, rest) = ticket_at(line)?;
-    Ok((EventDraft::Whole(Event::Repeat { ticket }), rest))
+    Ok((of_frame(ticket, FrameEvent::Repeat), rest))
 }
 
 /// `TICKET LEN`.
@@ -81,7 +96,7 @@ fn cut_at(line: &[u8]) -> Result<(EventDraft, &[u8]), LineFault>
     let (ticket, rest) = ticket_at(line)?;
     let (len, rest) = number_at(rest, GREATEST_NUMBER)?;
     let len = len as u32;
-    Ok((EventDraft::Whole(Event::Cut { ticket, len }), rest))
+    Ok((of_frame(ticket, FrameEvent::Cut { len }), rest))
 }
 
 /// `NODE MS`.
@@ -91,7 +106,7 @@ fn tick_at(line: &[u8]) -> Result<(EventDraft, &[u8]), LineFault>
 {
     let (node, rest) = node_at(line)?;
     let (ms, rest) = number_at(rest, u64::MAX)?;
-    Ok((EventDraft::Whole(Event::Tick { node, ms }), rest))
+    Ok((at_node(node, NodeEvent::Tick { ms }), rest))
 }
 
 /// `NODE`.
@@ -100,7 +115,7 @@ fn purge_at(line: &[u8]) -> Result<(EventDraft, &[u8]), LineFault>
     ensures { Gives (λ x. (x.0, words x.1.now)) result (purge_at (words line.now)) }
 {
     let (node, rest) = node_at(line)?;
-    Ok((EventDraft::Whole(Event::Purge { node }), rest))
+    Ok((at_node(node, NodeEvent::Purge), rest))
 }
 
 /// `NODE`.
@@ -109,7 +124,7 @@ fn release_at(line: &[u8]) -> Result<(EventDraft, &[u8]), LineFault>
     ensures { Gives (λ x. (x.0, words x.1.now)) result (release_at (words line.now)) }
 {
     let (node, rest) = node_at(line)?;
-    Ok((EventDraft::Whole(Event::Release { node }), rest))
+    Ok((at_node(node, NodeEvent::Release), rest))
 }
 
 /// `NODE NAME`.
@@ -119,7 +134,7 @@ fn kill_at(line: &[u8]) -> Result<(EventDraft, &[u8]), LineFault>
 {
     let (node, rest) = node_at(line)?;
     let (name, rest) = name_at(rest)?;
-    Ok((EventDraft::Whole(Event::Kill { node, name }), rest))
+    Ok((at_node(node, NodeEvent::Kill { name }), rest))
 }
 
 /// `NODE`.
@@ -128,7 +143,7 @@ fn clear_at(line: &[u8]) -> Result<(EventDraft, &[u8]), LineFault>
     ensures { Gives (λ x. (x.0, words x.1.now)) result (clear_at (words line.now)) }
 {
     let (node, rest) = node_at(line)?;
-    Ok((EventDraft::Whole(Event::Clear { node }), rest))
+    Ok((at_node(node, NodeEvent::Clear), rest))
 }
 
 /// `NODE`.
@@ -146,7 +161,7 @@ fn turn_at(line: &[u8]) -> Result<(EventDraft, &[u8]), LineFault>
     ensures { Gives (λ x. (x.0, words x.1.now)) result (turn_at (words line.now)) }
 {
     let (node, rest) = node_at(line)?;
-    Ok((EventDraft::Whole(Event::BulkTurn { node }), rest))
+    Ok((at_node(node, NodeEvent::BulkTurn), rest))
 }
 
 /// `NODE`.
@@ -155,7 +170,7 @@ fn retry_at(line: &[u8]) -> Result<(EventDraft, &[u8]), LineFault>
     ensures { Gives (λ x. (x.0, words x.1.now)) result (retry_at (words line.now)) }
 {
     let (node, rest) = node_at(line)?;
-    Ok((EventDraft::Whole(Event::BulkRetry { node }), rest))
+    Ok((at_node(node, NodeEvent::BulkRetry), rest))
 }
 
 /// What belongs to the word of an event that happens at a node by itself.
@@ -374,7 +389,10 @@ fn whole_event(draft: EventDraft) -> Result<Event, LineFault>
 {
     match draft {
         EventDraft::Packet { node, dir, fields } => match Packet::of(fields) {
-            Ok(packet) => Ok(Event::Packet { node, dir, packet }),
+            Ok(packet) => Ok(Event::At {
+                node,
+                event: NodeEvent::Packet { dir, packet },
+            }),
             Err(why) => Err(LineFault::Packet(why)),
         },
         EventDraft::Whole(event) => Ok(event),

@@ -2,11 +2,12 @@
 
 ghost use Rattle.std.specs.Prelude.{◌≡◌, Some, [], ◌∷◌, if◌then◌else◌};
 ghost use Rattle.std.specs.List.{join_with_byte};
-ghost use Rattle.pfl_lines.specs.Laws.{IsAddr, IsEnd, IsEvent, IsStateName, IsTyped};
-ghost use Rattle.pfl_lines.specs.Written.{flags_text, tcp_words, packet_text, event_text};
+ghost use Rattle.pfl_lines.specs.Laws.{IsAddr, IsEnd, IsEvent, IsFrameEvent, IsNodeEvent, IsStateName, IsTyped};
+ghost use Rattle.pfl_lines.specs.Written.{flags_text, tcp_words, packet_text, own_words, frame_words, event_text};
 
-use pfl_base::{Addr, End, Packet, PacketFields, Proto, StateName, TcpFlags};
-use pfl_world::Event;
+use pfl_base::{Addr, End, NodeId, Packet, PacketFields, Proto, StateName, TcpFlags};
+use pfl_node::NodeEvent;
+use pfl_world::{Event, FrameEvent};
 use std::fmt;
 
 /// A letter that prints only if its flag is set.
@@ -152,25 +153,91 @@ fn known_packet(packet: Packet)
     known_end(dst);
 }
 
+/// What an event of a node is.
+fn known_own(event: NodeEvent)
+    ensures { IsNodeEvent event }
+{
+    match event {
+        NodeEvent::Packet { packet, .. } => known_packet(packet),
+        NodeEvent::Tick { ms } => {
+            let _ms = ms;
+        }
+        NodeEvent::Kill { name } => known_name(name),
+        _ => {}
+    }
+}
+
+/// What an event of a frame is.
+fn known_frame(event: FrameEvent)
+    ensures { IsFrameEvent event }
+{
+    if let FrameEvent::Cut { len } = event {
+        let _len = len;
+    }
+}
+
 impl EventWords {
     /// Tells a proof what is true of each event. It does nothing.
     pub fn known(&self)
         ensures event { IsEvent self.now.0 }
     {
         match self.0 {
-            Event::Packet { packet, .. } => known_packet(packet),
-            Event::Deliver { ticket } | Event::Lose { ticket } | Event::Repeat { ticket } => {
+            Event::At { event, .. } => known_own(event),
+            Event::Of { ticket, event } => {
                 let _ticket = ticket;
+                known_frame(event);
             }
-            Event::Cut { ticket, len } => {
-                let _ticket = ticket;
-                let _len = len;
+            Event::Flush { .. } | Event::Restart { .. } => {}
+        }
+    }
+}
+
+/// An event of a node.
+#[derive(Clone, Copy)]
+struct OwnWords {
+    node: NodeId,
+    event: NodeEvent,
+}
+
+impl fmt::Display for OwnWords {
+    ghost output = { λ words. Some (join_with_byte 32 (own_words words.node words.event)) };
+
+    #[tactic(auto, unfolding(crate::specs::Written::packet_text))]
+    fn fmt<W: fmt::Write>(&self, f: &mut fmt::Formatter<W>) -> fmt::Result {
+        let node = self.node;
+        match self.event {
+            NodeEvent::Packet { dir, packet } => {
+                let packet = PacketWords(packet);
+                write!(f, "packet {node} {dir} {packet}")
             }
-            Event::Tick { ms, .. } => {
-                let _ms = ms;
-            }
-            Event::Kill { name, .. } => known_name(name),
-            _ => {}
+            NodeEvent::Tick { ms } => write!(f, "tick {node} {ms}"),
+            NodeEvent::Purge => write!(f, "purge {node}"),
+            NodeEvent::Release => write!(f, "release {node}"),
+            NodeEvent::Kill { name } => write!(f, "kill {node} {name}"),
+            NodeEvent::Clear => write!(f, "clear {node}"),
+            NodeEvent::BulkTurn => write!(f, "turn {node}"),
+            NodeEvent::BulkRetry => write!(f, "retry {node}"),
+        }
+    }
+}
+
+/// An event of a frame in flight.
+#[derive(Clone, Copy)]
+struct FrameWords {
+    ticket: u32,
+    event: FrameEvent,
+}
+
+impl fmt::Display for FrameWords {
+    ghost output = { λ words. Some (join_with_byte 32 (frame_words words.ticket words.event)) };
+
+    fn fmt<W: fmt::Write>(&self, f: &mut fmt::Formatter<W>) -> fmt::Result {
+        let ticket = self.ticket;
+        match self.event {
+            FrameEvent::Deliver => write!(f, "deliver {ticket}"),
+            FrameEvent::Lose => write!(f, "lose {ticket}"),
+            FrameEvent::Repeat => write!(f, "repeat {ticket}"),
+            FrameEvent::Cut { len } => write!(f, "cut {ticket} {len}"),
         }
     }
 }
@@ -178,26 +245,19 @@ impl EventWords {
 impl fmt::Display for EventWords {
     ghost output = { λ words. Some (event_text words.0) };
 
-    #[tactic(auto, unfolding(crate::specs::Written::event_text, crate::specs::Written::packet_text))]
+    #[tactic(auto, unfolding(crate::specs::Written::event_text))]
     fn fmt<W: fmt::Write>(&self, f: &mut fmt::Formatter<W>) -> fmt::Result {
         match self.0 {
-            Event::Packet { node, dir, packet } => {
-                let packet = PacketWords(packet);
-                write!(f, "packet {node} {dir} {packet}")
+            Event::At { node, event } => {
+                let words = OwnWords { node, event };
+                write!(f, "{words}")
             }
             Event::Flush { node } => write!(f, "flush {node}"),
-            Event::Deliver { ticket } => write!(f, "deliver {ticket}"),
-            Event::Lose { ticket } => write!(f, "lose {ticket}"),
-            Event::Repeat { ticket } => write!(f, "repeat {ticket}"),
-            Event::Cut { ticket, len } => write!(f, "cut {ticket} {len}"),
-            Event::Tick { node, ms } => write!(f, "tick {node} {ms}"),
-            Event::Purge { node } => write!(f, "purge {node}"),
-            Event::Release { node } => write!(f, "release {node}"),
-            Event::Kill { node, name } => write!(f, "kill {node} {name}"),
-            Event::Clear { node } => write!(f, "clear {node}"),
+            Event::Of { ticket, event } => {
+                let words = FrameWords { ticket, event };
+                write!(f, "{words}")
+            }
             Event::Restart { node } => write!(f, "restart {node}"),
-            Event::BulkTurn { node } => write!(f, "turn {node}"),
-            Event::BulkRetry { node } => write!(f, "retry {node}"),
         }
     }
 }

@@ -4,9 +4,15 @@ use Rattle.std.specs.Fmt.{decimal}
 use Rattle.pfl_base.specs.Refusals.{refusal_number}
 use Rattle.pfl_base.specs.Texts.{name_text, refusal_text}
 use Rattle.pfl_wire.specs.Faults.{frame_fault, fault_number as frame_fault_number}
+use Rattle.pfl_node.specs.declared.event.NodeOutcome.{NodeOutcome}
+use Rattle.pfl_node.specs.declared.event.NodeOutcome.TheVariants as given
+use Rattle.pfl_node.specs.declared.fate.Fate.{Fate}
+use Rattle.pfl_node.specs.declared.fate.Fate.TheVariants as fate
 use Rattle.pfl_node.specs.declared.fate.Reason.{Reason}
+use Rattle.pfl_node.specs.declared.retried.Retried.TheVariants as retried
 use Rattle.pfl_node.specs.declared.fate.Reason.TheVariants.{Block, Max, Full, Key, Window}
-use Rattle.pfl_world.specs.Outcomes.{Outcome, Pass, Held, Dropped, Sent, Taken, Broken, Lost, CutTo, Clock, Purged, Released, Killed, Cleared, Boot, Queued, Asked, Served}
+use Rattle.pfl_world.specs.declared.outcome.Outcome.{Outcome}
+use Rattle.pfl_world.specs.declared.outcome.Outcome.TheVariants.{At, Sent, Taken, Broken, Lost, CutTo, Boot}
 use Rattle.pfl_timeline.specs.declared.refused.Refused.{Refused}
 use Rattle.pfl_timeline.specs.declared.refused.Refused.TheVariants as refused
 use Rattle.pfl_lines.specs.declared.fault.LineFault.{LineFault}
@@ -35,25 +41,33 @@ reason_text Full = codes "full"
 reason_text Key = codes "key"
 reason_text Window = codes "window"
 
+-- what became of a packet
+abbrev pub fate_text : Fate → List ℕ
+fate_text (fate.Pass name) = codes "pass " ++ or_dash name_text name
+fate_text (fate.Held name) = codes "held " ++ name_text name
+fate_text (fate.Dropped reason) = codes "drop " ++ reason_text reason
+
+-- the words of what an event of a node gives
+abbrev pub given_text : NodeOutcome → List ℕ
+given_text (given.Handled f) = fate_text f
+given_text (given.Clock ms) = codes "clock " ++ decimal ms
+given_text (given.Purged n) = codes "purged " ++ decimal n
+given_text (given.Released n) = codes "released " ++ decimal n
+given_text given.Killed = codes "killed"
+given_text (given.Cleared n) = codes "cleared " ++ decimal n
+given_text (given.Queued n) = codes "queued " ++ decimal n
+given_text (given.Tried (retried.Asked tries)) = codes "asked " ++ decimal tries
+given_text (given.Tried retried.Served) = codes "served"
+
 -- the words of an outcome
 abbrev pub outcome_text : Outcome → List ℕ
-outcome_text (Pass name) = codes "pass " ++ or_dash name_text name
-outcome_text (Held name) = codes "held " ++ name_text name
-outcome_text (Dropped reason) = codes "drop " ++ reason_text reason
+outcome_text (At o) = given_text o
 outcome_text (Sent ticket len) = codes "sent " ++ decimal ticket ++ codes " " ++ decimal len
 outcome_text (Taken n) = codes "taken " ++ decimal n
 outcome_text (Broken why) = codes "broken " ++ decimal (frame_fault_number (frame_fault why))
 outcome_text Lost = codes "lost"
 outcome_text (CutTo n) = codes "cut " ++ decimal n
-outcome_text (Clock ms) = codes "clock " ++ decimal ms
-outcome_text (Purged n) = codes "purged " ++ decimal n
-outcome_text (Released n) = codes "released " ++ decimal n
-outcome_text Killed = codes "killed"
-outcome_text (Cleared n) = codes "cleared " ++ decimal n
 outcome_text (Boot n) = codes "boot " ++ decimal n
-outcome_text (Queued n) = codes "queued " ++ decimal n
-outcome_text (Asked tries) = codes "asked " ++ decimal tries
-outcome_text Served = codes "served"
 
 -- the number and the word of a refused command, and for an event the refusal behind them
 abbrev pub refused_text : Refused → List ℕ

@@ -3,7 +3,6 @@
 ghost use Rattle.std.specs.Prelude.{◌≡◌, ◌++◌, codes, IfOk, OnOk};
 ghost use Rattle.std.specs.List.{flat_map};
 ghost use Rattle.std.specs.Fmt.{decimal};
-ghost use Rattle.pfl_world.specs.Outcomes.{told};
 ghost use Rattle.pfl_timeline.specs.Replies.{Stepped, At, Names, Excised, Restored, Refused as Refusing, reply_of};
 ghost use Rattle.pfl_script.specs.Texts.{bad_text};
 ghost use Rattle.pfl_script.specs.Replies.{named, placed, reply_text};
@@ -40,7 +39,7 @@ fn stepped_line<A: Allocator>(
     outcome: Outcome,
     dropped: usize,
 ) -> Result<Vec<u8, A>, NoMemory>
-    ensures { IfOk result (λ text. text.items ≡ reply_text (Stepped (told outcome) dropped)) }
+    ensures { IfOk result (λ text. text.items ≡ reply_text (Stepped outcome dropped)) }
 {
     let outcome = OutcomeWords(outcome);
     Ok(format!(in alloc; "step {outcome} dropped {dropped}\n")?.into_bytes())

@@ -7,7 +7,7 @@ use Rattle.pfl_base.specs.declared.refusal.Refusal.TheVariants.{NoMemory}
 use Rattle.pfl_parts.specs.Nodes.{refused_by}
 use Rattle.pfl_world.specs.declared.event.Event.{Event}
 use Rattle.pfl_world.specs.Events.{step, IsEventRefusal}
-use Rattle.pfl_world.specs.Outcomes.{Outcome}
+use Rattle.pfl_world.specs.declared.outcome.Outcome.{Outcome}
 use Rattle.pfl_world.specs.Runs.{run}
 use Rattle.pfl_world.specs.Worlds.{World}
 use Rattle.pfl_timeline.specs.declared.command.Command.{Command}

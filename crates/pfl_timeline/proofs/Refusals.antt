@@ -5,6 +5,7 @@ use Rattle.pfl_base.specs.declared.refusal.Refusal.{Refusal}
 use Rattle.pfl_base.specs.declared.refusal.Refusal.TheVariants.{NoMemory}
 use Rattle.pfl_world.specs.declared.event.Event.{Event}
 use Rattle.pfl_world.specs.declared.event.Event.TheVariants as event
+use Rattle.pfl_world.specs.declared.event.FrameEvent.TheVariants as frame
 use Rattle.pfl_world.specs.Events.{step, IsRefusalOf, IsEventRefusal}
 use Rattle.pfl_world.specs.Outcomes.{Stepped}
 use Rattle.pfl_world.specs.Worlds.{World}
@@ -13,20 +14,13 @@ use Rattle.pfl_timeline.specs.Memory.{Reads}
 -- the refusal is the step's, or memory is wanting for what a frame's records do
 pub told-apart : (w : World) (e : Event) (r : Refusal) → IsEventRefusal w e r → IsRefusalOf (step w e) r ⊎ ((r ≡ NoMemory) × Reads w e)
 unfolding step
-told-apart w (event.Packet node dir p) r is = inl is
+told-apart w (event.At node e) r is = inl is
 told-apart w (event.Flush node) r is = inl is
-told-apart w (event.Deliver ticket) r is = is
-told-apart w (event.Lose ticket) r is = inl is
-told-apart w (event.Repeat ticket) r is = inl is
-told-apart w (event.Cut ticket len) r is = inl is
-told-apart w (event.Tick node ms) r is = inl is
-told-apart w (event.Purge node) r is = inl is
-told-apart w (event.Release node) r is = inl is
-told-apart w (event.Kill node name) r is = inl is
-told-apart w (event.Clear node) r is = inl is
+told-apart w (event.Of ticket frame.Deliver) r is = is
+told-apart w (event.Of ticket frame.Lose) r is = inl is
+told-apart w (event.Of ticket frame.Repeat) r is = inl is
+told-apart w (event.Of ticket (frame.Cut len)) r is = inl is
 told-apart w (event.Restart node) r is = inl is
-told-apart w (event.BulkTurn node) r is = inl is
-told-apart w (event.BulkRetry node) r is = inl is
 
 -- a refusal that is no want of memory is the step's
 the-first : (at : Result Stepped Refusal) (why : Refusal) → IsRefusalOf at why → why ≢ NoMemory → at ≡ Err why

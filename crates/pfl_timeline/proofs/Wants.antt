@@ -1,5 +1,5 @@
 -- Where memory is wanted, what is asked is not refused.
-use Rattle.std.specs.Prelude.{◌≡◌, ◌⊎◌, ℕ, ◌+◌, ◌-◌, Bool, true, false, not, nat_lt, nat_le, ◌==◌, List, [], ◌∷◌, ◌++◌, length, filter, Option, Some, None, is_some, IsSomeAnd, Result, Ok, Err, refl}
+use Rattle.std.specs.Prelude.{◌≡◌, ◌⊎◌, ℕ, ◌+◌, ◌-◌, Bool, true, false, not, nat_lt, nat_le, ◌==◌, List, [], ◌∷◌, ◌++◌, length, filter, if◌then◌else◌, Option, Some, None, is_some, is_none, IsSomeAnd, Result, Ok, Err, refl}
 use Rattle.std.specs.List.{AllByRecursion}
 use Rattle.std.specs.Option.{option_map_or}
 use Rattle.std.specs.Map.{values_of, lookup}
@@ -8,16 +8,20 @@ use Rattle.pfl_base.specs.declared.node_id.NodeId.{NodeId}
 use Rattle.pfl_base.specs.declared.refusal.Refusal.{Refusal}
 use Rattle.pfl_base.specs.declared.refusal.Refusal.TheVariants.{NoSuchFrame, NothingPending, NoSuchState, LinkFull, QueueFull, ClockFull, CountFull, NotSyncing, TooEarly, NoMemory}
 use Rattle.pfl_edits.specs.Maps as maps
-use Rattle.pfl_track.specs.declared.state.State.{State}
 use Rattle.pfl_link.specs.Links.{InFlight, is_full, is_counted_out}
 use Rattle.pfl_queue.specs.Queues.{pending}
 use Rattle.pfl_node.specs.Purging.{purge_points}
 use Rattle.pfl_parts.specs.Nodes.{Node, refused_by, points_refusal, full_tests, is_overfull, is_overcounted, greatest, last_millisecond}
-use Rattle.pfl_parts.specs.Changes.{deleted, count_broken}
+use Rattle.pfl_parts.specs.Changes.{count_broken}
 use Rattle.pfl_receive.specs.Delivering.{receive_points}
 use Rattle.pfl_wire.specs.declared.fault.BadFrame.{BadFrame}
 use Rattle.pfl_wire.specs.Frames.{Frame}
 use Rattle.pfl_wire.specs.Reading.{reading}
+use Rattle.pfl_node.specs.declared.event.NodeEvent.{NodeEvent}
+use Rattle.pfl_node.specs.declared.event.NodeEvent.TheVariants as own
+use Rattle.pfl_node.specs.Stepping as stepping
+use Rattle.pfl_node.specs.Stepping.{NodeStepped, node_refusal, node_after}
+use Rattle.pfl_node.specs.Killing.{killed}
 use Rattle.pfl_node.specs.Packets.{packet_points}
 use Rattle.pfl_node.specs.Clearing.{cleared}
 use Rattle.pfl_node.specs.Releasing.{due_names, released_due}
@@ -26,9 +30,10 @@ use Rattle.pfl_node.specs.Turning.{turned}
 use Rattle.pfl_bulk.specs.Bulk.{is_serving, is_waiting, is_due}
 use Rattle.pfl_world.specs.declared.event.Event.{Event}
 use Rattle.pfl_world.specs.declared.event.Event.TheVariants as event
+use Rattle.pfl_world.specs.declared.event.FrameEvent.TheVariants as frame
 use Rattle.pfl_world.specs.Events.{step, IsRefusalOf, IsEventRefusal}
 use Rattle.pfl_world.specs.Outcomes.{Stepped}
-use Rattle.pfl_world.specs.Steps.{answered as step_given, with_ticket, without, read_taken, packet_step, flush_step, deliver_step, lose_step, repeat_step, cut_step, tick_step, purge_step, release_step, killed, kill_step, clear_step, restart_step, turn_step, retry_step}
+use Rattle.pfl_world.specs.Steps.{answered as step_given, from_node, with_ticket, without, read_taken, flush_step, deliver_step, lose_step, repeat_step, cut_step, restart_step}
 use Rattle.pfl_world.specs.Worlds.{World, node_at}
 use Rattle.pfl_timeline.specs.declared.command.Command.{Command}
 use Rattle.pfl_timeline.specs.declared.command.Command.TheVariants as command
@@ -75,9 +80,30 @@ frame_is_other w ticket done other =
       | Some f ↦ other f
     ]
 
-kill_is_other : (w : World) (node : NodeId) (found : Option State) → option_map_or (killed w node) found (Err NoSuchState) ≡ Err NoMemory → ⊥
-kill_is_other w node None is = cc
-kill_is_other w node (Some s) is = points_are_other (deleted (node_at w node) s ∷ []) _ is
+clock_is_other : (b : Bool) → (if b then Some ClockFull else None) ≡ Some NoMemory → ⊥
+clock_is_other true is = cc
+clock_is_other false is = cc
+
+-- what a node refuses by itself
+node_is_other : (n : Node) (e : NodeEvent) → node_refusal n e ≡ Some NoMemory → ⊥
+node_is_other n (own.Packet dir p) is = first_is_other (full_tests (packet_points n dir p)) ((λ e. cc), ((λ e. cc), tt)) is
+node_is_other n (own.Tick ms) is = clock_is_other (nat_lt last_millisecond (n.clock + ms)) is
+node_is_other n own.Purge is = first_is_other (full_tests (purge_points n)) ((λ e. cc), ((λ e. cc), tt)) is
+node_is_other n own.Release is =
+    first_is_other ((length n.held.list == 0, NothingPending) ∷ (is_overcounted (released_due n), CountFull) ∷ (length (due_names n) == 0, TooEarly) ∷ [])
+    ((λ e. cc), ((λ e. cc), ((λ e. cc), tt))) is
+node_is_other n (own.Kill name) is =
+    first_is_other ((is_none (maps.get n.states name), NoSuchState) ∷ full_tests (killed n name ∷ [])) ((λ e. cc), ((λ e. cc), ((λ e. cc), tt))) is
+node_is_other n own.Clear is = first_is_other (full_tests (cleared n ∷ [])) ((λ e. cc), ((λ e. cc), tt)) is
+node_is_other n own.BulkTurn is =
+    first_is_other ((not (is_serving n.server), NotSyncing) ∷ full_tests (turned n ∷ [])) ((λ e. cc), ((λ e. cc), ((λ e. cc), tt))) is
+node_is_other n own.BulkRetry is =
+    first_is_other ((not (is_waiting n.client), NotSyncing) ∷ (not (is_due n.client n.limits.bulk_ms n.clock), TooEarly) ∷ (is_overfull (retried_client n), QueueFull) ∷ [])
+    ((λ e. cc), ((λ e. cc), ((λ e. cc), tt))) is
+
+own_is_other : (w : World) (id : NodeId) (o : Option Refusal) (s : NodeStepped) → (o ≡ Some NoMemory → ⊥) → from_node w id (stepping.answered o s) ≡ Err NoMemory → ⊥
+own_is_other w id None s other is = cc
+own_is_other w id (Some r) s other is = let same : r ≡ NoMemory = cc in other (ap Some same)
 
 -- what was read of a frame
 read_is_other : (w : World) (to : NodeId) (n : Node) (read : Result Frame BadFrame) → read_taken w to n read ≡ Err NoMemory → ⊥
@@ -85,32 +111,17 @@ read_is_other w to n (Ok f) is = points_are_other (receive_points n f) _ is
 read_is_other w to n (Err why) is = points_are_other (count_broken n ∷ []) _ is
 
 pub step_is_other : (w : World) (e : Event) → step w e ≡ Err NoMemory → ⊥
-unfolding step packet_step flush_step deliver_step lose_step repeat_step cut_step tick_step purge_step release_step kill_step clear_step restart_step turn_step retry_step
-step_is_other w (event.Packet node dir p) is = points_are_other (packet_points (node_at w node) dir p) _ is
+unfolding step flush_step deliver_step lose_step repeat_step cut_step restart_step
+step_is_other w (event.At node e) is = own_is_other w node (node_refusal (node_at w node) e) (node_after (node_at w node) e) (node_is_other (node_at w node) e) is
 step_is_other w (event.Flush node) is =
     tests_are_other ((pending (node_at w node).queue == 0, NothingPending) ∷ (is_full w.link, LinkFull) ∷ (is_counted_out w.link, CountFull) ∷ [])
     ((λ e. cc), ((λ e. cc), ((λ e. cc), tt))) _ is
-step_is_other w (event.Deliver ticket) is = frame_is_other w ticket _ (λ f at. read_is_other (without w ticket) f.to (node_at w f.to) (reading f.bytes) at) is
-step_is_other w (event.Lose ticket) is = frame_is_other w ticket _ (λ f at. cc) is
-step_is_other w (event.Repeat ticket) is =
+step_is_other w (event.Of ticket frame.Deliver) is = frame_is_other w ticket _ (λ f at. read_is_other (without w ticket) f.to (node_at w f.to) (reading f.bytes) at) is
+step_is_other w (event.Of ticket frame.Lose) is = frame_is_other w ticket _ (λ f at. cc) is
+step_is_other w (event.Of ticket frame.Repeat) is =
     frame_is_other w ticket _ (λ f at. tests_are_other ((is_full w.link, LinkFull) ∷ (is_counted_out w.link, CountFull) ∷ []) ((λ e. cc), ((λ e. cc), tt)) _ at) is
-step_is_other w (event.Cut ticket len) is = frame_is_other w ticket _ (λ f at. cc) is
-step_is_other w (event.Tick node ms) is = tests_are_other ((nat_lt last_millisecond ((node_at w node).clock + ms), ClockFull) ∷ []) ((λ e. cc), tt) _ is
-step_is_other w (event.Purge node) is = points_are_other (purge_points (node_at w node)) _ is
-step_is_other w (event.Release node) is =
-    let n = node_at w node in
-    tests_are_other ((length n.held.list == 0, NothingPending) ∷ (is_overcounted (released_due n), CountFull) ∷ (length (due_names n) == 0, TooEarly) ∷ [])
-    ((λ e. cc), ((λ e. cc), ((λ e. cc), tt))) _ is
-step_is_other w (event.Kill node name) is = kill_is_other w node (maps.get (node_at w node).states name) is
-step_is_other w (event.Clear node) is = points_are_other (cleared (node_at w node) ∷ []) _ is
+step_is_other w (event.Of ticket (frame.Cut len)) is = frame_is_other w ticket _ (λ f at. cc) is
 step_is_other w (event.Restart node) is = tests_are_other ((nat_le greatest w.next_boot, CountFull) ∷ []) ((λ e. cc), tt) _ is
-step_is_other w (event.BulkTurn node) is =
-    let n = node_at w node in
-    tests_are_other ((not (is_serving n.server), NotSyncing) ∷ full_tests (turned n ∷ [])) ((λ e. cc), ((λ e. cc), ((λ e. cc), tt))) _ is
-step_is_other w (event.BulkRetry node) is =
-    let n = node_at w node in
-    tests_are_other ((not (is_waiting n.client), NotSyncing) ∷ (not (is_due n.client n.limits.bulk_ms n.clock), TooEarly) ∷ (is_overfull (retried_client n), QueueFull) ∷ [])
-    ((λ e. cc), ((λ e. cc), ((λ e. cc), tt))) _ is
 
 -- ---- a branch
 

@@ -5,77 +5,88 @@ use Rattle.pfl_base.specs.declared.node_id.NodeId.TheVariants.{A}
 use Rattle.pfl_base.specs.declared.packet.Packet.{Packet}
 use Rattle.pfl_base.specs.declared.refusal.Refusal.TheVariants as refusal
 use Rattle.pfl_world.specs.declared.event.Event.{Event}
+use Rattle.pfl_node.specs.declared.event.NodeEvent.TheVariants as own
+use Rattle.pfl_node.specs.declared.event.NodeOutcome.TheVariants as given
+use Rattle.pfl_node.specs.declared.fate.Fate.TheVariants as fate
 use Rattle.pfl_world.specs.declared.event.Event.TheVariants as event
-use Rattle.pfl_world.specs.Outcomes as outcome
+use Rattle.pfl_world.specs.declared.event.FrameEvent.TheVariants as frame
+use Rattle.pfl_world.specs.declared.outcome.Outcome.TheVariants as outcome
 use Rattle.pfl_world.proofs.Lab.{limits, opening, u1, u2, u3, name, computing as of_worlds}
+use Rattle.pfl_timeline.specs.declared.command.Command.{Command}
+use Rattle.pfl_timeline.specs.declared.command.Command.TheVariants as command
 use Rattle.pfl_timeline.specs.declared.refused.Refused.TheVariants as refused
 use Rattle.pfl_timeline.specs.Timelines.{Timeline, new_timeline, main_name}
 use Rattle.pfl_timeline.specs.Timelines as timelines
 use Rattle.pfl_timeline.specs.Commands as commands
-use Rattle.pfl_timeline.specs.Commands.{step_command, back_command, forward_command, fork_command, drop_command, show_command, names_command, excise_command, restore_command, log_command}
+use Rattle.pfl_timeline.specs.Commands.{command_step}
 use Rattle.pfl_timeline.specs.Excisions as excisions
 use Rattle.pfl_timeline.specs.Replies as reply
-use Rattle.pfl_timeline.specs.Replies.{Reply, Replied}
+use Rattle.pfl_timeline.specs.Replies.{Reply}
 use Rattle.pfl_timeline.specs.Summaries.{summary}
 
--- ---- commands, each by its own definition
+-- ---- commands; steps, moves, excisions and restorations are on `main`
 
-data Asked : Type 0 where
-  step : Event → Asked
-  back : ℕ → Asked
-  forward : ℕ → Asked
-  fork : List ℕ → ℕ → List ℕ → Asked
-  drop : List ℕ → Asked
-  show : List ℕ → Asked
-  names : Asked
-  excise : ℕ → Asked
-  restore : Asked
-  log : List ℕ → Asked
+abbrev step : Event → Command
+step e = command.Step main_name e
 
--- what it gives; steps, moves, excisions and restorations are on `main`
-unfoldable gives : Timeline → Asked → Replied
-gives t (step e) = step_command t main_name e
-gives t (back n) = back_command t main_name n
-gives t (forward n) = forward_command t main_name n
-gives t (fork of k new) = fork_command t of k new
-gives t (drop of) = drop_command t of
-gives t (show of) = show_command t of
-gives t names = names_command t
-gives t (excise k) = excise_command t main_name k
-gives t restore = restore_command t main_name
-gives t (log of) = log_command t of
+abbrev back : ℕ → Command
+back n = command.Back main_name n
 
-abbrev packet : Packet → Asked
-packet p = step (event.Packet A Outbound p)
+abbrev forward : ℕ → Command
+forward n = command.Forward main_name n
 
-abbrev tick : ℕ → Asked
-tick ms = step (event.Tick A ms)
+abbrev fork : List ℕ → ℕ → List ℕ → Command
+fork of k new = command.Fork of k new
+
+abbrev drop : List ℕ → Command
+drop of = command.Drop of
+
+abbrev show : List ℕ → Command
+show of = command.Show of
+
+abbrev names : Command
+names = command.Names
+
+abbrev excise : ℕ → Command
+excise k = command.Excise main_name k
+
+abbrev restore : Command
+restore = command.Restore main_name
+
+abbrev log : List ℕ → Command
+log of = command.Log of
+
+abbrev packet : Packet → Command
+packet p = step (event.At A (own.Packet Outbound p))
+
+abbrev tick : ℕ → Command
+tick ms = step (event.At A (own.Tick ms))
 
 -- the replies to the commands, each on the timeline that those before it left
-unfoldable replies : Timeline → List Asked → List Reply
+unfoldable replies : Timeline → List Command → List Reply
 replies t [] = []
-replies t (c ∷ cs) = let r = gives t c in r.reply ∷ replies r.timeline cs
+replies t (c ∷ cs) = let r = command_step t c in r.reply ∷ replies r.timeline cs
 
 -- the timeline that the commands leave
-unfoldable final : Timeline → List Asked → Timeline
+unfoldable final : Timeline → List Command → Timeline
 final t [] = t
-final t (c ∷ cs) = final (gives t c).timeline cs
+final t (c ∷ cs) = final (command_step t c).timeline cs
 
 unfoldable computing : ℕ
-unfolding of_worlds replies final gives timelines.world_of commands.step_command commands.back_command commands.forward_command commands.fork_command commands.drop_command commands.show_command commands.names_command commands.excise_command commands.restore_command commands.log_command excisions.sieve summary
+unfolding of_worlds replies final commands.command_step timelines.world_of commands.step_command commands.back_command commands.forward_command commands.fork_command commands.drop_command commands.show_command commands.names_command commands.excise_command commands.restore_command commands.log_command excisions.sieve summary
 computing = 0
 
 abbrev t : Timeline
 t = new_timeline (opening limits)
 
 abbrev passed : ℕ → ℕ → ℕ → Reply
-passed creator id dropped = reply.Stepped (outcome.Pass (Some (name creator id))) dropped
+passed creator id dropped = reply.Stepped (outcome.At (given.Handled (fate.Pass (Some (name creator id))))) dropped
 
 there_and_back : replies (t) (packet u1 ∷ back 1 ∷ show main_name ∷ []) ≡ passed 1 1 0 ∷ reply.At 0 ∷ reply.Shown main_name 1 0 (opening limits) ∷ []
 unfolding computing
 there_and_back = refl
 
-cut_and_fork : replies (t) (packet u1 ∷ packet u2 ∷ packet u3 ∷ back 3 ∷ tick 5 ∷ forward 1 ∷ back 2 ∷ fork main_name 0 (codes "t") ∷ show (codes "t") ∷ names ∷ drop (codes "t") ∷ drop main_name ∷ []) ≡ passed 1 1 0 ∷ passed 1 2 0 ∷ passed 1 3 0 ∷ reply.At 0 ∷ reply.Stepped (outcome.Clock 5) 3 ∷ reply.Refused refused.NothingForward ∷ reply.Refused refused.TooFarBack ∷ reply.Forked ∷ reply.Shown (codes "t") 0 0 (opening limits) ∷ reply.Names (main_name ∷ codes "t" ∷ []) ∷ reply.Removed ∷ reply.Refused refused.LastBranch ∷ []
+cut_and_fork : replies (t) (packet u1 ∷ packet u2 ∷ packet u3 ∷ back 3 ∷ tick 5 ∷ forward 1 ∷ back 2 ∷ fork main_name 0 (codes "t") ∷ show (codes "t") ∷ names ∷ drop (codes "t") ∷ drop main_name ∷ []) ≡ passed 1 1 0 ∷ passed 1 2 0 ∷ passed 1 3 0 ∷ reply.At 0 ∷ reply.Stepped (outcome.At (given.Clock 5)) 3 ∷ reply.Refused refused.NothingForward ∷ reply.Refused refused.TooFarBack ∷ reply.Forked ∷ reply.Shown (codes "t") 0 0 (opening limits) ∷ reply.Names (main_name ∷ codes "t" ∷ []) ∷ reply.Removed ∷ reply.Refused refused.LastBranch ∷ []
 unfolding computing
 cut_and_fork = refl
 
@@ -103,18 +114,18 @@ refused_step = refl
 -- ---- an event taken out
 
 -- a packet, its frame sent and delivered, and another packet
-abbrev four : List Asked
-four = packet u1 ∷ step (event.Flush A) ∷ step (event.Deliver 1) ∷ packet u2 ∷ []
+abbrev four : List Command
+four = packet u1 ∷ step (event.Flush A) ∷ step (event.Of 1 frame.Deliver) ∷ packet u2 ∷ []
 
 abbrev after_four : Timeline
 after_four = final t four
 
 -- the replies after the four events, and how many events stand then, of how many
-abbrev asked_then : List Asked → List Reply
+abbrev asked_then : List Command → List Reply
 asked_then cs = replies after_four cs
 
 -- where the packet goes, its frame goes too, and the other packet has the number that was the first one's; then all is back
-taken_out : asked_then (excise 1 ∷ back 1 ∷ step (event.Kill A (name 1 1)) ∷ []) ≡ reply.Excised (2 ∷ 3 ∷ []) ∷ reply.At 0 ∷ reply.Refused (refused.Event refusal.NoSuchState) ∷ []
+taken_out : asked_then (excise 1 ∷ back 1 ∷ step (event.At A (own.Kill (name 1 1))) ∷ []) ≡ reply.Excised (2 ∷ 3 ∷ []) ∷ reply.At 0 ∷ reply.Refused (refused.Event refusal.NoSuchState) ∷ []
 unfolding computing
 taken_out = refl
 
@@ -132,15 +143,15 @@ unfolding computing
 undone_before = refl
 
 -- a refused step leaves what can be brought back, and an accepted one does not
-last_event : asked_then (excise 4 ∷ step (event.Lose 9) ∷ restore ∷ excise 4 ∷ tick 1 ∷ restore ∷ [])
-    ≡ reply.Excised [] ∷ reply.Refused (refused.Event refusal.NoSuchFrame) ∷ reply.Restored 4 ∷ reply.Excised [] ∷ reply.Stepped (outcome.Clock 1) 0 ∷ reply.Refused refused.NothingExcised ∷ []
+last_event : asked_then (excise 4 ∷ step (event.Of 9 frame.Lose) ∷ restore ∷ excise 4 ∷ tick 1 ∷ restore ∷ [])
+    ≡ reply.Excised [] ∷ reply.Refused (refused.Event refusal.NoSuchFrame) ∷ reply.Restored 4 ∷ reply.Excised [] ∷ reply.Stepped (outcome.At (given.Clock 1)) 0 ∷ reply.Refused refused.NothingExcised ∷ []
 unfolding computing
 last_event = refl
 
 -- a log tells all events, those behind the cursor too; a fork's those that it took
 told : asked_then (back 3 ∷ log main_name ∷ fork main_name 2 (codes "t") ∷ log (codes "t") ∷ excise 1 ∷ log main_name ∷ log (codes "x") ∷ [])
-    ≡ reply.At 1 ∷ reply.Logged main_name (event.Packet A Outbound u1 ∷ event.Flush A ∷ event.Deliver 1 ∷ event.Packet A Outbound u2 ∷ []) 1 ∷ reply.Forked
-    ∷ reply.Logged (codes "t") (event.Packet A Outbound u1 ∷ event.Flush A ∷ []) 2 ∷ reply.Excised (2 ∷ 3 ∷ []) ∷ reply.Logged main_name (event.Packet A Outbound u2 ∷ []) 0 ∷ reply.Refused refused.NoBranch ∷ []
+    ≡ reply.At 1 ∷ reply.Logged main_name (event.At A (own.Packet Outbound u1) ∷ event.Flush A ∷ event.Of 1 frame.Deliver ∷ event.At A (own.Packet Outbound u2) ∷ []) 1 ∷ reply.Forked
+    ∷ reply.Logged (codes "t") (event.At A (own.Packet Outbound u1) ∷ event.Flush A ∷ []) 2 ∷ reply.Excised (2 ∷ 3 ∷ []) ∷ reply.Logged main_name (event.At A (own.Packet Outbound u2) ∷ []) 0 ∷ reply.Refused refused.NoBranch ∷ []
 unfolding computing
 told = refl
 

@@ -3,6 +3,7 @@
 use Rattle.std.specs.Prelude.{◌⊎◌, ℕ, Bool, true, false, List, IsTrue, IsFalse, IsSomeAnd}
 use Rattle.pfl_world.specs.declared.event.Event.{Event}
 use Rattle.pfl_world.specs.declared.event.Event.TheVariants as event
+use Rattle.pfl_world.specs.declared.event.FrameEvent.TheVariants as frame
 use Rattle.pfl_world.specs.Events.{IsReadable}
 use Rattle.pfl_world.specs.Worlds.{World}
 use Rattle.pfl_timeline.specs.declared.command.Command.{Command}
@@ -36,7 +37,7 @@ makes_something (command.Log name) = true
 
 -- the event delivers a frame of the link that can be read
 abbrev pub Reads : World → Event → Type 0
-Reads w (event.Deliver ticket) = IsReadable w ticket
+Reads w (event.Of ticket frame.Deliver) = IsReadable w ticket
 Reads w _ = ⊥
 
 -- it does so at the world that the branch of the name shows

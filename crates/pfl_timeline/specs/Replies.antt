@@ -1,7 +1,7 @@
 -- What a timeline answers (this project's profile).
 use Rattle.std.specs.Prelude.{ℕ, List}
 use Rattle.pfl_world.specs.declared.event.Event.{Event}
-use Rattle.pfl_world.specs.Outcomes.{Outcome, told}
+use Rattle.pfl_world.specs.declared.outcome.Outcome.{Outcome}
 use Rattle.pfl_world.specs.Worlds.{World}
 use Rattle.pfl_timeline.specs.declared.refused.Refused.{Refused as Refusal}
 use Rattle.pfl_timeline.specs.declared.reply.Reply.{Reply as GivenReply}
@@ -23,7 +23,7 @@ pub data Reply : Type 0 where
 
 -- what a reply of the code tells
 abbrev pub reply_of : {M : Type 0} → GivenReply M → Reply
-reply_of (given.Stepped outcome dropped) = Stepped (told outcome) dropped
+reply_of (given.Stepped outcome dropped) = Stepped outcome dropped
 reply_of (given.At cursor) = At cursor
 reply_of given.Forked = Forked
 reply_of given.Removed = Removed

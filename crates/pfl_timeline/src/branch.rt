@@ -3,7 +3,6 @@
 ghost use Rattle.std.specs.Prelude.{◌≡◌, ◌+◌, ◌-◌, ◌≤◌, true, false, nat_lt, [], length, Ok, Some, None, IfErr, IfOk, OnErr, OnOk, IsTrue, if◌then◌else◌};
 ghost use Rattle.std.specs.Option.{option_map, option_map_or};
 ghost use Rattle.pfl_world.specs.Events.{step, IsEventRefusal};
-ghost use Rattle.pfl_world.specs.Outcomes.{told};
 ghost use Rattle.pfl_world.specs.Worlds.{World as Pair};
 ghost use Rattle.pfl_timeline.specs.Commands.{extended, undone, first_events};
 ghost use Rattle.pfl_timeline.specs.Excisions.{has_event, excised, fallen_places};
@@ -151,7 +150,7 @@ impl<A: Allocator + Copy> Branch<A> {
     pub(crate) fn extend(&mut self, event: &Event) -> Result<(Outcome, usize), Refusal>
         ensures refused { IfErr result (λ why. (w : Pair) × (shown self.old ≡ Some w) × IsEventRefusal w event.now why) }
         ensures unchanged { OnErr result (self.new ≡ self.old) }
-        ensures stepped { IfOk result (λ r. (w new : Pair) × (shown self.old ≡ Some w) × (step w event.now ≡ Ok (record { world = new; outcome = told r.0 }))) }
+        ensures stepped { IfOk result (λ r. (w new : Pair) × (shown self.old ≡ Some w) × (step w event.now ≡ Ok (record { world = new; outcome = r.0 }))) }
         ensures extended { OnOk result (self.new ≡ record self.old { branch = extended self.old.branch event.now }) }
         ensures dropped { IfOk result (λ r. r.1 ≡ undone self.old.branch) }
         ensures opening { self.new.opening ≡ self.old.opening }

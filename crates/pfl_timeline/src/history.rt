@@ -2,7 +2,6 @@
 
 ghost use Rattle.std.specs.Prelude.{◌≡◌, ◌+◌, ◌-◌, ◌<◌, ◌≤◌, ℕ, [], ◌∷◌, ◌++◌, length, map, nat_le, min, take, filter, Ok, Some, IfErr, IfOk, OnErr, OnOk, vec_len, vec_capacity};
 ghost use Rattle.pfl_world.specs.Events.{step, IsEventRefusal};
-ghost use Rattle.pfl_world.specs.Outcomes.{told};
 ghost use Rattle.pfl_world.specs.Worlds.{World as Pair};
 ghost use Rattle.pfl_timeline.specs.Excisions.{placed, without, sieve};
 ghost use Rattle.pfl_timeline.specs.Histories.{IsHistory, reached, continued};
@@ -151,7 +150,7 @@ impl<A: Allocator + Copy> History<A> {
     pub fn extend(&mut self, event: &Event) -> Result<(Outcome, usize), Refusal>
         ensures refused { IfErr result (λ why. (w : Pair) × (reached self.old ≡ Some w) × IsEventRefusal w event.now why) }
         ensures unchanged { OnErr result (self.new ≡ self.old) }
-        ensures stepped { IfOk result (λ r. (w new : Pair) × (reached self.old ≡ Some w) × (step w event.now ≡ Ok (record { world = new; outcome = told r.0 }))) }
+        ensures stepped { IfOk result (λ r. (w new : Pair) × (reached self.old ≡ Some w) × (step w event.now ≡ Ok (record { world = new; outcome = r.0 }))) }
         ensures extended { OnOk result (self.new ≡ continued self.old event.now) }
         ensures dropped { IfOk result (λ r. r.1 ≡ length self.old.events - self.old.cursor) }
     {

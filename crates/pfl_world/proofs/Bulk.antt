@@ -4,10 +4,11 @@ use Rattle.pfl_base.specs.declared.refusal.Refusal.TheVariants as refusal
 use Rattle.pfl_base.specs.declared.node_id.NodeId.TheVariants.{A, B}
 use Rattle.pfl_wire.specs.declared.message.BulkStatus.TheVariants as status
 use Rattle.pfl_bulk.specs.declared.BulkClient.TheVariants as client
-use Rattle.pfl_world.specs.Outcomes.{Outcome}
-use Rattle.pfl_world.specs.Outcomes as outcome
+use Rattle.pfl_world.specs.declared.outcome.Outcome.TheVariants as outcome
 use Rattle.pfl_world.specs.Worlds.{World, node_at}
-use Rattle.pfl_world.proofs.Lab.{limits, opening, u1, u2, out, name, answers, final, computing, counts_at, counts, names_at, both, flush, deliver, lose, tick, clear, restart, turn, retry, passed, sent, taken, clock}
+use Rattle.pfl_node.specs.declared.event.NodeOutcome.TheVariants as given
+use Rattle.pfl_node.specs.declared.retried.Retried.TheVariants as retried
+use Rattle.pfl_world.proofs.Lab.{limits, opening, u1, u2, out, name, answers, final, computing, counts_at, counts, names_at, both, flush, deliver, lose, tick, clear, restart, turn, retry, passed, sent, taken, clock, did, asked}
 
 abbrev s : World
 s = opening limits
@@ -15,7 +16,7 @@ s = opening limits
 abbrev one_a_turn : World
 one_a_turn = opening (record limits { batch = 1 })
 
-bulk_update : answers (one_a_turn) (out B u1 ∷ out B u2 ∷ flush B ∷ lose 1 ∷ restart A ∷ flush A ∷ deliver 2 ∷ turn B ∷ flush B ∷ deliver 3 ∷ turn B ∷ flush B ∷ lose 4 ∷ retry A ∷ tick A 10000 ∷ retry A ∷ tick A 10000 ∷ retry A ∷ tick A 10000 ∷ retry A ∷ tick A 10000 ∷ retry A ∷ tick A 10000 ∷ retry A ∷ tick A 10000 ∷ retry A ∷ tick A 10000 ∷ retry A ∷ tick A 10000 ∷ retry A ∷ tick A 10000 ∷ retry A ∷ tick A 10000 ∷ retry A ∷ tick A 10000 ∷ retry A ∷ tick A 10000 ∷ retry A ∷ []) ≡ passed 2 1 ∷ passed 2 2 ∷ sent 1 272 ∷ Ok outcome.Lost ∷ Ok (outcome.Boot 3) ∷ sent 2 36 ∷ taken 1 ∷ Ok (outcome.Queued 1) ∷ sent 3 160 ∷ taken 2 ∷ Ok (outcome.Queued 1) ∷ sent 4 160 ∷ Ok outcome.Lost ∷ Err refusal.TooEarly ∷ clock 10000 ∷ Ok (outcome.Asked 2) ∷ clock 20000 ∷ Ok (outcome.Asked 3) ∷ clock 30000 ∷ Ok (outcome.Asked 4) ∷ clock 40000 ∷ Ok (outcome.Asked 5) ∷ clock 50000 ∷ Ok (outcome.Asked 6) ∷ clock 60000 ∷ Ok (outcome.Asked 7) ∷ clock 70000 ∷ Ok (outcome.Asked 8) ∷ clock 80000 ∷ Ok (outcome.Asked 9) ∷ clock 90000 ∷ Ok (outcome.Asked 10) ∷ clock 100000 ∷ Ok (outcome.Asked 11) ∷ clock 110000 ∷ Ok (outcome.Asked 12) ∷ clock 120000 ∷ Ok outcome.Served ∷ []
+bulk_update : answers (one_a_turn) (out B u1 ∷ out B u2 ∷ flush B ∷ lose 1 ∷ restart A ∷ flush A ∷ deliver 2 ∷ turn B ∷ flush B ∷ deliver 3 ∷ turn B ∷ flush B ∷ lose 4 ∷ retry A ∷ tick A 10000 ∷ retry A ∷ tick A 10000 ∷ retry A ∷ tick A 10000 ∷ retry A ∷ tick A 10000 ∷ retry A ∷ tick A 10000 ∷ retry A ∷ tick A 10000 ∷ retry A ∷ tick A 10000 ∷ retry A ∷ tick A 10000 ∷ retry A ∷ tick A 10000 ∷ retry A ∷ tick A 10000 ∷ retry A ∷ tick A 10000 ∷ retry A ∷ tick A 10000 ∷ retry A ∷ []) ≡ passed 2 1 ∷ passed 2 2 ∷ sent 1 272 ∷ Ok outcome.Lost ∷ Ok (outcome.Boot 3) ∷ sent 2 36 ∷ taken 1 ∷ did (given.Queued 1) ∷ sent 3 160 ∷ taken 2 ∷ did (given.Queued 1) ∷ sent 4 160 ∷ Ok outcome.Lost ∷ Err refusal.TooEarly ∷ clock 10000 ∷ asked 2 ∷ clock 20000 ∷ asked 3 ∷ clock 30000 ∷ asked 4 ∷ clock 40000 ∷ asked 5 ∷ clock 50000 ∷ asked 6 ∷ clock 60000 ∷ asked 7 ∷ clock 70000 ∷ asked 8 ∷ clock 80000 ∷ asked 9 ∷ clock 90000 ∷ asked 10 ∷ clock 100000 ∷ asked 11 ∷ clock 110000 ∷ asked 12 ∷ clock 120000 ∷ did (given.Tried retried.Served) ∷ []
 unfolding computing
 bulk_update = refl
 
@@ -23,7 +24,7 @@ first_came : names_at (final (one_a_turn) (out B u1 ∷ out B u2 ∷ flush B ∷
 unfolding computing
 first_came = refl
 
-cleared : answers (s) (out A u1 ∷ flush A ∷ deliver 1 ∷ clear A ∷ out A u1 ∷ flush A ∷ deliver 2 ∷ []) ≡ passed 1 1 ∷ sent 1 148 ∷ taken 1 ∷ Ok (outcome.Cleared 1) ∷ passed 1 2 ∷ sent 2 164 ∷ taken 2 ∷ []
+cleared : answers (s) (out A u1 ∷ flush A ∷ deliver 1 ∷ clear A ∷ out A u1 ∷ flush A ∷ deliver 2 ∷ []) ≡ passed 1 1 ∷ sent 1 148 ∷ taken 1 ∷ did (given.Cleared 1) ∷ passed 1 2 ∷ sent 2 164 ∷ taken 2 ∷ []
 unfolding computing
 cleared = refl
 

@@ -30,8 +30,9 @@ use Rattle.pfl_world.specs.declared.event.Event.{Event}
 use Rattle.pfl_world.specs.declared.event.Event.TheVariants as event
 use Rattle.pfl_world.specs.inner.Delivering.{bad_frame, IsTakingRefusal}
 use Rattle.pfl_world.specs.Events.{step, IsRefusalOf, IsReadable, IsDeliveryRefusal, IsEventRefusal}
-use Rattle.pfl_world.specs.Outcomes as outcome
-use Rattle.pfl_world.specs.Outcomes.{Outcome, Stepped}
+use Rattle.pfl_world.specs.declared.outcome.Outcome.TheVariants as outcome
+use Rattle.pfl_world.specs.declared.outcome.Outcome.{Outcome}
+use Rattle.pfl_world.specs.Outcomes.{Stepped}
 use Rattle.pfl_world.specs.Steps.{answered, frame_taken, broken_taken, read_taken, without, deliver_step}
 use Rattle.pfl_world.specs.Weights.{edits_for, read_work, deliver_work}
 use Rattle.pfl_world.specs.inner.WorldEdits.{of_node}
@@ -257,13 +258,3 @@ pub there-still : (w mid : World) (ticket : ℕ) (f : InFlight) (to : NodeId) (r
     → read_taken w to (node_at w to) read ≡ Ok (record { world = mid; outcome = o }) → IsTrue (is_some (maps.get mid.link.frames ticket))
 there-still w mid ticket f to read o at taken =
     subst (λ (l : Link). IsTrue (is_some (maps.get l.frames ticket))) (sym (link-read w to (node_at w to) read (record { world = mid; outcome = o }) taken)) (there w ticket f at)
-
--- ---- the event
-
-pub step_deliver : (w : World) (e : Event) (ticket : ℕ) → e ≡ event.Deliver ticket → step w e ≡ deliver_step w ticket
-unfolding step
-step_deliver w e ticket is = ap (step w) is
-
-pub deliver_refused_then : {X : Type 0} (w : World) (e : Event) (ticket : ℕ) → e ≡ event.Deliver ticket → (result : Result X Refusal) → IfErr result (IsDeliveryRefusal w ticket) → IfErr result (IsEventRefusal w e)
-deliver_refused_then w e ticket is (Ok x) why = tt
-deliver_refused_then w e ticket is (Err r) why = subst (λ (v : Event). IsEventRefusal w v r) (sym is) why

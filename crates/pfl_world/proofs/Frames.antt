@@ -18,11 +18,11 @@ use Rattle.pfl_parts.specs.Nodes.{Node, new_node}
 use Rattle.pfl_node.specs.Flushing.{frame_of, remaining}
 use Rattle.pfl_receive.specs.Receiving.{taken as take_record}
 use Rattle.pfl_receive.specs.Delivering.{records_of}
-use Rattle.pfl_world.specs.Weights.{edits_for, packet_work, deliver_work}
-use Rattle.pfl_world.specs.Outcomes.{Outcome}
-use Rattle.pfl_world.specs.Outcomes as outcome
+use Rattle.pfl_world.specs.Weights.{edits_for, deliver_work, weight}
+use Rattle.pfl_world.specs.declared.outcome.Outcome.TheVariants as outcome
 use Rattle.pfl_world.specs.Worlds.{World, node_at, new_world}
-use Rattle.pfl_world.proofs.Lab.{limits, rules, opening, inside, outside, plain, u1, u2, u3, v1, out, into, tcp_out, tcp_in, name, answers, final, computing, queue_at, queued, states_at, push_at, counts_at, counts, requests_at, held_at, names_at, seen, levels, times, both, flush, deliver, lose, repeat, cut, tick, purge, release, kill, passed, sent, taken, clock, rules_under, pass_out}
+use Rattle.pfl_node.specs.declared.event.NodeOutcome.TheVariants as given
+use Rattle.pfl_world.proofs.Lab.{limits, rules, opening, inside, outside, plain, u1, u2, u3, v1, out, into, tcp_out, tcp_in, name, answers, final, computing, queue_at, queued, states_at, push_at, counts_at, counts, requests_at, held_at, names_at, seen, levels, times, both, flush, deliver, lose, repeat, cut, tick, purge, release, kill, passed, sent, taken, clock, rules_under, pass_out, held, did}
 
 abbrev s : World
 s = opening limits
@@ -51,7 +51,7 @@ repeated_is_bad : both (counts_at (final (s) (out A u1 ∷ flush A ∷ repeat 1 
 unfolding computing
 repeated_is_bad = refl
 
-killed : answers (s) (out A u1 ∷ out A u2 ∷ out A u3 ∷ kill A (name 1 2) ∷ flush A ∷ []) ≡ passed 1 1 ∷ passed 1 2 ∷ passed 1 3 ∷ Ok outcome.Killed ∷ sent 1 272 ∷ []
+killed : answers (s) (out A u1 ∷ out A u2 ∷ out A u3 ∷ kill A (name 1 2) ∷ flush A ∷ []) ≡ passed 1 1 ∷ passed 1 2 ∷ passed 1 3 ∷ did given.Killed ∷ sent 1 272 ∷ []
 unfolding computing
 killed = refl
 
@@ -67,7 +67,7 @@ killed_undone = refl
 abbrev deferring : World
 deferring = opening (record limits { defer = true; held = 1 })
 
-deferred : answers (deferring) (out A u1 ∷ flush A ∷ out A u2 ∷ deliver 1 ∷ flush B ∷ deliver 2 ∷ release A ∷ tick A 20 ∷ release A ∷ release A ∷ []) ≡ Ok (outcome.Held (name 1 1)) ∷ sent 1 148 ∷ Ok (outcome.Held (name 1 2)) ∷ taken 1 ∷ sent 2 36 ∷ taken 1 ∷ Err refusal.TooEarly ∷ clock 20 ∷ Ok (outcome.Released 1) ∷ Err refusal.NothingPending ∷ []
+deferred : answers (deferring) (out A u1 ∷ flush A ∷ out A u2 ∷ deliver 1 ∷ flush B ∷ deliver 2 ∷ release A ∷ tick A 20 ∷ release A ∷ release A ∷ []) ≡ held 1 1 ∷ sent 1 148 ∷ held 1 2 ∷ taken 1 ∷ sent 2 36 ∷ taken 1 ∷ Err refusal.TooEarly ∷ clock 20 ∷ did (given.Released 1) ∷ Err refusal.NothingPending ∷ []
 unfolding computing
 deferred = refl
 
@@ -111,7 +111,7 @@ push_after_two_updates : both (push_at (final (opening (record limits { maxupd =
 unfolding computing
 push_after_two_updates = refl
 
-remaining_time : answers (s) (out A u1 ∷ tick A 10500 ∷ flush A ∷ tick B 20000 ∷ deliver 1 ∷ tick A 49500 ∷ purge A ∷ flush A ∷ deliver 2 ∷ []) ≡ passed 1 1 ∷ clock 10500 ∷ sent 1 148 ∷ clock 20000 ∷ taken 1 ∷ clock 60000 ∷ Ok (outcome.Purged 1) ∷ sent 2 36 ∷ taken 1 ∷ []
+remaining_time : answers (s) (out A u1 ∷ tick A 10500 ∷ flush A ∷ tick B 20000 ∷ deliver 1 ∷ tick A 49500 ∷ purge A ∷ flush A ∷ deliver 2 ∷ []) ≡ passed 1 1 ∷ clock 10500 ∷ sent 1 148 ∷ clock 20000 ∷ taken 1 ∷ clock 60000 ∷ did (given.Purged 1) ∷ sent 2 36 ∷ taken 1 ∷ []
 unfolding computing
 remaining_time = refl
 
@@ -152,7 +152,7 @@ merged_at_a : map levels (states_at (final (s) (out A u1 ∷ flush A ∷ deliver
 unfolding computing
 merged_at_a = refl
 
-request_too_late : answers (s) (out A u1 ∷ flush A ∷ lose 1 ∷ into A v1 ∷ flush A ∷ deliver 2 ∷ flush B ∷ tick A 30000 ∷ purge A ∷ deliver 3 ∷ []) ≡ passed 1 1 ∷ sent 1 148 ∷ Ok outcome.Lost ∷ passed 1 1 ∷ sent 2 68 ∷ taken 1 ∷ sent 3 36 ∷ clock 30000 ∷ Ok (outcome.Purged 1) ∷ taken 1 ∷ []
+request_too_late : answers (s) (out A u1 ∷ flush A ∷ lose 1 ∷ into A v1 ∷ flush A ∷ deliver 2 ∷ flush B ∷ tick A 30000 ∷ purge A ∷ deliver 3 ∷ []) ≡ passed 1 1 ∷ sent 1 148 ∷ Ok outcome.Lost ∷ passed 1 1 ∷ sent 2 68 ∷ taken 1 ∷ sent 3 36 ∷ clock 30000 ∷ did (given.Purged 1) ∷ taken 1 ∷ []
 unfolding computing
 request_too_late = refl
 
@@ -163,7 +163,7 @@ request_is_bad = refl
 abbrev waiting : World
 waiting = opening (record limits { defer = true })
 
-acknowledged : answers (waiting) (out A u1 ∷ flush A ∷ deliver 1 ∷ flush B ∷ deliver 2 ∷ []) ≡ Ok (outcome.Held (name 1 1)) ∷ sent 1 148 ∷ taken 1 ∷ sent 2 36 ∷ taken 1 ∷ []
+acknowledged : answers (waiting) (out A u1 ∷ flush A ∷ deliver 1 ∷ flush B ∷ deliver 2 ∷ []) ≡ held 1 1 ∷ sent 1 148 ∷ taken 1 ∷ sent 2 36 ∷ taken 1 ∷ []
 unfolding computing
 acknowledged = refl
 
@@ -179,7 +179,7 @@ held_first : both (held_at (final (waiting) (out A u1 ∷ [])) A) (map (λ t. t.
 unfolding computing
 held_first = refl
 
-freed_by_second : answers (waiting) (out A u1 ∷ out A u1 ∷ []) ≡ Ok (outcome.Held (name 1 1)) ∷ passed 1 1 ∷ []
+freed_by_second : answers (waiting) (out A u1 ∷ out A u1 ∷ []) ≡ held 1 1 ∷ passed 1 1 ∷ []
 unfolding computing
 freed_by_second = refl
 
@@ -187,7 +187,7 @@ freed_by_second_count : counts_at (final (waiting) (out A u1 ∷ out A u1 ∷ []
 unfolding computing
 freed_by_second_count = refl
 
-lost_by_update : answers (waiting) (out A u1 ∷ flush A ∷ deliver 1 ∷ into B v1 ∷ flush B ∷ deliver 2 ∷ []) ≡ Ok (outcome.Held (name 1 1)) ∷ sent 1 148 ∷ taken 1 ∷ passed 1 1 ∷ sent 2 68 ∷ taken 1 ∷ []
+lost_by_update : answers (waiting) (out A u1 ∷ flush A ∷ deliver 1 ∷ into B v1 ∷ flush B ∷ deliver 2 ∷ []) ≡ held 1 1 ∷ sent 1 148 ∷ taken 1 ∷ passed 1 1 ∷ sent 2 68 ∷ taken 1 ∷ []
 unfolding computing
 lost_by_update = refl
 
@@ -265,7 +265,8 @@ own_name_is_bad : map (λ m. (messages_taken (m ∷ [])).counters) (records firs
 unfolding computing
 own_name_is_bad = refl
 
-edits_of_a_packet : edits_for packet_work ≡ 24
+edits_of_a_packet : weight s (out A u1) ≡ 24
+unfolding computing
 edits_of_a_packet = refl
 
 edits_of_a_frame : edits_for (deliver_work (final s (out A u1 ∷ flush A ∷ [])) 1) ≡ 24

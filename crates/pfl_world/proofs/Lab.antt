@@ -34,13 +34,23 @@ use Rattle.pfl_wire.specs.declared.message.BulkStatus.{BulkStatus}
 use Rattle.pfl_defer.specs.declared.Held.{Held}
 use Rattle.pfl_bulk.specs.declared.BulkServer.{BulkServer}
 use Rattle.pfl_bulk.specs.declared.BulkClient.{BulkClient}
-use Rattle.pfl_world.specs.Outcomes as outcome
-use Rattle.pfl_world.specs.Outcomes.{Outcome, Stepped}
+use Rattle.pfl_node.specs.declared.event.NodeEvent.TheVariants as own
+use Rattle.pfl_node.specs.declared.event.NodeOutcome.{NodeOutcome}
+use Rattle.pfl_node.specs.declared.event.NodeOutcome.TheVariants as given
+use Rattle.pfl_node.specs.declared.fate.Fate.TheVariants as fate
+use Rattle.pfl_node.specs.declared.fate.Reason.{Reason}
+use Rattle.pfl_node.specs.declared.retried.Retried.TheVariants as retried
+use Rattle.pfl_world.specs.declared.event.Event.{Event}
+use Rattle.pfl_world.specs.declared.event.Event.TheVariants as event
+use Rattle.pfl_world.specs.declared.event.FrameEvent.TheVariants as frame
+use Rattle.pfl_world.specs.declared.outcome.Outcome.TheVariants as outcome
+use Rattle.pfl_world.specs.declared.outcome.Outcome.{Outcome}
+use Rattle.pfl_world.specs.Outcomes.{Stepped}
 use Rattle.pfl_world.specs.Worlds.{World, new_world, node_at}
 use Rattle.pfl_world.specs.Events as one
+use Rattle.pfl_world.specs.Events.{step}
 use Rattle.pfl_world.specs.Runs as runs
 use Rattle.pfl_world.specs.Steps as steps
-use Rattle.pfl_world.specs.Steps.{packet_step, flush_step, deliver_step, lose_step, repeat_step, cut_step, tick_step, purge_step, release_step, kill_step, clear_step, restart_step, turn_step, retry_step}
 use Rattle.pfl_wire.specs.Spelling as spelling
 use Rattle.pfl_wire.proofs.Reading as reading
 use Rattle.pfl_queue.specs.Taking as taking
@@ -114,50 +124,58 @@ v1 = plain Udp (outside 53) (inside 1000) 80
 
 -- ---- events
 
--- each event of the pair, by its own definition
-pub data Happening : Type 0 where
-  packet : NodeId → Dir → Packet → Happening
-  flush : NodeId → Happening
-  deliver : ℕ → Happening
-  lose : ℕ → Happening
-  repeat : ℕ → Happening
-  cut : ℕ → ℕ → Happening
-  tick : NodeId → ℕ → Happening
-  purge : NodeId → Happening
-  release : NodeId → Happening
-  kill : NodeId → StateName → Happening
-  clear : NodeId → Happening
-  restart : NodeId → Happening
-  turn : NodeId → Happening
-  retry : NodeId → Happening
+abbrev pub packet : NodeId → Dir → Packet → Event
+packet at dir p = event.At at (own.Packet dir p)
 
--- what it gives
-unfoldable pub happens : World → Happening → Result Stepped Refusal
-happens w (packet node dir p) = packet_step w node dir p
-happens w (flush node) = flush_step w node
-happens w (deliver ticket) = deliver_step w ticket
-happens w (lose ticket) = lose_step w ticket
-happens w (repeat ticket) = repeat_step w ticket
-happens w (cut ticket len) = cut_step w ticket len
-happens w (tick node ms) = tick_step w node ms
-happens w (purge node) = purge_step w node
-happens w (release node) = release_step w node
-happens w (kill node n) = kill_step w node n
-happens w (clear node) = clear_step w node
-happens w (restart node) = restart_step w node
-happens w (turn node) = turn_step w node
-happens w (retry node) = retry_step w node
+abbrev pub flush : NodeId → Event
+flush at = event.Flush at
 
-abbrev pub out : NodeId → Packet → Happening
-out node p = packet node Outbound p
+abbrev pub deliver : ℕ → Event
+deliver ticket = event.Of ticket frame.Deliver
 
-abbrev pub into : NodeId → Packet → Happening
-into node p = packet node Inbound p
+abbrev pub lose : ℕ → Event
+lose ticket = event.Of ticket frame.Lose
 
-abbrev pub tcp_out : ℕ → ℕ → ℕ → ℕ → Happening
+abbrev pub repeat : ℕ → Event
+repeat ticket = event.Of ticket frame.Repeat
+
+abbrev pub cut : ℕ → ℕ → Event
+cut ticket len = event.Of ticket (frame.Cut len)
+
+abbrev pub tick : NodeId → ℕ → Event
+tick at ms = event.At at (own.Tick ms)
+
+abbrev pub purge : NodeId → Event
+purge at = event.At at own.Purge
+
+abbrev pub release : NodeId → Event
+release at = event.At at own.Release
+
+abbrev pub kill : NodeId → StateName → Event
+kill at n = event.At at (own.Kill n)
+
+abbrev pub clear : NodeId → Event
+clear at = event.At at own.Clear
+
+abbrev pub restart : NodeId → Event
+restart at = event.Restart at
+
+abbrev pub turn : NodeId → Event
+turn at = event.At at own.BulkTurn
+
+abbrev pub retry : NodeId → Event
+retry at = event.At at own.BulkRetry
+
+abbrev pub out : NodeId → Packet → Event
+out at p = packet at Outbound p
+
+abbrev pub into : NodeId → Packet → Event
+into at p = packet at Inbound p
+
+abbrev pub tcp_out : ℕ → ℕ → ℕ → ℕ → Event
 tcp_out flags seq ack window = out A (record { proto = Tcp; src = inside 1000; dst = outside 80; flags = flags; seq = seq; ack = ack; window = window; len = 0; scale = None })
 
-abbrev pub tcp_in : ℕ → ℕ → ℕ → ℕ → Happening
+abbrev pub tcp_in : ℕ → ℕ → ℕ → ℕ → Event
 tcp_in flags seq ack window = into A (record { proto = Tcp; src = outside 80; dst = inside 1000; flags = flags; seq = seq; ack = ack; window = window; len = 0; scale = None })
 
 abbrev pub name : ℕ → ℕ → StateName
@@ -168,8 +186,18 @@ name creator id = record { creator = creator; id = id }
 abbrev pub Answer : Type 0
 Answer = Result Outcome Refusal
 
+-- what a node gives by itself
+abbrev pub did : NodeOutcome → Answer
+did o = Ok (outcome.At o)
+
 abbrev pub passed : ℕ → ℕ → Answer
-passed creator id = Ok (outcome.Pass (Some (name creator id)))
+passed creator id = did (given.Handled (fate.Pass (Some (name creator id))))
+
+abbrev pub held : ℕ → ℕ → Answer
+held creator id = did (given.Handled (fate.Held (name creator id)))
+
+abbrev pub dropped : Reason → Answer
+dropped why = did (given.Handled (fate.Dropped why))
 
 abbrev pub sent : ℕ → ℕ → Answer
 sent ticket len = Ok (outcome.Sent ticket len)
@@ -178,7 +206,10 @@ abbrev pub taken : ℕ → Answer
 taken n = Ok (outcome.Taken n)
 
 abbrev pub clock : ℕ → Answer
-clock ms = Ok (outcome.Clock ms)
+clock ms = did (given.Clock ms)
+
+abbrev pub asked : ℕ → Answer
+asked tries = did (given.Tried (retried.Asked tries))
 
 -- the world after an event; a refused one leaves it
 abbrev pub world_after : World → Result Stepped Refusal → World
@@ -190,18 +221,18 @@ outcome_after (Ok s) = Ok s.outcome
 outcome_after (Err r) = Err r
 
 -- the answers to the events, each on the world that those before it left
-unfoldable pub answers : World → List Happening → List (Result Outcome Refusal)
+unfoldable pub answers : World → List Event → List (Result Outcome Refusal)
 answers w [] = []
-answers w (e ∷ es) = let r = happens w e in outcome_after r ∷ answers (world_after w r) es
+answers w (e ∷ es) = let r = step w e in outcome_after r ∷ answers (world_after w r) es
 
 -- the world that the events leave
-unfoldable pub final : World → List Happening → World
+unfoldable pub final : World → List Event → World
 final w [] = w
-final w (e ∷ es) = final (world_after w (happens w e)) es
+final w (e ∷ es) = final (world_after w (step w e)) es
 
 -- what a run needs to compute on literals
 unfoldable pub computing : ℕ
-unfolding answers final happens map_lemmas.computing spelling.number_bytes spelling.name_bytes spelling.peer_bytes spelling.end_bytes spelling.key_bytes spelling.keys_bytes spelling.class_bytes spelling.state_bytes spelling.update_bytes spelling.record_bytes spelling.group_bytes spelling.spelling reading.computing taking.next_frame changes.changed changes.deleted changes.forgotten starting.started starting.judged packets.handled packets.packet_points receiving.taken flushing.frame_of flushing.flushed purging.purged purging.purge_points releasing.released_due clearing.cleared events.restarted turning.turn_of turning.turned retrying.retried_client steps.packet_step steps.flush_step steps.deliver_step steps.lose_step steps.repeat_step steps.cut_step steps.tick_step steps.purge_step steps.release_step steps.kill_step steps.clear_step steps.restart_step steps.turn_step steps.retry_step one.step runs.run delivering.cleared_by delivering.records_work
+unfolding answers final map_lemmas.computing spelling.number_bytes spelling.name_bytes spelling.peer_bytes spelling.end_bytes spelling.key_bytes spelling.keys_bytes spelling.class_bytes spelling.state_bytes spelling.update_bytes spelling.record_bytes spelling.group_bytes spelling.spelling reading.computing taking.next_frame changes.changed changes.deleted changes.forgotten starting.started starting.judged packets.handled packets.packet_points receiving.taken flushing.frame_of flushing.flushed purging.purged purging.purge_points releasing.released_due clearing.cleared events.restarted turning.turn_of turning.turned retrying.retried_client steps.flush_step steps.deliver_step steps.lose_step steps.repeat_step steps.cut_step steps.restart_step one.step runs.run delivering.cleared_by delivering.records_work
 computing = 0
 
 -- what is pending at a node

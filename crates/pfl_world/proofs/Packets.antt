@@ -16,10 +16,11 @@ use Rattle.pfl_rules.specs.declared.action.Action.TheVariants.{Block}
 use Rattle.pfl_rules.specs.declared.rule_dir.RuleDir.TheVariants.{Any}
 use Rattle.pfl_queue.specs.declared.Kind.TheVariants.{Insert}
 use Rattle.pfl_node.specs.declared.fate.Reason.TheVariants as reason
-use Rattle.pfl_world.specs.Outcomes.{Outcome}
-use Rattle.pfl_world.specs.Outcomes as outcome
 use Rattle.pfl_world.specs.Worlds.{World, new_world}
-use Rattle.pfl_world.proofs.Lab.{Happening, limits, rules, opening, pass_out, host, inside, outside, plain, u1, u2, v1, out, into, tcp_out, tcp_in, name, answers, final, computing, queue_at, queued, states_at, names_at, seen, ends, both, tick, purge, passed, clock, flush, counts, NodeShot, shot}
+use Rattle.pfl_world.specs.declared.event.Event.{Event}
+use Rattle.pfl_node.specs.declared.event.NodeOutcome.TheVariants as given
+use Rattle.pfl_node.specs.declared.fate.Fate.TheVariants as fate
+use Rattle.pfl_world.proofs.Lab.{limits, rules, opening, pass_out, host, inside, outside, plain, u1, u2, v1, out, into, tcp_out, tcp_in, name, answers, final, computing, queue_at, queued, states_at, names_at, seen, ends, both, tick, purge, passed, clock, flush, counts, NodeShot, shot, dropped, did}
 
 abbrev s : World
 s = opening limits
@@ -95,7 +96,7 @@ lookup_alone : map seen (states_at (final (s) (out A u1 ∷ out A u1 ∷ [])) A)
 unfolding computing
 lookup_alone = refl
 
-purge_at_expiry : answers (s) (out A u1 ∷ tick A 59999 ∷ purge A ∷ tick A 1 ∷ purge A ∷ []) ≡ passed 1 1 ∷ clock 59999 ∷ Ok (outcome.Purged 0) ∷ clock 60000 ∷ Ok (outcome.Purged 1) ∷ []
+purge_at_expiry : answers (s) (out A u1 ∷ tick A 59999 ∷ purge A ∷ tick A 1 ∷ purge A ∷ []) ≡ passed 1 1 ∷ clock 59999 ∷ did (given.Purged 0) ∷ clock 60000 ∷ did (given.Purged 1) ∷ []
 unfolding computing
 purge_at_expiry = refl
 
@@ -103,10 +104,10 @@ nothing_queued : queue_at (final (s) (out A u1 ∷ tick A 59999 ∷ purge A ∷ 
 unfolding computing
 nothing_queued = refl
 
-abbrev connection : List Happening
+abbrev connection : List Event
 connection = tcp_out 2 100 0 1000 ∷ tcp_in 18 500 101 2000 ∷ tcp_out 16 101 501 1000 ∷ tcp_in 16 5000 101 2000 ∷ tcp_out 17 101 501 1000 ∷ tcp_in 17 501 102 2000 ∷ tcp_out 16 102 502 1000 ∷ []
 
-connection_and_reuse : answers (s) (tcp_out 2 100 0 1000 ∷ tcp_in 18 500 101 2000 ∷ tcp_out 16 101 501 1000 ∷ tcp_in 16 5000 101 2000 ∷ tcp_out 17 101 501 1000 ∷ tcp_in 17 501 102 2000 ∷ tcp_out 16 102 502 1000 ∷ tcp_out 2 9000 0 1000 ∷ []) ≡ passed 1 1 ∷ passed 1 1 ∷ passed 1 1 ∷ Ok (outcome.Dropped reason.Window) ∷ passed 1 1 ∷ passed 1 1 ∷ passed 1 1 ∷ passed 1 2 ∷ []
+connection_and_reuse : answers (s) (tcp_out 2 100 0 1000 ∷ tcp_in 18 500 101 2000 ∷ tcp_out 16 101 501 1000 ∷ tcp_in 16 5000 101 2000 ∷ tcp_out 17 101 501 1000 ∷ tcp_in 17 501 102 2000 ∷ tcp_out 16 102 502 1000 ∷ tcp_out 2 9000 0 1000 ∷ []) ≡ passed 1 1 ∷ passed 1 1 ∷ passed 1 1 ∷ dropped reason.Window ∷ passed 1 1 ∷ passed 1 1 ∷ passed 1 1 ∷ passed 1 2 ∷ []
 unfolding computing
 connection_and_reuse = refl
 
@@ -134,25 +135,25 @@ not_there = record pass_out { action = Block; quick = true; to = Some (record { 
 abbrev filtered : World
 filtered = new_world limits (rules (any_block ∷ web ∷ not_there ∷ [])) (rules [])
 
-abbrev request : ℕ → ℕ → ℕ → Happening
+abbrev request : ℕ → ℕ → ℕ → Event
 request port to flags = out A (record (plain Tcp (inside port) (host to 80) 0) { flags = flags; seq = 100; window = 1000 })
 
-rules_in_order : answers (filtered) (out A u1 ∷ request 1000 0xc6336407 2 ∷ request 1001 0xc6336407 16 ∷ request 1000 0xc0000209 2 ∷ []) ≡ Ok (outcome.Dropped reason.Block) ∷ passed 1 1 ∷ Ok (outcome.Dropped reason.Block) ∷ Ok (outcome.Dropped reason.Block) ∷ []
+rules_in_order : answers (filtered) (out A u1 ∷ request 1000 0xc6336407 2 ∷ request 1001 0xc6336407 16 ∷ request 1000 0xc0000209 2 ∷ []) ≡ dropped reason.Block ∷ passed 1 1 ∷ dropped reason.Block ∷ dropped reason.Block ∷ []
 unfolding computing
 rules_in_order = refl
 
-no_rules : answers (new_world limits (rules []) (rules [])) (out A u1 ∷ []) ≡ Ok (outcome.Pass None) ∷ []
+no_rules : answers (new_world limits (rules []) (rules [])) (out A u1 ∷ []) ≡ did (given.Handled (fate.Pass None)) ∷ []
 unfolding computing
 no_rules = refl
 
-at_most_one : answers (new_world limits (rules (record pass_out { max = Some 1 } ∷ [])) (rules [])) (out A u1 ∷ out A u2 ∷ []) ≡ passed 1 1 ∷ Ok (outcome.Dropped reason.Max) ∷ []
+at_most_one : answers (new_world limits (rules (record pass_out { max = Some 1 } ∷ [])) (rules [])) (out A u1 ∷ out A u2 ∷ []) ≡ passed 1 1 ∷ dropped reason.Max ∷ []
 unfolding computing
 at_most_one = refl
 
 abbrev natting : World
 natting = new_world limits (rules (record pass_out { proto = Some Udp; nat = Some (host 0xc6336401 4000) } ∷ [])) (rules [])
 
-translation : answers (natting) (out A u1 ∷ into A (plain Udp (outside 53) (host 0xc6336401 4000) 80) ∷ out A (plain Udp (host 0x0a000002 1000) (outside 53) 40) ∷ []) ≡ passed 1 1 ∷ passed 1 1 ∷ Ok (outcome.Dropped reason.Key) ∷ []
+translation : answers (natting) (out A u1 ∷ into A (plain Udp (outside 53) (host 0xc6336401 4000) 80) ∷ out A (plain Udp (host 0x0a000002 1000) (outside 53) 40) ∷ []) ≡ passed 1 1 ∷ passed 1 1 ∷ dropped reason.Key ∷ []
 unfolding computing
 translation = refl
 
@@ -160,7 +161,7 @@ translated : map (λ t. t.wire.near) (states_at (final (natting) (out A u1 ∷ [
 unfolding computing
 translated = refl
 
-echo : answers (s) (out A (plain Icmp (inside 7) (outside 7) 64) ∷ into A (plain Icmp (outside 7) (inside 7) 64) ∷ tick A 10000 ∷ purge A ∷ []) ≡ passed 1 1 ∷ passed 1 1 ∷ clock 10000 ∷ Ok (outcome.Purged 1) ∷ []
+echo : answers (s) (out A (plain Icmp (inside 7) (outside 7) 64) ∷ into A (plain Icmp (outside 7) (inside 7) 64) ∷ tick A 10000 ∷ purge A ∷ []) ≡ passed 1 1 ∷ passed 1 1 ∷ clock 10000 ∷ did (given.Purged 1) ∷ []
 unfolding computing
 echo = refl
 
@@ -172,7 +173,7 @@ echo_answered : map seen (states_at (final (s) (out A (plain Icmp (inside 7) (ou
 unfolding computing
 echo_answered = refl
 
-one_state : answers (opening (record limits { states = 1 })) (out A u1 ∷ out A u2 ∷ []) ≡ passed 1 1 ∷ Ok (outcome.Dropped reason.Full) ∷ []
+one_state : answers (opening (record limits { states = 1 })) (out A u1 ∷ out A u2 ∷ []) ≡ passed 1 1 ∷ dropped reason.Full ∷ []
 unfolding computing
 one_state = refl
 

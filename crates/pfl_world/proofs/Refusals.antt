@@ -2,11 +2,11 @@
 use Rattle.std.specs.Prelude.{◌≡◌, ℕ, [], ◌∷◌, map, Some, None, Ok, Err, refl}
 use Rattle.pfl_base.specs.declared.refusal.Refusal.TheVariants as refusal
 use Rattle.pfl_base.specs.declared.node_id.NodeId.TheVariants.{A, B}
-use Rattle.pfl_world.specs.Outcomes.{Outcome}
-use Rattle.pfl_world.specs.Outcomes as outcome
+use Rattle.pfl_world.specs.declared.outcome.Outcome.TheVariants as outcome
 use Rattle.pfl_world.specs.declared.fault.WorldFault.TheVariants as world
 use Rattle.pfl_world.specs.Worlds.{World, node_at, new_world_at, world_fault}
-use Rattle.pfl_world.proofs.Lab.{limits, rules, opening, pass_out, u1, u2, out, name, answers, computing, flush, deliver, repeat, tick, kill, clear, restart, turn, retry, passed, sent, taken, clock, final, lose}
+use Rattle.pfl_node.specs.declared.event.NodeOutcome.TheVariants as given
+use Rattle.pfl_world.proofs.Lab.{limits, rules, opening, pass_out, u1, u2, out, name, answers, computing, flush, deliver, repeat, tick, kill, clear, restart, turn, retry, passed, sent, taken, clock, final, lose, did, asked}
 
 abbrev s : World
 s = opening limits
@@ -42,12 +42,12 @@ turn_idle_and_full : answers (opening (record limits { queue = 1 })) (out A u1 �
 unfolding computing
 turn_idle_and_full = refl
 
-clear_makes_room : answers (opening (record limits { queue = 1 })) (out A u1 ∷ clear A ∷ flush A ∷ []) ≡ passed 1 1 ∷ Ok (outcome.Cleared 1) ∷ sent 1 36 ∷ []
+clear_makes_room : answers (opening (record limits { queue = 1 })) (out A u1 ∷ clear A ∷ flush A ∷ []) ≡ passed 1 1 ∷ did (given.Cleared 1) ∷ sent 1 36 ∷ []
 unfolding computing
 clear_makes_room = refl
 
 -- a request that is on the list already takes no room, and the last try's end takes none either
-retry_at_a_full_queue : answers (opening (record limits { queue = 1 })) (restart A ∷ tick A 10000 ∷ retry A ∷ []) ≡ Ok (outcome.Boot 3) ∷ clock 10000 ∷ Ok (outcome.Asked 2) ∷ []
+retry_at_a_full_queue : answers (opening (record limits { queue = 1 })) (restart A ∷ tick A 10000 ∷ retry A ∷ []) ≡ Ok (outcome.Boot 3) ∷ clock 10000 ∷ asked 2 ∷ []
 unfolding computing
 retry_at_a_full_queue = refl
 

@@ -15,7 +15,7 @@ use Rattle.pfl_world.specs.declared.edit.WorldEdit.TheVariants.{OfRestart}
 use Rattle.pfl_world.specs.declared.event.Event.{Event}
 use Rattle.pfl_world.specs.declared.event.Event.TheVariants as event
 use Rattle.pfl_world.specs.Events.{step, IsRefusalOf}
-use Rattle.pfl_world.specs.Outcomes as outcome
+use Rattle.pfl_world.specs.declared.outcome.Outcome.TheVariants as outcome
 use Rattle.pfl_world.specs.Outcomes.{Stepped}
 use Rattle.pfl_world.specs.Restarts.{RestartEdit}
 use Rattle.pfl_world.specs.Steps.{unless, restart_step}

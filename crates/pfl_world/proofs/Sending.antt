@@ -22,11 +22,10 @@ use Rattle.pfl_world.specs.declared.event.Event.{Event}
 use Rattle.pfl_world.specs.declared.event.Event.TheVariants as event
 use Rattle.pfl_world.specs.declared.edit.WorldEdit.{WorldEdit}
 use Rattle.pfl_world.specs.declared.edit.WorldEdit.TheVariants.{OfNode, OfLink}
-use Rattle.pfl_world.specs.declared.outcome.Outcome.{Outcome as Answer}
-use Rattle.pfl_world.specs.declared.outcome.Outcome.TheVariants as answer
+use Rattle.pfl_world.specs.declared.outcome.Outcome.{Outcome}
 use Rattle.pfl_world.specs.Events.{step, IsRefusalOf}
-use Rattle.pfl_world.specs.Outcomes as outcome
-use Rattle.pfl_world.specs.Outcomes.{Stepped, told}
+use Rattle.pfl_world.specs.declared.outcome.Outcome.TheVariants as outcome
+use Rattle.pfl_world.specs.Outcomes.{Stepped}
 use Rattle.pfl_world.specs.Steps.{answered, flush_refusal, sent_frame, flush_step}
 use Rattle.pfl_world.specs.Weights.{weight, flush_work}
 use Rattle.pfl_world.specs.WorldEdits.{Finds, put_back, WorldLeadsBack}
@@ -90,20 +89,20 @@ step_flush w e id is = ap (step w) is
 pub flush_refused : {X : Type 0} (w : World) (e : Event) (id : NodeId) → e ≡ event.Flush id → (result : Result X Refusal) → IfErr result (IsRefusal (flush_refusal w id)) → IfErr result (IsRefusalOf (step w e))
 flush_refused w e id is result r = refused_as (flush_refusal w id) (flushed_to w id) (step w e) (step_flush w e id is) result r
 
-pub flush_accepted : {C : Type 0} (old new : World) (e : Event) (id : NodeId) → e ≡ event.Flush id → (result : Result (Answer × C) Refusal)
+pub flush_accepted : {C : Type 0} (old new : World) (e : Event) (id : NodeId) → e ≡ event.Flush id → (result : Result (Outcome × C) Refusal)
     → OnOk result (flush_refusal old id ≡ None)
     → OnOk result (new ≡ (flushed_to old id).world)
-    → IfOk result (λ r. r.0 ≡ answer.Sent old.link.next (length (sent_frame old id).bytes))
-    → IfOk result (λ r. step old e ≡ Ok (record { world = new; outcome = told r.0 }))
+    → IfOk result (λ r. r.0 ≡ outcome.Sent old.link.next (length (sent_frame old id).bytes))
+    → IfOk result (λ r. step old e ≡ Ok (record { world = new; outcome = r.0 }))
 flush_accepted old new e id at (Err r) none made is = tt
 flush_accepted old new e id at (Ok r) none made is =
     step_flush old e id at
     ∙ ap (λ (o : Option Refusal). answered o (flushed_to old id)) none
     ∙ ap (λ (w : World). accepted w (flushed_to old id).outcome) (sym made)
-    ∙ ap (λ (a : Answer). accepted new (told a)) (sym is)
+    ∙ ap (λ (a : Outcome). accepted new a) (sym is)
 
 -- two edits for each entry at most, one of the push and one of the link
-pub flush_weight : {M : Type 0} (w : World) (e : Event) (id : NodeId) → e ≡ event.Flush id → (result : Result (Answer × Edits (WorldEdit M)) Refusal)
+pub flush_weight : {M : Type 0} (w : World) (e : Event) (id : NodeId) → e ≡ event.Flush id → (result : Result (Outcome × Edits (WorldEdit M)) Refusal)
     → IfOk result (λ r. length r.1.list ≤ 2 + 2 * flush_work w id) → IfOk result (λ r. length r.1.list ≤ weight w e)
 flush_weight w e id is (Err r) few = tt
 flush_weight w e id is (Ok r) few =
@@ -126,12 +125,12 @@ sent_is old mid new id n to bytes made at spelt is =
     ∙ ap (λ (t : NodeId). with_link (with_node old id n) (sent old.link (record { to = t; bytes = bytes }))) at
     ∙ ap (λ (bs : List ℕ). with_link (with_node old id n) (sent old.link (record { to = other_node id; bytes = bs }))) spelt
 
-pub outcome_is : (old mid : World) (id : NodeId) (n : Node) (bytes : List ℕ) (out : Answer) → mid ≡ with_node old id n → bytes ≡ spelling (frame_of (node_at old id))
-    → out ≡ answer.Sent mid.link.next (length bytes) → out ≡ answer.Sent old.link.next (length (spelling (frame_of (node_at old id))))
+pub outcome_is : (old mid : World) (id : NodeId) (n : Node) (bytes : List ℕ) (out : Outcome) → mid ≡ with_node old id n → bytes ≡ spelling (frame_of (node_at old id))
+    → out ≡ outcome.Sent mid.link.next (length bytes) → out ≡ outcome.Sent old.link.next (length (spelling (frame_of (node_at old id))))
 outcome_is old mid id n bytes out made spelt is =
     is
-    ∙ ap (λ (l : Link). answer.Sent l.next (length bytes)) (ap (λ (w : World). w.link) made ∙ link_kept old id n)
-    ∙ ap (λ (bs : List ℕ). answer.Sent old.link.next (length bs)) spelt
+    ∙ ap (λ (l : Link). outcome.Sent l.next (length bytes)) (ap (λ (w : World). w.link) made ∙ link_kept old id n)
+    ∙ ap (λ (bs : List ℕ). outcome.Sent old.link.next (length bs)) spelt
 
 -- the edits before it, and then the link's
 pub sent_leads_back : {M : Type 0} (now v : World) → v ≡ now → IsWorld now → (es more : List (WorldEdit M)) (e : LinkEdit) (l : Link) → Fits Finds IsWorld put_back es now → LinkLeadsBack (e ∷ []) v.link l

@@ -1,29 +1,22 @@
--- The steps of the pair that happen at one node, in words of the node's.
-use Rattle.std.specs.Prelude.{◌≡◌, ℕ, ◌+◌, Bool, true, false, nat_lt, [], ◌∷◌, Option, Some, None, is_none, Result, Ok, Err, IfErr, refl, if◌then◌else◌}
-use Rattle.std.specs.Option.{option_map_or}
+-- The steps of the pair, and why they are refused.
+use Rattle.std.specs.Prelude.{◌≡◌, ℕ, Option, Some, None, Result, Ok, Err, IfErr, refl}
 use Rattle.std.proofs.Common.{◌∙◌, ap, sym, subst, inl}
-use Rattle.pfl_base.specs.declared.direction.Dir.{Dir}
-use Rattle.pfl_base.specs.declared.packet.Packet.{Packet}
 use Rattle.pfl_base.specs.declared.refusal.Refusal.{Refusal}
-use Rattle.pfl_base.specs.declared.refusal.Refusal.TheVariants.{ClockFull, NoSuchState, NoMemory}
+use Rattle.pfl_base.specs.declared.refusal.Refusal.TheVariants.{NoMemory}
 use Rattle.pfl_base.specs.declared.node_id.NodeId.{NodeId}
-use Rattle.pfl_base.specs.declared.state_name.StateName.{StateName}
-use Rattle.pfl_edits.specs.Maps as maps
-use Rattle.pfl_track.specs.declared.state.State.{State}
-use Rattle.pfl_parts.specs.Changes.{deleted}
-use Rattle.pfl_parts.specs.Nodes.{Node, IsRefusal, full_tests, refused_by, last_millisecond}
-use Rattle.pfl_node.specs.declared.event.NodeEvent.TheVariants as node
+use Rattle.pfl_parts.specs.Nodes.{Node, IsRefusal}
 use Rattle.pfl_node.specs.declared.event.NodeEvent.{NodeEvent}
 use Rattle.pfl_node.specs.Stepping as stepping
 use Rattle.pfl_node.specs.Stepping.{NodeStepped, node_refusal, node_after, node_step}
 use Rattle.pfl_world.specs.declared.event.Event.{Event}
 use Rattle.pfl_world.specs.declared.event.Event.TheVariants as event
-use Rattle.pfl_world.specs.AtNode.{outcome_at}
-use Rattle.pfl_world.specs.inner.AtNode.{stepped_at, node_stepped}
+use Rattle.pfl_world.specs.declared.event.FrameEvent.{FrameEvent}
+use Rattle.pfl_world.specs.declared.event.FrameEvent.TheVariants as frame
+use Rattle.pfl_world.specs.declared.outcome.Outcome.{Outcome}
+use Rattle.pfl_world.specs.declared.outcome.Outcome.TheVariants as outcome
 use Rattle.pfl_world.specs.Events.{step, IsRefusalOf, IsEventRefusal}
-use Rattle.pfl_world.specs.Outcomes.{Outcome, Stepped}
-use Rattle.pfl_world.specs.Outcomes as outcome
-use Rattle.pfl_world.specs.Steps.{answered, packet_step, tick_step, purge_step, release_step, killed, kill_step, clear_step, turn_step, retry_step}
+use Rattle.pfl_world.specs.Outcomes.{Stepped}
+use Rattle.pfl_world.specs.Steps.{answered, stepped_at, from_node, node_event, frame_event}
 use Rattle.pfl_world.specs.Worlds.{World, node_at, with_node}
 
 -- what is accepted
@@ -40,22 +33,19 @@ refused_as o s at is (Ok x) r = tt
 refused_as o s at is (Err given) r = subst (λ (v : Result Stepped Refusal). IsRefusalOf v given) (sym is) (refusal_of o s given r)
 
 -- and so that of the event
+frame_refusal : (w : World) (ticket : ℕ) (e : FrameEvent) (r : Refusal) → IsRefusalOf (frame_event w ticket e) r → IsEventRefusal w (event.Of ticket e) r
+unfolding step
+frame_refusal w ticket frame.Deliver r is = inl is
+frame_refusal w ticket frame.Lose r is = is
+frame_refusal w ticket frame.Repeat r is = is
+frame_refusal w ticket (frame.Cut len) r is = is
+
 pub event_refusal : (w : World) (e : Event) (r : Refusal) → IsRefusalOf (step w e) r → IsEventRefusal w e r
 unfolding step
-event_refusal w (event.Packet node dir p) r is = is
+event_refusal w (event.At node e) r is = is
 event_refusal w (event.Flush node) r is = is
-event_refusal w (event.Deliver ticket) r is = inl is
-event_refusal w (event.Lose ticket) r is = is
-event_refusal w (event.Repeat ticket) r is = is
-event_refusal w (event.Cut ticket len) r is = is
-event_refusal w (event.Tick node ms) r is = is
-event_refusal w (event.Purge node) r is = is
-event_refusal w (event.Release node) r is = is
-event_refusal w (event.Kill node name) r is = is
-event_refusal w (event.Clear node) r is = is
+event_refusal w (event.Of ticket e) r is = frame_refusal w ticket e r is
 event_refusal w (event.Restart node) r is = is
-event_refusal w (event.BulkTurn node) r is = is
-event_refusal w (event.BulkRetry node) r is = is
 
 -- an event that is accepted may want memory
 pub event_wants : (w : World) (e : Event) (s : Stepped) → step w e ≡ Ok s → IsEventRefusal w e NoMemory
@@ -65,66 +55,42 @@ pub refused_then : {X : Type 0} (w : World) (e : Event) (result : Result X Refus
 refused_then w e (Ok x) is = tt
 refused_then w e (Err r) is = event_refusal w e r is
 
+-- the same event by another name
+pub refused_same : {X : Type 0} (w : World) (e f : Event) → e ≡ f → (result : Result X Refusal) → IfErr result (IsEventRefusal w f) → IfErr result (IsEventRefusal w e)
+refused_same w e f is result why = subst (λ (v : Event). IfErr result (IsEventRefusal w v)) (sym is) why
+
+pub frame_refused_then : {X : Type 0} (w : World) (ticket : ℕ) (e : FrameEvent) (result : Result X Refusal) → IfErr result (IsRefusalOf (frame_event w ticket e)) → IfErr result (IsEventRefusal w (event.Of ticket e))
+frame_refused_then w ticket e (Ok x) is = tt
+frame_refused_then w ticket e (Err r) is = frame_refusal w ticket e r is
+
 -- ---- what a node answers, at the pair
 
-accepted_at : (w : World) (id : NodeId) (o : Option Refusal) (s t : NodeStepped) → stepping.answered o s ≡ Ok t → answered o (stepped_at w id s) ≡ Ok (stepped_at w id t)
-accepted_at w id None s t is = let same : s ≡ t = cc in ap (λ (v : NodeStepped). Ok (stepped_at w id v)) same
-accepted_at w id (Some r) s t is = absurd (cc)
+pub refused_at : (w : World) (id : NodeId) (o : Option Refusal) (s : NodeStepped) (r : Refusal) → IsRefusal o r → IsRefusalOf (from_node w id (stepping.answered o s)) r
+refused_at w id (Some first) s r is = is
+refused_at w id None s r is = is
+
+-- the node was lent, and its refusal is that of the pair
+pub refused_from : {X : Type 0} (w old : World) (id : NodeId) (e : NodeEvent) (was : Node) (result : Result X Refusal)
+    → was ≡ node_at w id → w ≡ old → IfErr result (IsRefusal (node_refusal was e)) → IfErr result (IsRefusalOf (node_event old id e))
+refused_from w old id e was (Ok x) at view is = tt
+refused_from w old id e was (Err r) at view is =
+    subst (λ (v : World). IsRefusalOf (node_event v id e) r) view
+    (refused_at w id (node_refusal (node_at w id) e) (node_after (node_at w id) e) r (subst (λ (n : Node). IsRefusal (node_refusal n e) r) at is))
 
 -- the node was lent, and what the event made of it stands in its place
-pub stepped_from : (w old new : World) (id : NodeId) (e : NodeEvent) (was : Node) (t : NodeStepped) (o : Outcome)
-    → was ≡ node_at w id → w ≡ old → new ≡ with_node w id t.node → o ≡ outcome_at t.outcome → node_step was e ≡ Ok t → node_stepped old id e ≡ accepted new o
-stepped_from w old new id e was t o at view made tells is =
-    subst (λ (v : World). node_stepped v id e ≡ accepted new o) view
-    (accepted_at w id (node_refusal (node_at w id) e) (node_after (node_at w id) e) t (subst (λ (n : Node). node_step n e ≡ Ok t) at is)
-    ∙ rw (made, tells) refl)
+pub stepped_from : (w old new : World) (id : NodeId) (e : NodeEvent) (was : Node) (t : NodeStepped)
+    → was ≡ node_at w id → w ≡ old → new ≡ with_node w id t.node → node_step was e ≡ Ok t → node_event old id e ≡ accepted new (outcome.At t.outcome)
+stepped_from w old new id e was t at view made is =
+    subst (λ (v : World). node_event v id e ≡ accepted new (outcome.At t.outcome)) view
+    (ap (from_node w id) (subst (λ (n : Node). node_step n e ≡ Ok t) at is)
+    ∙ rw made refl)
 
--- ---- the events of one node
+-- ---- by the parts of the event
 
-pub step_packet : (w : World) (e : Event) (id : NodeId) (dir : Dir) (p : Packet) → e ≡ event.Packet id dir p → step w e ≡ node_stepped w id (node.Packet dir p)
-unfolding step packet_step
-step_packet w e id dir p is = ap (step w) is
+pub step_at : (w : World) (e : Event) (id : NodeId) (at : NodeEvent) → e ≡ event.At id at → step w e ≡ node_event w id at
+unfolding step
+step_at w e id at is = ap (step w) is
 
-one_test : (b : Bool) → refused_by ((b, ClockFull) ∷ []) ≡ (if b then Some ClockFull else None)
-one_test true = refl
-one_test false = refl
-
-pub step_tick : (w : World) (e : Event) (id : NodeId) (ms : ℕ) → e ≡ event.Tick id ms → step w e ≡ node_stepped w id (node.Tick ms)
-unfolding step tick_step
-step_tick w e id ms is =
-    ap (step w) is
-    ∙ ap (λ (o : Option Refusal). answered o (stepped_at w id (node_after (node_at w id) (node.Tick ms)))) (one_test (nat_lt last_millisecond ((node_at w id).clock + ms)))
-
-pub step_purge : (w : World) (e : Event) (id : NodeId) → e ≡ event.Purge id → step w e ≡ node_stepped w id node.Purge
-unfolding step purge_step
-step_purge w e id is = ap (step w) is
-
-pub step_release : (w : World) (e : Event) (id : NodeId) → e ≡ event.Release id → step w e ≡ node_stepped w id node.Release
-unfolding step release_step
-step_release w e id is = ap (step w) is
-
--- the node without the state, if there is one
-abbrev without : Node → Option State → Node
-without n found = option_map_or (deleted n) found n
-
--- a state that is not there is refused before all else
-killed-found : (w : World) (id : NodeId) (found : Option State)
-    → option_map_or (killed w id) found (Err NoSuchState) ≡ answered (refused_by ((is_none found, NoSuchState) ∷ full_tests (without (node_at w id) found ∷ []))) (record { world = with_node w id (without (node_at w id) found); outcome = outcome.Killed })
-killed-found w id None = refl
-killed-found w id (Some s) = refl
-
-pub step_kill : (w : World) (e : Event) (id : NodeId) (name : StateName) → e ≡ event.Kill id name → step w e ≡ node_stepped w id (node.Kill name)
-unfolding step kill_step
-step_kill w e id name is = ap (step w) is ∙ killed-found w id (maps.get (node_at w id).states name)
-
-pub step_clear : (w : World) (e : Event) (id : NodeId) → e ≡ event.Clear id → step w e ≡ node_stepped w id node.Clear
-unfolding step clear_step
-step_clear w e id is = ap (step w) is
-
-pub step_turn : (w : World) (e : Event) (id : NodeId) → e ≡ event.BulkTurn id → step w e ≡ node_stepped w id node.BulkTurn
-unfolding step turn_step
-step_turn w e id is = ap (step w) is
-
-pub step_retry : (w : World) (e : Event) (id : NodeId) → e ≡ event.BulkRetry id → step w e ≡ node_stepped w id node.BulkRetry
-unfolding step retry_step
-step_retry w e id is = ap (step w) is
+pub step_of : (w : World) (e : Event) (ticket : ℕ) (of : FrameEvent) → e ≡ event.Of ticket of → step w e ≡ frame_event w ticket of
+unfolding step
+step_of w e ticket of is = ap (step w) is

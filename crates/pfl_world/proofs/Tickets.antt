@@ -13,7 +13,7 @@ use Rattle.pfl_parts.specs.Nodes.{refused_by}
 use Rattle.pfl_world.specs.declared.event.Event.{Event}
 use Rattle.pfl_world.specs.declared.event.Event.TheVariants as event
 use Rattle.pfl_world.specs.Events.{step, IsRefusalOf}
-use Rattle.pfl_world.specs.Outcomes as outcome
+use Rattle.pfl_world.specs.declared.outcome.Outcome.TheVariants as outcome
 use Rattle.pfl_world.specs.Outcomes.{Stepped}
 use Rattle.pfl_world.specs.Steps.{answered, without, with_ticket, lose_step, repeat_step, cut_step}
 use Rattle.pfl_world.specs.Worlds.{World, with_link}
@@ -92,17 +92,3 @@ repeat_refused w ticket fault e = no_copy (maps.get w.link.frames ticket) (is_fu
 
 pub wanted_memory : (at : Result Stepped Refusal) (s : Stepped) (r : Refusal) → at ≡ Ok s → r ≡ refusal.NoMemory → IsRefusalOf at r
 wanted_memory at s r is wants = subst (λ (v : Result Stepped Refusal). IsRefusalOf v r) (sym is) wants
-
--- ---- the events
-
-pub step_lose : (w : World) (e : Event) (ticket : ℕ) → e ≡ event.Lose ticket → step w e ≡ lose_step w ticket
-unfolding step
-step_lose w e ticket is = ap (step w) is
-
-pub step_repeat : (w : World) (e : Event) (ticket : ℕ) → e ≡ event.Repeat ticket → step w e ≡ repeat_step w ticket
-unfolding step
-step_repeat w e ticket is = ap (step w) is
-
-pub step_cut : (w : World) (e : Event) (ticket len : ℕ) → e ≡ event.Cut ticket len → step w e ≡ cut_step w ticket len
-unfolding step
-step_cut w e ticket len is = ap (step w) is

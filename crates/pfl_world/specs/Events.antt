@@ -6,26 +6,17 @@ use Rattle.pfl_edits.specs.Maps as maps
 use Rattle.pfl_wire.specs.Reading.{reading}
 use Rattle.pfl_world.specs.declared.event.Event.{Event}
 use Rattle.pfl_world.specs.declared.event.Event.TheVariants as event
+use Rattle.pfl_world.specs.declared.event.FrameEvent.TheVariants as frame
 use Rattle.pfl_world.specs.Outcomes.{Stepped}
 use Rattle.pfl_world.specs.Worlds.{World}
-use Rattle.pfl_world.specs.Steps.{packet_step, flush_step, deliver_step, lose_step, repeat_step, cut_step, tick_step, purge_step, release_step, kill_step, clear_step, restart_step, turn_step, retry_step}
+use Rattle.pfl_world.specs.Steps.{node_event, flush_step, deliver_step, frame_event, restart_step}
 
 -- an event of the pair (this project's profile)
 unfoldable pub step : World → Event → Result Stepped Refusal
-step w (event.Packet node dir p) = packet_step w node dir p
+step w (event.At node e) = node_event w node e
 step w (event.Flush node) = flush_step w node
-step w (event.Deliver ticket) = deliver_step w ticket
-step w (event.Lose ticket) = lose_step w ticket
-step w (event.Repeat ticket) = repeat_step w ticket
-step w (event.Cut ticket len) = cut_step w ticket len
-step w (event.Tick node ms) = tick_step w node ms
-step w (event.Purge node) = purge_step w node
-step w (event.Release node) = release_step w node
-step w (event.Kill node name) = kill_step w node name
-step w (event.Clear node) = clear_step w node
+step w (event.Of ticket e) = frame_event w ticket e
 step w (event.Restart node) = restart_step w node
-step w (event.BulkTurn node) = turn_step w node
-step w (event.BulkRetry node) = retry_step w node
 
 -- an event that is refused tells the refusal of its step; where that has none, it wanted memory
 abbrev pub IsRefusalOf : Result Stepped Refusal → Refusal → Type 0
@@ -43,5 +34,5 @@ IsDeliveryRefusal w ticket r = IsRefusalOf (deliver_step w ticket) r ⊎ ((r ≡
 
 -- why an event is refused: a delivery may want memory before what its records would be refused for, and no other event does
 abbrev pub IsEventRefusal : World → Event → Refusal → Type 0
-IsEventRefusal w (event.Deliver ticket) r = IsDeliveryRefusal w ticket r
+IsEventRefusal w (event.Of ticket frame.Deliver) r = IsDeliveryRefusal w ticket r
 IsEventRefusal w e r = IsRefusalOf (step w e) r

@@ -6,7 +6,6 @@ pub mod WorldEdits
 pub mod Values
 pub mod Outcomes
 pub mod Steps
-pub mod AtNode
 pub mod Events
 pub mod Runs
 pub mod Weights

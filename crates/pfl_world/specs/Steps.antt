@@ -1,41 +1,30 @@
--- Each event of the pair: the world after it with its outcome, or the first refusal that applies (pf(4), pfsync(4); the
--- events and their refusals are this project's profile).
-use Rattle.std.specs.Prelude.{ℕ, ◌+◌, Bool, not, ◌==◌, nat_lt, nat_le, List, [], ◌∷◌, length, Option, Some, None, Result, Ok, Err}
+-- Each event of the pair: the world after it with its outcome, or the first refusal that applies (pfsync(4); the events and
+-- their refusals are this project's profile). What happens at a node by itself is told in pfl_node.
+use Rattle.std.specs.Prelude.{ℕ, ◌+◌, Bool, ◌==◌, nat_le, List, [], ◌∷◌, length, Option, Some, None, Result, Ok, Err}
 use Rattle.std.specs.Option.{option_map_or}
 use Rattle.pfl_base.specs.Nodes.{other_node}
-use Rattle.pfl_base.specs.declared.direction.Dir.{Dir}
-use Rattle.pfl_base.specs.declared.packet.Packet.{Packet}
 use Rattle.pfl_base.specs.declared.refusal.Refusal.{Refusal}
-use Rattle.pfl_base.specs.declared.refusal.Refusal.TheVariants.{NoSuchFrame, NothingPending, NoSuchState, LinkFull, QueueFull, ClockFull, CountFull, NotSyncing, TooEarly}
+use Rattle.pfl_base.specs.declared.refusal.Refusal.TheVariants.{NoSuchFrame, NothingPending, LinkFull, CountFull}
 use Rattle.pfl_base.specs.declared.node_id.NodeId.{NodeId}
-use Rattle.pfl_base.specs.declared.state_name.StateName.{StateName}
 use Rattle.pfl_edits.specs.Maps as maps
-use Rattle.pfl_track.specs.declared.state.State.{State}
 use Rattle.pfl_wire.specs.declared.fault.BadFrame.{BadFrame}
 use Rattle.pfl_wire.specs.Frames.{Frame}
 use Rattle.pfl_wire.specs.Spelling.{spelling}
 use Rattle.pfl_wire.specs.Reading.{reading}
 use Rattle.pfl_queue.specs.Queues.{pending}
-use Rattle.pfl_bulk.specs.Bulk.{is_serving, is_waiting, is_due}
-use Rattle.pfl_node.specs.declared.fate.Fate.{Fate}
-use Rattle.pfl_node.specs.declared.fate.Fate.TheVariants as fate
-use Rattle.pfl_node.specs.declared.retried.Retried.{Retried}
-use Rattle.pfl_node.specs.declared.retried.Retried.TheVariants as retried
-use Rattle.pfl_parts.specs.Nodes.{Node, greatest, last_millisecond, full_tests, refused_by, is_overfull, is_overcounted}
-use Rattle.pfl_parts.specs.Changes.{count_broken, deleted}
-use Rattle.pfl_node.specs.Packets.{handled, packet_points}
+use Rattle.pfl_parts.specs.Nodes.{Node, greatest, full_tests, refused_by}
+use Rattle.pfl_parts.specs.Changes.{count_broken}
 use Rattle.pfl_receive.specs.Delivering.{records_of, received, receive_points}
 use Rattle.pfl_node.specs.Flushing.{frame_of, flushed}
-use Rattle.pfl_node.specs.Ticking.{ticked}
-use Rattle.pfl_node.specs.Purging.{purged, purge_points, expired_states}
-use Rattle.pfl_node.specs.Releasing.{released_due, due_names}
-use Rattle.pfl_node.specs.Clearing.{cleared}
 use Rattle.pfl_node.specs.Events.{restarted}
-use Rattle.pfl_node.specs.Turning.{turn_of, turned}
-use Rattle.pfl_node.specs.Retrying.{retried_client, retry_answer}
+use Rattle.pfl_node.specs.declared.event.NodeEvent.{NodeEvent}
+use Rattle.pfl_node.specs.Stepping.{NodeStepped, node_step}
 use Rattle.pfl_link.specs.Links.{InFlight, is_full, is_counted_out, sent, without_frame, with_frame, cut_to}
-use Rattle.pfl_world.specs.Outcomes as outcome
-use Rattle.pfl_world.specs.Outcomes.{Outcome, Stepped}
+use Rattle.pfl_world.specs.declared.event.FrameEvent.{FrameEvent}
+use Rattle.pfl_world.specs.declared.event.FrameEvent.TheVariants as frame
+use Rattle.pfl_world.specs.declared.outcome.Outcome.TheVariants as outcome
+use Rattle.pfl_world.specs.declared.outcome.Outcome.{Outcome}
+use Rattle.pfl_world.specs.Outcomes.{Stepped}
 use Rattle.pfl_world.specs.Worlds.{World, node_at, with_node, with_link}
 
 -- the refusal, or else what the event gives
@@ -47,20 +36,20 @@ answered (Some r) s = Err r
 abbrev pub unless : List (Bool × Refusal) → World → Outcome → Result Stepped Refusal
 unless tests w o = answered (refused_by tests) (record { world = w; outcome = o })
 
--- ---- packets
+-- ---- nodes
 
--- the outcome of a packet
-abbrev pub outcome_of : Fate → Outcome
-outcome_of (fate.Pass name) = outcome.Pass name
-outcome_of (fate.Held name) = outcome.Held name
-outcome_of (fate.Dropped why) = outcome.Dropped why
+-- what an event of a node gives the pair: the other node and the link stay
+abbrev pub stepped_at : World → NodeId → NodeStepped → Stepped
+stepped_at w id s = record { world = with_node w id s.node; outcome = outcome.At s.outcome }
 
--- a packet at a node
-unfoldable pub packet_step : World → NodeId → Dir → Packet → Result Stepped Refusal
-packet_step w node dir p =
-    let n = node_at w node in
-    let h = handled n dir p in
-    unless (full_tests (packet_points n dir p)) (with_node w node h.node) (outcome_of h.fate)
+-- the node's refusal, or else what it gives the pair
+abbrev pub from_node : World → NodeId → Result NodeStepped Refusal → Result Stepped Refusal
+from_node w id (Ok s) = Ok (stepped_at w id s)
+from_node w id (Err r) = Err r
+
+-- an event of a node by itself
+abbrev pub node_event : World → NodeId → NodeEvent → Result Stepped Refusal
+node_event w id e = from_node w id (node_step (node_at w id) e)
 
 -- ---- frames
 
@@ -120,67 +109,17 @@ unfoldable pub cut_step : World → ℕ → ℕ → Result Stepped Refusal
 cut_step w ticket len = with_ticket w ticket (λ f.
     unless [] (with_link w (with_frame w.link ticket (cut_to f len))) (outcome.CutTo (length (cut_to f len).bytes)))
 
--- ---- time
+-- an event of a frame in flight
+abbrev pub frame_event : World → ℕ → FrameEvent → Result Stepped Refusal
+frame_event w ticket frame.Deliver = deliver_step w ticket
+frame_event w ticket frame.Lose = lose_step w ticket
+frame_event w ticket frame.Repeat = repeat_step w ticket
+frame_event w ticket (frame.Cut len) = cut_step w ticket len
 
--- a clock goes on
-unfoldable pub tick_step : World → NodeId → ℕ → Result Stepped Refusal
-tick_step w node ms =
-    let n = node_at w node in
-    unless ((nat_lt last_millisecond (n.clock + ms), ClockFull) ∷ []) (with_node w node (ticked n ms)) (outcome.Clock (n.clock + ms))
-
--- a node deletes what has expired
-unfoldable pub purge_step : World → NodeId → Result Stepped Refusal
-purge_step w node =
-    let n = node_at w node in
-    unless (full_tests (purge_points n)) (with_node w node (purged n)) (outcome.Purged (length (expired_states n)))
-
--- where none is due, none is released
-unfoldable pub release_step : World → NodeId → Result Stepped Refusal
-release_step w node =
-    let n = node_at w node in
-    unless ((length n.held.list == 0, NothingPending) ∷ (is_overcounted (released_due n), CountFull) ∷ (length (due_names n) == 0, TooEarly) ∷ [])
-    (with_node w node (released_due n)) (outcome.Released (length (due_names n)))
-
--- ---- administration
-
--- a state that is there is deleted
-abbrev pub killed : World → NodeId → State → Result Stepped Refusal
-killed w node s =
-    let n = deleted (node_at w node) s in
-    unless (full_tests (n ∷ [])) (with_node w node n) outcome.Killed
-
--- a state is deleted by its name
-unfoldable pub kill_step : World → NodeId → StateName → Result Stepped Refusal
-kill_step w node name = option_map_or (killed w node) (maps.get (node_at w node).states name) (Err NoSuchState)
-
--- a node gives up all its states
-unfoldable pub clear_step : World → NodeId → Result Stepped Refusal
-clear_step w node =
-    let n = node_at w node in
-    unless (full_tests (cleared n ∷ [])) (with_node w node (cleared n)) (outcome.Cleared (maps.len n.states))
+-- ---- restarts
 
 -- a node begins anew as the next boot
 unfoldable pub restart_step : World → NodeId → Result Stepped Refusal
 restart_step w node =
     unless ((nat_le greatest w.next_boot, CountFull) ∷ [])
     (record (with_node w node (restarted (node_at w node) w.next_boot)) { next_boot = w.next_boot + 1 }) (outcome.Boot w.next_boot)
-
--- ---- bulk update: a node that serves none, waits for none or waited too short queues nothing
-
--- a server queues its next states
-unfoldable pub turn_step : World → NodeId → Result Stepped Refusal
-turn_step w node =
-    let n = node_at w node in
-    unless ((not (is_serving n.server), NotSyncing) ∷ full_tests (turned n ∷ [])) (with_node w node (turned n)) (outcome.Queued (length (turn_of n)))
-
--- the outcome of a retry
-abbrev pub retry_outcome : Retried → Outcome
-retry_outcome (retried.Asked tries) = outcome.Asked tries
-retry_outcome retried.Served = outcome.Served
-
--- a client that waited asks again, or goes on
-unfoldable pub retry_step : World → NodeId → Result Stepped Refusal
-retry_step w node =
-    let n = node_at w node in
-    unless ((not (is_waiting n.client), NotSyncing) ∷ (not (is_due n.client n.limits.bulk_ms n.clock), TooEarly) ∷ (is_overfull (retried_client n), QueueFull) ∷ [])
-    (with_node w node (retried_client n)) (retry_outcome (retry_answer n))

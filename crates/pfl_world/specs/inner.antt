@@ -2,6 +2,5 @@
 -- pair or of a timeline says any of it.
 pub mod Delivering
 pub mod Lending
-pub mod AtNode
 pub mod WorldEdits
 pub mod BothWays

@@ -3,7 +3,6 @@
 ghost use Rattle.std.specs.Prelude.{◌≡◌, ◌≤◌, Ok, IfOk, IfErr, OnErr, length};
 ghost use Rattle.std.specs.List.{AllByRecursion};
 ghost use Rattle.pfl_world.specs.Events.{IsRefusalOf};
-ghost use Rattle.pfl_world.specs.Outcomes.{told};
 ghost use Rattle.pfl_world.specs.Steps.{lose_step, repeat_step, cut_step};
 ghost use Rattle.pfl_world.specs.Values.{HoldsLittle};
 ghost use Rattle.pfl_world.specs.WorldEdits.{WorldLeadsBack};
@@ -19,7 +18,7 @@ impl<A: Allocator + Copy> World<A> {
     pub(crate) fn lose(&mut self, ticket: u32) -> Result<(Outcome, WorldChange<A>), Refusal>
         ensures refused { IfErr result (IsRefusalOf (lose_step self.old ticket)) }
         ensures unchanged { OnErr result (self.new ≡ self.old) }
-        ensures step { IfOk result (λ r. lose_step self.old ticket ≡ Ok (record { world = self.new; outcome = told r.0 })) }
+        ensures step { IfOk result (λ r. lose_step self.old ticket ≡ Ok (record { world = self.new; outcome = r.0 })) }
         ensures leads_back { IfOk result (λ r. WorldLeadsBack r.1.list self.old self.new) }
         ensures little { IfOk result (λ r. AllByRecursion HoldsLittle r.1.list) }
         ensures weight { IfOk result (λ r. length r.1.list ≤ 1) }
@@ -33,7 +32,7 @@ impl<A: Allocator + Copy> World<A> {
     pub(crate) fn repeat(&mut self, ticket: u32) -> Result<(Outcome, WorldChange<A>), Refusal>
         ensures refused { IfErr result (IsRefusalOf (repeat_step self.old ticket)) }
         ensures unchanged { OnErr result (self.new ≡ self.old) }
-        ensures step { IfOk result (λ r. repeat_step self.old ticket ≡ Ok (record { world = self.new; outcome = told r.0 })) }
+        ensures step { IfOk result (λ r. repeat_step self.old ticket ≡ Ok (record { world = self.new; outcome = r.0 })) }
         ensures leads_back { IfOk result (λ r. WorldLeadsBack r.1.list self.old self.new) }
         ensures little { IfOk result (λ r. AllByRecursion HoldsLittle r.1.list) }
         ensures weight { IfOk result (λ r. length r.1.list ≤ 1) }
@@ -52,7 +51,7 @@ impl<A: Allocator + Copy> World<A> {
     ) -> Result<(Outcome, WorldChange<A>), Refusal>
         ensures refused { IfErr result (IsRefusalOf (cut_step self.old ticket len)) }
         ensures unchanged { OnErr result (self.new ≡ self.old) }
-        ensures step { IfOk result (λ r. cut_step self.old ticket len ≡ Ok (record { world = self.new; outcome = told r.0 })) }
+        ensures step { IfOk result (λ r. cut_step self.old ticket len ≡ Ok (record { world = self.new; outcome = r.0 })) }
         ensures leads_back { IfOk result (λ r. WorldLeadsBack r.1.list self.old self.new) }
         ensures little { IfOk result (λ r. AllByRecursion HoldsLittle r.1.list) }
         ensures weight { IfOk result (λ r. length r.1.list ≤ 1) }

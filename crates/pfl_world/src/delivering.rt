@@ -8,7 +8,6 @@ ghost use Rattle.pfl_wire.specs.Reading.{reading};
 ghost use Rattle.pfl_receive.specs.Delivering.{frame_work};
 ghost use Rattle.pfl_world.specs.inner.Delivering as delivering;
 ghost use Rattle.pfl_world.specs.Events.{IsRefusalOf, IsDeliveryRefusal};
-ghost use Rattle.pfl_world.specs.Outcomes.{told};
 ghost use Rattle.pfl_world.specs.Steps.{frame_taken, broken_taken, read_taken, without, deliver_step};
 ghost use Rattle.pfl_world.specs.Values.{HoldsLittle};
 ghost use Rattle.pfl_world.specs.Weights.{edits_for, read_work, deliver_work};
@@ -28,7 +27,7 @@ impl<A: Allocator + Copy> World<A> {
     pub(crate) fn deliver(&mut self, ticket: u32) -> Result<(Outcome, WorldChange<A>), Refusal>
         ensures refused { IfErr result (IsDeliveryRefusal self.old ticket) }
         ensures unchanged { OnErr result (self.new ≡ self.old) }
-        ensures step { IfOk result (λ r. deliver_step self.old ticket ≡ Ok (record { world = self.new; outcome = told r.0 })) }
+        ensures step { IfOk result (λ r. deliver_step self.old ticket ≡ Ok (record { world = self.new; outcome = r.0 })) }
         ensures leads_back { IfOk result (λ r. WorldLeadsBack r.1.list self.old self.new) }
         ensures little { IfOk result (λ r. AllByRecursion HoldsLittle r.1.list) }
         ensures weight { IfOk result (λ r. length r.1.list ≤ edits_for (deliver_work self.old ticket)) }
@@ -53,7 +52,7 @@ impl<A: Allocator + Copy> World<A> {
     ) -> Result<(Outcome, WorldChange<A>), Refusal>
         ensures refused { IfErr result (delivering.IsTakingRefusal self.old to read) }
         ensures unchanged { OnErr result (self.new ≡ self.old) }
-        ensures step { IfOk result (λ r. read_taken self.old to (node_at self.old to) read ≡ Ok (record { world = self.new; outcome = told r.0 })) }
+        ensures step { IfOk result (λ r. read_taken self.old to (node_at self.old to) read ≡ Ok (record { world = self.new; outcome = r.0 })) }
         ensures leads_back { IfOk result (λ r. WorldLeadsBack r.1.list self.old self.new) }
         ensures little { IfOk result (λ r. AllByRecursion HoldsLittle r.1.list) }
         ensures weight { IfOk result (λ r. length r.1.list ≤ 11 + 12 * read_work (node_at self.old to) read) }
@@ -72,7 +71,7 @@ impl<A: Allocator + Copy> World<A> {
     ) -> Result<(Outcome, WorldChange<A>), Refusal>
         ensures refused { IfErr result (λ why. IsRefusalOf (frame_taken self.old to (node_at self.old to) frame.now) why ⊎ (why ≡ Refusal.NoMemory)) }
         ensures unchanged { OnErr result (self.new ≡ self.old) }
-        ensures step { IfOk result (λ r. frame_taken self.old to (node_at self.old to) frame.now ≡ Ok (record { world = self.new; outcome = told r.0 })) }
+        ensures step { IfOk result (λ r. frame_taken self.old to (node_at self.old to) frame.now ≡ Ok (record { world = self.new; outcome = r.0 })) }
         ensures leads_back { IfOk result (λ r. WorldLeadsBack r.1.list self.old self.new) }
         ensures little { IfOk result (λ r. AllByRecursion HoldsLittle r.1.list) }
         ensures weight { IfOk result (λ r. length r.1.list ≤ 12 * frame_work (node_at self.old to) frame.now) }
@@ -90,7 +89,7 @@ impl<A: Allocator + Copy> World<A> {
     ) -> Result<(Outcome, WorldChange<A>), Refusal>
         ensures refused { IfErr result (IsRefusalOf (broken_taken self.old to (node_at self.old to) why)) }
         ensures unchanged { OnErr result (self.new ≡ self.old) }
-        ensures step { IfOk result (λ r. broken_taken self.old to (node_at self.old to) why ≡ Ok (record { world = self.new; outcome = told r.0 })) }
+        ensures step { IfOk result (λ r. broken_taken self.old to (node_at self.old to) why ≡ Ok (record { world = self.new; outcome = r.0 })) }
         ensures leads_back { IfOk result (λ r. WorldLeadsBack r.1.list self.old self.new) }
         ensures little { IfOk result (λ r. AllByRecursion HoldsLittle r.1.list) }
         ensures weight { IfOk result (λ r. length r.1.list ≤ 1) }

@@ -1,69 +1,30 @@
 //! What happens to the pair.
 
-use pfl_base::{Dir, Millis, NodeId, Packet, StateName};
+use pfl_base::NodeId;
+use pfl_node::NodeEvent;
 
 /// What happens to the pair.
 #[derive(Clone, Copy, Debug, PartialEq, Eq)]
 pub enum Event {
-    /// A packet comes to a node, on its way in or out.
-    Packet {
-        node: NodeId,
-        dir: Dir,
-        packet: Packet,
-    },
+    /// Something happens at a node by itself.
+    At { node: NodeId, event: NodeEvent },
     /// A node sends one frame.
-    Flush {
-        node: NodeId,
-    },
-    /// A frame comes to its receiver.
-    Deliver {
-        ticket: u32,
-    },
-    /// A frame is lost.
-    Lose {
-        ticket: u32,
-    },
-    /// A frame is copied under the next ticket.
-    Repeat {
-        ticket: u32,
-    },
-    /// A frame keeps its first bytes.
-    Cut {
-        ticket: u32,
-        len: u32,
-    },
-    /// A node's clock goes on.
-    Tick {
-        node: NodeId,
-        ms: Millis,
-    },
-    /// A node deletes what has expired.
-    Purge {
-        node: NodeId,
-    },
-    /// A node lets the held packets go out that are due.
-    Release {
-        node: NodeId,
-    },
-    /// A node deletes a state.
-    Kill {
-        node: NodeId,
-        name: StateName,
-    },
-    /// A node gives up all its states.
-    Clear {
-        node: NodeId,
-    },
+    Flush { node: NodeId },
+    /// Something happens to the frame that is in flight under the ticket.
+    Of { ticket: u32, event: FrameEvent },
     /// A node begins anew, with its clock and its rules.
-    Restart {
-        node: NodeId,
-    },
-    /// A node queues the next states of a bulk update.
-    BulkTurn {
-        node: NodeId,
-    },
-    /// A node asks for a bulk update again, or gives up.
-    BulkRetry {
-        node: NodeId,
-    },
+    Restart { node: NodeId },
+}
+
+/// What happens to a frame in flight.
+#[derive(Clone, Copy, Debug, PartialEq, Eq)]
+pub enum FrameEvent {
+    /// It comes to its receiver.
+    Deliver,
+    /// It is lost.
+    Lose,
+    /// It is copied under the next ticket.
+    Repeat,
+    /// It keeps so many of its first bytes.
+    Cut { len: u32 },
 }

@@ -20,7 +20,7 @@ mod undoing;
 mod world;
 
 pub use edit::{WorldChange, WorldEdit, WorldTape};
-pub use event::Event;
+pub use event::{Event, FrameEvent};
 pub use fault::WorldFault;
 pub use laws::new_worlds_are_worlds;
 pub use outcome::Outcome;

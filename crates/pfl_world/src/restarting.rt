@@ -5,7 +5,6 @@ ghost use Rattle.std.specs.List.{AllByRecursion};
 ghost use Rattle.pfl_node.specs.Events.{restarted};
 ghost use Rattle.pfl_parts.specs.Nodes.{greatest};
 ghost use Rattle.pfl_world.specs.Events.{IsRefusalOf};
-ghost use Rattle.pfl_world.specs.Outcomes.{told};
 ghost use Rattle.pfl_world.specs.Steps.{restart_step};
 ghost use Rattle.pfl_world.specs.Values.{HoldsNode};
 ghost use Rattle.pfl_world.specs.WorldEdits.{WorldLeadsBack, with_boot};
@@ -25,7 +24,7 @@ impl<A: Allocator + Copy> World<A> {
     pub(crate) fn restart(&mut self, node: NodeId) -> Result<(Outcome, WorldChange<A>), Refusal>
         ensures refused { IfErr result (IsRefusalOf (restart_step self.old node)) }
         ensures unchanged { OnErr result (self.new ≡ self.old) }
-        ensures step { IfOk result (λ r. restart_step self.old node ≡ Ok (record { world = self.new; outcome = told r.0 })) }
+        ensures step { IfOk result (λ r. restart_step self.old node ≡ Ok (record { world = self.new; outcome = r.0 })) }
         ensures leads_back { IfOk result (λ r. WorldLeadsBack r.1.list self.old self.new) }
         ensures weight { IfOk result (λ r. length r.1.list ≤ 1) }
         ensures whole { IfOk result (λ r. AllByRecursion HoldsNode r.1.list) }

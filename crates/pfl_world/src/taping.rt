@@ -5,7 +5,6 @@ ghost use Rattle.std.specs.List.{AllByRecursion};
 ghost use Rattle.pfl_edits.specs.Changes.{Fits, back};
 ghost use Rattle.pfl_edits.specs.Tapes.{above, below};
 ghost use Rattle.pfl_world.specs.Events.{step, IsEventRefusal};
-ghost use Rattle.pfl_world.specs.Outcomes.{told};
 ghost use Rattle.pfl_world.specs.Values.{MayHold};
 ghost use Rattle.pfl_world.specs.Weights.{weight};
 ghost use Rattle.pfl_world.specs.WorldEdits.{Finds, put_back};
@@ -25,7 +24,7 @@ impl<A: Allocator + Copy> World<A> {
         ensures refused { IfErr result (IsEventRefusal self.old event.now) }
         ensures unchanged { OnErr result (self.new ≡ self.old) }
         ensures untaped { OnErr result (tape.new.list ≡ tape.old.list) }
-        ensures step { IfOk result (λ outcome. step self.old event.now ≡ Ok (record { world = self.new; outcome = told outcome })) }
+        ensures step { IfOk result (λ outcome. step self.old event.now ≡ Ok (record { world = self.new; outcome = outcome })) }
         ensures taped { below (length tape.old.list) tape.new.list ≡ tape.old.list }
         ensures fits { OnOk result (Fits Finds IsWorld put_back (above (length tape.old.list) tape.new.list) self.new) }
         ensures back { OnOk result (back put_back (above (length tape.old.list) tape.new.list) self.new ≡ self.old) }

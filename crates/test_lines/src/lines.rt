@@ -2,10 +2,11 @@
 
 use pfl_base::{Addr, BadPacket, Class, Dir, End, NodeId, Packet, PacketFields, Proto, TcpFlags};
 use pfl_lines::{LineFault, SetupLine, parse_line, parse_setup};
+use pfl_node::NodeEvent;
 use pfl_parts::Limit;
 use pfl_rules::{Action, Rule, RuleDir};
 use pfl_timeline::Command;
-use pfl_world::Event;
+use pfl_world::{Event, FrameEvent};
 use std::test::Fail;
 
 fn v4(a: u8, b: u8, c: u8, d: u8) -> Addr {
@@ -80,7 +81,10 @@ fn steps(line: &[u8], expected: Option<Event>) -> bool {
 /// The event that these fields come to a node.
 fn packet(node: NodeId, dir: Dir, fields: PacketFields) -> Option<Event> {
     match Packet::of(fields) {
-        Ok(packet) => Some(Event::Packet { node, dir, packet }),
+        Ok(packet) => Some(Event::At {
+            node,
+            event: NodeEvent::Packet { dir, packet },
+        }),
         Err(_) => None,
     }
 }
@@ -152,9 +156,11 @@ fn packets_of_tcp(rt: HostRuntime) -> Result<(), Fail> {
 
 #[test]
 fn clocks(rt: HostRuntime) {
-    let tick = Event::Tick {
+    let tick = Event::At {
         node: NodeId::B,
-        ms: 18446744073709551615,
+        event: NodeEvent::Tick {
+            ms: 18446744073709551615,
+        },
     };
     assert!(rt; steps(b"step main tick b 18446744073709551615", Some(tick)));
 }
@@ -176,13 +182,29 @@ fn tickets(rt: HostRuntime) {
         (b"step main lose 0012", 12),
         (b"step main lose 4294967295", 4294967295),
     ] {
-        assert!(rt; steps(line, Some(Event::Lose { ticket })));
+        assert!(rt;
+            steps(
+                line,
+                Some(Event::Of {
+                    ticket,
+                    event: FrameEvent::Lose
+                })
+            )
+        );
     }
     for (line, ticket) in [
         (b"step main repeat 1".as_slice(), 1),
         (b"step main repeat 4294967295", 4294967295),
     ] {
-        assert!(rt; steps(line, Some(Event::Repeat { ticket })));
+        assert!(rt;
+            steps(
+                line,
+                Some(Event::Of {
+                    ticket,
+                    event: FrameEvent::Repeat
+                })
+            )
+        );
     }
 }
 
@@ -199,13 +221,24 @@ fn cut_frames(rt: HostRuntime) {
             4294967295,
         ),
     ] {
-        assert!(rt; steps(line, Some(Event::Cut { ticket, len })));
+        assert!(rt;
+            steps(
+                line,
+                Some(Event::Of {
+                    ticket,
+                    event: FrameEvent::Cut { len }
+                })
+            )
+        );
     }
 }
 
 #[test]
 fn purges(rt: HostRuntime) {
-    let purge = Event::Purge { node: NodeId::A };
+    let purge = Event::At {
+        node: NodeId::A,
+        event: NodeEvent::Purge,
+    };
     assert!(rt; steps(b"step main purge a", Some(purge)));
 }
 

@@ -3,14 +3,15 @@
 use super::world::{clock, opening};
 use pfl_base::{Millis, NodeId, Refusal};
 use pfl_laws::all_there_and_back;
+use pfl_node::NodeEvent;
 use pfl_world::Event;
 use std::alloc::Global;
 
 /// The clock of node A goes on.
 fn tick(ms: Millis) -> Event {
-    Event::Tick {
+    Event::At {
         node: NodeId::A,
-        ms,
+        event: NodeEvent::Tick { ms },
     }
 }
 

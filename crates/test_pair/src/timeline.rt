@@ -3,6 +3,7 @@
 use super::world::{EDITS, clock, opening};
 use linked_list_allocator::LocalHeap;
 use pfl_base::{Millis, NodeId};
+use pfl_node::NodeEvent;
 use pfl_timeline::{BranchWord, Command, Timeline};
 use pfl_world::Event;
 use std::alloc::{Allocator, Global};
@@ -39,9 +40,9 @@ fn step(event: Event) -> Command {
 
 /// The clock of node A goes on by five milliseconds.
 fn tick() -> Command {
-    step(Event::Tick {
+    step(Event::At {
         node: NodeId::A,
-        ms: 5,
+        event: NodeEvent::Tick { ms: 5 },
     })
 }
 
@@ -143,7 +144,10 @@ fn a_branch_wants_memory(rt: HostRuntime) {
     assert!(rt; over(rt.alloc(), EDITS + 5376, &[], 0, &[]) == None);
     // Room for an empty branch, and not for an event without edits, nor for a copy of the pair.
     let branch = BranchWord::main();
-    let purge = step(Event::Purge { node: NodeId::A });
+    let purge = step(Event::At {
+        node: NodeId::A,
+        event: NodeEvent::Purge,
+    });
     let commands = [purge, Command::Show { branch }];
     let seen = over(rt.alloc(), EDITS + 7904, &[], 0, &commands);
     assert!(rt; seen == one_branch(2, 0, 0, 0));

@@ -3,6 +3,7 @@
 use linked_list_allocator::LocalHeap;
 use pfl_base::{Millis, NodeId, Refusal};
 use pfl_edits::NoMemory;
+use pfl_node::{NodeEvent, NodeOutcome};
 use pfl_parts::Limits;
 use pfl_rules::RuleSet;
 use pfl_world::{Event, Outcome, World, WorldFault};
@@ -68,9 +69,9 @@ pub(super) fn clock<A: Allocator>(world: &World<A>) -> Millis {
 
 /// The clock of node A goes on by five milliseconds: what that answers.
 fn ticked<A: Allocator + Copy>(world: &mut World<A>) -> Result<Outcome, Refusal> {
-    let tick = Event::Tick {
+    let tick = Event::At {
         node: NodeId::A,
-        ms: 5,
+        event: NodeEvent::Tick { ms: 5 },
     };
     let (outcome, _change) = world.apply(&tick)?;
     Ok(outcome)
@@ -105,6 +106,6 @@ fn want_of_memory_changes_nothing(rt: HostRuntime) {
     // Room for the pair alone, then for a node's edit too, then for the pair's edit too.
     assert!(rt; over(rt.alloc(), EDITS + 4608) == refused);
     assert!(rt; over(rt.alloc(), EDITS + 6656) == refused);
-    let told = Ok((Ok(Outcome::Clock(5)), Some(NoMemory), 5));
+    let told = Ok((Ok(Outcome::At(NodeOutcome::Clock(5))), Some(NoMemory), 5));
     assert!(rt; over(rt.alloc(), EDITS + 10752) == told);
 }

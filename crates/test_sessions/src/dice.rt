@@ -3,8 +3,9 @@ ghost use Rattle.std.specs.Prelude.{◌<◌};
 
 use super::lab::query;
 use pfl_base::{Dir, NodeId, Packet};
+use pfl_node::NodeEvent;
 use pfl_timeline::{BranchWord, Command};
-use pfl_world::Event;
+use pfl_world::{Event, FrameEvent};
 
 /// The names of the branches that come into being beside `main`.
 const NAMES: [&[u8]; 3] = [b"one", b"two", b"three"];
@@ -65,16 +66,31 @@ impl Dice {
         match self.below(20) {
             0..=9 => {
                 let (dir, packet) = self.packet()?;
-                Some(Event::Packet { node, dir, packet })
+                Some(Event::At {
+                    node,
+                    event: NodeEvent::Packet { dir, packet },
+                })
             }
             10..=12 => Some(Event::Flush { node }),
-            13..=15 => Some(Event::Deliver { ticket }),
-            16 => Some(Event::Lose { ticket }),
+            13..=15 => Some(Event::Of {
+                ticket,
+                event: FrameEvent::Deliver,
+            }),
+            16 => Some(Event::Of {
+                ticket,
+                event: FrameEvent::Lose,
+            }),
             17 | 18 => {
                 let ms = u64::from(self.below(20_000));
-                Some(Event::Tick { node, ms })
+                Some(Event::At {
+                    node,
+                    event: NodeEvent::Tick { ms },
+                })
             }
-            _ => Some(Event::Purge { node }),
+            _ => Some(Event::At {
+                node,
+                event: NodeEvent::Purge,
+            }),
         }
     }
 

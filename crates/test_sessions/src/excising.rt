@@ -7,9 +7,10 @@ use super::lab::{FIRST_HOST, goes_out, limits, on_main, opened, query_from, step
 use super::rows::{Answer, Row, is_wanted};
 use super::same::replays;
 use pfl_base::{Addr, End, NodeId, Refusal};
+use pfl_node::NodeEvent;
 use pfl_session::{Closed, Lab, Opened, Pass, Which};
 use pfl_timeline::{BranchWord, Command, Refused};
-use pfl_world::Event;
+use pfl_world::{Event, FrameEvent};
 use std::alloc::Global;
 use std::collections::VecDeque;
 use std::marker::Brand;
@@ -67,7 +68,10 @@ fn beginning() -> Option<[Command; 4]> {
     Some([
         step(FIRST_HOST)?,
         on_main(Event::Flush { node: NodeId::A }),
-        on_main(Event::Deliver { ticket: 1 }),
+        on_main(Event::Of {
+            ticket: 1,
+            event: FrameEvent::Deliver,
+        }),
         goes_out(second),
     ])
 }
@@ -113,10 +117,22 @@ fn before_a_step() -> [Row; 7] {
     [
         excised(main, 4, Answer::Excised(None)),
         shown(3, 3, 1, Some(1000)),
-        stepped(Event::Lose { ticket: 9 }, no_frame),
+        stepped(
+            Event::Of {
+                ticket: 9,
+                event: FrameEvent::Lose,
+            },
+            no_frame,
+        ),
         restored(main, Answer::Restored(4)),
         excised(main, 4, Answer::Excised(None)),
-        stepped(Event::Tick { node, ms: 1 }, Answer::Stepped),
+        stepped(
+            Event::At {
+                node,
+                event: NodeEvent::Tick { ms: 1 },
+            },
+            Answer::Stepped,
+        ),
         restored(main, Answer::Refused(Refused::NothingExcised)),
     ]
 }

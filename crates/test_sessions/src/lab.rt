@@ -5,6 +5,7 @@ ghost use Rattle.pfl_session.specs.Passes.{IsPassOf};
 ghost use Rattle.pfl_session.specs.Totals.{HasFewEvents};
 
 use pfl_base::{Addr, Dir, End, NodeId, Packet, PacketFields, Proto, TcpFlags};
+use pfl_node::NodeEvent;
 use pfl_parts::Limits;
 use pfl_publish::Revision;
 use pfl_rules::{Action, Rule, RuleDir, RuleSet};
@@ -119,10 +120,12 @@ pub(super) fn on_main(event: Event) -> Command {
 
 /// The packet, on its way out through node A, is the next event of `main`.
 pub(super) fn goes_out(packet: Packet) -> Command {
-    on_main(Event::Packet {
+    on_main(Event::At {
         node: NodeId::A,
-        dir: Dir::Outbound,
-        packet,
+        event: NodeEvent::Packet {
+            dir: Dir::Outbound,
+            packet,
+        },
     })
 }
 

@@ -6,6 +6,7 @@ ghost use Rattle.pfl_session.specs.Passes.{IsPassOf};
 
 use super::lab::{FIRST_HOST, SECOND_HOST, limits, opened, put, sees, step, take};
 use pfl_base::StateName;
+use pfl_node::{Fate, NodeOutcome};
 use pfl_session::{Closed, Entry, Lab, Opened, Pass, Which};
 use pfl_timeline::{Command, Reply};
 use pfl_world::Outcome;
@@ -29,7 +30,9 @@ struct Told {
 fn state_of(reply: &Reply<Global>) -> u64 {
     match reply {
         Reply::Stepped {
-            outcome: Outcome::Pass(Some(StateName { creator: 1, id })),
+            outcome: Outcome::At(
+                NodeOutcome::Handled(Fate::Pass(Some(StateName { creator: 1, id }))),
+            ),
             dropped: 0,
         } => *id,
         _ => 0,

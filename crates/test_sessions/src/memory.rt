@@ -9,9 +9,10 @@ use super::lab::{
 use super::rows::{Answer, Row, is_wanted};
 use super::same::{replays, same_command};
 use pfl_base::{Dir, NodeId};
+use pfl_node::NodeEvent;
 use pfl_session::{AskFault, Closed, Entry, Lab, LabFault, Opened, Pass, Which};
 use pfl_timeline::{BranchWord, Command, Refused};
-use pfl_world::Event;
+use pfl_world::{Event, FrameEvent};
 use std::alloc::Allocator;
 use std::marker::Brand;
 use std::sync::Wait;
@@ -56,11 +57,16 @@ fn answered_query() -> Option<[Command; 4]> {
     Some([
         step(FIRST_HOST)?,
         on_main(Event::Flush { node }),
-        on_main(Event::Deliver { ticket: 1 }),
-        on_main(Event::Packet {
+        on_main(Event::Of {
+            ticket: 1,
+            event: FrameEvent::Deliver,
+        }),
+        on_main(Event::At {
             node,
-            dir: Dir::Inbound,
-            packet: query(FIRST_HOST)?.exchanged(),
+            event: NodeEvent::Packet {
+                dir: Dir::Inbound,
+                packet: query(FIRST_HOST)?.exchanged(),
+            },
         }),
     ])
 }

@@ -5,6 +5,7 @@ ghost use Rattle.pfl_session.specs.Passes.{IsPassOf};
 
 use super::lab::{FIRST_HOST, SECOND_HOST, limits, opened, put, sees, step, take};
 use pfl_base::StateName;
+use pfl_node::{Fate, NodeOutcome};
 use pfl_session::{AskFault, Closed, Lab, Opened, Pass, Which};
 use pfl_timeline::{BranchWord, Command, Reply};
 use pfl_world::Outcome;
@@ -16,7 +17,7 @@ use std::test::*;
 /// The packet went on by state 1.1, and so many events were cut.
 fn passed(answer: Result<Reply<Global>, AskFault>, cut: usize) -> bool {
     let by = Some(StateName { creator: 1, id: 1 });
-    matches!(&answer, Ok(Reply::Stepped { outcome, dropped }) if *outcome == Outcome::Pass(by) && *dropped == cut)
+    matches!(&answer, Ok(Reply::Stepped { outcome, dropped }) if *outcome == Outcome::At(NodeOutcome::Handled(Fate::Pass(by))) && *dropped == cut)
 }
 
 /// So many events stand.

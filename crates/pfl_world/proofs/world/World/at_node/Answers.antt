@@ -30,5 +30,5 @@ returns-clause-leads_back g c =
 pub returns-clause-step : goal.returns-clause-step
 returns-clause-step g c =
     stepped_from (joined c.self.inside.nodes c.self.inside.link c.self.inside.next_boot) c.args.self.now c.lift.new.self c.args.node c.args.event.now
-    c.at_mut.result.now (record { node = c.step.new.self; outcome = c.in_ok-outcome.outcome }) _
-    c.at_mut.ensures.node c.self.view_is c.in_ok-edits.ensures.kept c.from.ensures c.in_ok-outcome.ensures.step
+    c.at_mut.result.now (record { node = c.step.new.self; outcome = c.in_ok-outcome.outcome })
+    c.at_mut.ensures.node c.self.view_is c.in_ok-edits.ensures.kept c.in_ok-outcome.ensures.step
