@@ -4,7 +4,6 @@ use Rattle.std.proofs.Common.{◌∙◌, ap, sym, subst, append_assoc, inl, inr}
 use Rattle.std.proofs.lemmas.Cmp.{nat_cmp_total}
 use Rattle.std.proofs.lemmas.Map.Lookups.{exact_unsigned}
 use Rattle.std.proofs.lemmas.List.{append-nil, take-append-drop}
-use Rattle.pfl_base.specs.declared.node_id.NodeId.{NodeId}
 use Rattle.pfl_edits.specs.Maps as maps
 use Rattle.pfl_edits.proofs.Places.{get-set_at_cases}
 use Rattle.pfl_edits.proofs.RowMaps.{some_is_none}
@@ -15,7 +14,7 @@ use Rattle.pfl_world.specs.declared.event.FrameEvent.TheVariants as frame
 use Rattle.pfl_world.specs.Events.{step}
 use Rattle.pfl_world.specs.Runs.{run, after}
 use Rattle.pfl_world.specs.Steps.{sent_frame}
-use Rattle.pfl_world.specs.Worlds.{World, node_at}
+use Rattle.pfl_world.specs.Worlds.{World}
 use Rattle.pfl_laws.specs.Laws.{Begins, WasInFlight, WasSentBy, WasSentAlong, EventsSendOnlySo, FramesWereSent}
 use Rattle.pfl_laws.proofs.Following.{inner}
 use Rattle.pfl_laws.proofs.Running.{on-run, at-end}
