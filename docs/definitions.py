@@ -5,14 +5,14 @@ import functools
 import re
 from dataclasses import dataclass, field
 from pathlib import Path
-from typing import Dict, Iterable, Iterator, List, Set, Tuple
+from typing import AbstractSet, Dict, Iterable, Iterator, List, Set, Tuple
 
 CRATES = Path(__file__).resolve().parent.parent / "crates"
 HEAD = re.compile(r" *(?:(?:abbrev|unfoldable) )?(?:pub )?(?:record |data )?(?P<name>[^\W\d][\w']*|◌\S+◌) (?=[:({])")
 STARTS = re.compile(r" *(?:abbrev|unfoldable|pub record|pub data) ")
 IMPORT = re.compile(r"(?:ghost )?use Rattle\.(?P<module>[\w.]+?)(?:\.\{(?P<names>.*)\}| as (?P<alias>\w+));?$")
 BINDERS = re.compile(r"λ ([^.]*)\.|\blet ([\w']+) |[({]([\w' ]+) :")
-# A name with the names before its dots; of a name that is set in a record the sign behind it.
+# A name, with the names that stand before it and end with dots.
 NAME = re.compile(r"(?<![\w'.])(?P<before>(?:[^\W\d][\w']*\.)*)(?P<name>[^\W\d][\w']*)")
 
 # A definition's module and its name.
@@ -46,7 +46,7 @@ class Scope:
                 names[here or there] = (found["module"], there)
         return cls(names, modules)
 
-    def cited(self, text: str, own: Set[str] = frozenset()) -> Iterator[Place]:
+    def cited(self, text: str, own: AbstractSet[str] = frozenset()) -> Iterator[Place]:
         """The places of the names in a text, but for its own."""
         for found in NAME.finditer(text):
             before = found["before"].rstrip(".")

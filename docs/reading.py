@@ -186,7 +186,7 @@ def file(path):
 
 
 def naming(pattern):
-    """Wrong bodies and cases are left out: they are listed by their folders."""
+    """The files that have a word of the pattern. Wrong bodies and cases are not among them."""
     word = re.compile(pattern, re.IGNORECASE)
     out = []
     for folder in sorted(it for glob in WITH_SOURCES for it in TOP.glob(glob)):
