@@ -1,4 +1,4 @@
--- The bulk update (pfsync(4); turns and tries are this project's profile).
+-- The bulk update (if_pfsync.c; turns and tries are this project's profile).
 use Rattle.std.specs.Prelude.{◌≡◌, ℕ, ◌+◌, Bool, true, false, not, nat_le, nat_lt, List, [], filter, take, length, if◌then◌else◌, unwrap_or, Option, Some, None}
 use Rattle.std.specs.Ordering.{is_lt}
 use Rattle.pfl_base.specs.Lists.{last_of}

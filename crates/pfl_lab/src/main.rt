@@ -1,4 +1,4 @@
-//! The laboratory's program: it runs or checks lines over a pair of pf(4) firewalls that share their states by pfsync(4), or
+//! The laboratory's program: it runs or checks lines over a pair of pf firewalls that share their states by pfsync, or
 //! serves such a pair to several sessions.
 #![tactic(auto)]
 

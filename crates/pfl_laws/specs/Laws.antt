@@ -1,4 +1,4 @@
--- What events never do to the states of the pair, in their own words (pf(4), pfsync(4); names are this project's profile).
+-- What events never do to the states of the pair, in their own words (pf.c, if_pfsync.c; names are this project's profile).
 use Rattle.std.specs.Prelude.{◌≡◌, ◌≢◌, ◌≤◌, ◌<◌, ◌+◌, ◌⊎◌, ℕ, Bool, false, List, [], ◌∷◌, ◌++◌, All, IsSome, IsSomeAnd, IsOkAnd, Some, None, Result, Ok, Err, map}
 use Rattle.std.specs.List.{fold}
 use Rattle.std.specs.Option.{option_map_or}
@@ -120,7 +120,7 @@ LevelsNeverFallAlong =
     → (id : NodeId) (name : StateName) (s t : State) → StandsAlong w es id name
     → maps.get (node_at w id).states name ≡ Some s → maps.get (node_at v id).states name ≡ Some t → HasRisen s t
 
--- ---- keys (pf(4))
+-- ---- keys (pf.c)
 
 -- after an event each state stands under its own name, and no two states of a node have one wire key or one stack key; a name is on
 -- one queue at most, since what is pending of states is a map from names
@@ -233,7 +233,7 @@ FramesWereSent =
     (w : World) (es : List Event) (v : World) → run w es ≡ Some v
     → (ticket : ℕ) (f : InFlight) → maps.get v.link.frames ticket ≡ Some f → WasInFlight w f ⊎ WasSentAlong w es f
 
--- ---- held packets (pfsync(4), `defer`)
+-- ---- held packets (ifconfig(8), `defer`; if_pfsync.c)
 
 -- the name has a state, and that waits for an acknowledgement
 abbrev pub is_waiting : Node → StateName → Bool

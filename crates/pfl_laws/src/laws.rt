@@ -5,7 +5,7 @@ ghost use Rattle.pfl_laws.specs.Laws.{OpeningsAreBoots, LaterOpeningsAreBoots, E
 ghost use Rattle.pfl_laws.specs.Laws.{EventsSendOnlySo, FramesWereSent};
 ghost use Rattle.pfl_laws.specs.Laws.{OpeningsAreTied, EventsKeepTied, RecordsKeepTied, EventsKeepTiedAlong, HeldPacketsLeaveOnlySo, RecordsLetGoOnlySo};
 
-/// An event lowers the level of no end of a state at either node (pf(4)) that is not removed in it, and neither does a record of
+/// An event lowers the level of no end of a state at either node (pf.c) that is not removed in it, and neither does a record of
 /// the peer's; nor do events, one after the other, where the state was not removed in between.
 pub fn levels_never_fall()
     ensures event { LevelsNeverFall }
@@ -13,7 +13,7 @@ pub fn levels_never_fall()
     ensures along { LevelsNeverFallAlong }
 {}
 
-/// No two states of a node have one wire key or one stack key (pf(4)), after each event and along all events.
+/// No two states of a node have one wire key or one stack key (pf.c), after each event and along all events.
 pub fn states_stay_apart()
     ensures event { StatesStayApart }
     ensures along { StatesStayApartAlong }
@@ -42,7 +42,7 @@ pub fn frames_were_sent()
     ensures along { FramesWereSent }
 {}
 
-/// A state waits for an acknowledgement exactly while its packet is held (pfsync(4), `defer`): so it is before any event, and
+/// A state waits for an acknowledgement exactly while its packet is held (ifconfig(8), `defer`): so it is before any event, and
 /// after each event, and after each record of the peer's; hence along all events.
 pub fn held_packets_have_waiting_states()
     ensures opening { OpeningsAreTied }
@@ -53,7 +53,7 @@ pub fn held_packets_have_waiting_states()
 
 /// A held packet leaves only by a later accepted packet of its state, by a full list that lets its oldest go, by a release at
 /// its time, by a deletion or a clear of its state, by a record of the peer's that acknowledges the state, tells of it, deletes
-/// or clears it, or by a restart (pfsync(4), `defer`).
+/// or clears it, or by a restart (if_pfsync.c, `defer`).
 pub fn held_packets_leave_only_so()
     ensures event { HeldPacketsLeaveOnlySo }
     ensures taken { RecordsLetGoOnlySo }

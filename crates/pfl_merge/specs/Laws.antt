@@ -1,4 +1,4 @@
--- What a merge promises (pf(4): the levels of a connection; this project's profile).
+-- What a merge promises (pf.c: the levels of a connection; if_pfsync.c: what is stale; this project's profile).
 use Rattle.std.specs.Prelude.{◌≡◌, ◌≤◌, true, false}
 use Rattle.pfl_base.specs.Packets.{is_tcp}
 use Rattle.pfl_base.specs.Sequence.{seq_gt}

@@ -1,4 +1,4 @@
--- No record and no packet gives two states of a node one wire key or one stack key (pf(4)).
+-- No record and no packet gives two states of a node one wire key or one stack key (pf.c).
 use Rattle.std.specs.Prelude.{◌≡◌, ℕ, Bool, true, false, not, ◌&&◌, ◌||◌, List, [], ◌∷◌, Option, Some, None, nat_le, refl}
 use Rattle.std.specs.List.{fold}
 use Rattle.std.specs.Option.{option_map_or}

@@ -1,4 +1,4 @@
--- A node gives up all its states (pfsync(4); that it does so is this project's profile).
+-- A node gives up all its states (if_pfsync.c; that it does so is this project's profile).
 use Rattle.std.specs.Prelude.{◌-◌, [], ◌∷◌, Option}
 use Rattle.std.specs.List.{fold}
 use Rattle.pfl_base.specs.declared.refusal.Refusal.{Refusal}

@@ -1,4 +1,4 @@
--- A frame comes to a node (pfsync(4); what refuses it is this project's profile). What its records do stands in pfl_receive.
+-- A frame comes to a node (if_pfsync.c; what refuses it is this project's profile). What its records do stands in pfl_receive.
 use Rattle.std.specs.Prelude.{◌≡◌, ◌⊎◌, [], ◌∷◌, Option}
 use Rattle.pfl_base.specs.declared.refusal.Refusal.{Refusal}
 use Rattle.pfl_base.specs.declared.refusal.Refusal.TheVariants.{NoMemory}

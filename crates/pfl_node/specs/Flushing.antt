@@ -1,4 +1,4 @@
--- The frame that a node sends (pfsync(4)).
+-- The frame that a node sends (if_pfsync.c).
 use Rattle.std.specs.Prelude.{ℕ, ◌-◌, ◌/◌, ◌==◌, false, List, [], ◌∷◌, Option, Some, None, if◌then◌else◌}
 use Rattle.std.specs.List.{fold, flat_map}
 use Rattle.std.specs.Option.{option_map_or}

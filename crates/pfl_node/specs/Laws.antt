@@ -1,4 +1,4 @@
--- Laws of nodes, in their own words (pf(4), pfsync(4)).
+-- Laws of nodes, in their own words (pf.c, if_pfsync.c).
 use Rattle.std.specs.Prelude.{◌≡◌, Bool}
 use Rattle.pfl_base.specs.declared.direction.Dir.{Dir}
 use Rattle.pfl_base.specs.declared.packet.Packet.{Packet}

@@ -1,4 +1,4 @@
--- What a packet does at a node (pf(4)).
+-- What a packet does at a node (pf.c).
 use Rattle.std.specs.Prelude.{false, List, [], ◌∷◌, Option, Some, None}
 use Rattle.pfl_base.specs.declared.direction.Dir.{Dir}
 use Rattle.pfl_base.specs.declared.packet.Packet.{Packet}

@@ -1,4 +1,4 @@
--- Held packets whose time has come go out (pfsync(4), `defer`).
+-- Held packets whose time has come go out (ifconfig(8), `defer`; if_pfsync.c: the time).
 use Rattle.std.specs.Prelude.{◌==◌, List, [], ◌∷◌, length, map, Option}
 use Rattle.std.specs.List.{fold}
 use Rattle.pfl_base.specs.declared.refusal.Refusal.{Refusal}

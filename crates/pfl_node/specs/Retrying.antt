@@ -1,4 +1,4 @@
--- A client of a bulk update that waited long enough (pfsync(4); tries are this project's profile).
+-- A client of a bulk update that waited long enough (if_pfsync.c; tries are this project's profile).
 use Rattle.std.specs.Prelude.{◌+◌, not, [], ◌∷◌, Option, if◌then◌else◌}
 use Rattle.pfl_base.specs.declared.refusal.Refusal.{Refusal}
 use Rattle.pfl_base.specs.declared.refusal.Refusal.TheVariants.{NotSyncing, TooEarly, QueueFull}

@@ -1,4 +1,4 @@
--- Packets that no state takes: rules, translation and new states (pf(4), pf.conf(5); what a new state is refused for is this
+-- Packets that no state takes: rules, translation and new states (pf.c, pf.conf(5); what a new state is refused for is this
 -- project's profile).
 use Rattle.std.specs.Prelude.{ℕ, ◌+◌, Bool, true, false, ◌&&◌, nat_le, Option, Some, None, if◌then◌else◌}
 use Rattle.std.specs.Option.{option_map_or}

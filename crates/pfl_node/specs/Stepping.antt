@@ -1,4 +1,4 @@
--- Each event of a node by itself: the node after it with its outcome, or the first refusal that applies (pf(4), pfsync(4); the
+-- Each event of a node by itself: the node after it with its outcome, or the first refusal that applies (pf.c, if_pfsync.c; the
 -- events are this project's profile).
 use Rattle.std.specs.Prelude.{ℕ, ◌+◌, ◌*◌, length, Option, Some, None, Result, Ok, Err}
 use Rattle.pfl_base.specs.declared.refusal.Refusal.{Refusal}

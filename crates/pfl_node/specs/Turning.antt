@@ -1,4 +1,4 @@
--- A turn of a bulk update: the server queues its next states (pfsync(4); turns are this project's profile).
+-- A turn of a bulk update: the server queues its next states (if_pfsync.c; turns are this project's profile).
 use Rattle.std.specs.Prelude.{ℕ, Bool, true, not, ◌&&◌, nat_le, List, [], ◌∷◌, map, filter, Option, is_none, if◌then◌else◌}
 use Rattle.std.specs.List.{fold}
 use Rattle.std.specs.Option.{option_map_or}

@@ -1,4 +1,4 @@
-//! A node gives up all its states (pfsync(4)).
+//! A node gives up all its states (if_pfsync.c).
 
 ghost use Rattle.std.specs.List.{fold, slice_get};
 ghost use Rattle.std.specs.Prelude.{◌≡◌, ◌≤◌, ◌+◌, ◌*◌, [], ◌∷◌, None, IfOk, IfErr, OnOk, OnErr, length};

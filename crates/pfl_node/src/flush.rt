@@ -1,4 +1,4 @@
-//! A frame goes out (pfsync(4)).
+//! A frame goes out (if_pfsync.c).
 
 mod frame;
 

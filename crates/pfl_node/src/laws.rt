@@ -2,7 +2,7 @@
 
 ghost use Rattle.pfl_node.specs.Laws.{RecordsKeepKeysApart, PacketsKeepKeysApart, RecordsLeaveTheRest};
 
-/// No record that a node takes, and no packet that comes to it, gives two of its states one wire key or one stack key (pf(4)).
+/// No record that a node takes, and no packet that comes to it, gives two of its states one wire key or one stack key (pf.c).
 pub fn one_state_per_key()
     ensures records { RecordsKeepKeysApart }
     ensures packets { PacketsKeepKeysApart }

@@ -1,4 +1,4 @@
-//! One node of the pair, and the events that happen at it (pf(4), pfsync(4)).
+//! One node of the pair, and the events that happen at it (pf.c, if_pfsync.c).
 #![tactic(auto)]
 
 mod clear;

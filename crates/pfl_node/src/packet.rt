@@ -1,4 +1,4 @@
-//! A packet at a node (pf(4)).
+//! A packet at a node (pf.c).
 
 mod hold;
 mod start;

@@ -1,4 +1,4 @@
-//! A frame comes in (pfsync(4)).
+//! A frame comes in (if_pfsync.c).
 
 ghost use Rattle.std.specs.Prelude.{◌≡◌, ◌≤◌, ◌<◌, ◌+◌, ◌*◌, [], ◌∷◌, None, IfOk, IfErr, OnOk, OnErr, length};
 ghost use Rattle.pfl_base.specs.declared.refusal.Refusal.TheVariants as refusal;

@@ -1,4 +1,4 @@
-//! Held packets whose time has come go out (pfsync(4), `defer`).
+//! Held packets whose time has come go out (ifconfig(8), `defer`; if_pfsync.c: the time).
 
 ghost use Rattle.std.specs.List.{slice_get};
 ghost use Rattle.std.specs.Prelude.{◌≡◌, ◌≤◌, ◌*◌, ◌+◌, ◌==◌, [], ◌∷◌, None, false, IfOk, IfErr, OnOk, OnErr, length};

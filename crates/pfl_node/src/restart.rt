@@ -1,4 +1,4 @@
-//! A node begins anew (pfsync(4); its form is this project's profile).
+//! A node begins anew (if_pfsync.c; its form is this project's profile).
 
 ghost use Rattle.std.specs.Prelude.{◌≡◌, ◌≤◌, false, IfOk, OnOk};
 ghost use Rattle.pfl_bulk.specs.Bulk.{no_name, first_asked};

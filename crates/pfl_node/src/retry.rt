@@ -1,4 +1,4 @@
-//! A client of a bulk update asks again, or gives up (pfsync(4)).
+//! A client of a bulk update asks again, or gives up (if_pfsync.c).
 
 ghost use Rattle.std.specs.Prelude.{◌≡◌, ◌≤◌, [], ◌∷◌, None, IfOk, IfErr, OnOk, OnErr, length};
 ghost use Rattle.pfl_bulk.specs.Bulk.{asks_again, retried};

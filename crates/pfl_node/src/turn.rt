@@ -1,4 +1,4 @@
-//! A turn of a bulk update: the server queues its next states (pfsync(4)).
+//! A turn of a bulk update: the server queues its next states (if_pfsync.c).
 
 ghost use Rattle.std.specs.List.{AllByRecursion};
 ghost use Rattle.std.specs.Prelude.{◌≡◌, ◌≤◌, ◌+◌, ◌∷◌, [], true, None, IfOk, IfErr, OnOk, OnErr, length, take};

@@ -1,5 +1,5 @@
 -- The small changes that events are made of (pfsync(4): all local changes are told, several of one state in one record, those
--- of a rule with `no-sync` never; when a push is asked, and how deletions are told, is this project's profile).
+-- of a rule with `no-sync` never; when a push is asked, and how deletions are told, is this project's profile, after if_pfsync.c).
 use Rattle.std.specs.Prelude.{ℕ, ◌+◌, ◌-◌, Bool, true, false, not, ◌||◌, nat_lt, nat_le, min, Option, Some, None, is_some, if◌then◌else◌}
 use Rattle.std.specs.Option.{option_map_or}
 use Rattle.pfl_base.specs.declared.state_name.StateName.{StateName}
@@ -87,7 +87,7 @@ tell_status n status = push_if true (list_status n status)
 abbrev pub tell_clear : Node → ℕ → ℕ → Node
 tell_clear n creator bound = push_if true (list_clear n creator bound)
 
--- ---- held packets (pfsync(4), `defer`)
+-- ---- held packets (ifconfig(8), `defer`)
 
 -- a packet of the name is held
 abbrev pub is_held : Node → StateName → Bool
@@ -113,7 +113,7 @@ not_waiting n name = option_map_or (λ s. put_state n (record s { ack_wanted = f
 abbrev pub released : Node → StateName → Node
 released n name = not_waiting (freed n name) name
 
--- ---- local changes (pfsync(4))
+-- ---- local changes (pfsync(4); if_pfsync.c: the queues and the push)
 
 -- on no queue, or only to be acknowledged
 abbrev pub is_untold : Option Kind → Bool

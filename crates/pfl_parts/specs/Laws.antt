@@ -1,4 +1,4 @@
--- Laws of nodes, in their own words (pf(4), pfsync(4)).
+-- Laws of nodes, in their own words (pf.c, if_pfsync.c).
 use Rattle.std.specs.Prelude.{◌≡◌, ◌≤◌, ℕ}
 use Rattle.pfl_rules.specs.Rules.{Rules, AreRules}
 use Rattle.pfl_parts.specs.declared.limits.Limits.{Limits}

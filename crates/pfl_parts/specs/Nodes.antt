@@ -1,4 +1,4 @@
--- A node of the pair, and what is true of each (pf(4), pfsync(4); what limits an event is this project's profile).
+-- A node of the pair, and what is true of each (pf.c, if_pfsync.c; what limits an event is this project's profile).
 use Rattle.std.specs.Prelude.{◌≡◌, ◌≤◌, ◌<◌, ℕ, Bool, false, nat_lt, List, [], ◌∷◌, length, find, Option, Some, None, IfSome, ◌↔◌}
 use Rattle.std.specs.List.{list_any, slice_get}
 use Rattle.std.specs.Option.{option_map}

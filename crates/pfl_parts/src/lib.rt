@@ -1,4 +1,4 @@
-//! The parts of one node of the pair, and the small changes that its events are made of, each recorded (pf(4), pfsync(4)).
+//! The parts of one node of the pair, and the small changes that its events are made of, each recorded (pf.c, if_pfsync.c).
 #![tactic(auto)]
 
 mod counters;

@@ -1,4 +1,4 @@
--- Laws of the pending queues, in their own words (pfsync(4); the numbers are this project's profile).
+-- Laws of the pending queues, in their own words (if_pfsync.c; the numbers are this project's profile).
 use Rattle.std.specs.Prelude.{◌≡◌, ◌≢◌, ◌≤◌, ◌<◌, ◌==◌, ℕ, List, [], ◌∷◌, ◌++◌, map, Some, None, is_some, nat_lt, if◌then◌else◌}
 use Rattle.std.specs.List.{fold, IsDistinct}
 use Rattle.pfl_base.specs.declared.state_name.StateName.{StateName}

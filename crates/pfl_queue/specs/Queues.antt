@@ -1,4 +1,4 @@
--- The pending queues: names with a kind and a number, and lists of requests, statuses and clears (pfsync(4); the numbers are
+-- The pending queues: names with a kind and a number, and lists of requests, statuses and clears (if_pfsync.c; the numbers are
 -- this project's profile).
 use Rattle.std.specs.Prelude.{◌≡◌, ◌≤◌, ◌<◌, ℕ, ◌+◌, ◌^◌, Bool, not, ◌&&◌, nat_lt, nat_le, List, [], ◌∷◌, ◌++◌, length, refl, Option, Some, None, is_some, if◌then◌else◌}
 use Rattle.std.specs.List.{list_any, IsDistinct}

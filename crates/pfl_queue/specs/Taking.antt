@@ -1,4 +1,4 @@
--- What a frame takes from the pending queues (pfsync(4); the order is this project's profile).
+-- What a frame takes from the pending queues (if_pfsync.c; the order is this project's profile).
 use Rattle.std.specs.Prelude.{ℕ, ◌+◌, Bool, ◌&&◌, ◌||◌, ◌==◌, nat_lt, nat_le, List, [], ◌++◌, map, filter, drop, unwrap_or}
 use Rattle.std.specs.List.{fold, sum_by}
 use Rattle.pfl_base.specs.Lists.{in_order, last_of, prefixes, neighbours}

@@ -9,7 +9,7 @@ pub fn nothing_is_queued_twice()
 {}
 
 /// A frame takes its records from the front of what is pending and skips nothing, and what left the queues is exactly what
-/// the frame carries (pfsync(4)). It changes neither the room nor the next number.
+/// the frame carries (if_pfsync.c). It changes neither the room nor the next number.
 pub fn frames_take_from_the_front()
     ensures { FramesTakeFromTheFront }
 {}

@@ -1,4 +1,4 @@
--- What the records of a frame do to a node, one after another, and how many edits they take (pfsync(4); that a frame is taken
+-- What the records of a frame do to a node, one after another, and how many edits they take (if_pfsync.c; that a frame is taken
 -- whole or not at all is this project's profile).
 use Rattle.std.specs.Prelude.{ℕ, ◌+◌, ◌==◌, Bool, List, ◌∷◌, length}
 use Rattle.std.specs.List.{fold, flat_map, zip, sum_by}

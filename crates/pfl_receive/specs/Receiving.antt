@@ -1,4 +1,4 @@
--- What a record from the peer does at a node (pfsync(4); when a record is bad, the bound of a clear, taking over by an update
+-- What a record from the peer does at a node (if_pfsync.c; when a record is bad, the bound of a clear, taking over by an update
 -- and the last use that is kept are this project's profile).
 use Rattle.std.specs.Prelude.{ℕ, Bool, true, false, not, ◌&&◌, ◌||◌, ◌==◌, nat_lt, nat_le, List, length, filter, Option, Some, None, is_some, if◌then◌else◌}
 use Rattle.std.specs.List.{fold}

@@ -1,4 +1,4 @@
-//! What a record from the peer does at a node, kind by kind, and the records of a frame one after another (pfsync(4)).
+//! What a record from the peer does at a node, kind by kind, and the records of a frame one after another (if_pfsync.c).
 #![tactic(auto)]
 
 mod ack;

@@ -1,4 +1,4 @@
--- The table of states: a map from names, with one state for each wire key and each stack key (pf(4)), and the edits of it.
+-- The table of states: a map from names, with one state for each wire key and each stack key (pf.c), and the edits of it.
 use Rattle.std.specs.Prelude.{◌≡◌, ◌≤◌, ℕ, Bool, false, ◌&&◌, ◌||◌, ◌==◌, nat_lt, nat_le, find, List, codes, Option, Some, None, is_some, if◌then◌else◌, refl}
 use Rattle.std.specs.List.{count_by, slice_get}
 use Rattle.std.specs.Option.{option_map, option_map_or}
@@ -40,7 +40,7 @@ by_wire m k = find (λ s. is_key s.wire k) (maps.values m)
 abbrev pub by_stack : States → Key → Option State
 by_stack m k = find (λ s. is_key s.stack k) (maps.values m)
 
--- the state of a packet: on the way in by the wire key, on the way out by the stack key (pf(4))
+-- the state of a packet: on the way in by the wire key, on the way out by the stack key (pf.c)
 abbrev pub found : States → Key → Dir → Option State
 found m k Inbound = by_wire m k
 found m k Outbound = by_stack m k

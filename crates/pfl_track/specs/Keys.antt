@@ -1,4 +1,4 @@
--- The two keys of a state, and how translation makes the one from the other (pf(4), pf.conf(5)).
+-- The two keys of a state, and how translation makes the one from the other (pf.c, pf.conf(5)).
 use Rattle.std.specs.Prelude.{◌≡◌, Bool, true, ◌&&◌, ◌==◌, Option}
 use Rattle.std.specs.Option.{option_map_or}
 use Rattle.pfl_base.specs.declared.addr.End.{End}

@@ -1,4 +1,4 @@
--- What packets never do to states, in their own words (pf(4)).
+-- What packets never do to states, in their own words (pf.c).
 use Rattle.std.specs.Prelude.{◌≡◌, ◌≤◌, ◌⊎◌, ℕ, Bool, Option, Some, None, List, All, fold, option_and_then}
 use Rattle.pfl_base.specs.declared.direction.Dir.{Dir}
 use Rattle.pfl_base.specs.declared.flow.Key.{Key}

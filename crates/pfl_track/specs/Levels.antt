@@ -1,4 +1,4 @@
--- The levels of an end, and the classes that follow from them (this project's profile, after pf(4): the levels of TCP have the
+-- The levels of an end, and the classes that follow from them (this project's profile, after pf.c: the levels of TCP have the
 -- names of the states of RFC 9293, 3.3.2, and are numbered from CLOSED 0 to TIME-WAIT 10; those of other protocols are 0, 1 and 2).
 use Rattle.std.specs.Prelude.{ℕ, Bool, ◌&&◌, ◌||◌, ◌==◌, nat_lt, nat_le, max, if◌then◌else◌}
 use Rattle.pfl_base.specs.declared.packet.Packet.{Packet}
@@ -28,15 +28,15 @@ fin_wait_2 = 9
 abbrev pub time_wait : ℕ
 time_wait = 10
 
--- UDP and other protocols: the end was heard (pf(4))
+-- UDP and other protocols: the end was heard (pf.c)
 abbrev pub single : ℕ
 single = 1
 
--- the end was heard, and answered since (pf(4))
+-- the end was heard, and answered since (pf.c)
 abbrev pub multiple : ℕ
 multiple = 2
 
--- what an acknowledgement makes of the other end's level (this project's profile, after pf(4); not the machine of RFC 9293)
+-- what an acknowledgement makes of the other end's level (this project's profile, after pf.c; not the machine of RFC 9293)
 abbrev pub acknowledged : ℕ → ℕ
 acknowledged level = if level == syn_sent then established else if level == closing then fin_wait_2 else level
 
@@ -51,7 +51,7 @@ sender_level p level =
 abbrev pub receiver_level : Packet → ℕ → ℕ
 receiver_level p level = if rst p then time_wait else if ack p then acknowledged level else level
 
--- the class of a TCP connection (this project's profile, after pf(4)): the first line that applies
+-- the class of a TCP connection (this project's profile, after pf.c): the first line that applies
 abbrev pub tcp_class : ℕ → ℕ → Class
 tcp_class src dst =
     if nat_le fin_wait_2 src && nat_le fin_wait_2 dst then TcpClosed else

@@ -1,4 +1,4 @@
--- What a state is: levels and scales in their ranges, and all four ends of one family and one protocol (pf(4); the ranges are
+-- What a state is: levels and scales in their ranges, and all four ends of one family and one protocol (pf.c; the ranges are
 -- this project's profile).
 use Rattle.std.specs.Prelude.{◌≡◌, true}
 use Rattle.pfl_base.specs.Ends.{same_family, IsProto}

@@ -1,4 +1,4 @@
--- How a state begins, and how packets move it (pf(4); reuse is this project's profile).
+-- How a state begins, and how packets move it (pf.c; reuse is this project's profile).
 use Rattle.std.specs.Prelude.{ℕ, ◌+◌, ◌*◌, Bool, false, not, ◌&&◌, ◌==◌, nat_le, max, Option, None, if◌then◌else◌}
 use Rattle.pfl_base.specs.declared.direction.Dir.{Dir}
 use Rattle.pfl_base.specs.declared.flow.Key.{Key}
@@ -76,7 +76,7 @@ tracked_tcp s p dir now =
     if not (is_inside from to p) then OutOfWindow else
     Moved (moved s dir (sender_after from p) (receiver_after from to p) now)
 
--- a packet of another protocol: the sender is heard, and the other end answered (pf(4))
+-- a packet of another protocol: the sender is heard, and the other end answered (pf.c)
 abbrev pub tracked_other : State → Dir → ℕ → State
 tracked_other s dir now =
     let from = sender s dir in

@@ -1,4 +1,4 @@
-//! Levels of ends, and the classes that follow from them (pf(4); the levels of TCP have the names of RFC 9293, 3.3.2).
+//! Levels of ends, and the classes that follow from them (pf.c; the levels of TCP have the names of RFC 9293, 3.3.2).
 
 ghost use Rattle.std.specs.Prelude.{◌≡◌, ◌≤◌, max, ◌==◌, if◌then◌else◌};
 ghost use Rattle.pfl_track.specs.Levels as meant;

@@ -10,7 +10,7 @@ use crate::tracked::Tracked;
 use crate::window::{begun, is_inside, receiver_after, sender_after};
 use pfl_base::{Dir, Millis, Packet, Proto};
 
-/// What a packet of the state's flow does to the state, at a time in milliseconds (pf(4)).
+/// What a packet of the state's flow does to the state, at a time in milliseconds (pf.c).
 pub fn track(state: &State, packet: &Packet, dir: Dir, now: Millis) -> Tracked
     ensures { result ≡ meant.tracked state.now packet.now dir now }
 {

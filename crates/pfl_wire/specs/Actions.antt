@@ -1,9 +1,9 @@
--- What records are for (pfsync(4)), and how long they are (this project's profile).
+-- What records are for (if_pfsync.h), and how long they are (this project's profile).
 use Rattle.std.specs.Prelude.{ℕ, ◌==◌, Option, List, [], ◌∷◌, find}
 use Rattle.pfl_wire.specs.declared.action.Action.{Action}
 use Rattle.pfl_wire.specs.declared.action.Action.TheVariants as action
 
--- the numbers of pfsync version 5 (pfsync(4))
+-- the numbers of pfsync version 5 (if_pfsync.h)
 abbrev pub action_number : Action → ℕ
 action_number action.Clear = 0
 action_number action.Insert = 1

@@ -1,4 +1,4 @@
--- Frames, and which of them have a spelling (this project's profile; the messages are those of pfsync(4)).
+-- Frames, and which of them have a spelling (this project's profile; the messages are those of if_pfsync.h).
 use Rattle.std.specs.Prelude.{◌≡◌, ◌<◌, ℕ, map, Vec, ◌-◌, ◌+◌, ◌^◌, List, [], ◌∷◌, length, IfSome}
 use Rattle.std.specs.List.{AllByRecursion, sum_by}
 use Rattle.pfl_base.specs.declared.addr.Addr.{Addr}
@@ -28,7 +28,7 @@ pub record Frame : Type 0 where
 abbrev pub lists : {A : Type 0} → List (Vec Message A) → List (List Message)
 lists {A = A} groups = map (λ (g : Vec Message A). g.items) groups
 
--- what a record is for (pfsync(4))
+-- what a record is for (if_pfsync.h)
 abbrev pub action_of : Message → Action
 action_of (Clear creator bound) = action.Clear
 action_of (Insert s) = action.Insert

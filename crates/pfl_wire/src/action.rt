@@ -2,7 +2,7 @@
 
 ghost use Rattle.std.specs.Prelude.{◌≡◌, ◌≤◌};
 
-/// The action of a group of records (pfsync(4)). The numbers between 7 and 10, and those above, are refused.
+/// The action of a group of records (if_pfsync.h). The numbers between 7 and 10, and those above, are refused.
 #[derive(Clone, Copy, Debug, PartialEq, Eq)]
 pub enum Action {
     /// CLR: the states of a creator go.

@@ -1,4 +1,4 @@
-//! Frames of pfsync version 5 (pfsync(4)), in this project's layout, and the records that they carry.
+//! Frames of pfsync version 5 (if_pfsync.h), in this project's layout, and the records that they carry.
 //!
 //! Numbers are big endian, and pad bytes are 0. A frame is a header of 20 bytes, and groups.
 //!

@@ -1,4 +1,4 @@
--- Each event of the pair: the world after it with its outcome, or the first refusal that applies (pfsync(4); the events and
+-- Each event of the pair: the world after it with its outcome, or the first refusal that applies (if_pfsync.c; the events and
 -- their refusals are this project's profile). What happens at a node by itself is told in pfl_node.
 use Rattle.std.specs.Prelude.{ℕ, ◌+◌, Bool, ◌==◌, nat_le, List, [], ◌∷◌, length, Option, Some, None, Result, Ok, Err}
 use Rattle.std.specs.Option.{option_map_or}

@@ -1,4 +1,4 @@
-//! A frame comes to its receiver, which takes its records one after another (pfsync(4)).
+//! A frame comes to its receiver, which takes its records one after another (if_pfsync.c).
 
 ghost use Rattle.std.specs.Prelude.{◌≡◌, ◌≤◌, ◌+◌, ◌*◌, ◌⊎◌, IsOk, IsTrue, Ok, IfOk, IfErr, OnOk, OnErr, length, is_some};
 ghost use Rattle.std.specs.List.{AllByRecursion};

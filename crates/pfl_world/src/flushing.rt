@@ -1,4 +1,4 @@
-//! A node's frame goes out to the other node (pfsync(4)).
+//! A node's frame goes out to the other node (if_pfsync.c).
 
 ghost use Rattle.std.specs.Prelude.{◌≡◌, ◌≤◌, ◌+◌, ◌*◌, None, IfOk, IfErr, OnOk, OnErr, length};
 ghost use Rattle.std.specs.List.{AllByRecursion};

@@ -1,4 +1,4 @@
-//! The frame of what a node tells its peer (pfsync(4)).
+//! The frame of what a node tells its peer (if_pfsync.c).
 
 ghost use Rattle.std.specs.List.{AllByRecursion, flat_map};
 ghost use Rattle.std.specs.Prelude.{◌≡◌, ◌<◌, ◌^◌, [], ◌∷◌, Some, IsSome, IfOk};

@@ -1,4 +1,4 @@
-//! A packet that is held back until the peer knows of its state (pfsync(4), `defer`).
+//! A packet that is held back until the peer knows of its state (ifconfig(8), `defer`).
 
 ghost use Rattle.std.specs.Prelude.{◌≡◌, ◌≤◌, ◌<◌, ◌+◌, None, Some, length, true};
 ghost use Rattle.pfl_defer.specs.Deferring as deferring;

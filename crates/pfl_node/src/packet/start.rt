@@ -1,4 +1,4 @@
-//! A packet that no state takes: rules, translation and new states (pf(4), pf.conf(5)).
+//! A packet that no state takes: rules, translation and new states (pf.c, pf.conf(5)).
 
 ghost use Rattle.std.specs.Prelude.{◌≡◌, ◌≤◌, ◌+◌, Some, true, slice_get, ◌<◌, None, false};
 ghost use Rattle.pfl_base.specs.Keys.{key as flow_of};

@@ -1,5 +1,5 @@
 //! The small changes that events are made of: held packets that go, states that change, states that go, and when the peer is told
-//! (pfsync(4)).
+//! (pfsync(4), if_pfsync.c).
 
 ghost use Rattle.std.specs.Prelude.{◌≡◌, ◌≤◌, ◌<◌, ◌+◌, true, false, None, OnOk, OnErr, ◌&&◌, not, Some};
 ghost use Rattle.pfl_edits.specs.Maps as maps;

@@ -1,4 +1,4 @@
-//! What the peer is asked for or told beside the queues of names: requests, bulk statuses and clears (pfsync(4)). For each that is
+//! What the peer is asked for or told beside the queues of names: requests, bulk statuses and clears (if_pfsync.c). For each that is
 //! new a frame is wanted soon.
 
 ghost use Rattle.std.specs.Prelude.{◌≡◌, ◌≤◌, ◌<◌, true, OnOk, OnErr, IfOk, not};

@@ -1,4 +1,4 @@
-//! What is pending is taken out for a frame (pfsync(4)).
+//! What is pending is taken out for a frame (if_pfsync.c).
 
 ghost use Rattle.std.specs.Option.{option_map_or};
 ghost use Rattle.std.specs.Prelude.{◌≡◌, ◌≤◌, ◌<◌, ◌+◌, ◌++◌, length, IfOk, OnOk};
