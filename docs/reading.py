@@ -13,7 +13,8 @@ A page quotes by a comment on a line of its own, and the fenced block behind it 
     <!-- reached PAGE -->                    the same of the definitions that the contracts cite which the page quotes
 
 Names are looked up in the crate, whatever file they stand in; a name that is gone or that stands twice is an error. On a page that
-says what is reached, a definition that is quoted and not reached is an error: nobody has to believe it.
+says what is reached, a definition that is quoted and not reached is an error: nobody has to believe it. Where it says so of
+another page's contracts, a definition that one of their clauses cites and that it does not quote is an error, too.
 
     docs/reading.py            writes the blocks
     docs/reading.py --check    changes nothing, and ends with 1 where a block is stale or a name is not found
@@ -217,14 +218,17 @@ def cited_by(family, name):
     return {it for it in definitions.Scope.of(lines).cited(clauses) if it in definitions.all_definitions()}
 
 
+def cited_on(page):
+    """The definitions that the contracts cite which the page quotes."""
+    quoted = [its for quote, its in markers(TOP / page) if quote == "contracts"]
+    return {it for family, *names in quoted for name in names for it in cited_by(family, name)}
+
+
 def reached_from(words):
     """The definitions that those are made of which the words of a comment name."""
     if len(words) > 1:
-        roots = {place(crate, name) for crate, name in zip(words[::2], words[1::2])}
-    else:
-        quoted = [its for quote, its in markers(TOP / words[0]) if quote == "contracts"]
-        roots = {it for family, *names in quoted for name in names for it in cited_by(family, name)}
-    return definitions.reached(roots)
+        return definitions.reached({place(crate, name) for crate, name in zip(words[::2], words[1::2])})
+    return definitions.reached(cited_on(words[0]))
 
 
 def reached(*words):
@@ -243,6 +247,14 @@ def not_reached(page):
     known = set().union(*map(reached_from, told))
     shown = [its for quote, its in markers(page) if quote == "definition"]
     return [f"{page.relative_to(TOP)}: {' '.join(its)} is shown, and not reached" for its in shown if place(*its) not in known]
+
+
+def not_shown(page):
+    """The definitions that a page lacks, though another page's contracts cite them of which it says what they reach."""
+    told = [its[0] for quote, its in markers(page) if quote == "reached" and len(its) == 1]
+    shown = {place(*its) for quote, its in markers(page) if quote == "definition"} if told else set()
+    return [f"{page.relative_to(TOP)}: {name} of {module} is cited by a contract of {other}, and not shown"
+            for other in told for module, name in sorted(cited_on(other) - shown)]
 
 
 LANGUAGES = {definition: "antt", theorem: "antt", contracts: "rust", function: "rust", file: "text", naming: "text", reached: "text"}
@@ -281,7 +293,7 @@ def main(words):
         return 2
     for page in pages():
         text, missing = refreshed(page)
-        faults += missing or not_reached(page)
+        faults += missing or [*not_reached(page), *not_shown(page)]
         if text == page.read_text():
             continue
         if check:
