@@ -21,9 +21,10 @@ Place = Tuple[str, str]
 
 @dataclass
 class Definition:
-    """A definition, without the comment above it, and those that it cites."""
+    """A definition, without the comment above it, the names of others in it, in their order, and those that are definitions."""
 
     lines: List[str]
+    names: List[Place] = field(default_factory=list)
     cites: Set[Place] = field(default_factory=set)
 
 
@@ -90,8 +91,8 @@ def all_definitions() -> Dict[Place, Definition]:
             found[module, name] = Definition(text)
             scopes[module].names[name] = (module, name)
     for (module, name), it in found.items():
-        places = scopes[module].cited("\n".join(it.lines), _bound(name, it.lines))
-        it.cites = {place for place in places if place in found and place != (module, name)}
+        it.names = list(scopes[module].cited("\n".join(it.lines), _bound(name, it.lines)))
+        it.cites = {place for place in it.names if place in found and place != (module, name)}
     return found
 
 

@@ -9,6 +9,7 @@ A page quotes by a comment on a line of its own, and the fenced block behind it 
     <!-- function CRATE FUNCTION -->         a whole function
     <!-- file PATH -->                       a whole file
     <!-- naming PATTERN -->                  the files, folder by folder, in which a word fits a regular expression, whatever its case
+    <!-- refusals CRATE NAME .. -->          the refusals, in their order, of the events that these definitions of meanings tell apart
     <!-- reached CRATE NAME .. -->           how many definitions these definitions of specs/ are made of, crate by crate
     <!-- reached PAGE -->                    the same of the definitions that the contracts cite which the page quotes
 
@@ -28,6 +29,7 @@ from pathlib import Path
 
 sys.dont_write_bytecode = True
 import definitions
+import meanings
 
 TOP = Path(__file__).resolve().parent.parent
 # Crates that are one to a page, so that it need not know in which of them a name stands.
@@ -38,7 +40,7 @@ FAMILIES = {
     "test_states": ("test_states", "pfl_state_tests"),
 }
 WIDTH = 120
-MARKER = re.compile(r"<!-- (definition|theorem|contracts|function|file|naming|reached) (.+?) -->$")
+MARKER = re.compile(r"<!-- (definition|theorem|contracts|function|file|naming|reached|refusals) (.+?) -->$")
 DEFINITION = r"^ *(?:abbrev pub|unfoldable pub|pub record|pub data) {name}(?= |$)"
 THEOREM = r"^{name} :"
 FUNCTION = r"^ *(?:pub(?:\(crate\))? )?(?:const )?fn {name}[(<]"
@@ -239,6 +241,13 @@ def reached(*words):
     return [f"{count} of {all_count} definitions, {lines} of {all_lines} lines:", *textwrap.wrap(told, WIDTH)]
 
 
+def refusals(*words):
+    told = {}
+    for it in zip(words[::2], words[1::2]):
+        told |= meanings.refusals(place(*it))
+    return [f"{word:8} {' '.join(map(str, numbers))}" for word, numbers in told.items()]
+
+
 def not_reached(page):
     """The definitions that a page shows, and that are reached from none of those of which it says what they reach."""
     told = [its for quote, its in markers(page) if quote == "reached"]
@@ -257,7 +266,8 @@ def not_shown(page):
             for other in told for module, name in sorted(cited_on(other) - shown)]
 
 
-LANGUAGES = {definition: "antt", theorem: "antt", contracts: "rust", function: "rust", file: "text", naming: "text", reached: "text"}
+LANGUAGES = {definition: "antt", theorem: "antt", contracts: "rust", function: "rust", file: "text", naming: "text", reached: "text",
+             refusals: "text"}
 QUOTES = {quote.__name__: quote for quote in LANGUAGES}
 
 

@@ -1,13 +1,10 @@
 //! Flags of TCP packets (RFC 9293, 3.1).
 
 ghost use Rattle.std.specs.Prelude.{⊤, ◌≡◌, ◌<◌, ◌==◌, [], ◌∷◌, codes, bit_or};
-ghost use Rattle.pfl_base.specs.Flags.{flags_of, has};
+ghost use Rattle.pfl_base.specs.Flags.{has};
 
 use bitflags::{Flag, Flags, bitflag_items};
 use std::marker::Model;
-
-/// The first value that no set of the six flags has.
-const BEYOND: u8 = 64;
 
 #[derive(Clone, Copy, Debug, PartialEq, Eq)]
 struct FlagBits(u8);
@@ -84,19 +81,6 @@ impl TcpFlags {
 
     /// The urgent pointer counts.
     pub const URG: TcpFlags = TcpFlags { set: FlagBits::URG };
-
-    /// The set of these bits, if each is a flag.
-    pub fn of_bits(bits: u8) -> Option<TcpFlags>
-        ensures { result ≡ flags_of bits }
-    {
-        if bits < BEYOND {
-            Some(TcpFlags {
-                set: FlagBits::from_bits_retain(bits),
-            })
-        } else {
-            None
-        }
-    }
 
     /// The sum of the flags' values.
     pub fn bits(self) -> u8

@@ -1,2 +1,3 @@
 mod Turns
 pub mod FirstNames
+pub mod ForCallers

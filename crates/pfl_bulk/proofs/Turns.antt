@@ -9,9 +9,9 @@ use Rattle.std.proofs.lemmas.Bool.{not-true, not-false}
 use Rattle.pfl_base.specs.declared.state_name.StateName.{StateName}
 use Rattle.pfl_base.specs.Lists.{last_of}
 use Rattle.pfl_base.specs.Names.{name_cmp}
-use Rattle.pfl_base.proofs.Names.{names_total}
+use Rattle.pfl_base.proofs.ForCallers.{names_total}
 use Rattle.pfl_edits.specs.Ordered.{IsBelow, IsRising}
-use Rattle.pfl_bulk.specs.Bulk.{after, TurnsNeedFewNames}
+use Rattle.pfl_bulk.specs.Bulk.{names_after, TurnsNeedFewNames}
 use Rattle.pfl_bulk.proofs.FirstNames.{turn_names-first, after_turn-first, is_last_turn-first}
 
 -- the last element is that at the last place
@@ -58,7 +58,7 @@ module _ (cursor : StateName) where
 
   -- those from the point on are those after the cursor
   pub after_point : (xs : List StateName) (n : ℕ) → n ≤ length xs → IsPartitionPoint (λ y. not (is_lt (name_cmp cursor y)) ≡ true) (λ y. not (is_lt (name_cmp cursor y)) ≡ false) xs n
-      → take (length xs - n) (drop n xs) ≡ after cursor xs
+      → take (length xs - n) (drop n xs) ≡ names_after cursor xs
   after_point xs n h point =
       take_rest xs n ∙ sym (filter_from (λ y. is_lt (name_cmp cursor y)) xs n (λ k d a b. not-true _ (point.0 k d a b)) (λ k d a b. not-false _ (point.1 k d a b)) h)
 

@@ -18,34 +18,34 @@ abbrev pub no_name : StateName
 no_name = record { creator = 0; id = 0 }
 
 -- a server after a request for all: it begins now, also where one runs; without states it stays as it was
-abbrev pub started : BulkServer → Bool → ℕ → BulkServer
-started s has_states now = if has_states then server.Serving no_name now else s
+abbrev pub server_started : BulkServer → Bool → ℕ → BulkServer
+server_started s has_states now = if has_states then server.Serving no_name now else s
 
 -- the names after the cursor
-abbrev pub after : StateName → List StateName → List StateName
-after cursor names = filter (λ n. is_lt (name_cmp cursor n)) names
+abbrev pub names_after : StateName → List StateName → List StateName
+names_after cursor names = filter (λ n. is_lt (name_cmp cursor n)) names
 
 -- the names of a turn: the first `batch` of those after the cursor
 abbrev pub turn_names : BulkServer → List StateName → ℕ → List StateName
 turn_names server.Idle names batch = []
-turn_names (server.Serving cursor since) names batch = take batch (after cursor names)
+turn_names (server.Serving cursor since) names batch = take batch (names_after cursor names)
 
 -- none is left after the turn; an idle server has no turn, and this value of it is not asked for
 abbrev pub is_last_turn : BulkServer → List StateName → ℕ → Bool
 is_last_turn server.Idle names batch = true
-is_last_turn (server.Serving cursor since) names batch = nat_le (length (after cursor names)) batch
+is_last_turn (server.Serving cursor since) names batch = nat_le (length (names_after cursor names)) batch
 
 -- the server after a turn: at the last of its names, or idle after the last turn
 abbrev pub after_turn : BulkServer → List StateName → ℕ → BulkServer
 after_turn server.Idle names batch = server.Idle
 after_turn (server.Serving cursor since) names batch =
-    if nat_le (length (after cursor names)) batch then server.Idle
-    else server.Serving (unwrap_or (last_of (take batch (after cursor names))) cursor) since
+    if nat_le (length (names_after cursor names)) batch then server.Idle
+    else server.Serving (unwrap_or (last_of (take batch (names_after cursor names))) cursor) since
 
 -- the first n of the names after the cursor
 abbrev pub first_names : BulkServer → List StateName → ℕ → List StateName
 first_names server.Idle names n = []
-first_names (server.Serving cursor since) names n = take n (after cursor names)
+first_names (server.Serving cursor since) names n = take n (names_after cursor names)
 
 -- a turn over the first names after the cursor, one more than it sends, is one over all
 pub record IsSameTurn (s : BulkServer) (few all : List StateName) (batch : ℕ) : Type 0 where
@@ -86,8 +86,8 @@ is_due client.Idle bulk_ms now = false
 is_due (client.Waiting tries asked) bulk_ms now = nat_le (asked + bulk_ms) now
 
 -- why it can't ask again, the first reason first: it does not wait, or it is too early
-abbrev pub retry_refusal : BulkClient → ℕ → ℕ → Option Refusal
-retry_refusal client bulk_ms now =
+abbrev pub ask_refusal : BulkClient → ℕ → ℕ → Option Refusal
+ask_refusal client bulk_ms now =
     if not (is_waiting client) then Some NotSyncing
     else if not (is_due client bulk_ms now) then Some TooEarly
     else None

@@ -9,3 +9,4 @@ pub mod Entries
 pub mod Views
 pub mod Made
 pub mod Places
+pub mod ForCallers

@@ -175,17 +175,6 @@ impl<V: Copy, A: Allocator> Chains<V, A> {
         slot
     }
 
-    /// Puts a link at the end of a list. Gives its slot, which no list had.
-    pub fn push_back(&mut self, list: usize, value: V) -> usize
-        requires list { list < length self.old.lists }
-        requires room { count_of self.old.lists < self.old.limit }
-        ensures pushed { self.new ≡ with_links self.old list (links_of self.old list ++ link result value ∷ []) }
-        ensures fresh { Place self.old result → ⊥ }
-    {
-        let last = self.last(list);
-        self.insert_after(list, last, value)
-    }
-
     /// Takes the link at a slot out of its list. The other links keep their order and their slots.
     pub fn remove(&mut self, slot: usize) -> V
         requires stands { Place self.old slot }

@@ -8,7 +8,7 @@ use Rattle.std.specs.Option.{option_map_or}
 use Rattle.pfl_base.specs.declared.packet.Packet.{Packet}
 use Rattle.pfl_base.specs.declared.state_name.StateName.{StateName}
 use Rattle.pfl_base.specs.Names.{is_name}
-use Rattle.pfl_base.proofs.Names.{is_name-same}
+use Rattle.pfl_base.proofs.ForCallers.{is_name-same}
 use Rattle.pfl_defer.specs.declared.Held.{Held}
 use Rattle.pfl_defer.specs.declared.edits.DeferEdit.TheVariants.{Added, Removed}
 use Rattle.pfl_defer.specs.Deferring.{Deferrals, IsDeferrals, IsUpTo, held_of, let_go, pushed_out, with_room, with_held}

@@ -9,7 +9,7 @@ use Rattle.std.proofs.lemmas.Map.Keys.{IsDistinct-head, IsDistinct-tail, IsDisti
 use Rattle.pfl_base.specs.declared.state_name.StateName.{StateName}
 use Rattle.pfl_base.specs.declared.packet.Packet.{Packet}
 use Rattle.pfl_base.specs.Names.{is_name}
-use Rattle.pfl_base.proofs.Names.{is_name-same, is_name-itself}
+use Rattle.pfl_base.proofs.ForCallers.{is_name-same, is_name-itself}
 use Rattle.pfl_defer.specs.declared.Held.{Held}
 use Rattle.pfl_defer.specs.Deferring.{Deferrals, IsDeferrals, no_deferrals, let_go, IsUpTo, held_of, with_held, with_room}
 

@@ -5,8 +5,7 @@ use Rattle.std.proofs.Common.{◌∙◌, ap, sym, subst, arith}
 use Rattle.std.proofs.lemmas.List.Edits.{insert_end}
 use Rattle.pfl_base.specs.declared.packet.Packet.{Packet}
 use Rattle.pfl_base.specs.declared.state_name.StateName.{StateName}
-use Rattle.pfl_edits.proofs.Leading.{LeadsBack-one}
-use Rattle.pfl_edits.proofs.Places.{with_position-stands, with_position-back}
+use Rattle.pfl_edits.proofs.ForCallers.{LeadsBack-one, with_position-stands, with_position-back}
 use Rattle.pfl_defer.specs.declared.Held.{Held}
 use Rattle.pfl_defer.specs.declared.edits.DeferEdit.TheVariants.{Removed, Added}
 use Rattle.pfl_defer.specs.Deferring.{Deferrals, IsDeferrals, let_go, with_held}

@@ -2,3 +2,4 @@ mod Changing
 mod Ripening
 pub mod Leading
 pub mod Kept
+pub mod ForCallers

@@ -98,16 +98,6 @@ impl<A: Allocator> Deferrals<A> {
         self.list.as_slice()
     }
 
-    /// The held packet of the name.
-    pub fn held_of(&self, name: StateName) -> Option<Held>
-        ensures held { result ≡ held_of self.now name }
-    {
-        let Some(place) = place_of(&self.list, name) else {
-            return None;
-        };
-        Some(self.list[place])
-    }
-
     /// The packet that a full list lets go before it holds another.
     pub fn pushed_out(&self) -> Option<Held>
         ensures oldest { result ≡ pushed_out self.now }

@@ -8,3 +8,4 @@ pub mod Maps
 pub mod Places
 pub mod RowMaps
 pub mod Scans
+pub mod ForCallers

@@ -7,9 +7,7 @@ use Rattle.std.proofs.Common.{cond, inl, inr, ◌∙◌, ap, sym, arith}
 use Rattle.std.proofs.lemmas.Bool.{cases_eq}
 use Rattle.pfl_edits.specs.Maps as maps
 use Rattle.pfl_edits.specs.Maps.{Map, entries, entries_sorted, same_entries_map, set_at}
-use Rattle.pfl_edits.proofs.Maps.{entries-empty, entries-from_sorted, len-entries, len-insert, len-remove, empty_of_len, get-empty}
-use Rattle.pfl_edits.proofs.Places.{set_at-back, set_at-same}
-use Rattle.pfl_edits.proofs.RowMaps.{some_is_none}
+use Rattle.pfl_edits.proofs.ForCallers.{entries-empty, entries-from_sorted, len-entries, len-insert, len-remove, empty_of_len, get-empty, set_at-back, set_at-same, some_is_none}
 use Rattle.pfl_hash.specs.Entries.{EntryList, AreEntries, entry_map, renamed}
 
 module _ {K V : Type 0} (R : K → K → Ordering) where

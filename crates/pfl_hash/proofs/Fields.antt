@@ -9,9 +9,7 @@ use Rattle.std.specs.Cmp.{IsTotalOrder}
 use Rattle.std.specs.FinMap.{IsAntisymmetric}
 use Rattle.pfl_edits.specs.Maps as maps
 use Rattle.pfl_edits.specs.Maps.{Map, set_at, entries}
-use Rattle.pfl_edits.proofs.Maps.{get-empty, len-insert, len-remove, empty_of_len}
-use Rattle.pfl_edits.proofs.Places.{set_at-set_at, set_at-same}
-use Rattle.pfl_edits.proofs.RowMaps.{same_key, some_is_none}
+use Rattle.pfl_edits.proofs.ForCallers.{get-empty, len-insert, len-remove, empty_of_len, set_at-set_at, set_at-same, same_key, some_is_none}
 use Rattle.pfl_hash.specs.Entries.{entry_map}
 use Rattle.pfl_hash.proofs.Entries.{entry_map-entries}
 use Rattle.pfl_hash.specs.inner.Slots.{slot, value_at, slot_map, AreSlots, AreFields, NoGap, GapAt, HasOther, StandsIn, EndsAt}

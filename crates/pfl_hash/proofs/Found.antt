@@ -7,9 +7,7 @@ use Rattle.std.specs.Cmp.{IsTotalOrder, eq_by_cmp_equiv}
 use Rattle.std.specs.FinMap.{IsAntisymmetric}
 use Rattle.pfl_edits.specs.Maps as maps
 use Rattle.pfl_edits.specs.Maps.{set_at}
-use Rattle.pfl_edits.proofs.Maps.{same_map, get-empty, get-insert, len-insert}
-use Rattle.pfl_edits.proofs.Places.{set_at-back}
-use Rattle.pfl_edits.proofs.RowMaps.{same_key, own_key, some_is_none}
+use Rattle.pfl_edits.proofs.ForCallers.{same_map, get-empty, get-insert, len-insert, set_at-back, same_key, own_key, some_is_none}
 use Rattle.pfl_hash.specs.inner.Slots.{slot, value_at, slot_map, Distinct}
 
 cond_none : {X : Type 0} (b : Bool) (x : X) (z : Option X) → cond b (Some x) z ≡ None → (b ≡ false) × (z ≡ None)

@@ -5,3 +5,4 @@ pub mod Found
 pub mod Free
 pub mod Reached
 pub mod Sound
+pub mod ForCallers

@@ -15,7 +15,7 @@ use Rattle.pfl_run.specs.Checks.{ChecksToEnd, IsCheckStop}
 use Rattle.pfl_run.specs.Faults.{fault_text}
 use Rattle.pfl_run.specs.Modes.{lab_app, mode_word, subcommand_name, words_status, HasNumbers, IsWordsFault}
 use Rattle.pfl_run.specs.Runs.{Ends, IsStop, IsTold, RunsToEnd, Stops}
-use Rattle.pfl_host.specs.Serves.{IsServeStop, Serves, ServesToEnd}
+use Rattle.pfl_host.specs.Serves.{IsServeStop, HostServes, ServesToEnd}
 
 -- a device that is written to, before and after; what was written to it, where that is known; whether a call of it has failed
 pub record Device (D : Type 0) : Type 0 where
@@ -74,7 +74,7 @@ Checks old new writer faults status =
 -- a lab of so many sessions is served on the port, with this exit status
 abbrev pub ServesLab : {W F : Type 0} → ℕ → ℕ → Source → Source → Device W → Device F → ℕ → Type 0
 ServesLab port sessions old new writer faults status =
-    Serves (ServesToEnd old.left new.left port sessions writer.before writer.after) faults.before faults.after faults.failed status
+    HostServes (ServesToEnd old.left new.left port sessions writer.before writer.after) faults.before faults.after faults.failed status
     ⊎ Stops (λ why. IsServeStop why old.left port sessions writer.before writer.after) new writer.failed faults.before faults.after faults.failed status
 
 -- what the program does with words that were taken so, and its exit status; where they ask for no mode it reads nothing

@@ -68,7 +68,7 @@ IsCloseStop fault.Write opening n w v = ClosesPart opening n w v
 IsCloseStop _ opening n w v = ⊥
 
 -- a lab over the opening was served to its end: that the port is listened on, and then that the sessions have ended, was written
-pub record ServesWhole (opening : Timeline) (port n : ℕ) (first : Option EngineFault) (w v : Option (List ℕ)) : Type 0 where
+pub record HostServesWhole (opening : Timeline) (port n : ℕ) (first : Option EngineFault) (w v : Option (List ℕ)) : Type 0 where
   pub mid : Option (List ℕ)
   pub listens : Appends w mid (listening_text port)
   pub closes : ClosesTold opening n first mid v
@@ -93,7 +93,7 @@ pub record ServesToEnd (old new : Option (List ℕ)) (port n : ℕ) (w v : Optio
   pub number : ℕ
   pub opening : Timeline
   pub sets_up : SetsUp old new number opening
-  pub whole : ServesWhole opening port n first w v
+  pub whole : HostServesWhole opening port n first w v
 
 -- a pair was set up, and then serving stopped
 pub record StopsServing (fault : LabFault) (old : Option (List ℕ)) (port n : ℕ) (w v : Option (List ℕ)) : Type 0 where
@@ -113,7 +113,7 @@ TellsFirst None f g failed status = Keeps f g × (status ≡ 0)
 TellsFirst (Some why) f g failed status = IsTold (fault_text (of_engine why)) f g failed × (status ≡ fault_status (of_engine why))
 
 -- all sessions have ended, and the first fault of theirs is told
-pub record Serves (IsEnd : Option EngineFault → Type 0) (f g : Option (List ℕ)) (failed : Bool) (status : ℕ) : Type 0 where
+pub record HostServes (IsEnd : Option EngineFault → Type 0) (f g : Option (List ℕ)) (failed : Bool) (status : ℕ) : Type 0 where
   pub first : Option EngineFault
   pub end : IsEnd first
   pub tells : TellsFirst first f g failed status

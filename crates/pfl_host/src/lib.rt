@@ -4,9 +4,9 @@
 mod doors;
 mod network;
 mod program;
+mod report;
 mod served;
-mod serving;
-mod telling;
+mod service;
 
 pub use program::obey;
-pub use serving::serve_lab;
+pub use service::serve_lab;

@@ -3,8 +3,8 @@
 ghost use Rattle.std.specs.Prelude.{◌≡◌, map};
 ghost use Rattle.pfl_host.specs.Obeys.{seen, Obeys};
 
-use crate::serving::serve_lab;
-use crate::telling::tell_words;
+use crate::report::tell_words;
+use crate::service::serve_lab;
 use pfl_base::{Input, Output};
 use pfl_run::{Mode, check_lab, mode_of, run_lab};
 use pfl_script::LineReader;

@@ -4,13 +4,13 @@ use Rattle.std.proofs.Common.{◌∙◌, ap, sym, subst, inr, get_or}
 use Rattle.std.proofs.lemmas.List.{drop_all, drop_more}
 use Rattle.pfl_base.specs.declared.refusal.Refusal.{Refusal}
 use Rattle.pfl_edits.specs.Changes.{Fits, back}
-use Rattle.pfl_edits.proofs.Leading.{LeadsBack-append}
+use Rattle.pfl_edits.proofs.ForCallers.{LeadsBack-append}
+use Rattle.pfl_language.specs.declared.event.Event.{Event}
+use Rattle.pfl_language.specs.declared.outcome.Outcome.{Outcome}
 use Rattle.pfl_world.specs.declared.edit.WorldEdit.{WorldEdit}
-use Rattle.pfl_world.specs.declared.event.Event.{Event}
-use Rattle.pfl_world.specs.declared.outcome.Outcome.{Outcome}
 use Rattle.pfl_world.specs.Events.{step}
-use Rattle.pfl_world.specs.Outcomes.{Stepped}
-use Rattle.pfl_world.specs.Runs.{run, after}
+use Rattle.pfl_world.specs.Meanings.{Stepped}
+use Rattle.pfl_world.specs.Runs.{run, world_after}
 use Rattle.pfl_world.specs.WorldEdits.{Finds, put_back, WorldLeadsBack}
 use Rattle.pfl_world.specs.Worlds.{World, IsWorld}
 use Rattle.pfl_laws.specs.Reverting.{IsRefusalAlong}
@@ -42,9 +42,9 @@ along-none {M = M} w events edits none = record {
 }
 
 -- behind an event that is accepted a run goes on
-run-on : (v u : World) (e : Event) (es : List Event) → after (step v e) ≡ Some u → run v (e ∷ es) ≡ run u es
+run-on : (v u : World) (e : Event) (es : List Event) → world_after (step v e) ≡ Some u → run v (e ∷ es) ≡ run u es
 unfolding run
-run-on v u e es is = ap (λ (at : Option World). fold (λ at e. option_and_then (λ w. after (step w e)) at) at es) is
+run-on v u e es is = ap (λ (at : Option World). fold (λ at e. option_and_then (λ w. world_after (step w e)) at) at es) is
 
 -- an event is the first of those from it on
 left-from : (events : List Event) (i : ℕ) (e : Event) → i < length events → e ≡ get_or events i e → drop i events ≡ e ∷ drop (i + 1) events
@@ -52,7 +52,7 @@ left-from events i e within is = drop_more events i e within ∙ ap (λ (x : Eve
 
 -- one event more
 pub along-next : {M : Type 0} (w : World) (events : List Event) (i : ℕ) (v : World) (edits : List (WorldEdit M)) → Along w events i v edits
-    → (e : Event) → i < length events → e ≡ get_or events i e → (u : World) (later : List (WorldEdit M)) → after (step v e) ≡ Some u → LeadsOn edits later v u → Along w events (i + 1) u later
+    → (e : Event) → i < length events → e ≡ get_or events i e → (u : World) (later : List (WorldEdit M)) → world_after (step v e) ≡ Some u → LeadsOn edits later v u → Along w events (i + 1) u later
 along-next w events i v edits a e within here u later is on =
     let cut = left-from events i e within here in
     record {

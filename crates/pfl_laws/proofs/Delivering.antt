@@ -7,11 +7,11 @@ use Rattle.std.proofs.lemmas.Bool.Decides.{nat_tests}
 use Rattle.std.proofs.lemmas.List.Elements.{All-head, All-tail}
 use Rattle.pfl_base.specs.Lists.{folds}
 use Rattle.pfl_base.specs.declared.state_name.StateName.{StateName}
-use Rattle.pfl_base.proofs.Names.{names_total, names_exact}
+use Rattle.pfl_base.proofs.ForCallers.{names_total, names_exact}
 use Rattle.pfl_base.specs.Names.{is_name}
 use Rattle.pfl_base.specs.Packets.{is_tcp}
 use Rattle.pfl_edits.specs.Maps as maps
-use Rattle.pfl_edits.proofs.Places.{key_cases}
+use Rattle.pfl_edits.proofs.ForCallers.{key_cases}
 use Rattle.pfl_rules.specs.Rules.{timeout}
 use Rattle.pfl_track.specs.declared.state.State.{State}
 use Rattle.pfl_table.specs.Tables.{AreStates}
@@ -30,10 +30,11 @@ use Rattle.pfl_bulk.specs.Bulk.{no_name}
 use Rattle.pfl_defer.specs.declared.Held.{Held}
 use Rattle.pfl_parts.specs.Nodes.{Node}
 use Rattle.pfl_parts.specs.Changes.{put_state, mark, push_if, count_bad, count_broken, count_stale, count_freed, count_lost, without_held, is_held, is_untold, freed, lost, released, changed, forgotten, ask}
-use Rattle.pfl_receive.specs.Receiving.{taken, insert_taken, can_import, merge_taken, merged_into, bulk_taken, answered, is_partly_told, ack_taken, delete_taken, is_known, cleared_names, of_state, of_update}
-use Rattle.pfl_node.proofs.OneState.{taken-apart}
+use Rattle.pfl_receive.specs.Receiving.{taken, insert_taken, can_import, merge_taken, merged_into, bulk_taken, state_answered, is_partly_told, ack_taken, delete_taken, is_known, cleared_names, of_state, of_update}
+use Rattle.pfl_node.proofs.ForCallers.{taken-apart}
 use Rattle.pfl_receive.specs.Delivering.{records_of, same_rules}
-use Rattle.pfl_laws.specs.Laws.{HasRisen, HasState, IsTied, Holds, frame_points, LetsOut, OneLetsOut, RecordsLetGoOnlySo}
+use Rattle.pfl_laws.specs.Laws.{HasRisen, HasState, IsTied, Holds, LetsOut, OneLetsOut, RecordsLetGoOnlySo}
+use Rattle.pfl_world.specs.Delivering.{frame_points}
 use Rattle.pfl_laws.proofs.Following.{inner}
 use Rattle.pfl_laws.proofs.Holding.{other-holds, released-held}
 use Rattle.pfl_laws.proofs.Reading.{AreRecords, frame-is}
@@ -103,8 +104,8 @@ taken-ids n b (message.Update r) =
     ids-some (ids n) (maps.get n.states r.name) (λ s. merge_taken n s (of_state r)) (insert_taken n b r false) (λ s. merge-ids n s (of_state r)) (insert-ids n b r false)
 taken-ids n b (message.UpdateShort u) = ids-some (ids n) (maps.get n.states u.name) (λ s. merge_taken n s (of_update u)) (ask n u.name) (λ s. merge-ids n s (of_update u)) refl
 taken-ids n b (message.UpdateRequest name) =
-    ids-either (ids n) (is_name no_name name) (bulk_taken n) (option_map_or (answered n) (maps.get n.states name) (count_bad n)) refl
-    (ids-some (ids n) (maps.get n.states name) (answered n) (count_bad n)
+    ids-either (ids n) (is_name no_name name) (bulk_taken n) (option_map_or (state_answered n) (maps.get n.states name) (count_bad n)) refl
+    (ids-some (ids n) (maps.get n.states name) (state_answered n) (count_bad n)
     (λ s. ids-either (ids n) (not s.no_sync && is_partly_told (kind_of n.queue s.name)) (push_if true (mark n s.name Update)) n refl refl) refl)
 taken-ids n b (message.Delete r) = ids-either (ids n) (is_known n r.name) (forgotten n r.name) (count_bad n) (forgotten-ids n r.name) refl
 taken-ids n b (message.DeleteShort name) = ids-either (ids n) (is_known n name) (forgotten n name) (count_bad n) (forgotten-ids n name) refl
@@ -189,8 +190,8 @@ record-stays n b (message.UpdateShort u) are h holds =
     (λ s at. merge-stays n (message.UpdateShort u) s (of_update u) h (λ same. sym (same ∙ are.filed u.name s at)) holds) (inl holds)
 record-stays n b (message.UpdateRequest name) are h holds =
     let m = message.UpdateRequest name in
-    stays-either n m h (is_name no_name name) (bulk_taken n) (option_map_or (answered n) (maps.get n.states name) (count_bad n)) (inl holds)
-    (stays-some n m h (maps.get n.states name) (answered n) (count_bad n)
+    stays-either n m h (is_name no_name name) (bulk_taken n) (option_map_or (state_answered n) (maps.get n.states name) (count_bad n)) (inl holds)
+    (stays-some n m h (maps.get n.states name) (state_answered n) (count_bad n)
     (λ s at. stays-either n m h (not s.no_sync && is_partly_told (kind_of n.queue s.name)) (push_if true (mark n s.name Update)) n (inl holds) (inl holds)) (inl holds))
 record-stays n b (message.Delete r) are h holds = delete-stays n (message.Delete r) r.name h (λ same. sym same) holds
 record-stays n b (message.DeleteShort name) are h holds = delete-stays n (message.DeleteShort name) name h (λ same. sym same) holds

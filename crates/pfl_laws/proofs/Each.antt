@@ -5,11 +5,10 @@ use Rattle.std.specs.List.{fold}
 use Rattle.std.specs.Option.{option_map_or}
 use Rattle.std.proofs.Common.{◌∙◌, T, cond, sym, subst, inl, inr}
 use Rattle.pfl_base.specs.declared.state_name.StateName.{StateName}
-use Rattle.pfl_base.proofs.Names.{names_total, names_exact}
+use Rattle.pfl_base.proofs.ForCallers.{names_total, names_exact}
 use Rattle.pfl_base.specs.Names.{is_name}
 use Rattle.pfl_edits.specs.Maps as maps
-use Rattle.pfl_edits.proofs.Places.{get-set_at_cases}
-use Rattle.pfl_edits.proofs.RowMaps.{some_is_none}
+use Rattle.pfl_edits.proofs.ForCallers.{get-set_at_cases, some_is_none}
 use Rattle.pfl_rules.specs.Rules.{timeout}
 use Rattle.pfl_track.specs.declared.peer.Peer.{Peer}
 use Rattle.pfl_track.specs.declared.state.State.{State}
@@ -27,8 +26,8 @@ use Rattle.pfl_queue.specs.Queues.{kind_of}
 use Rattle.pfl_bulk.specs.Bulk.{no_name}
 use Rattle.pfl_parts.specs.Nodes.{Node}
 use Rattle.pfl_parts.specs.Changes.{put_state, mark, push_if, count_bad, lost, released, changed, forgotten, count_stale, ask}
-use Rattle.pfl_receive.specs.Receiving.{taken, insert_taken, can_import, imported, merge_taken, merged_into, bulk_taken, answered, is_partly_told, request_taken, ack_taken, delete_taken, is_known, cleared_names, of_state, of_update}
-use Rattle.pfl_receive.proofs.Importing.{may-import}
+use Rattle.pfl_receive.specs.Receiving.{taken, insert_taken, can_import, imported, merge_taken, merged_into, bulk_taken, state_answered, is_partly_told, request_taken, ack_taken, delete_taken, is_known, cleared_names, of_state, of_update}
+use Rattle.pfl_receive.proofs.ForCallers.{may-import}
 use Rattle.pfl_laws.proofs.Following.{Alike, Filed, inner, waiting-is}
 use Rattle.pfl_laws.proofs.Keeping.{Keeps, released-keeps}
 use Rattle.pfl_laws.proofs.Records.{lost-states, forgotten-states, merged-name}
@@ -113,8 +112,8 @@ module _ (P : State → Type 0) (still : (s : State) (ack : Bool) (updates : ℕ
 
   each-request : (n : Node) (name : StateName) → Each n.states → Each (request_taken n name).states
   each-request n name each =
-      each-either (is_name no_name name) (bulk_taken n) (option_map_or (answered n) (maps.get n.states name) (count_bad n)) each
-      (each-some (maps.get n.states name) (answered n) (count_bad n) (λ s at.
+      each-either (is_name no_name name) (bulk_taken n) (option_map_or (state_answered n) (maps.get n.states name) (count_bad n)) each
+      (each-some (maps.get n.states name) (state_answered n) (count_bad n) (λ s at.
       each-either (not s.no_sync && is_partly_told (kind_of n.queue s.name)) (push_if true (mark n s.name Update)) n each each) each)
 
   each-delete : (n : Node) (name : StateName) → Each n.states → Each (delete_taken n name).states

@@ -9,7 +9,7 @@ use Rattle.pfl_queue.specs.declared.Entry.{Entry}
 use Rattle.pfl_queue.specs.declared.Entry.TheVariants.{Marked, Request, Status, Clear}
 use Rattle.pfl_queue.specs.Taking.{next_frame, left_by}
 use Rattle.pfl_table.specs.Tables.{AreStates}
-use Rattle.pfl_table.proofs.Apart.{OwnsKeys-known, AreStates-with}
+use Rattle.pfl_table.proofs.ForCallers.{OwnsKeys-known, AreStates-with}
 use Rattle.pfl_track.specs.declared.state.State.{State}
 use Rattle.pfl_parts.specs.Nodes.{Node}
 use Rattle.pfl_parts.specs.Changes.{put_state}

@@ -4,18 +4,16 @@ use Rattle.std.proofs.Common.{◌∙◌, ap, sym, subst, arith, inl, inr}
 use Rattle.pfl_base.specs.declared.direction.Dir.{Dir}
 use Rattle.pfl_base.specs.declared.packet.Packet.{Packet}
 use Rattle.pfl_base.specs.declared.state_name.StateName.{StateName}
-use Rattle.pfl_base.proofs.Names.{names_total, names_exact}
+use Rattle.pfl_base.proofs.ForCallers.{names_total, names_exact}
 use Rattle.pfl_base.specs.Packets.{IsPacket}
 use Rattle.pfl_edits.specs.Maps as maps
-use Rattle.pfl_edits.proofs.Places.{get-set_at_cases}
-use Rattle.pfl_edits.proofs.RowMaps.{some_is_none}
+use Rattle.pfl_edits.proofs.ForCallers.{get-set_at_cases, some_is_none}
 use Rattle.pfl_track.specs.declared.state.State.{State}
 use Rattle.pfl_track.specs.declared.tracked.Tracked.TheVariants.{Moved}
-use Rattle.pfl_track.specs.Laws.{Rises}
+use Rattle.pfl_track.specs.Laws.{RisesInRange}
 use Rattle.pfl_track.specs.States.{IsState}
 use Rattle.pfl_track.specs.Tracking.{tracked}
-use Rattle.pfl_track.proofs.Keeping.{tracked-is}
-use Rattle.pfl_track.proofs.Rising.{tracked-rises}
+use Rattle.pfl_track.proofs.ForCallers.{tracked-is, tracked-rises}
 use Rattle.pfl_table.specs.Tables.{States}
 
 -- ---- states
@@ -32,7 +30,7 @@ Alike-then s t u e f = f ∙ ap (λ (v : State). record v { ack_wanted = u.ack_w
 
 -- the levels have risen; and under the condition a state has stayed one
 pub record Follows (C : Type 0) (s t : State) : Type 0 where
-  pub rises : IsState s → Rises s t
+  pub rises : IsState s → RisesInRange s t
   pub is : C → IsState s → IsState t
 
 -- how it waits, and what it has counted, is no matter
@@ -47,16 +45,16 @@ waiting-is s ack updates is = record {
   one_family = is.one_family;
 }
 
-waiting-rises : (s t : State) (ack : Bool) (updates : ℕ) → Rises s t → Rises s (record t { ack_wanted = ack; updates = updates })
+waiting-rises : (s t : State) (ack : Bool) (updates : ℕ) → RisesInRange s t → RisesInRange s (record t { ack_wanted = ack; updates = updates })
 waiting-rises s t ack updates r = record { src = r.src; dst = r.dst; src_most = r.src_most; dst_most = r.dst_most }
 
-pub stands-rises : (s : State) → IsState s → Rises s s
+pub stands-rises : (s : State) → IsState s → RisesInRange s s
 stands-rises s is = record { src = omega arith; dst = omega arith; src_most = is.src.level; dst_most = is.dst.level }
 
 -- a state that is alike follows
 pub alike-follows : (C : Type 0) (s t : State) → Alike s t → Follows C s t
 alike-follows C s t e = record {
-  rises = λ is. subst (Rises s) (sym e) (waiting-rises s s t.ack_wanted t.updates (stands-rises s is));
+  rises = λ is. subst (RisesInRange s) (sym e) (waiting-rises s s t.ack_wanted t.updates (stands-rises s is));
   is = λ holds is. subst IsState (sym e) (waiting-is s t.ack_wanted t.updates is);
 }
 

@@ -16,9 +16,9 @@ use Rattle.pfl_track.specs.declared.tracked.Tracked.{Tracked}
 use Rattle.pfl_track.specs.declared.tracked.Tracked.TheVariants.{Moved, OutOfWindow, Reused}
 use Rattle.pfl_track.specs.Keys.{wire_key}
 use Rattle.pfl_track.specs.Tracking.{tracked}
-use Rattle.pfl_track.proofs.Names.{Stays, tracked-stays}
+use Rattle.pfl_track.proofs.ForCallers.{Stays, tracked-stays}
 use Rattle.pfl_table.specs.Tables.{States, AreStates, found, key_in_use}
-use Rattle.pfl_table.proofs.Apart.{found-stands}
+use Rattle.pfl_table.proofs.ForCallers.{found-stands}
 use Rattle.pfl_queue.specs.declared.Kind.TheVariants.{Insert}
 use Rattle.pfl_defer.specs.Deferring.{pushed_out}
 use Rattle.pfl_parts.specs.Nodes.{Node, IsGiven}

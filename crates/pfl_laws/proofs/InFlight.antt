@@ -5,15 +5,14 @@ use Rattle.std.proofs.lemmas.Cmp.{nat_cmp_total}
 use Rattle.std.proofs.lemmas.Map.Lookups.{exact_unsigned}
 use Rattle.std.proofs.lemmas.List.{append-nil, take-append-drop}
 use Rattle.pfl_edits.specs.Maps as maps
-use Rattle.pfl_edits.proofs.Places.{get-set_at_cases}
-use Rattle.pfl_edits.proofs.RowMaps.{some_is_none}
+use Rattle.pfl_edits.proofs.ForCallers.{get-set_at_cases, some_is_none}
+use Rattle.pfl_language.specs.declared.event.Event.{Event}
+use Rattle.pfl_language.specs.declared.event.Event.TheVariants as event
+use Rattle.pfl_language.specs.declared.event.FrameEvent.TheVariants as frame
 use Rattle.pfl_link.specs.Links.{Link, InFlight, sent, without_frame, cut_to}
-use Rattle.pfl_world.specs.declared.event.Event.{Event}
-use Rattle.pfl_world.specs.declared.event.Event.TheVariants as event
-use Rattle.pfl_world.specs.declared.event.FrameEvent.TheVariants as frame
 use Rattle.pfl_world.specs.Events.{step}
-use Rattle.pfl_world.specs.Runs.{run, after}
-use Rattle.pfl_world.specs.Steps.{sent_frame}
+use Rattle.pfl_world.specs.Runs.{run, world_after}
+use Rattle.pfl_world.specs.Flushing.{sent_frame}
 use Rattle.pfl_world.specs.Worlds.{World}
 use Rattle.pfl_laws.specs.Laws.{Begins, WasInFlight, WasSentBy, WasSentAlong, EventsSendOnlySo, FramesWereSent}
 use Rattle.pfl_laws.proofs.Following.{inner}
@@ -89,7 +88,7 @@ sent-on w (event.Of ticket (frame.Cut len)) f g begins sent = sent
 sent-on w (event.Restart id) f g begins sent = sent
 
 -- a frame of a world that an event led to, or a beginning of one
-one-back : (w : World) (e : Event) (u : World) (f : InFlight) → after (step w e) ≡ Some u → WasInFlight u f → WasInFlight w f ⊎ WasSentBy w e f
+one-back : (w : World) (e : Event) (u : World) (f : InFlight) → world_after (step w e) ≡ Some u → WasInFlight u f → WasInFlight w f ⊎ WasSentBy w e f
 one-back w e u f accepted was = elim (sent-only w e u accepted was.ticket was.whole was.at) [
   | inl before ↦ inl (record { ticket = before.ticket; whole = before.whole; at = before.at; begins = begins-then f was.whole before.whole was.begins before.begins })
   | inr sent ↦ inr (sent-on w e f was.whole was.begins sent)

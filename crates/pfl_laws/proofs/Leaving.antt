@@ -9,9 +9,9 @@ use Rattle.pfl_base.specs.declared.node_id.NodeId.TheVariants.{A, B}
 use Rattle.pfl_base.specs.declared.packet.Packet.{Packet}
 use Rattle.pfl_base.specs.declared.state_name.StateName.{StateName}
 use Rattle.pfl_base.specs.Keys.{key}
-use Rattle.pfl_base.proofs.Names.{names_total, names_exact}
+use Rattle.pfl_base.proofs.ForCallers.{names_total, names_exact}
 use Rattle.pfl_edits.specs.Maps as maps
-use Rattle.pfl_edits.proofs.Places.{key_cases}
+use Rattle.pfl_edits.proofs.ForCallers.{key_cases}
 use Rattle.pfl_rules.specs.declared.rule.Rule.{Rule}
 use Rattle.pfl_rules.specs.Rules.{verdict, rule_at}
 use Rattle.pfl_track.specs.declared.state.State.{State}
@@ -20,10 +20,16 @@ use Rattle.pfl_track.specs.declared.tracked.Tracked.TheVariants.{Moved, OutOfWin
 use Rattle.pfl_track.specs.Keys.{wire_key}
 use Rattle.pfl_track.specs.Tracking.{tracked}
 use Rattle.pfl_table.specs.Tables.{found, key_in_use}
-use Rattle.pfl_table.proofs.Apart.{found-stands}
+use Rattle.pfl_table.proofs.ForCallers.{found-stands}
 use Rattle.pfl_wire.specs.declared.fault.BadFrame.{BadFrame}
 use Rattle.pfl_wire.specs.Frames.{Frame}
 use Rattle.pfl_wire.specs.Reading.{reading}
+use Rattle.pfl_language.specs.declared.fate.Fate.TheVariants as fate
+use Rattle.pfl_language.specs.declared.node_event.NodeEvent.{NodeEvent}
+use Rattle.pfl_language.specs.declared.node_event.NodeEvent.TheVariants as own
+use Rattle.pfl_language.specs.declared.event.Event.{Event}
+use Rattle.pfl_language.specs.declared.event.Event.TheVariants as event
+use Rattle.pfl_language.specs.declared.event.FrameEvent.TheVariants as frame
 use Rattle.pfl_link.specs.Links.{InFlight}
 use Rattle.pfl_queue.specs.declared.Entry.{Entry}
 use Rattle.pfl_queue.specs.declared.Entry.TheVariants.{Marked, Request, Status, Clear}
@@ -31,11 +37,8 @@ use Rattle.pfl_queue.specs.declared.Kind.TheVariants.{Insert}
 use Rattle.pfl_queue.specs.Taking.{next_frame, left_by}
 use Rattle.pfl_defer.specs.declared.Held.{Held}
 use Rattle.pfl_defer.specs.Deferring.{Deferrals, pushed_out}
-use Rattle.pfl_node.specs.declared.fate.Fate.TheVariants as fate
 use Rattle.pfl_parts.specs.Nodes.{Node, IsNode, IsGiven}
 use Rattle.pfl_parts.specs.Changes.{put_state, mark, freed, changed, deleted, released}
-use Rattle.pfl_node.specs.declared.event.NodeEvent.{NodeEvent}
-use Rattle.pfl_node.specs.declared.event.NodeEvent.TheVariants as own
 use Rattle.pfl_node.specs.Stepping.{node_after}
 use Rattle.pfl_node.specs.Events.{restarted}
 use Rattle.pfl_node.specs.Turning as turning
@@ -43,9 +46,6 @@ use Rattle.pfl_node.specs.Retrying.{retried_client}
 use Rattle.pfl_node.specs.Flushing.{flushed, update_count_cleared}
 use Rattle.pfl_node.specs.Packets.{handled, handled_by, followed, accepted, before_rules, on_the_way}
 use Rattle.pfl_node.specs.Starting.{Handled, pass, hold, started, judged, by_rule, announced, with_room, with_new, new_state, is_at_max, is_deferred}
-use Rattle.pfl_world.specs.declared.event.Event.{Event}
-use Rattle.pfl_world.specs.declared.event.Event.TheVariants as event
-use Rattle.pfl_world.specs.declared.event.FrameEvent.TheVariants as frame
 use Rattle.pfl_receive.specs.Delivering.{records_of}
 use Rattle.pfl_world.specs.Worlds.{World, node_at, with_node}
 use Rattle.pfl_laws.specs.Laws.{FrameLetsOut, HeldPacketsLeaveOnlySo, Holds, LetsGo, NodeLetsGo, LetsOldestGo, OneLetsOut, asked_at}

@@ -1,20 +1,18 @@
 -- A state that is new at a node has a name that the node gives, unless a frame brings it.
-use Rattle.std.specs.Prelude.{◌≡◌, ◌≤◌, ◌+◌, ◌==◌, ◌⊎◌, ℕ, Bool, true, false, nat_lt, Option, Some, None, refl}
+use Rattle.std.specs.Prelude.{◌≡◌, ◌≤◌, ◌+◌, ◌==◌, ◌⊎◌, ℕ, Bool, true, false, nat_lt, Some, None, refl}
 use Rattle.std.proofs.Common.{◌∙◌, ap, sym, arith, inl, inr}
 use Rattle.std.proofs.lemmas.Bool.Decides.{nat_tests}
 use Rattle.pfl_base.specs.declared.node_id.NodeId.{NodeId}
 use Rattle.pfl_base.specs.declared.node_id.NodeId.TheVariants.{A, B}
 use Rattle.pfl_base.specs.declared.state_name.StateName.{StateName}
 use Rattle.pfl_edits.specs.Maps as maps
-use Rattle.pfl_edits.proofs.RowMaps.{some_is_none}
+use Rattle.pfl_edits.proofs.ForCallers.{some_is_none}
 use Rattle.pfl_track.specs.declared.state.State.{State}
+use Rattle.pfl_language.specs.declared.event.Event.{Event}
+use Rattle.pfl_language.specs.declared.event.Event.TheVariants as event
+use Rattle.pfl_language.specs.declared.event.FrameEvent.TheVariants as frame
 use Rattle.pfl_parts.specs.Nodes.{Node, IsNode, IsGiven}
 use Rattle.pfl_node.specs.Events.{restarted}
-use Rattle.pfl_world.specs.declared.event.Event.{Event}
-use Rattle.pfl_world.specs.declared.event.Event.TheVariants as event
-use Rattle.pfl_world.specs.declared.event.FrameEvent.TheVariants as frame
-use Rattle.pfl_world.specs.Events.{step}
-use Rattle.pfl_world.specs.Runs.{after}
 use Rattle.pfl_world.specs.Worlds.{World, node_at, with_node}
 use Rattle.pfl_laws.specs.Laws.{Gives, IsDelivery, NewStatesAreNamed}
 use Rattle.pfl_laws.proofs.Restarting.{restarted-none}

@@ -1,5 +1,5 @@
 -- Names, tickets and boot numbers: each event leaves them or goes on from the next one, so that none is given twice.
-use Rattle.std.specs.Prelude.{◌≡◌, ◌≤◌, ◌<◌, ◌+◌, ◌⊎◌, ℕ, Bool, true, false, List, [], ◌∷◌, Option, Some, None, refl}
+use Rattle.std.specs.Prelude.{◌≡◌, ◌≤◌, ◌<◌, ◌+◌, ◌⊎◌, Bool, true, false, List, [], ◌∷◌, Option, Some, None, refl}
 use Rattle.std.proofs.Common.{◌∙◌, T, ap, sym, subst, arith, inl, inr}
 use Rattle.pfl_base.specs.declared.node_id.NodeId.{NodeId}
 use Rattle.pfl_base.specs.declared.node_id.NodeId.TheVariants.{A, B}
@@ -7,14 +7,14 @@ use Rattle.pfl_base.specs.declared.state_name.StateName.{StateName}
 use Rattle.pfl_edits.specs.Maps as maps
 use Rattle.pfl_table.specs.Tables.{AreStates}
 use Rattle.pfl_wire.specs.Reading.{reading}
+use Rattle.pfl_language.specs.declared.event.Event.{Event}
+use Rattle.pfl_language.specs.declared.event.Event.TheVariants as event
+use Rattle.pfl_language.specs.declared.event.FrameEvent.TheVariants as frame
 use Rattle.pfl_link.specs.Links.{InFlight}
 use Rattle.pfl_parts.specs.Nodes.{Node, IsGiven}
 use Rattle.pfl_node.specs.Events.{restarted}
-use Rattle.pfl_world.specs.declared.event.Event.{Event}
-use Rattle.pfl_world.specs.declared.event.Event.TheVariants as event
-use Rattle.pfl_world.specs.declared.event.FrameEvent.TheVariants as frame
 use Rattle.pfl_world.specs.Events.{step}
-use Rattle.pfl_world.specs.Runs.{run, after}
+use Rattle.pfl_world.specs.Runs.{run, world_after}
 use Rattle.pfl_world.specs.Worlds.{World, node_at, with_node}
 use Rattle.pfl_laws.specs.Laws.{AreBoots, OpeningsAreBoots, LaterOpeningsAreBoots, EventsKeepBoots, NoNameIsGivenTwice, NoTicketIsGivenTwice, NoBootIsGivenTwice}
 use Rattle.pfl_laws.proofs.Delivering.{Ids, ids, received, received-ids}
@@ -46,7 +46,7 @@ result-on w (event.Of ticket frame.Repeat) = frame-on w (maps.get w.link.frames 
 result-on w (event.Of ticket (frame.Cut len)) = frame-on w (maps.get w.link.frames ticket) _ (λ f. record { ticket = omega arith; boot = omega arith })
 result-on w (event.Restart id) = record { ticket = omega arith; boot = omega arith }
 
-goes-on : (w : World) (e : Event) (v : World) → after (step w e) ≡ Some v → GoesOn w v
+goes-on : (w : World) (e : Event) (v : World) → world_after (step w e) ≡ Some v → GoesOn w v
 goes-on w e v accepted = subst (GoesOn w) (stepped-world w e v accepted) (result-on w e)
 
 then-on : (u v w : World) → GoesOn u v → GoesOn v w → GoesOn u w
@@ -123,22 +123,22 @@ turned-names w (event.Of ticket frame.Repeat) at are = local-names w (event.Of t
 turned-names w (event.Of ticket (frame.Cut len)) at are = local-names w (event.Of ticket (frame.Cut len)) at tt are
 turned-names w (event.Restart id) at are = anew-names w id at
 
-stepped-names : (w : World) (e : Event) (v : World) (at : NodeId) → after (step w e) ≡ Some v → AreStates (node_at w at).states → Names w e at (node_at v at)
+stepped-names : (w : World) (e : Event) (v : World) (at : NodeId) → world_after (step w e) ≡ Some v → AreStates (node_at w at).states → Names w e at (node_at v at)
 stepped-names w e v at accepted are = subst (Names w e at) (stepped-node w e v at accepted) (turned-names w e at are)
 
 -- a restart takes a boot number
-boot-up : (w : World) (id : NodeId) (v : World) → after (step w (event.Restart id)) ≡ Some v → w.next_boot < v.next_boot
+boot-up : (w : World) (id : NodeId) (v : World) → world_after (step w (event.Restart id)) ≡ Some v → w.next_boot < v.next_boot
 boot-up w id v accepted = subst (λ (u : World). w.next_boot < u.next_boot) (stepped-world w (event.Restart id) v accepted) (omega arith)
 
-taken-boot : (w : World) (e : Event) (v : World) (at : NodeId) → after (step w e) ≡ Some v → e ≡ event.Restart at → w.next_boot < v.next_boot
-taken-boot w e v at accepted same = boot-up w at v (ap (λ (x : Event). after (step w x)) (sym same) ∙ accepted)
+taken-boot : (w : World) (e : Event) (v : World) (at : NodeId) → world_after (step w e) ≡ Some v → e ≡ event.Restart at → w.next_boot < v.next_boot
+taken-boot w e v at accepted same = boot-up w at v (ap (λ (x : Event). world_after (step w x)) (sym same) ∙ accepted)
 
 -- an event restarts one node
 abbrev restarts_a : Event → Bool
 restarts_a (event.Restart A) = true
 restarts_a _ = false
 
-boots-by : (w : World) (e : Event) (v : World) → after (step w e) ≡ Some v → GoesOn w v → AreBoots w → Names w e A v.a → Names w e B v.b → AreBoots v
+boots-by : (w : World) (e : Event) (v : World) → world_after (step w e) ≡ Some v → GoesOn w v → AreBoots w → Names w e A v.a → Names w e B v.b → AreBoots v
 boots-by w e v accepted on boots (inl a) (inl b) =
     let go = on.boot in
     let low_a = boots.a in
@@ -160,7 +160,7 @@ boots-by w e v accepted on boots (inr a) (inl b) =
     record { apart = λ same. absurd (omega arith); a = omega arith; b = omega arith }
 boots-by w e v accepted on boots (inr a) (inr b) = absurd (subst (λ (x : Event). T (restarts_a x)) (sym a.1 ∙ b.1) tt)
 
-boots-on : (w : World) (e : Event) (v : World) → AreStates w.a.states → AreStates w.b.states → AreBoots w → after (step w e) ≡ Some v → AreBoots v
+boots-on : (w : World) (e : Event) (v : World) → AreStates w.a.states → AreStates w.b.states → AreBoots w → world_after (step w e) ≡ Some v → AreBoots v
 boots-on w e v a b boots accepted = boots-by w e v accepted (goes-on w e v accepted) boots (stepped-names w e v A accepted a) (stepped-names w e v B accepted b)
 
 pub boots-step : EventsKeepBoots
@@ -179,7 +179,7 @@ given-by w e v at name m past given (inl same) =
     λ own. let low = given (own ∙ same.0) in let up = same.1 in omega arith
 given-by w e v at name m past given (inr anew) = λ own. let new = anew.0 in absurd (omega arith)
 
-spent-on : (w : World) (e : Event) (v : World) (name : StateName) → AreStates w.a.states → AreStates w.b.states → Spent w name → after (step w e) ≡ Some v → Spent v name
+spent-on : (w : World) (e : Event) (v : World) (name : StateName) → AreStates w.a.states → AreStates w.b.states → Spent w name → world_after (step w e) ≡ Some v → Spent v name
 spent-on w e v name a b spent accepted =
     let on = (goes-on w e v accepted).boot in
     let low = spent.past in

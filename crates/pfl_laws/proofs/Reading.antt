@@ -20,12 +20,10 @@ use Rattle.pfl_wire.specs.declared.message.StateRecord.{StateRecord}
 use Rattle.pfl_wire.specs.declared.message.UpdateRecord.{UpdateRecord}
 use Rattle.pfl_wire.specs.Actions.{action_with}
 use Rattle.pfl_wire.specs.Frames.{Frame}
-use Rattle.pfl_wire.specs.Fields.{◌>>=◌, Read, wanted, byte_at, number_at, pads_at, name_at, scale_of, peer_at, address_at, end_at, ends_at, class_at, is_v4_of, dir_of, ack_wanted_of, status_of, rule_of}
+use Rattle.pfl_wire.specs.Fields.{Read, wanted, byte_at, number_at, pads_at, name_at, scale_of, peer_at, address_at, end_at, ends_at, class_at, is_v4_of, dir_of, ack_wanted_of, status_of, rule_of}
 use Rattle.pfl_wire.specs.Records.{key_with, keys_at, state_at, update_at, clear_at, bulk_at, read_as, record_at}
 use Rattle.pfl_wire.specs.Reading.{records_at, is_counted, group_at, groups_at, header_at, reading}
-use Rattle.pfl_wire.proofs.Fields.{bind_then, wanted_ok, ok_is}
-use Rattle.pfl_wire.proofs.Records.{le_from}
-use Rattle.pfl_wire.proofs.Values.{scale_back, proto_back, one_family}
+use Rattle.pfl_wire.proofs.ForCallers.{bind_then, wanted_ok, ok_is, le_from, scale_back, proto_back, one_family}
 use Rattle.pfl_receive.specs.Delivering.{records_of}
 
 -- a whole state's record

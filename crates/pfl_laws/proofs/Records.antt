@@ -5,11 +5,11 @@ use Rattle.std.specs.Option.{option_map_or}
 use Rattle.std.proofs.Common.{◌∙◌, T, cond, ap, sym, subst, arith, inl, inr}
 use Rattle.std.proofs.lemmas.Bool.Decides.{nat_tests}
 use Rattle.pfl_base.specs.declared.state_name.StateName.{StateName}
-use Rattle.pfl_base.proofs.Names.{names_total, names_exact}
+use Rattle.pfl_base.proofs.ForCallers.{names_total, names_exact}
 use Rattle.pfl_base.specs.Names.{is_name}
 use Rattle.pfl_base.specs.Packets.{is_tcp}
 use Rattle.pfl_edits.specs.Maps as maps
-use Rattle.pfl_edits.proofs.Places.{get-set_at_cases}
+use Rattle.pfl_edits.proofs.ForCallers.{get-set_at_cases}
 use Rattle.pfl_rules.specs.Rules.{timeout}
 use Rattle.pfl_track.specs.declared.peer.Peer.{Peer}
 use Rattle.pfl_track.specs.declared.state.State.{State}
@@ -24,7 +24,7 @@ use Rattle.pfl_queue.specs.Queues.{kind_of}
 use Rattle.pfl_bulk.specs.Bulk.{no_name}
 use Rattle.pfl_parts.specs.Nodes.{Node}
 use Rattle.pfl_parts.specs.Changes.{put_state, push_if, mark, count_bad, is_held, lost, count_lost, without_held, released, changed, forgotten, count_stale, ask}
-use Rattle.pfl_receive.specs.Receiving.{taken, insert_taken, can_import, imported, merge_taken, merged_into, bulk_taken, answered, is_partly_told, request_taken, ack_taken, delete_taken, status_taken, is_known, cleared_names, of_state, of_update}
+use Rattle.pfl_receive.specs.Receiving.{taken, insert_taken, can_import, imported, merge_taken, merged_into, bulk_taken, state_answered, is_partly_told, request_taken, ack_taken, delete_taken, status_taken, is_known, cleared_names, of_state, of_update}
 use Rattle.pfl_laws.specs.Laws.{HasRisen, LevelsRise, RecordsLowerNoLevel}
 use Rattle.pfl_laws.proofs.Following.{Alike, Alike-then, From, Comes, comes-then, comes-removed, inner, Filed}
 use Rattle.pfl_laws.proofs.Keeping.{Keeps, keeps-as, put-keeps, changed-keeps, released-keeps}
@@ -196,8 +196,8 @@ own n name s filed at = subst (λ q. maps.get n.states q ≡ Some s) (sym (filed
 
 request-up : (n : Node) (name : StateName) → LevelsRise n (request_taken n name)
 request-up n name =
-    either n (is_name no_name name) (bulk_taken n) (option_map_or (answered n) (maps.get n.states name) (count_bad n)) (same-up n (bulk_taken n) refl)
-    (on_some n (maps.get n.states name) (answered n) (count_bad n) (λ s at.
+    either n (is_name no_name name) (bulk_taken n) (option_map_or (state_answered n) (maps.get n.states name) (count_bad n)) (same-up n (bulk_taken n) refl)
+    (on_some n (maps.get n.states name) (state_answered n) (count_bad n) (λ s at.
     let told = push_if true (mark n s.name Update) in
     either n (not s.no_sync && is_partly_told (kind_of n.queue s.name)) told n (same-up n told refl) (same-up n n refl))
     (λ e. same-up n (count_bad n) refl))

@@ -6,13 +6,13 @@ use Rattle.std.proofs.Common.{◌∙◌, T, cond, ap, sym, subst, arith, inl, in
 use Rattle.std.proofs.lemmas.Bool.Decides.{nat_tests}
 use Rattle.std.proofs.lemmas.Map.Keys.{IsDistinct-head, IsDistinct-tail}
 use Rattle.pfl_base.specs.declared.state_name.StateName.{StateName}
-use Rattle.pfl_base.proofs.Names.{names_total, names_exact, is_name-itself}
+use Rattle.pfl_base.proofs.ForCallers.{names_total, names_exact, is_name-itself}
 use Rattle.pfl_base.specs.Names.{is_name}
 use Rattle.pfl_edits.specs.Maps as maps
-use Rattle.pfl_edits.proofs.Places.{key_cases}
+use Rattle.pfl_edits.proofs.ForCallers.{key_cases}
 use Rattle.pfl_track.specs.declared.state.State.{State}
 use Rattle.pfl_table.specs.Tables.{AreStates}
-use Rattle.pfl_table.proofs.Apart.{OwnsKeys-known, AreStates-with}
+use Rattle.pfl_table.proofs.ForCallers.{OwnsKeys-known, AreStates-with}
 use Rattle.pfl_defer.specs.declared.Held.{Held}
 use Rattle.pfl_defer.specs.Deferring.{due}
 use Rattle.pfl_parts.specs.Nodes.{Node, IsNode}

@@ -4,8 +4,7 @@ use Rattle.std.proofs.Common.{◌∙◌, T, ap, sym, subst}
 use Rattle.pfl_base.specs.declared.state_name.StateName.{StateName}
 use Rattle.pfl_base.specs.Names.{name_cmp}
 use Rattle.pfl_edits.specs.Maps as maps
-use Rattle.pfl_edits.proofs.Maps.{get-empty}
-use Rattle.pfl_edits.proofs.RowMaps.{some_is_none}
+use Rattle.pfl_edits.proofs.ForCallers.{get-empty, some_is_none}
 use Rattle.pfl_track.specs.declared.state.State.{State}
 use Rattle.pfl_table.specs.Tables.{AreStates}
 use Rattle.pfl_parts.specs.Nodes.{Node}

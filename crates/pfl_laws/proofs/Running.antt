@@ -7,22 +7,23 @@ use Rattle.pfl_base.specs.declared.node_id.NodeId.{NodeId}
 use Rattle.pfl_base.specs.declared.node_id.NodeId.TheVariants.{A, B}
 use Rattle.pfl_base.specs.declared.state_name.StateName.{StateName}
 use Rattle.pfl_edits.specs.Maps as maps
-use Rattle.pfl_edits.proofs.RowMaps.{some_is_none}
+use Rattle.pfl_edits.proofs.ForCallers.{some_is_none}
 use Rattle.pfl_track.specs.declared.state.State.{State}
 use Rattle.pfl_table.specs.Tables.{AreStates}
 use Rattle.pfl_wire.specs.declared.fault.BadFrame.{BadFrame}
 use Rattle.pfl_wire.specs.Frames.{Frame}
 use Rattle.pfl_wire.specs.Reading.{reading}
+use Rattle.pfl_language.specs.declared.event.Event.{Event}
+use Rattle.pfl_language.specs.declared.event.Event.TheVariants as event
+use Rattle.pfl_language.specs.declared.event.FrameEvent.TheVariants as frame
 use Rattle.pfl_link.specs.Links.{InFlight}
 use Rattle.pfl_parts.specs.Nodes.{Node, IsNode, IsGiven}
 use Rattle.pfl_node.specs.Events.{restarted}
-use Rattle.pfl_world.specs.declared.event.Event.{Event}
-use Rattle.pfl_world.specs.declared.event.Event.TheVariants as event
-use Rattle.pfl_world.specs.declared.event.FrameEvent.TheVariants as frame
-use Rattle.pfl_world.specs.Events.{step}
-use Rattle.pfl_world.specs.Runs.{run, after}
+use Rattle.pfl_world.specs.Events.{step, points_at}
+use Rattle.pfl_world.specs.Runs.{run, world_after}
 use Rattle.pfl_world.specs.Worlds.{World, IsWorld, node_at, with_node}
-use Rattle.pfl_laws.specs.Laws.{IsEvent, HasRisen, HasState, StandsIn, StandsAlong, frame_points, arrival_points, points_at, LevelsNeverFall, LevelsNeverFallAlong, StatesStayApart, StatesStayApartAlong}
+use Rattle.pfl_laws.specs.Laws.{IsEvent, HasRisen, HasState, StandsThrough, StandsAlong, LevelsNeverFall, LevelsNeverFallAlong, StatesStayApart, StatesStayApartAlong}
+use Rattle.pfl_world.specs.Delivering.{frame_points, arrival_points}
 use Rattle.pfl_laws.proofs.Following.{Follows, inner}
 use Rattle.pfl_laws.proofs.Keeping.{Keeps, keeps-given}
 use Rattle.pfl_laws.proofs.Each.{StandsRightly}
@@ -142,7 +143,7 @@ anew-stood w B B boot q has stood = absurd (restarted-has_none w.b boot q has)
 
 -- ---- any event
 
-turned-rises : (w : World) (e : Event) (at : NodeId) (q : StateName) → Stood q (node_at w at) → StandsIn w e at q
+turned-rises : (w : World) (e : Event) (at : NodeId) (q : StateName) → Stood q (node_at w at) → StandsThrough w e at q
     → (s t : State) → maps.get (node_at w at).states q ≡ Some s → maps.get (turned w e at).states q ≡ Some t → HasRisen s t
 turned-rises w (event.At id e) at q stood stands = local-rises w (event.At id e) at q tt stood
 turned-rises w (event.Flush id) at q stood stands = local-rises w (event.Flush id) at q tt stood
@@ -161,12 +162,12 @@ turned-stood w (event.Of ticket frame.Repeat) at q fits has = local-stood w (eve
 turned-stood w (event.Of ticket (frame.Cut len)) at q fits has = local-stood w (event.Of ticket (frame.Cut len)) at q tt fits
 turned-stood w (event.Restart id) at q fits has = anew-stood w id at w.next_boot q has
 
-stepped-rises : (w : World) (e : Event) (v : World) (at : NodeId) (q : StateName) → after (step w e) ≡ Some v → Stood q (node_at w at) → StandsIn w e at q
+stepped-rises : (w : World) (e : Event) (v : World) (at : NodeId) (q : StateName) → world_after (step w e) ≡ Some v → Stood q (node_at w at) → StandsThrough w e at q
     → (s t : State) → maps.get (node_at w at).states q ≡ Some s → maps.get (node_at v at).states q ≡ Some t → HasRisen s t
 stepped-rises w e v at q accepted stood stands s t before later =
     turned-rises w e at q stood stands s t before (ap (λ (n : Node). maps.get n.states q) (stepped-node w e v at accepted) ∙ later)
 
-stepped-stood : (w : World) (e : Event) (v : World) (at : NodeId) (q : StateName) → after (step w e) ≡ Some v → IsEvent e → HasState q (node_at v at) → Stood q (node_at w at) → Stood q (node_at v at)
+stepped-stood : (w : World) (e : Event) (v : World) (at : NodeId) (q : StateName) → world_after (step w e) ≡ Some v → IsEvent e → HasState q (node_at v at) → Stood q (node_at w at) → Stood q (node_at v at)
 stepped-stood w e v at q accepted fits has stood =
     let same = stepped-node w e v at accepted in
     subst (Stood q) same (turned-stood w e at q fits (subst (HasState q) (sym same) has) stood)
@@ -178,16 +179,16 @@ levels-step w e v is accepted id name s t stands before later =
 -- ---- runs
 
 -- the rest of a run goes on from where its first event led
-run-on : (w v : World) (e : Event) (es : List Event) → after (step w e) ≡ Some v → run w (e ∷ es) ≡ run v es
+run-on : (w v : World) (e : Event) (es : List Event) → world_after (step w e) ≡ Some v → run w (e ∷ es) ≡ run v es
 unfolding run
-run-on w v e es is = ap (λ (at : Option World). fold (λ at e. option_and_then (λ u. after (step u e)) at) at es) is
+run-on w v e es is = ap (λ (at : Option World). fold (λ at e. option_and_then (λ u. world_after (step u e)) at) at es) is
 
 -- nothing follows an event that is refused
-run-off : (w v : World) (e : Event) (es : List Event) → after (step w e) ≡ None → run w (e ∷ es) ≡ Some v → ⊥
+run-off : (w v : World) (e : Event) (es : List Event) → world_after (step w e) ≡ None → run w (e ∷ es) ≡ Some v → ⊥
 unfolding run
-run-off w v e es is ran = absurd (some_is_none v (sym ran ∙ (ap (λ (at : Option World). fold (λ at e. option_and_then (λ u. after (step u e)) at) at es) is ∙ stays es)))
+run-off w v e es is ran = absurd (some_is_none v (sym ran ∙ (ap (λ (at : Option World). fold (λ at e. option_and_then (λ u. world_after (step u e)) at) at es) is ∙ stays es)))
   where
-    stays : (es : List Event) → fold (λ at e. option_and_then (λ u. after (step u e)) at) None es ≡ None
+    stays : (es : List Event) → fold (λ at e. option_and_then (λ u. world_after (step u e)) at) None es ≡ None
     stays [] = refl
     stays (x ∷ xs) = stays xs
 
@@ -196,10 +197,10 @@ unfolding run
 run-none w v e = inner w v e
 
 -- by what its first event did, a run is no run, or goes on
-pub on-run : (P : Type 0) (w v : World) (e : Event) (es : List Event) → run w (e ∷ es) ≡ Some v → ((u : World) → after (step w e) ≡ Some u → run u es ≡ Some v → P) → P
-on-run P w v e es ran next = by (after (step w e)) refl
+pub on-run : (P : Type 0) (w v : World) (e : Event) (es : List Event) → run w (e ∷ es) ≡ Some v → ((u : World) → world_after (step w e) ≡ Some u → run u es ≡ Some v → P) → P
+on-run P w v e es ran next = by (world_after (step w e)) refl
   where
-    by : (o : Option World) → after (step w e) ≡ o → P
+    by : (o : Option World) → world_after (step w e) ≡ o → P
     by None is = absurd (run-off w v e es is ran)
     by (Some u) is = next u is (sym (run-on w u e es is) ∙ ran)
 
@@ -211,7 +212,7 @@ first-stands w [] id q stands = stands
 first-stands w (e ∷ es) id q stands = stands.0
 
 -- where a state stands at each record, it does so in a delivery
-stands-in : (w : World) (e : Event) (id : NodeId) (q : StateName) → All (HasState q) (points_at w e id) → StandsIn w e id q
+stands-in : (w : World) (e : Event) (id : NodeId) (q : StateName) → All (HasState q) (points_at w e id) → StandsThrough w e id q
 stands-in w (event.At at e) id q all = tt
 stands-in w (event.Flush node) id q all = tt
 stands-in w (event.Of ticket frame.Deliver) id q all = all
@@ -238,7 +239,7 @@ along-rises (e ∷ es) w v id q fit ran stood stands s t before later = on-run (
     let next_stood = stepped-stood w e u id q accepted (All-head IsEvent e es fit) has stood in
     by u accepted (maps.get (node_at u id).states q) refl has (λ m at. along-rises es u v id q (All-tail IsEvent e es fit) rest next_stood on m t at later))
   where
-    by : (u : World) → after (step w e) ≡ Some u → (o : Option State) → maps.get (node_at u id).states q ≡ o → is_some o ≡ true
+    by : (u : World) → world_after (step w e) ≡ Some u → (o : Option State) → maps.get (node_at u id).states q ≡ o → is_some o ≡ true
         → ((m : State) → maps.get (node_at u id).states q ≡ Some m → HasRisen m t) → HasRisen s t
     by u accepted None at some on = absurd (subst T (sym some) tt)
     by u accepted (Some m) at some on = risen-then s m t (stepped-rises w e u id q accepted stood (stands-in w e id q stands.1) s m before at) (on m at)

@@ -12,26 +12,28 @@ use Rattle.pfl_base.specs.Keys.{key}
 use Rattle.pfl_base.specs.Packets.{IsPacket}
 use Rattle.pfl_base.specs.Names.{name_cmp}
 use Rattle.pfl_edits.specs.Maps as maps
-use Rattle.pfl_edits.proofs.Maps.{get-empty}
-use Rattle.pfl_edits.proofs.RowMaps.{some_is_none}
+use Rattle.pfl_edits.proofs.ForCallers.{get-empty, some_is_none}
 use Rattle.pfl_track.specs.declared.state.State.{State}
 use Rattle.pfl_track.specs.declared.tracked.Tracked.{Tracked}
 use Rattle.pfl_track.specs.declared.tracked.Tracked.TheVariants.{Moved, OutOfWindow, Reused}
 use Rattle.pfl_track.specs.Tracking.{tracked}
-use Rattle.pfl_track.proofs.Names.{Stays, tracked-stays}
+use Rattle.pfl_track.proofs.ForCallers.{Stays, tracked-stays}
 use Rattle.pfl_table.specs.Tables.{AreStates, found}
-use Rattle.pfl_table.proofs.Apart.{found-stands}
+use Rattle.pfl_table.proofs.ForCallers.{found-stands}
 use Rattle.pfl_wire.specs.declared.fault.BadFrame.{BadFrame}
 use Rattle.pfl_wire.specs.Frames.{Frame}
 use Rattle.pfl_wire.specs.Reading.{reading}
+use Rattle.pfl_language.specs.declared.node_event.NodeEvent.{NodeEvent}
+use Rattle.pfl_language.specs.declared.node_event.NodeEvent.TheVariants as own
+use Rattle.pfl_language.specs.declared.event.Event.{Event}
+use Rattle.pfl_language.specs.declared.event.Event.TheVariants as event
+use Rattle.pfl_language.specs.declared.event.FrameEvent.TheVariants as frame
 use Rattle.pfl_link.specs.Links.{InFlight}
 use Rattle.pfl_queue.specs.declared.Entry.{Entry}
 use Rattle.pfl_queue.specs.declared.Entry.TheVariants.{Marked, Request, Status, Clear}
 use Rattle.pfl_queue.specs.Taking.{next_frame, left_by}
 use Rattle.pfl_parts.specs.Nodes.{Node}
 use Rattle.pfl_parts.specs.Changes.{put_state, count_blocked, is_held, deleted}
-use Rattle.pfl_node.specs.declared.event.NodeEvent.{NodeEvent}
-use Rattle.pfl_node.specs.declared.event.NodeEvent.TheVariants as own
 use Rattle.pfl_node.specs.Stepping.{node_after}
 use Rattle.pfl_node.specs.Ticking.{ticked}
 use Rattle.pfl_node.specs.Purging.{purged}
@@ -43,14 +45,11 @@ use Rattle.pfl_node.specs.Turning as turning
 use Rattle.pfl_node.specs.Retrying.{retried_client}
 use Rattle.pfl_node.specs.Flushing.{flushed, update_count_cleared}
 use Rattle.pfl_node.specs.Packets.{handled, handled_by, followed, accepted}
-use Rattle.pfl_node.proofs.OneState.{handled-apart}
-use Rattle.pfl_world.specs.declared.event.Event.{Event}
-use Rattle.pfl_world.specs.declared.event.Event.TheVariants as event
-use Rattle.pfl_world.specs.declared.event.FrameEvent.TheVariants as frame
+use Rattle.pfl_node.proofs.ForCallers.{handled-apart}
 use Rattle.pfl_world.specs.Events.{step}
-use Rattle.pfl_world.specs.Runs.{run, after}
+use Rattle.pfl_world.specs.Runs.{run, world_after}
 use Rattle.pfl_world.specs.Worlds.{World, IsWorld, node_at, with_node, new_world}
-use Rattle.pfl_laws.specs.Laws.{is_waiting, IsTied, OpeningsAreTied, EventsKeepTied, EventsKeepTiedAlong}
+use Rattle.pfl_laws.specs.Laws.{waits_for_ack, IsTied, OpeningsAreTied, EventsKeepTied, EventsKeepTiedAlong}
 use Rattle.pfl_laws.proofs.Following.{Alike, Follows, Filed}
 use Rattle.pfl_laws.proofs.Keeping.{deleted-keeps}
 use Rattle.pfl_laws.proofs.Handling.{filed-without, accepted-keeps}
@@ -197,7 +196,7 @@ turned-sound w (event.Of ticket frame.Repeat) at is = is
 turned-sound w (event.Of ticket (frame.Cut len)) at is = is
 turned-sound w (event.Restart id) at is = put-sound w id (restarted (node_at w id) w.next_boot) at (λ s. restarted-sound (node_at w id) w.next_boot) is
 
-stepped-sound : (w : World) (e : Event) (v : World) (at : NodeId) → after (step w e) ≡ Some v → Sound (node_at w at) → Sound (node_at v at)
+stepped-sound : (w : World) (e : Event) (v : World) (at : NodeId) → world_after (step w e) ≡ Some v → Sound (node_at w at) → Sound (node_at v at)
 stepped-sound w e v at accepted is = subst Sound (stepped-node w e v at accepted) (turned-sound w e at is)
 
 -- a node of a world whose packets and states are tied
@@ -209,12 +208,12 @@ begins w id is tied =
 pub tied-step : EventsKeepTied
 tied-step w e v is tied accepted id = (stepped-sound w e v id accepted (begins w id is (tied id))).tied
 
-all : (id : NodeId) (at : Option World) (es : List Event) → IfSome at (λ v. Sound (node_at v id)) → IfSome (fold (λ at e. option_and_then (λ v. after (step v e)) at) at es) (λ v. Sound (node_at v id))
+all : (id : NodeId) (at : Option World) (es : List Event) → IfSome at (λ v. Sound (node_at v id)) → IfSome (fold (λ at e. option_and_then (λ v. world_after (step v e)) at) at es) (λ v. Sound (node_at v id))
 all id at [] sound = sound
 all id None (e ∷ es) sound = all id None es tt
-all id (Some v) (e ∷ es) sound = all id (after (step v e)) es (by (after (step v e)) refl)
+all id (Some v) (e ∷ es) sound = all id (world_after (step v e)) es (by (world_after (step v e)) refl)
   where
-    by : (o : Option World) → after (step v e) ≡ o → IfSome o (λ u. Sound (node_at u id))
+    by : (o : Option World) → world_after (step v e) ≡ o → IfSome o (λ u. Sound (node_at u id))
     by None none = tt
     by (Some u) is = stepped-sound v e u id is sound
 
@@ -231,6 +230,6 @@ tied-opening l a b id name = by id
     none None e = refl
     none (Some s) e = absurd (some_is_none s e)
 
-    by : (id : NodeId) → is_held (node_at (new_world l a b) id) name ≡ is_waiting (node_at (new_world l a b) id) name
+    by : (id : NodeId) → is_held (node_at (new_world l a b) id) name ≡ waits_for_ack (node_at (new_world l a b) id) name
     by A = none _ (get-empty name_cmp name)
     by B = none _ (get-empty name_cmp name)

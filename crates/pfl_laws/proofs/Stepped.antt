@@ -7,28 +7,31 @@ use Rattle.pfl_base.specs.Lists.{folds}
 use Rattle.pfl_base.specs.declared.node_id.NodeId.{NodeId}
 use Rattle.pfl_base.specs.declared.refusal.Refusal.{Refusal}
 use Rattle.pfl_base.specs.declared.refusal.Refusal.TheVariants.{NoSuchFrame, LinkFull, CountFull}
+use Rattle.pfl_base.specs.Numbers.{greatest}
 use Rattle.pfl_edits.specs.Maps as maps
-use Rattle.pfl_edits.proofs.RowMaps.{some_is_none}
+use Rattle.pfl_edits.proofs.ForCallers.{some_is_none}
 use Rattle.pfl_wire.specs.declared.fault.BadFrame.{BadFrame}
 use Rattle.pfl_wire.specs.Frames.{Frame}
 use Rattle.pfl_wire.specs.Reading.{reading}
+use Rattle.pfl_language.specs.declared.event.Event.{Event}
+use Rattle.pfl_language.specs.declared.event.Event.TheVariants as event
+use Rattle.pfl_language.specs.declared.event.FrameEvent.TheVariants as frame
+use Rattle.pfl_language.specs.declared.outcome.Outcome.TheVariants as outcome
+use Rattle.pfl_language.specs.declared.outcome.Outcome.{Outcome}
 use Rattle.pfl_link.specs.Links.{Link, InFlight, is_full, is_counted_out, sent, without_frame, with_frame, cut_to}
-use Rattle.pfl_parts.specs.Nodes.{refused_by, full_tests, greatest}
+use Rattle.pfl_parts.specs.Nodes.{refused_by, full_tests, unless_refused}
 use Rattle.pfl_parts.specs.Changes.{count_broken}
 use Rattle.pfl_receive.specs.Receiving.{taken}
 use Rattle.pfl_node.specs.Flushing.{flushed}
 use Rattle.pfl_node.specs.Events.{restarted}
 use Rattle.pfl_node.specs.Stepping.{node_refusal, node_after}
-use Rattle.pfl_world.specs.declared.event.Event.{Event}
-use Rattle.pfl_world.specs.declared.event.Event.TheVariants as event
-use Rattle.pfl_world.specs.declared.event.FrameEvent.TheVariants as frame
 use Rattle.pfl_world.specs.Events.{step}
-use Rattle.pfl_world.specs.declared.outcome.Outcome.TheVariants as outcome
-use Rattle.pfl_world.specs.declared.outcome.Outcome.{Outcome}
-use Rattle.pfl_world.specs.Runs.{after}
-use Rattle.pfl_world.specs.Steps as steps
+use Rattle.pfl_world.specs.Runs.{world_after}
 use Rattle.pfl_receive.specs.Delivering.{records_of, same_rules}
-use Rattle.pfl_world.specs.Steps.{answered, flush_refusal, sent_frame, flush_step, read_taken, deliver_step, lose_step, repeat_step, cut_step, restart_step}
+use Rattle.pfl_world.specs.Flushing.{flush_refusal, sent_frame, flush_step}
+use Rattle.pfl_world.specs.Delivering.{read_taken, deliver_step}
+use Rattle.pfl_world.specs.Tickets.{lose_step, repeat_step, cut_step, without_ticket}
+use Rattle.pfl_world.specs.Restarting.{restart_step}
 use Rattle.pfl_world.specs.Worlds.{World, node_at, with_node, with_link}
 use Rattle.pfl_laws.proofs.Delivering.{received}
 use Rattle.pfl_laws.proofs.Stepping.{answered-world, own-world}
@@ -42,34 +45,34 @@ of_frame w (Some f) done = done f
 abbrev pub result : World → Event → World
 result w (event.At id e) = with_node w id (node_after (node_at w id) e).node
 result w (event.Flush id) = with_link (with_node w id (flushed (node_at w id))) (sent w.link (sent_frame w id))
-result w (event.Of ticket frame.Deliver) = of_frame w (maps.get w.link.frames ticket) (λ f. with_node (steps.without w ticket) f.to (received (node_at w f.to) (reading f.bytes)))
+result w (event.Of ticket frame.Deliver) = of_frame w (maps.get w.link.frames ticket) (λ f. with_node (without_ticket w ticket) f.to (received (node_at w f.to) (reading f.bytes)))
 result w (event.Of ticket frame.Lose) = of_frame w (maps.get w.link.frames ticket) (λ f. with_link w (without_frame w.link ticket))
 result w (event.Of ticket frame.Repeat) = of_frame w (maps.get w.link.frames ticket) (λ f. with_link w (sent w.link f))
 result w (event.Of ticket (frame.Cut len)) = of_frame w (maps.get w.link.frames ticket) (λ f. with_link w (with_frame w.link ticket (cut_to f len)))
 result w (event.Restart id) = record (with_node w id (restarted (node_at w id) w.next_boot)) { next_boot = w.next_boot + 1 }
 
 read-world : (w : World) (ticket : ℕ) (to : NodeId) (r : Result Frame BadFrame) (v : World)
-    → after (read_taken (steps.without w ticket) to (node_at w to) r) ≡ Some v → with_node (steps.without w ticket) to (received (node_at w to) r) ≡ v
+    → world_after (read_taken (without_ticket w ticket) to (node_at w to) r) ≡ Some v → with_node (without_ticket w ticket) to (received (node_at w to) r) ≡ v
 read-world w ticket to (Ok f) v e =
     let n = node_at w to in
     answered-world (refused_by (full_tests (folds (λ k r. taken k (same_rules n f) r) n (records_of f))))
-    (record { world = with_node (steps.without w ticket) to (fold (λ k r. taken k (same_rules n f) r) n (records_of f)); outcome = outcome.Taken (length (records_of f)) }) v e
+    (record { world = with_node (without_ticket w ticket) to (fold (λ k r. taken k (same_rules n f) r) n (records_of f)); outcome = outcome.Taken (length (records_of f)) }) v e
 read-world w ticket to (Err why) v e =
     let m = count_broken (node_at w to) in
-    answered-world (refused_by (full_tests (m ∷ []))) (record { world = with_node (steps.without w ticket) to m; outcome = outcome.Broken why }) v e
+    answered-world (refused_by (full_tests (m ∷ []))) (record { world = with_node (without_ticket w ticket) to m; outcome = outcome.Broken why }) v e
 
 arrived-world : (w : World) (ticket : ℕ) (o : Option InFlight) (v : World)
-    → after (option_map_or (λ f. read_taken (steps.without w ticket) f.to (node_at w f.to) (reading f.bytes)) o (Err NoSuchFrame)) ≡ Some v
-    → of_frame w o (λ f. with_node (steps.without w ticket) f.to (received (node_at w f.to) (reading f.bytes))) ≡ v
+    → world_after (option_map_or (λ f. read_taken (without_ticket w ticket) f.to (node_at w f.to) (reading f.bytes)) o (Err NoSuchFrame)) ≡ Some v
+    → of_frame w o (λ f. with_node (without_ticket w ticket) f.to (received (node_at w f.to) (reading f.bytes))) ≡ v
 arrived-world w ticket None v e = absurd (some_is_none v (sym e))
 arrived-world w ticket (Some f) v e = read-world w ticket f.to (reading f.bytes) v e
 
 frame-world : (w : World) (frame : Option InFlight) (o : Option Refusal) (l : InFlight → Link) (out : InFlight → Outcome) (v : World)
-    → after (option_map_or (λ f. answered o (record { world = with_link w (l f); outcome = out f })) frame (Err NoSuchFrame)) ≡ Some v → of_frame w frame (λ f. with_link w (l f)) ≡ v
+    → world_after (option_map_or (λ f. unless_refused o (record { world = with_link w (l f); outcome = out f })) frame (Err NoSuchFrame)) ≡ Some v → of_frame w frame (λ f. with_link w (l f)) ≡ v
 frame-world w None o l out v e = absurd (some_is_none v (sym e))
 frame-world w (Some f) o l out v e = answered-world o (record { world = with_link w (l f); outcome = out f }) v e
 
-pub stepped-world : (w : World) (e : Event) (v : World) → after (step w e) ≡ Some v → result w e ≡ v
+pub stepped-world : (w : World) (e : Event) (v : World) → world_after (step w e) ≡ Some v → result w e ≡ v
 unfolding step flush_step deliver_step lose_step repeat_step cut_step restart_step
 stepped-world w (event.At id e) v is = own-world w id (node_refusal (node_at w id) e) (node_after (node_at w id) e) v is
 stepped-world w (event.Flush id) v e =

@@ -9,19 +9,24 @@ use Rattle.pfl_base.specs.declared.node_id.NodeId.TheVariants.{A, B}
 use Rattle.pfl_base.specs.declared.refusal.Refusal.{Refusal}
 use Rattle.pfl_base.specs.declared.refusal.Refusal.TheVariants.{NoSuchFrame, LinkFull, CountFull}
 use Rattle.pfl_base.specs.declared.state_name.StateName.{StateName}
+use Rattle.pfl_base.specs.Numbers.{greatest}
 use Rattle.pfl_edits.specs.Maps as maps
-use Rattle.pfl_edits.proofs.RowMaps.{some_is_none}
+use Rattle.pfl_edits.proofs.ForCallers.{some_is_none}
 use Rattle.pfl_wire.specs.declared.fault.BadFrame.{BadFrame}
 use Rattle.pfl_wire.specs.Frames.{Frame}
 use Rattle.pfl_wire.specs.Reading.{reading}
+use Rattle.pfl_language.specs.declared.node_event.NodeEvent.{NodeEvent}
+use Rattle.pfl_language.specs.declared.node_event.NodeEvent.TheVariants as own
+use Rattle.pfl_language.specs.declared.event.Event.{Event}
+use Rattle.pfl_language.specs.declared.event.Event.TheVariants as event
+use Rattle.pfl_language.specs.declared.event.FrameEvent.TheVariants as frame
+use Rattle.pfl_language.specs.declared.outcome.Outcome.TheVariants as outcome
+use Rattle.pfl_language.specs.declared.outcome.Outcome.{Outcome}
 use Rattle.pfl_link.specs.Links.{Link, InFlight, is_full, is_counted_out, sent, without_frame, with_frame, cut_to}
 use Rattle.pfl_track.specs.declared.state.State.{State}
 use Rattle.pfl_table.specs.Tables.{AreStates}
-use Rattle.pfl_parts.specs.Nodes.{Node, IsGiven, refused_by, full_tests, greatest}
+use Rattle.pfl_parts.specs.Nodes.{Node, IsGiven, refused_by, full_tests, unless_refused}
 use Rattle.pfl_parts.specs.Changes.{count_broken}
-use Rattle.pfl_node.specs.declared.event.NodeEvent.{NodeEvent}
-use Rattle.pfl_node.specs.declared.event.NodeEvent.TheVariants as own
-use Rattle.pfl_node.specs.Stepping as stepping
 use Rattle.pfl_node.specs.Stepping.{NodeStepped, node_refusal, node_after}
 use Rattle.pfl_node.specs.Flushing.{flushed}
 use Rattle.pfl_node.specs.Purging.{purged}
@@ -31,20 +36,17 @@ use Rattle.pfl_node.specs.Clearing.{cleared}
 use Rattle.pfl_node.specs.Events.{restarted}
 use Rattle.pfl_node.specs.Turning as turning
 use Rattle.pfl_node.specs.Retrying.{retried_client}
-use Rattle.pfl_node.specs.Packets.{handled}
-use Rattle.pfl_node.proofs.OneState.{handled-apart}
+use Rattle.pfl_node.proofs.ForCallers.{handled-apart}
 use Rattle.pfl_receive.specs.Receiving.{taken}
-use Rattle.pfl_world.specs.declared.event.Event.{Event}
-use Rattle.pfl_world.specs.declared.event.Event.TheVariants as event
-use Rattle.pfl_world.specs.declared.event.FrameEvent.TheVariants as frame
 use Rattle.pfl_world.specs.Events.{step}
-use Rattle.pfl_world.specs.declared.outcome.Outcome.TheVariants as outcome
-use Rattle.pfl_world.specs.declared.outcome.Outcome.{Outcome}
-use Rattle.pfl_world.specs.Outcomes.{Stepped}
-use Rattle.pfl_world.specs.Runs.{after}
-use Rattle.pfl_world.specs.Steps as steps
+use Rattle.pfl_world.specs.Meanings.{Stepped}
+use Rattle.pfl_world.specs.Runs.{world_after}
 use Rattle.pfl_receive.specs.Delivering.{records_of, same_rules}
-use Rattle.pfl_world.specs.Steps.{answered, from_node, flush_refusal, sent_frame, flush_step, read_taken, deliver_step, lose_step, repeat_step, cut_step, restart_step}
+use Rattle.pfl_world.specs.AtNodes.{from_node}
+use Rattle.pfl_world.specs.Flushing.{flush_refusal, sent_frame, flush_step}
+use Rattle.pfl_world.specs.Delivering.{read_taken, deliver_step}
+use Rattle.pfl_world.specs.Tickets.{lose_step, repeat_step, cut_step, without_ticket}
+use Rattle.pfl_world.specs.Restarting.{restart_step}
 use Rattle.pfl_world.specs.Worlds.{World, node_at, with_node, with_link}
 use Rattle.pfl_laws.specs.Laws.{IsEvent, IsNodeEvent}
 use Rattle.pfl_laws.proofs.Following.{Alike, Follows, alike-follows, inner}
@@ -73,11 +75,11 @@ turned w (event.Of ticket e) at = node_at w at
 turned w (event.Restart id) at = node_at (with_node w id (restarted (node_at w id) w.next_boot)) at
 
 -- the world after an event that is accepted
-pub answered-world : (o : Option Refusal) (s : Stepped) (v : World) → after (answered o s) ≡ Some v → s.world ≡ v
+pub answered-world : (o : Option Refusal) (s : Stepped) (v : World) → world_after (unless_refused o s) ≡ Some v → s.world ≡ v
 answered-world None s v e = inner s.world v e
 answered-world (Some r) s v e = absurd (some_is_none v (sym e))
 
-answered-node : (o : Option Refusal) (s : Stepped) (v : World) (at : NodeId) → after (answered o s) ≡ Some v → node_at s.world at ≡ node_at v at
+answered-node : (o : Option Refusal) (s : Stepped) (v : World) (at : NodeId) → world_after (unless_refused o s) ≡ Some v → node_at s.world at ≡ node_at v at
 answered-node o s v at e = ap (λ (u : World). node_at u at) (answered-world o s v e)
 
 -- another link leaves the nodes
@@ -87,12 +89,12 @@ link-node w l B = refl
 
 -- what becomes of a frame leaves them
 frame-node : (w : World) (frame : Option InFlight) (o : Option Refusal) (l : InFlight → Link) (out : InFlight → Outcome) (v : World) (at : NodeId)
-    → after (option_map_or (λ f. answered o (record { world = with_link w (l f); outcome = out f })) frame (Err NoSuchFrame)) ≡ Some v → node_at w at ≡ node_at v at
+    → world_after (option_map_or (λ f. unless_refused o (record { world = with_link w (l f); outcome = out f })) frame (Err NoSuchFrame)) ≡ Some v → node_at w at ≡ node_at v at
 frame-node w None o l out v at e = absurd (some_is_none v (sym e))
 frame-node w (Some f) o l out v at e = link-node w (l f) at ∙ answered-node o (record { world = with_link w (l f); outcome = out f }) v at e
 
 -- a node takes the place that it was lent from
-pub own-world : (w : World) (id : NodeId) (o : Option Refusal) (s : NodeStepped) (v : World) → after (from_node w id (stepping.answered o s)) ≡ Some v → with_node w id s.node ≡ v
+pub own-world : (w : World) (id : NodeId) (o : Option Refusal) (s : NodeStepped) (v : World) → world_after (from_node w id (unless_refused o s)) ≡ Some v → with_node w id s.node ≡ v
 own-world w id None s v e = inner (with_node w id s.node) v e
 own-world w id (Some r) s v e = absurd (some_is_none v (sym e))
 
@@ -109,24 +111,24 @@ other-boot w boot B = refl
 
 -- a frame comes to its receiver
 read-node : (w : World) (ticket : ℕ) (to : NodeId) (r : Result Frame BadFrame) (v : World) (at : NodeId)
-    → after (read_taken (steps.without w ticket) to (node_at w to) r) ≡ Some v → node_at (with_node w to (received (node_at w to) r)) at ≡ node_at v at
+    → world_after (read_taken (without_ticket w ticket) to (node_at w to) r) ≡ Some v → node_at (with_node w to (received (node_at w to) r)) at ≡ node_at v at
 read-node w ticket to (Ok f) v at e =
     let n = node_at w to in
     let m = fold (λ k r. taken k (same_rules n f) r) n (records_of f) in
     other-link w (without_frame w.link ticket) to m at
     ∙ answered-node (refused_by (full_tests (folds (λ k r. taken k (same_rules n f) r) n (records_of f))))
-    (record { world = with_node (steps.without w ticket) to m; outcome = outcome.Taken (length (records_of f)) }) v at e
+    (record { world = with_node (without_ticket w ticket) to m; outcome = outcome.Taken (length (records_of f)) }) v at e
 read-node w ticket to (Err why) v at e =
     let m = count_broken (node_at w to) in
     other-link w (without_frame w.link ticket) to m at
-    ∙ answered-node (refused_by (full_tests (m ∷ []))) (record { world = with_node (steps.without w ticket) to m; outcome = outcome.Broken why }) v at e
+    ∙ answered-node (refused_by (full_tests (m ∷ []))) (record { world = with_node (without_ticket w ticket) to m; outcome = outcome.Broken why }) v at e
 
 arrived-node : (w : World) (ticket : ℕ) (o : Option InFlight) (v : World) (at : NodeId)
-    → after (option_map_or (λ f. read_taken (steps.without w ticket) f.to (node_at w f.to) (reading f.bytes)) o (Err NoSuchFrame)) ≡ Some v → arrived w at o ≡ node_at v at
+    → world_after (option_map_or (λ f. read_taken (without_ticket w ticket) f.to (node_at w f.to) (reading f.bytes)) o (Err NoSuchFrame)) ≡ Some v → arrived w at o ≡ node_at v at
 arrived-node w ticket None v at e = absurd (some_is_none v (sym e))
 arrived-node w ticket (Some f) v at e = read-node w ticket f.to (reading f.bytes) v at e
 
-pub stepped-node : (w : World) (e : Event) (v : World) (at : NodeId) → after (step w e) ≡ Some v → turned w e at ≡ node_at v at
+pub stepped-node : (w : World) (e : Event) (v : World) (at : NodeId) → world_after (step w e) ≡ Some v → turned w e at ≡ node_at v at
 unfolding step flush_step deliver_step lose_step repeat_step cut_step restart_step
 stepped-node w (event.At id e) v at is =
     ap (λ (u : World). node_at u at) (own-world w id (node_refusal (node_at w id) e) (node_after (node_at w id) e) v is)
@@ -225,6 +227,6 @@ turned-apart w (event.Of ticket (frame.Cut len)) at are = are
 turned-apart w (event.Restart id) at are = put-apart w id (restarted (node_at w id) w.next_boot) at (λ a. restarted-apart (node_at w id) w.next_boot) are
 
 -- each state stands under its own name and keys after an event that is accepted
-pub stepped-apart : (w : World) (e : Event) (v : World) (at : NodeId) → after (step w e) ≡ Some v → AreStates (node_at w at).states → AreStates (node_at v at).states
+pub stepped-apart : (w : World) (e : Event) (v : World) (at : NodeId) → world_after (step w e) ≡ Some v → AreStates (node_at w at).states → AreStates (node_at v at).states
 stepped-apart w e v at accepted are =
     subst (λ (m : Node). AreStates m.states) (stepped-node w e v at accepted) (turned-apart w e at are)

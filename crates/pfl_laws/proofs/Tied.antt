@@ -4,12 +4,12 @@ use Rattle.std.specs.Option.{option_map_or}
 use Rattle.std.proofs.Common.{◌∙◌, cond, ap, sym, subst, inl, inr}
 use Rattle.pfl_base.specs.declared.packet.Packet.{Packet}
 use Rattle.pfl_base.specs.declared.state_name.StateName.{StateName}
-use Rattle.pfl_base.proofs.Names.{names_total, names_exact, is_name-same, is_name-itself}
+use Rattle.pfl_base.proofs.ForCallers.{names_total, names_exact, is_name-same, is_name-itself}
 use Rattle.pfl_base.specs.Names.{is_name}
 use Rattle.pfl_base.specs.Packets.{is_tcp}
 use Rattle.pfl_edits.specs.Maps as maps
 use Rattle.pfl_edits.specs.Maps.{set_at}
-use Rattle.pfl_edits.proofs.Places.{get-set_at_same, get-set_at_other, set_at-same, key_cases}
+use Rattle.pfl_edits.proofs.ForCallers.{get-set_at_same, get-set_at_other, set_at-same, key_cases}
 use Rattle.pfl_track.specs.declared.state.State.{State}
 use Rattle.pfl_table.specs.Tables.{States}
 use Rattle.pfl_queue.specs.declared.Kind.TheVariants.{UpdateShort}

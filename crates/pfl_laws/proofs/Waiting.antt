@@ -7,10 +7,10 @@ use Rattle.pfl_base.specs.declared.direction.Dir.{Dir}
 use Rattle.pfl_base.specs.declared.packet.Packet.{Packet}
 use Rattle.pfl_base.specs.declared.state_name.StateName.{StateName}
 use Rattle.pfl_base.specs.Keys.{key}
-use Rattle.pfl_base.proofs.Names.{names_total, names_exact}
+use Rattle.pfl_base.proofs.ForCallers.{names_total, names_exact}
 use Rattle.pfl_base.specs.Names.{is_name}
 use Rattle.pfl_edits.specs.Maps as maps
-use Rattle.pfl_edits.proofs.Places.{get-set_at_other, key_cases}
+use Rattle.pfl_edits.proofs.ForCallers.{get-set_at_other, key_cases}
 use Rattle.pfl_rules.specs.declared.rule.Rule.{Rule}
 use Rattle.pfl_rules.specs.Rules.{timeout, verdict, rule_at}
 use Rattle.pfl_track.specs.declared.state.State.{State}
@@ -28,7 +28,7 @@ use Rattle.pfl_defer.specs.Deferring.{pushed_out}
 use Rattle.pfl_parts.specs.Nodes.{Node, IsGiven}
 use Rattle.pfl_parts.specs.Changes.{put_state, mark, push_if, count_bad, count_passed, count_blocked, is_held, freed, lost, changed, forgotten, released, count_stale, ask}
 use Rattle.pfl_node.specs.Packets.{accepted}
-use Rattle.pfl_receive.specs.Receiving.{taken, insert_taken, can_import, imported, merge_taken, merged_into, bulk_taken, answered, is_partly_told, request_taken, ack_taken, delete_taken, status_taken, is_known, cleared_names, of_state, of_update}
+use Rattle.pfl_receive.specs.Receiving.{taken, insert_taken, can_import, imported, merge_taken, merged_into, bulk_taken, state_answered, is_partly_told, request_taken, ack_taken, delete_taken, status_taken, is_known, cleared_names, of_state, of_update}
 use Rattle.pfl_node.specs.Starting.{Handled, pass, started, judged, by_rule, announced, hold, with_room, with_new, new_state, next_name, is_at_max, is_deferred}
 use Rattle.pfl_laws.specs.Laws.{IsTied, RecordsKeepTied}
 use Rattle.pfl_laws.proofs.Following.{Alike, Filed, filed-put}
@@ -79,8 +79,8 @@ merge-tied n s r tied =
 
 request-tied : (n : Node) (name : StateName) → IsTied n → IsTied (request_taken n name)
 request-tied n name tied =
-    tied-either (is_name no_name name) (bulk_taken n) (option_map_or (answered n) (maps.get n.states name) (count_bad n)) (tied-same n (bulk_taken n) tied refl refl)
-    (tied-some (maps.get n.states name) (answered n) (count_bad n) (λ s at.
+    tied-either (is_name no_name name) (bulk_taken n) (option_map_or (state_answered n) (maps.get n.states name) (count_bad n)) (tied-same n (bulk_taken n) tied refl refl)
+    (tied-some (maps.get n.states name) (state_answered n) (count_bad n) (λ s at.
     let told = push_if true (mark n s.name Update) in
     tied-either (not s.no_sync && is_partly_told (kind_of n.queue s.name)) told n (tied-same n told tied refl refl) tied)
     (tied-same n (count_bad n) tied refl refl))

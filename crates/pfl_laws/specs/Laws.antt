@@ -1,5 +1,5 @@
 -- What events never do to the states of the pair, in their own words (pf.c, if_pfsync.c; names are this project's profile).
-use Rattle.std.specs.Prelude.{◌≡◌, ◌≢◌, ◌≤◌, ◌<◌, ◌+◌, ◌⊎◌, ℕ, Bool, false, List, [], ◌∷◌, ◌++◌, All, IsSome, IsSomeAnd, IsOkAnd, Some, None, Result, Ok, Err, map}
+use Rattle.std.specs.Prelude.{◌≡◌, ◌≢◌, ◌≤◌, ◌<◌, ◌+◌, ◌⊎◌, ℕ, Bool, false, List, [], ◌∷◌, ◌++◌, All, IsSome, IsSomeAnd, IsOkAnd, Some, None}
 use Rattle.std.specs.List.{fold}
 use Rattle.std.specs.Option.{option_map_or}
 use Rattle.pfl_base.specs.declared.direction.Dir.{Dir}
@@ -7,41 +7,34 @@ use Rattle.pfl_base.specs.declared.node_id.NodeId.{NodeId}
 use Rattle.pfl_base.specs.declared.packet.Packet.{Packet}
 use Rattle.pfl_base.specs.declared.state_name.StateName.{StateName}
 use Rattle.pfl_base.specs.Keys.{key}
-use Rattle.pfl_base.specs.Lists.{folds}
 use Rattle.pfl_base.specs.Packets.{IsPacket}
 use Rattle.pfl_edits.specs.Maps as maps
 use Rattle.pfl_rules.specs.Rules.{Rules}
 use Rattle.pfl_table.specs.Tables.{AreStates, found}
 use Rattle.pfl_track.specs.declared.state.State.{State}
-use Rattle.pfl_wire.specs.declared.fault.BadFrame.{BadFrame}
 use Rattle.pfl_wire.specs.declared.message.Message.{Message}
 use Rattle.pfl_wire.specs.declared.message.Message.TheVariants as message
-use Rattle.pfl_wire.specs.Frames.{Frame}
 use Rattle.pfl_wire.specs.Reading.{reading}
+use Rattle.pfl_language.specs.declared.fate.Fate.{Fate}
+use Rattle.pfl_language.specs.declared.fate.Fate.TheVariants as fate
+use Rattle.pfl_language.specs.declared.limits.Limits.{Limits}
+use Rattle.pfl_language.specs.declared.node_event.NodeEvent.{NodeEvent}
+use Rattle.pfl_language.specs.declared.node_event.NodeEvent.TheVariants as own
+use Rattle.pfl_language.specs.declared.event.Event.{Event}
+use Rattle.pfl_language.specs.declared.event.Event.TheVariants as event
+use Rattle.pfl_language.specs.declared.event.FrameEvent.TheVariants as frame
 use Rattle.pfl_link.specs.Links.{InFlight}
 use Rattle.pfl_defer.specs.declared.Held.{Held}
 use Rattle.pfl_defer.specs.Deferring.{Deferrals, held_of, pushed_out}
-use Rattle.pfl_node.specs.declared.fate.Fate.{Fate}
-use Rattle.pfl_node.specs.declared.fate.Fate.TheVariants as fate
-use Rattle.pfl_parts.specs.declared.limits.Limits.{Limits}
 use Rattle.pfl_parts.specs.Nodes.{Node}
-use Rattle.pfl_parts.specs.Changes.{is_held, count_broken}
-use Rattle.pfl_node.specs.declared.event.NodeEvent.{NodeEvent}
-use Rattle.pfl_node.specs.declared.event.NodeEvent.TheVariants as own
-use Rattle.pfl_node.specs.Stepping.{node_after}
-use Rattle.pfl_node.specs.Purging.{purge_points}
-use Rattle.pfl_node.specs.Flushing.{flushed}
-use Rattle.pfl_node.specs.Events.{restarted}
-use Rattle.pfl_node.specs.Packets.{handled, packet_points, before_rules}
+use Rattle.pfl_parts.specs.Changes.{is_held}
+use Rattle.pfl_node.specs.Packets.{handled, before_rules}
 use Rattle.pfl_receive.specs.Receiving.{taken}
-use Rattle.pfl_world.specs.declared.event.Event.{Event}
-use Rattle.pfl_world.specs.declared.event.Event.TheVariants as event
-use Rattle.pfl_world.specs.declared.event.FrameEvent.TheVariants as frame
-use Rattle.pfl_world.specs.Events.{step}
-use Rattle.pfl_world.specs.Runs.{after, run}
+use Rattle.pfl_world.specs.Events.{points_at, step}
+use Rattle.pfl_world.specs.Runs.{world_after, run}
 use Rattle.pfl_receive.specs.Delivering.{records_of, same_rules}
-use Rattle.pfl_world.specs.Steps.{sent_frame}
-use Rattle.pfl_world.specs.Worlds.{World, IsWorld, node_at, with_node, new_world, new_world_at}
+use Rattle.pfl_world.specs.Flushing.{sent_frame}
+use Rattle.pfl_world.specs.Worlds.{World, IsWorld, node_at, new_world, new_world_at}
 
 -- ---- levels
 
@@ -68,50 +61,27 @@ abbrev pub IsEvent : Event → Type 0
 IsEvent (event.At id e) = IsNodeEvent e
 IsEvent _ = Unit {0}
 
--- the points that a node goes through at an event of its own
-abbrev pub node_points : Node → NodeEvent → List Node
-node_points n (own.Packet dir p) = packet_points n dir p
-node_points n own.Purge = purge_points n
-node_points n e = (node_after n e).node ∷ []
-
--- the node after each record of a frame that it can read, or with one more counted that it cannot
-abbrev pub frame_points : Node → Result Frame BadFrame → List Node
-frame_points n (Ok f) = folds (λ m r. taken m (same_rules n f) r) n (records_of f)
-frame_points n (Err why) = count_broken n ∷ []
-
--- the points of a frame that comes to its receiver, at one of the nodes
-abbrev pub arrival_points : World → NodeId → InFlight → List Node
-arrival_points w at f = map (λ n. node_at (with_node w f.to n) at) (frame_points (node_at w f.to) (reading f.bytes))
-
--- the points that an event goes through at one of the nodes: where the event is at the other node, that one stays as it was
-abbrev pub points_at : World → Event → NodeId → List Node
-points_at w (event.At id e) at = map (λ n. node_at (with_node w id n) at) (node_points (node_at w id) e)
-points_at w (event.Flush id) at = node_at (with_node w id (flushed (node_at w id))) at ∷ []
-points_at w (event.Of ticket frame.Deliver) at = option_map_or (arrival_points w at) (maps.get w.link.frames ticket) []
-points_at w (event.Of ticket e) at = []
-points_at w (event.Restart id) at = node_at (with_node w id (restarted (node_at w id) w.next_boot)) at ∷ []
-
 -- the name has a state at the node
 abbrev pub HasState : StateName → Node → Type 0
 HasState name n = IsSome (maps.get n.states name)
 
 -- the name has a state at the node after each record that a delivery brings; of the other events nothing is asked, since none of
 -- them brings a state back under a name that it took out
-abbrev pub StandsIn : World → Event → NodeId → StateName → Type 0
-StandsIn w (event.Of ticket frame.Deliver) id name = All (HasState name) (points_at w (event.Of ticket frame.Deliver) id)
-StandsIn w _ id name = Unit {0}
+abbrev pub StandsThrough : World → Event → NodeId → StateName → Type 0
+StandsThrough w (event.Of ticket frame.Deliver) id name = All (HasState name) (points_at w (event.Of ticket frame.Deliver) id)
+StandsThrough w _ id name = Unit {0}
 
 -- an event that is accepted lowers no level, at either node, of a state that was not removed in it
 abbrev pub LevelsNeverFall : Type 0
 LevelsNeverFall =
-    (w : World) (e : Event) (v : World) → IsWorld w → after (step w e) ≡ Some v
-    → (id : NodeId) (name : StateName) (s t : State) → StandsIn w e id name
+    (w : World) (e : Event) (v : World) → IsWorld w → world_after (step w e) ≡ Some v
+    → (id : NodeId) (name : StateName) (s t : State) → StandsThrough w e id name
     → maps.get (node_at w id).states name ≡ Some s → maps.get (node_at v id).states name ≡ Some t → HasRisen s t
 
 -- the name has a state at the node all along the events, also at each of their points
 abbrev pub StandsAlong : World → List Event → NodeId → StateName → Type 0
 StandsAlong w [] id name = HasState name (node_at w id)
-StandsAlong w (e ∷ es) id name = HasState name (node_at w id) × All (HasState name) (points_at w e id) × IsSomeAnd (after (step w e)) (λ v. StandsAlong v es id name)
+StandsAlong w (e ∷ es) id name = HasState name (node_at w id) × All (HasState name) (points_at w e id) × IsSomeAnd (world_after (step w e)) (λ v. StandsAlong v es id name)
 
 -- events, one after the other, lower no level of a state that was not removed in between
 abbrev pub LevelsNeverFallAlong : Type 0
@@ -125,7 +95,7 @@ LevelsNeverFallAlong =
 -- after an event each state stands under its own name, and no two states of a node have one wire key or one stack key; a name is on
 -- one queue at most, since what is pending of states is a map from names
 abbrev pub StatesStayApart : Type 0
-StatesStayApart = (w : World) (e : Event) (v : World) → IsWorld w → after (step w e) ≡ Some v → (id : NodeId) → AreStates (node_at v id).states
+StatesStayApart = (w : World) (e : Event) (v : World) → IsWorld w → world_after (step w e) ≡ Some v → (id : NodeId) → AreStates (node_at v id).states
 
 -- and so it is after events, one after the other
 abbrev pub StatesStayApartAlong : Type 0
@@ -156,13 +126,13 @@ LaterOpeningsAreBoots = (l : Limits) (a b : Rules) (start : ℕ) → 3 ≤ start
 
 -- and stays so by each event
 abbrev pub EventsKeepBoots : Type 0
-EventsKeepBoots = (w : World) (e : Event) (v : World) → IsWorld w → AreBoots w → after (step w e) ≡ Some v → AreBoots v
+EventsKeepBoots = (w : World) (e : Event) (v : World) → IsWorld w → AreBoots w → world_after (step w e) ≡ Some v → AreBoots v
 
 -- a name that a node gives at an event is given at no later one, neither by it nor by the other node, whatever is restarted in between
 abbrev pub NoNameIsGivenTwice : Type 0
 NoNameIsGivenTwice =
     (w : World) (first : Event) (v : World) (es : List Event) (u : World) (last : Event) (x : World) → IsWorld w → AreBoots w
-    → after (step w first) ≡ Some v → run v es ≡ Some u → after (step u last) ≡ Some x
+    → world_after (step w first) ≡ Some v → run v es ≡ Some u → world_after (step u last) ≡ Some x
     → (id again : NodeId) (name : StateName) → Gives (node_at w id) (node_at v id) name → Gives (node_at u again) (node_at x again) name → ⊥
 
 -- a frame comes
@@ -173,7 +143,7 @@ IsDelivery _ = ⊥
 -- where a name has a state that had none, the node gives the name at the event, or a frame brings the state
 abbrev pub NewStatesAreNamed : Type 0
 NewStatesAreNamed =
-    (w : World) (e : Event) (v : World) → IsWorld w → IsWorld v → after (step w e) ≡ Some v
+    (w : World) (e : Event) (v : World) → IsWorld w → IsWorld v → world_after (step w e) ≡ Some v
     → (id : NodeId) (name : StateName) (s : State) → maps.get (node_at w id).states name ≡ None → maps.get (node_at v id).states name ≡ Some s
     → Gives (node_at w id) (node_at v id) name ⊎ IsDelivery e
 
@@ -186,14 +156,14 @@ pub record IsNew (old new number : ℕ) : Type 0 where
 abbrev pub NoTicketIsGivenTwice : Type 0
 NoTicketIsGivenTwice =
     (w : World) (first : Event) (v : World) (es : List Event) (u : World) (last : Event) (x : World)
-    → after (step w first) ≡ Some v → run v es ≡ Some u → after (step u last) ≡ Some x
+    → world_after (step w first) ≡ Some v → run v es ≡ Some u → world_after (step u last) ≡ Some x
     → (ticket : ℕ) → IsNew w.link.next v.link.next ticket → IsNew u.link.next x.link.next ticket → ⊥
 
 -- nor is a boot number
 abbrev pub NoBootIsGivenTwice : Type 0
 NoBootIsGivenTwice =
     (w : World) (first : Event) (v : World) (es : List Event) (u : World) (last : Event) (x : World)
-    → after (step w first) ≡ Some v → run v es ≡ Some u → after (step u last) ≡ Some x
+    → world_after (step w first) ≡ Some v → run v es ≡ Some u → world_after (step u last) ≡ Some x
     → (boot : ℕ) → IsNew w.next_boot v.next_boot boot → IsNew u.next_boot x.next_boot boot → ⊥
 
 -- ---- frames in flight
@@ -219,12 +189,12 @@ WasSentBy w _ f = ⊥
 -- one of the events does
 abbrev pub WasSentAlong : World → List Event → InFlight → Type 0
 WasSentAlong w [] f = ⊥
-WasSentAlong w (e ∷ es) f = WasSentBy w e f ⊎ IsSomeAnd (after (step w e)) (λ v. WasSentAlong v es f)
+WasSentAlong w (e ∷ es) f = WasSentBy w e f ⊎ IsSomeAnd (world_after (step w e)) (λ v. WasSentAlong v es f)
 
 -- what is in flight after an event was sent by it, or was in flight before, or is a beginning of that
 abbrev pub EventsSendOnlySo : Type 0
 EventsSendOnlySo =
-    (w : World) (e : Event) (v : World) → after (step w e) ≡ Some v
+    (w : World) (e : Event) (v : World) → world_after (step w e) ≡ Some v
     → (ticket : ℕ) (f : InFlight) → maps.get v.link.frames ticket ≡ Some f → WasInFlight w f ⊎ WasSentBy w e f
 
 -- and so it is after events, one after the other: each frame begins the spelling of one that a node sent on the way
@@ -236,12 +206,12 @@ FramesWereSent =
 -- ---- held packets (ifconfig(8), `defer`; if_pfsync.c)
 
 -- the name has a state, and that waits for an acknowledgement
-abbrev pub is_waiting : Node → StateName → Bool
-is_waiting n name = option_map_or (λ s. s.ack_wanted) (maps.get n.states name) false
+abbrev pub waits_for_ack : Node → StateName → Bool
+waits_for_ack n name = option_map_or (λ s. s.ack_wanted) (maps.get n.states name) false
 
 -- a state waits for an acknowledgement exactly while its packet is held, and no packet is held without a state
 abbrev pub IsTied : Node → Type 0
-IsTied n = (name : StateName) → is_held n name ≡ is_waiting n name
+IsTied n = (name : StateName) → is_held n name ≡ waits_for_ack n name
 
 -- both nodes of the pair are tied
 abbrev pub AreTied : World → Type 0
@@ -253,7 +223,7 @@ OpeningsAreTied = (l : Limits) (a b : Rules) → AreTied (new_world l a b)
 
 -- it stays so by each event,
 abbrev pub EventsKeepTied : Type 0
-EventsKeepTied = (w : World) (e : Event) (v : World) → IsWorld w → AreTied w → after (step w e) ≡ Some v → AreTied v
+EventsKeepTied = (w : World) (e : Event) (v : World) → IsWorld w → AreTied w → world_after (step w e) ≡ Some v → AreTied v
 
 -- by each record of the peer's that a node takes,
 abbrev pub RecordsKeepTied : Type 0
@@ -321,5 +291,5 @@ LetsGo w id old new _ h = ⊥
 -- whatever event is accepted, a packet that was held is still held, since the same time, or was let go for such a reason
 abbrev pub HeldPacketsLeaveOnlySo : Type 0
 HeldPacketsLeaveOnlySo =
-    (w : World) (e : Event) (v : World) → IsWorld w → after (step w e) ≡ Some v
+    (w : World) (e : Event) (v : World) → IsWorld w → world_after (step w e) ≡ Some v
     → (id : NodeId) (h : Held) → Holds (node_at w id) h → Holds (node_at v id) h ⊎ LetsGo w id (node_at w id) (node_at v id) e h

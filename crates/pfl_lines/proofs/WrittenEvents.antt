@@ -14,14 +14,14 @@ use Rattle.pfl_base.specs.Ends.{same_family}
 use Rattle.pfl_base.specs.Numbers.{greatest}
 use Rattle.pfl_base.specs.Packets.{bad_packet, is_tcp, has_tcp_part, ports_fit, scale_too_large, syn, IsPacket}
 use Rattle.pfl_base.specs.Texts.{dir_text, name_text, node_text}
-use Rattle.pfl_world.specs.declared.event.Event.{Event}
-use Rattle.pfl_node.specs.declared.event.NodeEvent.TheVariants as own
-use Rattle.pfl_world.specs.declared.event.Event.TheVariants as events
-use Rattle.pfl_world.specs.declared.event.FrameEvent.TheVariants as frame
+use Rattle.pfl_language.specs.declared.event.Event.{Event}
+use Rattle.pfl_language.specs.declared.node_event.NodeEvent.TheVariants as own
+use Rattle.pfl_language.specs.declared.event.Event.TheVariants as events
+use Rattle.pfl_language.specs.declared.event.FrameEvent.TheVariants as frame
 use Rattle.pfl_lines.specs.declared.draft.EventDraft.{EventDraft}
 use Rattle.pfl_lines.specs.declared.draft.EventDraft.TheVariants as event_draft
-use Rattle.pfl_lines.specs.Commands.{packet_at, flush_at, deliver_at, lose_at, repeat_at, cut_at, tick_at, purge_at, release_at, kill_at, clear_at, restart_at, turn_at, retry_at, event_at, whole_event, packet_unless}
-use Rattle.pfl_lines.specs.Laws.{IsTyped, IsStateName, IsEvent}
+use Rattle.pfl_lines.specs.Commands.{packet_at, tick_at, kill_at, bare_node_event_at, flush_at, restart_at, cut_at, bare_frame_event_at, event_at, whole_event, packet_unless}
+use Rattle.pfl_lines.specs.Laws.{IsTyped, IsStateName, IsTypedEvent}
 use Rattle.pfl_lines.specs.Numbers.{number_of, cut_at as cut_word}
 use Rattle.pfl_lines.specs.Parts.{node_at, dir_at, name_of}
 use Rattle.pfl_lines.specs.Written.{fields_words, event_words}
@@ -95,8 +95,8 @@ packet_reads node dir p is = rw (node-reads node (dir_text dir ∷ fields_words 
 number : (n : ℕ) → n ≤ greatest → number_of greatest (decimal n) ≡ Ok n
 number n small = number-reads greatest n small (omega arith)
 
-pub event-reads : (e : Event) → IsEvent e → event_at (event_words e) ≡ Ok (draft_of e, [])
-unfolding event_at flush_at deliver_at lose_at repeat_at cut_at tick_at purge_at release_at kill_at clear_at restart_at turn_at retry_at
+pub event-reads : (e : Event) → IsTypedEvent e → event_at (event_words e) ≡ Ok (draft_of e, [])
+unfolding event_at tick_at kill_at bare_node_event_at flush_at restart_at cut_at bare_frame_event_at
 event-reads (events.At node (own.Packet dir p)) is = packet_reads node dir p is
 event-reads (events.Flush node) is = rw (node-reads node []) refl
 event-reads (events.Of ticket frame.Deliver) is = rw (number ticket is.0) refl
@@ -112,7 +112,7 @@ event-reads (events.Restart node) is = rw (node-reads node []) refl
 event-reads (events.At node own.BulkTurn) is = rw (node-reads node []) refl
 event-reads (events.At node own.BulkRetry) is = rw (node-reads node []) refl
 
-pub whole-reads : (e : Event) → IsEvent e → whole_event (draft_of e) ≡ Ok e
+pub whole-reads : (e : Event) → IsTypedEvent e → whole_event (draft_of e) ≡ Ok e
 whole-reads (events.At node (own.Packet dir p)) is = ap (packet_unless node dir p) (packet-is p is.packet)
 whole-reads (events.Flush node) is = refl
 whole-reads (events.Of ticket frame.Deliver) is = refl
@@ -173,7 +173,7 @@ event_bounds (events.Restart node) = 7 ∷ 1 ∷ []
 event_bounds (events.At node own.BulkTurn) = 4 ∷ 1 ∷ []
 event_bounds (events.At node own.BulkRetry) = 5 ∷ 1 ∷ []
 
-pub event-plain : (e : Event) → IsEvent e → ArePlain (event_bounds e) (event_words e)
+pub event-plain : (e : Event) → IsTypedEvent e → ArePlain (event_bounds e) (event_words e)
 event-plain (events.At node (own.Packet dir p)) is = (plain-is 6 (codes "packet") refl, (node-plain node, (dir-plain dir, fields-plain p is)))
 event-plain (events.Flush node) is = (plain-is 5 (codes "flush") refl, (node-plain node, tt))
 event-plain (events.Of ticket frame.Deliver) is = (plain-is 7 (codes "deliver") refl, (number_plain ticket is.0, tt))

@@ -4,14 +4,14 @@ use Rattle.std.specs.Prelude.{Option, Some, None, Ok, nat_le, ◌==◌, codes}
 use Rattle.std.specs.List.{list_all, join_with_byte}
 use Rattle.pfl_base.specs.declared.proto.Proto.{Proto}
 use Rattle.pfl_base.specs.declared.proto.Proto.TheVariants.{Tcp, Udp, Icmp, Other}
-use Rattle.pfl_world.specs.declared.event.Event.{Event}
-use Rattle.pfl_node.specs.declared.event.NodeEvent.TheVariants as own
-use Rattle.pfl_world.specs.declared.event.Event.TheVariants as events
-use Rattle.pfl_world.specs.declared.event.FrameEvent.TheVariants as frame
-use Rattle.pfl_timeline.specs.declared.command.Command.TheVariants as commands
-use Rattle.pfl_timeline.specs.Timelines.{is_letter, is_name_byte, is_branch_name}
+use Rattle.pfl_language.specs.declared.event.Event.{Event}
+use Rattle.pfl_language.specs.declared.node_event.NodeEvent.TheVariants as own
+use Rattle.pfl_language.specs.declared.event.Event.TheVariants as events
+use Rattle.pfl_language.specs.declared.event.FrameEvent.TheVariants as frame
+use Rattle.pfl_language.specs.declared.command.Command.TheVariants as commands
+use Rattle.pfl_language.specs.BranchWords.{is_letter, is_name_byte, is_branch_name}
 use Rattle.pfl_lines.specs.Commands.{step_at, command_at, command_of, whole_step, parsed}
-use Rattle.pfl_lines.specs.Laws.{IsEvent, StepsReadBack}
+use Rattle.pfl_lines.specs.Laws.{IsTypedEvent, StepsReadBack}
 use Rattle.pfl_lines.specs.Parts.{branch_at}
 use Rattle.pfl_lines.specs.Written.{event_words, event_text, step_text}
 use Rattle.pfl_lines.proofs.WrittenNumbers.{and-first, and-second, and-both, all_weaker}
@@ -108,7 +108,7 @@ event_room (events.At node own.BulkRetry) = omega arith
 
 -- ---- the command
 
-command-reads : (name : List ℕ) (e : Event) → length name ≤ 16 → IsEvent e → command_of (step_words name e) ≡ Ok (commands.Step name e)
+command-reads : (name : List ℕ) (e : Event) → length name ≤ 16 → IsTypedEvent e → command_of (step_words name e) ≡ Ok (commands.Step name e)
 unfolding command_of command_at step_at whole_step
 command-reads name e short is = rw (branch-reads name (event_words e) short, event-reads e is, whole-reads e is) refl
 

@@ -1,24 +1,28 @@
 -- How commands and their events are written (this project's profile).
 use Rattle.std.specs.Prelude.{ℕ, Bool, ◌&&◌, ◌||◌, ◌==◌, nat_le, nat_lt, List, [], ◌∷◌, length, codes, bytes_eq, if◌then◌else◌, Option, Some, None, Result, Ok, Err}
 use Rattle.std.specs.List.{list_all}
+use Rattle.std.specs.Option.{option_map_or}
 use Rattle.pfl_base.specs.declared.direction.Dir.{Dir}
 use Rattle.pfl_base.specs.declared.node_id.NodeId.{NodeId}
 use Rattle.pfl_base.specs.declared.fields.PacketFields.{PacketFields}
 use Rattle.pfl_base.specs.declared.fields.BadPacket.{BadPacket}
 use Rattle.pfl_base.specs.Numbers.{greatest}
 use Rattle.pfl_base.specs.Packets.{bad_packet}
-use Rattle.pfl_world.specs.declared.event.Event.{Event}
-use Rattle.pfl_node.specs.declared.event.NodeEvent.TheVariants as own
-use Rattle.pfl_world.specs.declared.event.Event.TheVariants as events
-use Rattle.pfl_world.specs.declared.event.FrameEvent.TheVariants as frame
-use Rattle.pfl_timeline.specs.declared.command.Command.{Command}
-use Rattle.pfl_timeline.specs.declared.command.Command.TheVariants as commands
+use Rattle.pfl_language.specs.declared.event.Event.{Event}
+use Rattle.pfl_language.specs.declared.node_event.NodeEvent.{NodeEvent}
+use Rattle.pfl_language.specs.declared.node_event.NodeEvent.TheVariants as own
+use Rattle.pfl_language.specs.declared.event.Event.TheVariants as events
+use Rattle.pfl_language.specs.declared.event.FrameEvent.{FrameEvent}
+use Rattle.pfl_language.specs.declared.event.FrameEvent.TheVariants as frame
+use Rattle.pfl_language.specs.declared.command.Command.{Command}
+use Rattle.pfl_language.specs.declared.command.Command.TheVariants as commands
 use Rattle.pfl_lines.specs.declared.fault.LineFault.{LineFault}
 use Rattle.pfl_lines.specs.declared.fault.LineFault.TheVariants as faults
 use Rattle.pfl_lines.specs.declared.draft.EventDraft.{EventDraft}
 use Rattle.pfl_lines.specs.declared.draft.EventDraft.TheVariants as event_draft
 use Rattle.pfl_lines.specs.declared.draft.CommandDraft.{CommandDraft}
 use Rattle.pfl_lines.specs.declared.draft.CommandDraft.TheVariants as draft
+use Rattle.pfl_lines.specs.EventWords.{bare_frame_event, bare_node_event}
 use Rattle.pfl_lines.specs.Words.{words}
 use Rattle.pfl_lines.specs.Readings.{◌>>=◌, Reading, word_at}
 use Rattle.pfl_lines.specs.Parts.{number_at, node_at, dir_at, name_at, branch_at}
@@ -34,59 +38,12 @@ packet_at ws = do
   fields ← fields_at dir.1
   Ok (event_draft.Packet node.0 dir.0 fields.0, fields.1)
 
--- NODE
-unfoldable pub flush_at : List (List ℕ) → Reading EventDraft
-flush_at ws = do
-  node ← node_at ws
-  Ok (event_draft.Whole (events.Flush node.0), node.1)
-
--- a ticket
-abbrev pub ticket_at : List (List ℕ) → Reading ℕ
-ticket_at ws = number_at greatest ws
-
--- TICKET
-unfoldable pub deliver_at : List (List ℕ) → Reading EventDraft
-deliver_at ws = do
-  ticket ← ticket_at ws
-  Ok (event_draft.Whole (events.Of ticket.0 frame.Deliver), ticket.1)
-
--- TICKET
-unfoldable pub lose_at : List (List ℕ) → Reading EventDraft
-lose_at ws = do
-  ticket ← ticket_at ws
-  Ok (event_draft.Whole (events.Of ticket.0 frame.Lose), ticket.1)
-
--- TICKET
-unfoldable pub repeat_at : List (List ℕ) → Reading EventDraft
-repeat_at ws = do
-  ticket ← ticket_at ws
-  Ok (event_draft.Whole (events.Of ticket.0 frame.Repeat), ticket.1)
-
--- TICKET LEN
-unfoldable pub cut_at : List (List ℕ) → Reading EventDraft
-cut_at ws = do
-  ticket ← ticket_at ws
-  len ← number_at greatest ticket.1
-  Ok (event_draft.Whole (events.Of ticket.0 (frame.Cut len.0)), len.1)
-
 -- NODE MS
 unfoldable pub tick_at : List (List ℕ) → Reading EventDraft
 tick_at ws = do
   node ← node_at ws
   ms ← number_at 18446744073709551615 node.1
   Ok (event_draft.Whole (events.At node.0 (own.Tick ms.0)), ms.1)
-
--- NODE
-unfoldable pub purge_at : List (List ℕ) → Reading EventDraft
-purge_at ws = do
-  node ← node_at ws
-  Ok (event_draft.Whole (events.At node.0 own.Purge), node.1)
-
--- NODE
-unfoldable pub release_at : List (List ℕ) → Reading EventDraft
-release_at ws = do
-  node ← node_at ws
-  Ok (event_draft.Whole (events.At node.0 own.Release), node.1)
 
 -- NODE NAME
 unfoldable pub kill_at : List (List ℕ) → Reading EventDraft
@@ -96,10 +53,16 @@ kill_at ws = do
   Ok (event_draft.Whole (events.At node.0 (own.Kill name.0)), name.1)
 
 -- NODE
-unfoldable pub clear_at : List (List ℕ) → Reading EventDraft
-clear_at ws = do
+unfoldable pub bare_node_event_at : NodeEvent → List (List ℕ) → Reading EventDraft
+bare_node_event_at e ws = do
   node ← node_at ws
-  Ok (event_draft.Whole (events.At node.0 own.Clear), node.1)
+  Ok (event_draft.Whole (events.At node.0 e), node.1)
+
+-- NODE
+unfoldable pub flush_at : List (List ℕ) → Reading EventDraft
+flush_at ws = do
+  node ← node_at ws
+  Ok (event_draft.Whole (events.Flush node.0), node.1)
 
 -- NODE
 unfoldable pub restart_at : List (List ℕ) → Reading EventDraft
@@ -107,39 +70,42 @@ restart_at ws = do
   node ← node_at ws
   Ok (event_draft.Whole (events.Restart node.0), node.1)
 
--- NODE
-unfoldable pub turn_at : List (List ℕ) → Reading EventDraft
-turn_at ws = do
-  node ← node_at ws
-  Ok (event_draft.Whole (events.At node.0 own.BulkTurn), node.1)
+-- a ticket
+abbrev pub ticket_at : List (List ℕ) → Reading ℕ
+ticket_at ws = number_at greatest ws
 
--- NODE
-unfoldable pub retry_at : List (List ℕ) → Reading EventDraft
-retry_at ws = do
-  node ← node_at ws
-  Ok (event_draft.Whole (events.At node.0 own.BulkRetry), node.1)
+-- TICKET LEN
+unfoldable pub cut_at : List (List ℕ) → Reading EventDraft
+cut_at ws = do
+  ticket ← ticket_at ws
+  len ← number_at greatest ticket.1
+  Ok (event_draft.Whole (events.Of ticket.0 (frame.Cut len.0)), len.1)
 
--- what belongs to the word of an event that happens at a node by itself
-abbrev pub own_event_by : List ℕ → List (List ℕ) → Reading EventDraft
-own_event_by word ws =
+-- TICKET
+unfoldable pub bare_frame_event_at : FrameEvent → List (List ℕ) → Reading EventDraft
+bare_frame_event_at e ws = do
+  ticket ← ticket_at ws
+  Ok (event_draft.Whole (events.Of ticket.0 e), ticket.1)
+
+-- what belongs to the word of an event of a node
+abbrev pub node_event_by : List ℕ → List (List ℕ) → Reading EventDraft
+node_event_by word ws =
+    if bytes_eq word (codes "packet") then packet_at ws else
     if bytes_eq word (codes "tick") then tick_at ws else
-    if bytes_eq word (codes "purge") then purge_at ws else
-    if bytes_eq word (codes "release") then release_at ws else
     if bytes_eq word (codes "kill") then kill_at ws else
-    if bytes_eq word (codes "clear") then clear_at ws else
-    if bytes_eq word (codes "restart") then restart_at ws else
-    if bytes_eq word (codes "turn") then turn_at ws else
-    if bytes_eq word (codes "retry") then retry_at ws else Err faults.Unknown
+    option_map_or (λ e. bare_node_event_at e ws) (bare_node_event word) (Err faults.Unknown)
+
+-- what belongs to the word of an event of a frame in flight, or of a node
+abbrev pub frame_event_by : List ℕ → List (List ℕ) → Reading EventDraft
+frame_event_by word ws =
+    if bytes_eq word (codes "cut") then cut_at ws else
+    option_map_or (λ e. bare_frame_event_at e ws) (bare_frame_event word) (node_event_by word ws)
 
 -- what belongs to an event's word
 abbrev pub event_by : List ℕ → List (List ℕ) → Reading EventDraft
 event_by word ws =
-    if bytes_eq word (codes "packet") then packet_at ws else
     if bytes_eq word (codes "flush") then flush_at ws else
-    if bytes_eq word (codes "deliver") then deliver_at ws else
-    if bytes_eq word (codes "lose") then lose_at ws else
-    if bytes_eq word (codes "repeat") then repeat_at ws else
-    if bytes_eq word (codes "cut") then cut_at ws else own_event_by word ws
+    if bytes_eq word (codes "restart") then restart_at ws else frame_event_by word ws
 
 -- an event's word and what belongs to it
 unfoldable pub event_at : List (List ℕ) → Reading EventDraft

@@ -8,14 +8,14 @@ use Rattle.pfl_base.specs.declared.state_name.StateName.{StateName}
 use Rattle.pfl_base.specs.Ends.{proto_number}
 use Rattle.pfl_base.specs.Numbers.{greatest}
 use Rattle.pfl_base.specs.Packets.{IsPacket}
-use Rattle.pfl_world.specs.declared.event.Event.{Event}
-use Rattle.pfl_node.specs.declared.event.NodeEvent.{NodeEvent}
-use Rattle.pfl_node.specs.declared.event.NodeEvent.TheVariants as own
-use Rattle.pfl_world.specs.declared.event.Event.TheVariants as events
-use Rattle.pfl_world.specs.declared.event.FrameEvent.{FrameEvent}
-use Rattle.pfl_world.specs.declared.event.FrameEvent.TheVariants as frame
-use Rattle.pfl_timeline.specs.declared.command.Command.TheVariants as commands
-use Rattle.pfl_timeline.specs.Timelines.{is_branch_name}
+use Rattle.pfl_language.specs.declared.event.Event.{Event}
+use Rattle.pfl_language.specs.declared.node_event.NodeEvent.{NodeEvent}
+use Rattle.pfl_language.specs.declared.node_event.NodeEvent.TheVariants as own
+use Rattle.pfl_language.specs.declared.event.Event.TheVariants as events
+use Rattle.pfl_language.specs.declared.event.FrameEvent.{FrameEvent}
+use Rattle.pfl_language.specs.declared.event.FrameEvent.TheVariants as frame
+use Rattle.pfl_language.specs.declared.command.Command.TheVariants as commands
+use Rattle.pfl_language.specs.BranchWords.{is_branch_name}
 use Rattle.pfl_lines.specs.Commands.{parsed}
 use Rattle.pfl_lines.specs.Written.{step_text}
 
@@ -48,25 +48,25 @@ pub record IsStateName (name : StateName) : Type 0 where
   pub id : name.id < 2 ^ 64
 
 -- an event of a node
-abbrev pub IsNodeEvent : NodeEvent → Type 0
-IsNodeEvent (own.Packet dir p) = IsTyped p
-IsNodeEvent (own.Tick ms) = ms < 2 ^ 64
-IsNodeEvent (own.Kill name) = IsStateName name
-IsNodeEvent _ = ⊤
+abbrev pub IsTypedNodeEvent : NodeEvent → Type 0
+IsTypedNodeEvent (own.Packet dir p) = IsTyped p
+IsTypedNodeEvent (own.Tick ms) = ms < 2 ^ 64
+IsTypedNodeEvent (own.Kill name) = IsStateName name
+IsTypedNodeEvent _ = ⊤
 
 -- an event of a frame
-abbrev pub IsFrameEvent : FrameEvent → Type 0
-IsFrameEvent (frame.Cut len) = len ≤ greatest
-IsFrameEvent _ = ⊤
+abbrev pub IsTypedFrameEvent : FrameEvent → Type 0
+IsTypedFrameEvent (frame.Cut len) = len ≤ greatest
+IsTypedFrameEvent _ = ⊤
 
 -- an event
-abbrev pub IsEvent : Event → Type 0
-IsEvent (events.At node e) = IsNodeEvent e
-IsEvent (events.Of ticket e) = (ticket ≤ greatest) × IsFrameEvent e
-IsEvent _ = ⊤
+abbrev pub IsTypedEvent : Event → Type 0
+IsTypedEvent (events.At node e) = IsTypedNodeEvent e
+IsTypedEvent (events.Of ticket e) = (ticket ≤ greatest) × IsTypedFrameEvent e
+IsTypedEvent _ = ⊤
 
 -- ---- laws
 
 -- the line that steps an event is read as that command
 abbrev pub StepsReadBack : Type 0
-StepsReadBack = (name : List ℕ) (e : Event) → IsTrue (is_branch_name name) → IsEvent e → parsed (step_text name e) ≡ Ok (commands.Step name e)
+StepsReadBack = (name : List ℕ) (e : Event) → IsTrue (is_branch_name name) → IsTypedEvent e → parsed (step_text name e) ≡ Ok (commands.Step name e)

@@ -5,6 +5,7 @@ pub mod Numbers
 pub mod Addresses
 pub mod Parts
 pub mod Packets
+pub mod EventWords
 pub mod Commands
 pub mod Rules
 pub mod Setup

@@ -10,7 +10,7 @@ use Rattle.pfl_base.specs.declared.state_name.StateName.{StateName}
 use Rattle.pfl_base.specs.Ends.{proto_of as numbered}
 use Rattle.pfl_base.specs.Numbers.{greatest}
 use Rattle.pfl_base.specs.Words.{dir_at_word, node_at_word, proto_at_word}
-use Rattle.pfl_timeline.specs.Words.{branch_word}
+use Rattle.pfl_language.specs.BranchWords.{branch_word}
 use Rattle.pfl_lines.specs.declared.fault.LineFault.{LineFault}
 use Rattle.pfl_lines.specs.declared.fault.LineFault.TheVariants.{Number}
 use Rattle.pfl_lines.specs.Readings.{◌>>=◌, Reading, one_word, choice_at}

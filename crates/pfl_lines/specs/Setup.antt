@@ -1,8 +1,8 @@
 -- How a pair is set up, line by line (this project's profile).
 use Rattle.std.specs.Prelude.{ℕ, List, codes, bytes_eq, if◌then◌else◌, Result, Ok, Err}
 use Rattle.std.specs.Option.{ok_or}
-use Rattle.pfl_parts.specs.declared.limits.Limit.{Limit}
-use Rattle.pfl_parts.specs.Limits.{limit_at_word, greatest_said}
+use Rattle.pfl_language.specs.declared.limits.Limit.{Limit}
+use Rattle.pfl_language.specs.Limits.{limit_at_word, greatest_said}
 use Rattle.pfl_lines.specs.declared.fault.LineFault.{LineFault}
 use Rattle.pfl_lines.specs.declared.fault.LineFault.TheVariants.{Unknown}
 use Rattle.pfl_lines.specs.declared.setup.SetupLine.{SetupLine}

@@ -8,13 +8,14 @@ use Rattle.pfl_base.specs.declared.proto.Proto.{Proto}
 use Rattle.pfl_base.specs.Flags.{has}
 use Rattle.pfl_base.specs.Packets.{is_tcp}
 use Rattle.pfl_base.specs.Texts.{dir_text, end_text, name_text, node_text, proto_text}
-use Rattle.pfl_world.specs.declared.event.Event.{Event}
 use Rattle.pfl_base.specs.declared.node_id.NodeId.{NodeId}
-use Rattle.pfl_node.specs.declared.event.NodeEvent.{NodeEvent}
-use Rattle.pfl_node.specs.declared.event.NodeEvent.TheVariants as own
-use Rattle.pfl_world.specs.declared.event.Event.TheVariants as events
-use Rattle.pfl_world.specs.declared.event.FrameEvent.{FrameEvent}
-use Rattle.pfl_world.specs.declared.event.FrameEvent.TheVariants as frame
+use Rattle.pfl_language.specs.declared.event.Event.{Event}
+use Rattle.pfl_language.specs.declared.node_event.NodeEvent.{NodeEvent}
+use Rattle.pfl_language.specs.declared.node_event.NodeEvent.TheVariants as own
+use Rattle.pfl_language.specs.declared.event.Event.TheVariants as events
+use Rattle.pfl_language.specs.declared.event.FrameEvent.{FrameEvent}
+use Rattle.pfl_language.specs.declared.event.FrameEvent.TheVariants as frame
+use Rattle.pfl_lines.specs.EventWords.{frame_event_word, node_event_word}
 use Rattle.pfl_lines.specs.Parts.{flag_letters}
 
 -- the letter of a flag that is set
@@ -46,29 +47,31 @@ fields_words p = proto_text p.proto ∷ end_text p.src ∷ end_text p.dst ∷ se
 unfoldable pub packet_text : PacketFields → List ℕ
 packet_text p = join_with_byte 32 (fields_words p)
 
--- the word of an event of a node, and what belongs to it
-abbrev pub own_words : NodeId → NodeEvent → List (List ℕ)
-own_words node (own.Packet dir p) = codes "packet" ∷ node_text node ∷ dir_text dir ∷ fields_words p
-own_words node (own.Tick ms) = codes "tick" ∷ node_text node ∷ decimal ms ∷ []
-own_words node own.Purge = codes "purge" ∷ node_text node ∷ []
-own_words node own.Release = codes "release" ∷ node_text node ∷ []
-own_words node (own.Kill name) = codes "kill" ∷ node_text node ∷ name_text name ∷ []
-own_words node own.Clear = codes "clear" ∷ node_text node ∷ []
-own_words node own.BulkTurn = codes "turn" ∷ node_text node ∷ []
-own_words node own.BulkRetry = codes "retry" ∷ node_text node ∷ []
+-- what an event of a node says behind the node
+abbrev pub node_event_rest : NodeEvent → List (List ℕ)
+node_event_rest (own.Packet dir p) = dir_text dir ∷ fields_words p
+node_event_rest (own.Tick ms) = decimal ms ∷ []
+node_event_rest (own.Kill name) = name_text name ∷ []
+node_event_rest _ = []
 
--- the word of an event of a frame in flight, and what belongs to it
-abbrev pub frame_words : ℕ → FrameEvent → List (List ℕ)
-frame_words ticket frame.Deliver = codes "deliver" ∷ decimal ticket ∷ []
-frame_words ticket frame.Lose = codes "lose" ∷ decimal ticket ∷ []
-frame_words ticket frame.Repeat = codes "repeat" ∷ decimal ticket ∷ []
-frame_words ticket (frame.Cut len) = codes "cut" ∷ decimal ticket ∷ decimal len ∷ []
+-- the word of an event of a node, the node, and what the event says behind it
+abbrev pub node_event_words : NodeId → NodeEvent → List (List ℕ)
+node_event_words node e = node_event_word e ∷ node_text node ∷ node_event_rest e
+
+-- what an event of a frame in flight says behind its ticket
+abbrev pub frame_event_rest : FrameEvent → List (List ℕ)
+frame_event_rest (frame.Cut len) = decimal len ∷ []
+frame_event_rest _ = []
+
+-- the word of an event of a frame in flight, the ticket, and what the event says behind it
+abbrev pub frame_event_words : ℕ → FrameEvent → List (List ℕ)
+frame_event_words ticket e = frame_event_word e ∷ decimal ticket ∷ frame_event_rest e
 
 -- an event's word, and what belongs to it
 abbrev pub event_words : Event → List (List ℕ)
-event_words (events.At node e) = own_words node e
+event_words (events.At node e) = node_event_words node e
 event_words (events.Flush node) = codes "flush" ∷ node_text node ∷ []
-event_words (events.Of ticket e) = frame_words ticket e
+event_words (events.Of ticket e) = frame_event_words ticket e
 event_words (events.Restart node) = codes "restart" ∷ node_text node ∷ []
 
 -- an event

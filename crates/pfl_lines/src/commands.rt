@@ -4,34 +4,19 @@ ghost use Rattle.std.specs.Prelude.{◌≡◌};
 ghost use Rattle.std.specs.List.{list_all};
 ghost use Rattle.pfl_lines.specs.Words.{words};
 ghost use Rattle.pfl_lines.specs.inner.Readings.{Gives};
-ghost use Rattle.pfl_lines.specs.Commands.{packet_at, flush_at, ticket_at, deliver_at, lose_at, repeat_at, cut_at, tick_at, purge_at, release_at, kill_at, clear_at, restart_at, turn_at, retry_at, own_event_by, event_by, event_at, step_at, back_at, forward_at, fork_at, drop_at, show_at, excise_at, restore_at, log_at, names_at, command_by, command_at, finished, whole_event, whole_step, whole_command, command_of, is_text, checked, parsed};
+ghost use Rattle.pfl_lines.specs.Commands.{packet_at, tick_at, kill_at, bare_node_event_at, flush_at, restart_at, ticket_at, cut_at, bare_frame_event_at, node_event_by, frame_event_by, event_by, event_at, step_at, back_at, forward_at, fork_at, drop_at, show_at, excise_at, restore_at, log_at, names_at, command_by, command_at, finished, whole_event, whole_step, whole_command, command_of, is_text, checked, parsed};
 
 use crate::draft::{CommandDraft, EventDraft};
+use crate::event_words::{bare_frame_event, bare_node_event};
 use crate::fault::LineFault;
 use crate::packets::fields_at;
 use crate::parts::{branch_at, dir_at, name_at, node_at, number_at};
 use crate::words::{is_word, try_read, word_at};
-use pfl_base::{GREATEST_NUMBER, NodeId, Packet};
-use pfl_node::NodeEvent;
-use pfl_timeline::{BranchWord, Command};
-use pfl_world::{Event, FrameEvent};
+use pfl_base::{GREATEST_NUMBER, Packet};
+use pfl_language::{BranchWord, Command, Event, FrameEvent, NodeEvent};
 
 /// The most bytes of a line, its end not counted.
 pub const LONGEST: usize = 512;
-
-/// What happens at a node by itself, but for a packet.
-fn at_node(node: NodeId, event: NodeEvent) -> EventDraft
-    ensures { result ≡ EventDraft.Whole (Event.At node event) }
-{
-    EventDraft::Whole(Event::At { node, event })
-}
-
-/// What happens to a frame in flight.
-fn of_frame(ticket: u32, event: FrameEvent) -> EventDraft
-    ensures { result ≡ EventDraft.Whole (Event.Of ticket event) }
-{
-    EventDraft::Whole(Event::Of { ticket, event })
-}
 
 /// `NODE in|out`, and a packet's fields.
 #[tactic(auto, unfolding(crate::specs::Commands::packet_at))]
@@ -44,61 +29,6 @@ fn packet_at(line: &[u8]) -> Result<(EventDraft, &[u8]), LineFault>
     Ok((EventDraft::Packet { node, dir, fields }, rest))
 }
 
-/// `NODE`.
-#[tactic(auto, unfolding(crate::specs::Commands::flush_at))]
-fn flush_at(line: &[u8]) -> Result<(EventDraft, &[u8]), LineFault>
-    ensures { Gives (λ x. (x.0, words x.1.now)) result (flush_at (words line.now)) }
-{
-    let (node, rest) = node_at(line)?;
-    Ok((EventDraft::Whole(Event::Flush { node }), rest))
-}
-
-/// A ticket.
-fn ticket_at(line: &[u8]) -> Result<(u32, &[u8]), LineFault>
-    ensures { Gives (λ x. (x.0, words x.1.now)) result (ticket_at (words line.now)) }
-{
-    let (ticket, rest) = number_at(line, GREATEST_NUMBER)?;
-    Ok((ticket as u32, rest))
-}
-
-/// `TICKET`.
-#[tactic(auto, unfolding(crate::specs::Commands::deliver_at))]
-fn deliver_at(line: &[u8]) -> Result<(EventDraft, &[u8]), LineFault>
-    ensures { Gives (λ x. (x.0, words x.1.now)) result (deliver_at (words line.now)) }
-{
-    let (ticket, rest) = ticket_at(line)?;
-    Ok((of_frame(ticket, FrameEvent::Deliver), rest))
-}
-
-/// `TICKET`.
-#[tactic(auto, unfolding(crate::specs::Commands::lose_at))]
-fn lose_at(line: &[u8]) -> Result<(EventDraft, &[u8]), LineFault>
-    ensures { Gives (λ x. (x.0, words x.1.now)) result (lose_at (words line.now)) }
-{
-    let (ticket, rest) = ticket_at(line)?;
-    Ok((of_frame(ticket, FrameEvent::Lose), rest))
-}
-
-/// `TICKET`.
-#[tactic(auto, unfolding(crate::specs::Commands::repeat_at))]
-fn repeat_at(line: &[u8]) -> Result<(EventDraft, &[u8]), LineFault>
-    ensures { Gives (λ x. (x.0, words x.1.now)) result (repeat_at (words line.now)) }
-{
-    let (ticket, rest) = ticket_at(line)?;
-    Ok((of_frame(ticket, FrameEvent::Repeat), rest))
-}
-
-/// `TICKET LEN`.
-#[tactic(auto, unfolding(crate::specs::Commands::cut_at))]
-fn cut_at(line: &[u8]) -> Result<(EventDraft, &[u8]), LineFault>
-    ensures { Gives (λ x. (x.0, words x.1.now)) result (cut_at (words line.now)) }
-{
-    let (ticket, rest) = ticket_at(line)?;
-    let (len, rest) = number_at(rest, GREATEST_NUMBER)?;
-    let len = len as u32;
-    Ok((of_frame(ticket, FrameEvent::Cut { len }), rest))
-}
-
 /// `NODE MS`.
 #[tactic(auto, unfolding(crate::specs::Commands::tick_at))]
 fn tick_at(line: &[u8]) -> Result<(EventDraft, &[u8]), LineFault>
@@ -106,25 +36,8 @@ fn tick_at(line: &[u8]) -> Result<(EventDraft, &[u8]), LineFault>
 {
     let (node, rest) = node_at(line)?;
     let (ms, rest) = number_at(rest, u64::MAX)?;
-    Ok((at_node(node, NodeEvent::Tick { ms }), rest))
-}
-
-/// `NODE`.
-#[tactic(auto, unfolding(crate::specs::Commands::purge_at))]
-fn purge_at(line: &[u8]) -> Result<(EventDraft, &[u8]), LineFault>
-    ensures { Gives (λ x. (x.0, words x.1.now)) result (purge_at (words line.now)) }
-{
-    let (node, rest) = node_at(line)?;
-    Ok((at_node(node, NodeEvent::Purge), rest))
-}
-
-/// `NODE`.
-#[tactic(auto, unfolding(crate::specs::Commands::release_at))]
-fn release_at(line: &[u8]) -> Result<(EventDraft, &[u8]), LineFault>
-    ensures { Gives (λ x. (x.0, words x.1.now)) result (release_at (words line.now)) }
-{
-    let (node, rest) = node_at(line)?;
-    Ok((at_node(node, NodeEvent::Release), rest))
+    let event = NodeEvent::Tick { ms };
+    Ok((EventDraft::Whole(Event::At { node, event }), rest))
 }
 
 /// `NODE NAME`.
@@ -134,16 +47,26 @@ fn kill_at(line: &[u8]) -> Result<(EventDraft, &[u8]), LineFault>
 {
     let (node, rest) = node_at(line)?;
     let (name, rest) = name_at(rest)?;
-    Ok((at_node(node, NodeEvent::Kill { name }), rest))
+    let event = NodeEvent::Kill { name };
+    Ok((EventDraft::Whole(Event::At { node, event }), rest))
+}
+
+/// `NODE`, of an event that says no more.
+#[tactic(auto, unfolding(crate::specs::Commands::bare_node_event_at))]
+fn bare_node_event_at(event: NodeEvent, line: &[u8]) -> Result<(EventDraft, &[u8]), LineFault>
+    ensures { Gives (λ x. (x.0, words x.1.now)) result (bare_node_event_at event (words line.now)) }
+{
+    let (node, rest) = node_at(line)?;
+    Ok((EventDraft::Whole(Event::At { node, event }), rest))
 }
 
 /// `NODE`.
-#[tactic(auto, unfolding(crate::specs::Commands::clear_at))]
-fn clear_at(line: &[u8]) -> Result<(EventDraft, &[u8]), LineFault>
-    ensures { Gives (λ x. (x.0, words x.1.now)) result (clear_at (words line.now)) }
+#[tactic(auto, unfolding(crate::specs::Commands::flush_at))]
+fn flush_at(line: &[u8]) -> Result<(EventDraft, &[u8]), LineFault>
+    ensures { Gives (λ x. (x.0, words x.1.now)) result (flush_at (words line.now)) }
 {
     let (node, rest) = node_at(line)?;
-    Ok((at_node(node, NodeEvent::Clear), rest))
+    Ok((EventDraft::Whole(Event::Flush { node }), rest))
 }
 
 /// `NODE`.
@@ -155,78 +78,77 @@ fn restart_at(line: &[u8]) -> Result<(EventDraft, &[u8]), LineFault>
     Ok((EventDraft::Whole(Event::Restart { node }), rest))
 }
 
-/// `NODE`.
-#[tactic(auto, unfolding(crate::specs::Commands::turn_at))]
-fn turn_at(line: &[u8]) -> Result<(EventDraft, &[u8]), LineFault>
-    ensures { Gives (λ x. (x.0, words x.1.now)) result (turn_at (words line.now)) }
+/// A ticket.
+fn ticket_at(line: &[u8]) -> Result<(u32, &[u8]), LineFault>
+    ensures { Gives (λ x. (x.0, words x.1.now)) result (ticket_at (words line.now)) }
 {
-    let (node, rest) = node_at(line)?;
-    Ok((at_node(node, NodeEvent::BulkTurn), rest))
+    let (ticket, rest) = number_at(line, GREATEST_NUMBER)?;
+    Ok((ticket as u32, rest))
 }
 
-/// `NODE`.
-#[tactic(auto, unfolding(crate::specs::Commands::retry_at))]
-fn retry_at(line: &[u8]) -> Result<(EventDraft, &[u8]), LineFault>
-    ensures { Gives (λ x. (x.0, words x.1.now)) result (retry_at (words line.now)) }
+/// `TICKET LEN`.
+#[tactic(auto, unfolding(crate::specs::Commands::cut_at))]
+fn cut_at(line: &[u8]) -> Result<(EventDraft, &[u8]), LineFault>
+    ensures { Gives (λ x. (x.0, words x.1.now)) result (cut_at (words line.now)) }
 {
-    let (node, rest) = node_at(line)?;
-    Ok((at_node(node, NodeEvent::BulkRetry), rest))
+    let (ticket, rest) = ticket_at(line)?;
+    let (len, rest) = number_at(rest, GREATEST_NUMBER)?;
+    let event = FrameEvent::Cut { len: len as u32 };
+    Ok((EventDraft::Whole(Event::Of { ticket, event }), rest))
 }
 
-/// What belongs to the word of an event that happens at a node by itself.
-fn own_event_by<'a>(word: &[u8], line: &'a [u8]) -> Result<(EventDraft, &'a [u8]), LineFault>
-    ensures { Gives (λ x. (x.0, words x.1.now)) result (own_event_by word.now (words line.now)) }
+/// `TICKET`, of an event that says no more.
+#[tactic(auto, unfolding(crate::specs::Commands::bare_frame_event_at))]
+fn bare_frame_event_at(event: FrameEvent, line: &[u8]) -> Result<(EventDraft, &[u8]), LineFault>
+    ensures { Gives (λ x. (x.0, words x.1.now)) result (bare_frame_event_at event (words line.now)) }
 {
+    let (ticket, rest) = ticket_at(line)?;
+    Ok((EventDraft::Whole(Event::Of { ticket, event }), rest))
+}
+
+/// What belongs to the word of an event of a node.
+fn node_event_by<'a>(word: &[u8], line: &'a [u8]) -> Result<(EventDraft, &'a [u8]), LineFault>
+    ensures { Gives (λ x. (x.0, words x.1.now)) result (node_event_by word.now (words line.now)) }
+{
+    if is_word(word, "packet") {
+        return packet_at(line);
+    }
     if is_word(word, "tick") {
         return tick_at(line);
-    }
-    if is_word(word, "purge") {
-        return purge_at(line);
-    }
-    if is_word(word, "release") {
-        return release_at(line);
     }
     if is_word(word, "kill") {
         return kill_at(line);
     }
-    if is_word(word, "clear") {
-        return clear_at(line);
+    match bare_node_event(word) {
+        Some(event) => bare_node_event_at(event, line),
+        None => Err(LineFault::Unknown),
     }
-    if is_word(word, "restart") {
-        return restart_at(line);
+}
+
+/// What belongs to the word of an event of a frame in flight, or of a node.
+fn frame_event_by<'a>(word: &[u8], line: &'a [u8]) -> Result<(EventDraft, &'a [u8]), LineFault>
+    ensures { Gives (λ x. (x.0, words x.1.now)) result (frame_event_by word.now (words line.now)) }
+{
+    if is_word(word, "cut") {
+        return cut_at(line);
     }
-    if is_word(word, "turn") {
-        return turn_at(line);
+    match bare_frame_event(word) {
+        Some(event) => bare_frame_event_at(event, line),
+        None => node_event_by(word, line),
     }
-    if is_word(word, "retry") {
-        return retry_at(line);
-    }
-    Err(LineFault::Unknown)
 }
 
 /// What belongs to an event's word.
 fn event_by<'a>(word: &[u8], line: &'a [u8]) -> Result<(EventDraft, &'a [u8]), LineFault>
     ensures { Gives (λ x. (x.0, words x.1.now)) result (event_by word.now (words line.now)) }
 {
-    if is_word(word, "packet") {
-        return packet_at(line);
-    }
     if is_word(word, "flush") {
         return flush_at(line);
     }
-    if is_word(word, "deliver") {
-        return deliver_at(line);
+    if is_word(word, "restart") {
+        return restart_at(line);
     }
-    if is_word(word, "lose") {
-        return lose_at(line);
-    }
-    if is_word(word, "repeat") {
-        return repeat_at(line);
-    }
-    if is_word(word, "cut") {
-        return cut_at(line);
-    }
-    own_event_by(word, line)
+    frame_event_by(word, line)
 }
 
 /// An event's word and what belongs to it.

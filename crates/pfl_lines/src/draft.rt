@@ -1,8 +1,7 @@
 //! What lines say before their packets are judged.
 
 use pfl_base::{Dir, NodeId, PacketFields, TcpFlags};
-use pfl_timeline::{BranchWord, Command};
-use pfl_world::Event;
+use pfl_language::{BranchWord, Command, Event};
 
 /// What a packet has behind its ends. Nothing of TCP is there for another protocol.
 #[derive(Clone, Copy, Debug)]

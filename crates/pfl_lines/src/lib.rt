@@ -4,6 +4,7 @@
 mod addresses;
 mod commands;
 mod draft;
+mod event_words;
 mod fault;
 mod laws;
 mod numbers;

@@ -10,7 +10,7 @@ use crate::fault::LineFault;
 use crate::numbers::{cut, number_of};
 use crate::words::{is_word, one_word, word_at};
 use pfl_base::{Dir, End, GREATEST_NUMBER, NodeId, Proto, StateName, TcpFlags};
-use pfl_timeline::BranchWord;
+use pfl_language::BranchWord;
 
 /// A number up to the greatest.
 pub fn number_at(line: &[u8], greatest: u64) -> Result<(u64, &[u8]), LineFault>

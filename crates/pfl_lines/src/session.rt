@@ -7,7 +7,7 @@ ghost use Rattle.pfl_lines.specs.Session.{called, parsed_session, session_of, vi
 use crate::commands::{checked, command_of};
 use crate::fault::LineFault;
 use crate::words::{is_word, word_at};
-use pfl_timeline::Command;
+use pfl_language::Command;
 
 /// What a line says to a session.
 #[derive(Clone, Copy, Debug)]

@@ -12,7 +12,7 @@ use crate::parts::{node_at, number_at};
 use crate::rules::rule_of;
 use crate::words::{is_word, one_word, word_at};
 use pfl_base::NodeId;
-use pfl_parts::Limit;
+use pfl_language::Limit;
 use pfl_rules::Rule;
 
 /// What a setup line says.

@@ -2,12 +2,12 @@
 
 ghost use Rattle.std.specs.Prelude.{◌≡◌, Some, [], ◌∷◌, if◌then◌else◌};
 ghost use Rattle.std.specs.List.{join_with_byte};
-ghost use Rattle.pfl_lines.specs.Laws.{IsAddr, IsEnd, IsEvent, IsFrameEvent, IsNodeEvent, IsStateName, IsTyped};
-ghost use Rattle.pfl_lines.specs.Written.{flags_text, tcp_words, packet_text, own_words, frame_words, event_text};
+ghost use Rattle.pfl_lines.specs.Laws.{IsAddr, IsEnd, IsTypedEvent, IsTypedFrameEvent, IsTypedNodeEvent, IsStateName, IsTyped};
+ghost use Rattle.pfl_lines.specs.Written.{flags_text, tcp_words, packet_text, node_event_words, frame_event_words, event_text};
 
+use crate::event_words::{frame_event_word, node_event_word};
 use pfl_base::{Addr, End, NodeId, Packet, PacketFields, Proto, StateName, TcpFlags};
-use pfl_node::NodeEvent;
-use pfl_world::{Event, FrameEvent};
+use pfl_language::{Event, FrameEvent, NodeEvent};
 use std::fmt;
 
 /// A letter that prints only if its flag is set.
@@ -154,8 +154,8 @@ fn known_packet(packet: Packet)
 }
 
 /// What an event of a node is.
-fn known_own(event: NodeEvent)
-    ensures { IsNodeEvent event }
+fn known_node_event(event: NodeEvent)
+    ensures { IsTypedNodeEvent event }
 {
     match event {
         NodeEvent::Packet { packet, .. } => known_packet(packet),
@@ -168,8 +168,8 @@ fn known_own(event: NodeEvent)
 }
 
 /// What an event of a frame is.
-fn known_frame(event: FrameEvent)
-    ensures { IsFrameEvent event }
+fn known_frame_event(event: FrameEvent)
+    ensures { IsTypedFrameEvent event }
 {
     if let FrameEvent::Cut { len } = event {
         let _len = len;
@@ -179,13 +179,13 @@ fn known_frame(event: FrameEvent)
 impl EventWords {
     /// Tells a proof what is true of each event. It does nothing.
     pub fn known(&self)
-        ensures event { IsEvent self.now.0 }
+        ensures event { IsTypedEvent self.now.0 }
     {
         match self.0 {
-            Event::At { event, .. } => known_own(event),
+            Event::At { event, .. } => known_node_event(event),
             Event::Of { ticket, event } => {
                 let _ticket = ticket;
-                known_frame(event);
+                known_frame_event(event);
             }
             Event::Flush { .. } | Event::Restart { .. } => {}
         }
@@ -194,13 +194,13 @@ impl EventWords {
 
 /// An event of a node.
 #[derive(Clone, Copy)]
-struct OwnWords {
+struct NodeEventWords {
     node: NodeId,
     event: NodeEvent,
 }
 
-impl fmt::Display for OwnWords {
-    ghost output = { λ words. Some (join_with_byte 32 (own_words words.node words.event)) };
+impl fmt::Display for NodeEventWords {
+    ghost output = { λ words. Some (join_with_byte 32 (node_event_words words.node words.event)) };
 
     #[tactic(auto, unfolding(crate::specs::Written::packet_text))]
     fn fmt<W: fmt::Write>(&self, f: &mut fmt::Formatter<W>) -> fmt::Result {
@@ -211,33 +211,33 @@ impl fmt::Display for OwnWords {
                 write!(f, "packet {node} {dir} {packet}")
             }
             NodeEvent::Tick { ms } => write!(f, "tick {node} {ms}"),
-            NodeEvent::Purge => write!(f, "purge {node}"),
-            NodeEvent::Release => write!(f, "release {node}"),
             NodeEvent::Kill { name } => write!(f, "kill {node} {name}"),
-            NodeEvent::Clear => write!(f, "clear {node}"),
-            NodeEvent::BulkTurn => write!(f, "turn {node}"),
-            NodeEvent::BulkRetry => write!(f, "retry {node}"),
+            bare => {
+                let word = node_event_word(bare);
+                write!(f, "{word} {node}")
+            }
         }
     }
 }
 
 /// An event of a frame in flight.
 #[derive(Clone, Copy)]
-struct FrameWords {
+struct FrameEventWords {
     ticket: u32,
     event: FrameEvent,
 }
 
-impl fmt::Display for FrameWords {
-    ghost output = { λ words. Some (join_with_byte 32 (frame_words words.ticket words.event)) };
+impl fmt::Display for FrameEventWords {
+    ghost output = { λ words. Some (join_with_byte 32 (frame_event_words words.ticket words.event)) };
 
     fn fmt<W: fmt::Write>(&self, f: &mut fmt::Formatter<W>) -> fmt::Result {
         let ticket = self.ticket;
         match self.event {
-            FrameEvent::Deliver => write!(f, "deliver {ticket}"),
-            FrameEvent::Lose => write!(f, "lose {ticket}"),
-            FrameEvent::Repeat => write!(f, "repeat {ticket}"),
             FrameEvent::Cut { len } => write!(f, "cut {ticket} {len}"),
+            bare => {
+                let word = frame_event_word(bare);
+                write!(f, "{word} {ticket}")
+            }
         }
     }
 }
@@ -249,12 +249,12 @@ impl fmt::Display for EventWords {
     fn fmt<W: fmt::Write>(&self, f: &mut fmt::Formatter<W>) -> fmt::Result {
         match self.0 {
             Event::At { node, event } => {
-                let words = OwnWords { node, event };
+                let words = NodeEventWords { node, event };
                 write!(f, "{words}")
             }
             Event::Flush { node } => write!(f, "flush {node}"),
             Event::Of { ticket, event } => {
-                let words = FrameWords { ticket, event };
+                let words = FrameEventWords { ticket, event };
                 write!(f, "{words}")
             }
             Event::Restart { node } => write!(f, "restart {node}"),

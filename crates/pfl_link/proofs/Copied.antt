@@ -7,7 +7,7 @@ use Rattle.std.proofs.lemmas.Cmp.{nat_cmp_total}
 use Rattle.std.proofs.lemmas.Map.Lookups.{exact_unsigned}
 use Rattle.pfl_edits.specs.Maps as maps
 use Rattle.pfl_edits.specs.Maps.{Map, set_at}
-use Rattle.pfl_edits.proofs.RowMaps.{row_at, Distinct, Distinct-without, map_more, len-map_of, some_is_none, Distinct-rising}
+use Rattle.pfl_edits.proofs.ForCallers.{row_at, Distinct, Distinct-without, map_more, len-map_of, some_is_none, Distinct-rising}
 use Rattle.pfl_edits.specs.Ordered.{RowList, AreRows}
 use Rattle.pfl_link.specs.Links.{IsLink}
 use Rattle.pfl_link.specs.Framed.{Ticketed, ticket_of, link_of, IsKept, map_values}

@@ -12,9 +12,7 @@ use Rattle.pfl_edits.specs.Maps.{Map, entries, get, len, set_at}
 use Rattle.pfl_edits.specs.Rows.{map_of}
 use Rattle.pfl_edits.specs.Ordered.{IsRising}
 use Rattle.pfl_edits.specs.Maps as maps
-use Rattle.pfl_edits.proofs.Maps.{same_map, len-empty, empty_of_len}
-use Rattle.pfl_edits.proofs.Places.{get-set_at}
-use Rattle.pfl_edits.proofs.RowMaps.{filed, entries-map_of}
+use Rattle.pfl_edits.proofs.ForCallers.{same_map, len-empty, empty_of_len, get-set_at, filed, entries-map_of}
 use Rattle.pfl_link.specs.Framed.{map_values, Ticketed, ticket_of, frames_of, entry_of}
 use Rattle.pfl_link.specs.Links.{InFlight}
 

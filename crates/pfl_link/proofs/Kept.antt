@@ -5,9 +5,7 @@ use Rattle.std.proofs.lemmas.Cmp.{nat_cmp_total}
 use Rattle.std.proofs.lemmas.Map.Lookups.{exact_unsigned}
 use Rattle.pfl_edits.specs.Maps as maps
 use Rattle.pfl_edits.specs.Maps.{set_at}
-use Rattle.pfl_edits.proofs.Maps.{len-insert, len-remove}
-use Rattle.pfl_edits.proofs.Places.{get-set_at_cases, set_at-same}
-use Rattle.pfl_edits.proofs.RowMaps.{some_is_none}
+use Rattle.pfl_edits.proofs.ForCallers.{len-insert, len-remove, get-set_at_cases, set_at-same, some_is_none}
 use Rattle.pfl_link.specs.declared.fault.LinkFault.TheVariants.{LinkFull, CountFull}
 use Rattle.pfl_link.specs.Links.{Link, InFlight, IsLink}
 use Rattle.pfl_link.specs.LinkEdits.{with_place}

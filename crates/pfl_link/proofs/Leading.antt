@@ -1,6 +1,6 @@
 -- An edit of a link leads back.
 use Rattle.std.specs.Prelude.{[], ◌∷◌}
-use Rattle.pfl_edits.proofs.Leading.{LeadsBack-one}
+use Rattle.pfl_edits.proofs.ForCallers.{LeadsBack-one}
 use Rattle.pfl_link.specs.Links.{Link, IsLink}
 use Rattle.pfl_link.specs.LinkEdits.{LinkEdit, Finds, FindsFormer, put_back, redone, LinkLeadsBack}
 use Rattle.pfl_link.specs.inner.BothWays.{edit-both_ways}

@@ -6,9 +6,8 @@ use Rattle.std.proofs.lemmas.Cmp.{nat_cmp_total}
 use Rattle.std.proofs.lemmas.Map.Lookups.{exact_unsigned}
 use Rattle.pfl_edits.specs.Maps as maps
 use Rattle.pfl_edits.specs.Maps.{Map, set_at}
-use Rattle.pfl_edits.proofs.Maps.{len-empty, get-empty}
+use Rattle.pfl_edits.proofs.ForCallers.{len-empty, get-empty, some_is_none}
 use Rattle.pfl_edits.specs.Rows.{map_of}
-use Rattle.pfl_edits.proofs.RowMaps.{some_is_none}
 use Rattle.pfl_edits.specs.Ordered.{RowList}
 use Rattle.pfl_link.specs.Links.{Link, InFlight, IsLink, empty_link}
 use Rattle.pfl_link.specs.Framed.{Ticketed, ticket_of, frames_of, link_of, IsKept, map_values}

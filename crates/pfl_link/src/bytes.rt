@@ -41,14 +41,6 @@ impl<A: Allocator> Bytes<A> {
     {
         self.as_slice().len()
     }
-
-    /// Gives the bytes back, without memory.
-    pub fn into_vec(self) -> Vec<u8, A>
-        ensures bytes { result.items ≡ self }
-    {
-        let Bytes { bytes } = self;
-        bytes
-    }
 }
 
 impl<A: Allocator + Copy> Bytes<A> {

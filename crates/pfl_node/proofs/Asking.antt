@@ -8,7 +8,7 @@ use Rattle.pfl_bulk.specs.Bulk.{no_name, is_waiting, is_due, asks_again, retried
 use Rattle.pfl_bulk.specs.declared.BulkClient.{BulkClient}
 use Rattle.pfl_bulk.specs.declared.BulkClient.TheVariants as client
 use Rattle.pfl_queue.specs.Queues.{is_requested}
-use Rattle.pfl_node.specs.declared.retried.Retried.TheVariants.{Asked, Served}
+use Rattle.pfl_language.specs.declared.retried.Retried.TheVariants.{Asked, Served}
 use Rattle.pfl_node.specs.Retrying.{retried_client, retry_answer, retry_refusal}
 use Rattle.pfl_parts.specs.Changes.{ask, push_if}
 use Rattle.pfl_parts.specs.Nodes.{Node, is_overfull, is_overcounted, refused_by, points_refusal}
@@ -63,7 +63,7 @@ early true false c r e = e
 early true true c r e = absurd (cc)
 
 -- it does not wait, or has not waited long enough
-pub retry-early : (n : Node) (r : Refusal) → bulk.retry_refusal n.client n.limits.bulk_ms n.clock ≡ Some r → retry_refusal n ≡ Some r
+pub retry-early : (n : Node) (r : Refusal) → bulk.ask_refusal n.client n.limits.bulk_ms n.clock ≡ Some r → retry_refusal n ≡ Some r
 retry-early n r e = early (is_waiting n.client) (is_due n.client n.limits.bulk_ms n.clock) (is_overfull (retried_client n)) r e
 
 late : (a b c : Bool) → (if not a then Some NotSyncing else if not b then Some TooEarly else None) ≡ None → refused_by ((not a, NotSyncing) ∷ (not b, TooEarly) ∷ (c, QueueFull) ∷ []) ≡ refused_by ((c || false, QueueFull) ∷ (false || false, CountFull) ∷ [])
@@ -73,7 +73,7 @@ late true true true e = refl
 late true true false e = refl
 
 -- else its end is judged
-pub retry-late : (n : Node) → bulk.retry_refusal n.client n.limits.bulk_ms n.clock ≡ None → is_overcounted n ≡ false → retry_refusal n ≡ points_refusal (retried_client n ∷ [])
+pub retry-late : (n : Node) → bulk.ask_refusal n.client n.limits.bulk_ms n.clock ≡ None → is_overcounted n ≡ false → retry_refusal n ≡ points_refusal (retried_client n ∷ [])
 retry-late n e low =
     late (is_waiting n.client) (is_due n.client n.limits.bulk_ms n.clock) (is_overfull (retried_client n)) e
     ∙ ap (λ b. refused_by ((is_overfull (retried_client n) || false, QueueFull) ∷ (b || false, CountFull) ∷ [])) (sym (retried-counted n ∙ low))

@@ -2,17 +2,16 @@
 use Rattle.std.specs.Prelude.{◌≡◌, ◌≤◌, ◌<◌, ℕ, ◌+◌, Bool, true, false, Option, Some, None, refl}
 use Rattle.std.proofs.Common.{cond, sym, subst, arith}
 use Rattle.pfl_base.specs.declared.state_name.StateName.{StateName}
-use Rattle.pfl_base.proofs.Names.{names_total}
+use Rattle.pfl_base.proofs.ForCallers.{names_total}
 use Rattle.pfl_edits.specs.Maps as maps
-use Rattle.pfl_edits.proofs.Maps.{len-insert}
+use Rattle.pfl_edits.proofs.ForCallers.{len-insert}
 use Rattle.pfl_track.specs.declared.state.State.{State}
-use Rattle.pfl_table.proofs.Apart.{OwnsKeys-unused}
+use Rattle.pfl_table.proofs.ForCallers.{OwnsKeys-unused}
 use Rattle.pfl_queue.specs.declared.Mark.{Mark}
 use Rattle.pfl_parts.specs.inner.Kept.{MayStart, MayAdd}
 use Rattle.pfl_parts.specs.Nodes.{Node, AreParts, IsGiven}
 use Rattle.pfl_node.specs.Starting.{with_new}
-use Rattle.pfl_parts.proofs.Keeps.{keeps_next_id}
-use Rattle.pfl_parts.proofs.Putting.{put-node}
+use Rattle.pfl_parts.proofs.ForCallers.{keeps_next_id, put-node}
 
 -- its name was on no queue
 pub fresh-name : (n : Node) (name : StateName) → AreParts n → name.creator ≡ n.creator → name.id ≡ n.next_id → (k : Mark) → maps.get n.queue.marks name ≡ Some k → ⊥

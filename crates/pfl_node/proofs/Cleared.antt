@@ -8,18 +8,18 @@ use Rattle.std.proofs.lemmas.List.{length-map}
 use Rattle.std.specs.Cmp.{eq_by_cmp_equiv}
 use Rattle.pfl_base.specs.declared.state_name.StateName.{StateName}
 use Rattle.pfl_base.specs.Names.{name_cmp}
-use Rattle.pfl_base.proofs.Names.{names_total}
+use Rattle.pfl_base.proofs.ForCallers.{names_total}
 use Rattle.pfl_edits.specs.Changes.{Edits}
 use Rattle.pfl_edits.specs.Maps as maps
 use Rattle.pfl_edits.specs.Maps.{entries_sorted}
-use Rattle.pfl_edits.proofs.Maps.{len-entries}
+use Rattle.pfl_edits.proofs.ForCallers.{len-entries}
 use Rattle.pfl_table.specs.Tables.{States}
 use Rattle.pfl_track.specs.declared.state.State.{State}
 use Rattle.pfl_parts.specs.declared.edit.NodeEdit.{NodeEdit}
 use Rattle.pfl_parts.specs.Changes.{count_lost, without_held, is_held, forgotten, tell_clear}
 use Rattle.pfl_parts.specs.Edits.{NodeExtends}
 use Rattle.pfl_parts.specs.Nodes.{Node}
-use Rattle.pfl_parts.proofs.Recording.{extends-none, extends-then, extends-more}
+use Rattle.pfl_parts.proofs.ForCallers.{extends-none, extends-then, extends-more}
 use Rattle.pfl_node.specs.Clearing.{cleared}
 use Rattle.pfl_node.proofs.Expired.{Entries, left, right, less_is}
 

@@ -12,16 +12,14 @@ use Rattle.std.proofs.lemmas.Bool.Decides.{nat_tests}
 use Rattle.pfl_base.specs.Lists.{in_order, put_before}
 use Rattle.pfl_base.specs.declared.state_name.StateName.{StateName}
 use Rattle.pfl_base.specs.Names.{name_cmp, is_name}
-use Rattle.pfl_base.proofs.Names.{names_total, is_name-itself, is_name-same, apart}
+use Rattle.pfl_base.proofs.ForCallers.{names_total, is_name-itself, is_name-same, apart}
 use Rattle.pfl_edits.specs.Maps as maps
 use Rattle.pfl_edits.specs.Maps.{entries_sorted}
-use Rattle.pfl_edits.proofs.Maps.{get-entries, len-entries}
-use Rattle.pfl_edits.proofs.Places.{equal_is}
+use Rattle.pfl_edits.proofs.ForCallers.{get-entries, len-entries, equal_is}
 use Rattle.pfl_track.specs.declared.state.State.{State}
 use Rattle.pfl_table.specs.declared.row.Row.{Row}
-use Rattle.pfl_table.proofs.Expiries.{state_before, ExpireBy, row_of, first_expiring-states}
+use Rattle.pfl_table.proofs.ForCallers.{state_before, ExpireBy, row_of, first_expiring-states, IsInOrder, NoneBefore, IsInOrder-in_order, rest_in_order, in_order-filter, state_before-asymmetric, state_before-passed_on}
 use Rattle.pfl_table.specs.Tables.{Table, States, AreStates, states_of, first_expiring}
-use Rattle.pfl_table.proofs.Expiring.{IsInOrder, NoneBefore, IsInOrder-in_order, rest_in_order, in_order-filter, state_before-asymmetric, state_before-passed_on}
 use Rattle.pfl_parts.specs.Nodes.{Node, AreParts, expiry_at}
 use Rattle.pfl_node.specs.Purging.{expires_before, expired_states}
 

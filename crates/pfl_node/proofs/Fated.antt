@@ -5,6 +5,7 @@ use Rattle.pfl_base.specs.declared.direction.Dir.{Dir}
 use Rattle.pfl_base.specs.declared.packet.Packet.{Packet}
 use Rattle.pfl_base.specs.Keys.{key}
 use Rattle.pfl_base.specs.Packets.{IsPacket}
+use Rattle.pfl_base.specs.declared.flow.Key.{Key}
 use Rattle.pfl_edits.specs.Maps as maps
 use Rattle.pfl_rules.specs.declared.rule.Rule.{Rule}
 use Rattle.pfl_track.specs.declared.state.State.{State}
@@ -12,12 +13,10 @@ use Rattle.pfl_track.specs.declared.tracked.Tracked.TheVariants.{Moved}
 use Rattle.pfl_track.specs.Keys.{AreKeys}
 use Rattle.pfl_track.specs.Tracking.{tracked, start_state}
 use Rattle.std.proofs.lemmas.Bool.Decides.{nat_tests}
-use Rattle.pfl_base.specs.declared.flow.Key.{Key}
 use Rattle.pfl_track.specs.declared.key_pair.KeyFields.{KeyFields}
-use Rattle.pfl_track.proofs.Keeping.{tracked-is, start-is}
-use Rattle.pfl_track.proofs.Moving.{tracked-used}
+use Rattle.pfl_track.proofs.ForCallers.{tracked-is, start-is, tracked-used}
 use Rattle.pfl_table.specs.Tables.{found, key_in_use}
-use Rattle.pfl_table.proofs.Apart.{found-stands}
+use Rattle.pfl_table.proofs.ForCallers.{found-stands}
 use Rattle.pfl_parts.specs.inner.Kept.{MayReplace, MayStart}
 use Rattle.pfl_parts.specs.Nodes.{Node, AreParts, IsGiven, IsPast}
 use Rattle.pfl_node.specs.Starting.{Handled, judged, next_name}

@@ -10,8 +10,8 @@ use Rattle.std.proofs.lemmas.List.{map-append}
 use Rattle.std.proofs.lemmas.List.Sums.{sum_by-cons}
 use Rattle.pfl_base.specs.Lists.{neighbours, joined}
 use Rattle.pfl_edits.specs.Maps as maps
-use Rattle.pfl_edits.proofs.RowMaps.{some_is_none}
-use Rattle.pfl_rules.proofs.Verdicts.{few}
+use Rattle.pfl_edits.proofs.ForCallers.{some_is_none}
+use Rattle.pfl_rules.proofs.ForCallers.{few}
 use Rattle.pfl_track.specs.declared.state.State.{State}
 use Rattle.pfl_wire.specs.Actions.{action_number, action_with, record_len}
 use Rattle.pfl_wire.specs.Frames.{Frame, action_of, RuleFits, IsGroupOf, IsSendable, group_len, frame_len, lists}

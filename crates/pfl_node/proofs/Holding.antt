@@ -5,22 +5,22 @@ use Rattle.std.proofs.Common.{cond, ◌∙◌, ap, sym, subst, arith, inl, inr}
 use Rattle.pfl_base.specs.declared.direction.Dir.{Dir}
 use Rattle.pfl_base.specs.declared.packet.Packet.{Packet}
 use Rattle.pfl_base.specs.declared.state_name.StateName.{StateName}
-use Rattle.pfl_base.proofs.Names.{names_total, names_exact, is_name-same}
+use Rattle.pfl_base.proofs.ForCallers.{names_total, names_exact, is_name-same}
 use Rattle.pfl_base.specs.Names.{is_name}
 use Rattle.pfl_edits.specs.Maps as maps
-use Rattle.pfl_edits.proofs.Places.{get-set_at_same, get-set_at_other, key_cases}
+use Rattle.pfl_edits.proofs.ForCallers.{get-set_at_same, get-set_at_other, key_cases}
 use Rattle.pfl_track.specs.declared.state.State.{State}
 use Rattle.pfl_table.specs.Tables.{AreStates}
 use Rattle.pfl_queue.specs.declared.Kind.TheVariants.{Insert}
 use Rattle.pfl_defer.specs.declared.Held.{Held}
 use Rattle.pfl_defer.specs.Deferring as deferring
 use Rattle.pfl_defer.specs.Deferring.{Deferrals, IsDeferrals, held_of, let_go, pushed_out}
-use Rattle.pfl_defer.proofs.Kept.{with_room-has_room, found_place}
+use Rattle.pfl_defer.proofs.ForCallers.{with_room-has_room, found_place}
 use Rattle.pfl_parts.specs.Changes.{put_state, mark, is_held, freed, count_freed, without_held, not_waiting, released}
 use Rattle.pfl_parts.specs.inner.Kept.{MayReplace, MayStart}
 use Rattle.pfl_parts.specs.Nodes.{Node, AreParts, IsGiven}
 use Rattle.pfl_node.specs.Starting.{announced, with_room, is_deferred, pass, hold}
-use Rattle.pfl_parts.proofs.Keeps.{state_still}
+use Rattle.pfl_parts.proofs.ForCallers.{state_still}
 
 -- ---- a full list lets its oldest go
 

@@ -16,11 +16,11 @@ use Rattle.pfl_wire.specs.declared.message.Message.TheVariants as message
 use Rattle.pfl_queue.specs.Queues.{kind_of}
 use Rattle.pfl_merge.specs.declared.received.Received.{Received}
 use Rattle.pfl_merge.specs.declared.merged.Merged.{Merged}
-use Rattle.pfl_parts.specs.declared.limits.Limits.{Limits}
+use Rattle.pfl_language.specs.declared.limits.Limits.{Limits}
 use Rattle.pfl_node.specs.Laws.{RecordsLeaveTheRest}
 use Rattle.pfl_parts.specs.Nodes.{Node}
 use Rattle.pfl_parts.specs.Changes.{is_held, lost, freed, released, is_untold, changed, forgotten}
-use Rattle.pfl_receive.specs.Receiving.{taken, insert_taken, can_import, merge_taken, merged_into, bulk_taken, answered, request_taken, ack_taken, is_known, cleared_names, status_taken}
+use Rattle.pfl_receive.specs.Receiving.{taken, insert_taken, can_import, merge_taken, merged_into, bulk_taken, state_answered, request_taken, ack_taken, is_known, cleared_names, status_taken}
 
 -- what stays: as one value
 abbrev pub Still : Type 0
@@ -70,7 +70,7 @@ merge-keeps n s r = go (lost n s.name) (merged s r (timeout n.rules.list s.rule 
     go m x = either (x.stale_src || x.stale_dst) m _ _ (changed-keeps _ _) refl
 
 request-keeps : (n : Node) (name : StateName) → Keeps n (request_taken n name)
-request-keeps n name = either _ n (bulk_taken n) _ refl (on_some (maps.get n.states name) (answered n) n _ (λ s. either _ n _ n refl refl) refl)
+request-keeps n name = either _ n (bulk_taken n) _ refl (on_some (maps.get n.states name) (state_answered n) n _ (λ s. either _ n _ n refl refl) refl)
 
 status-keeps : (n : Node) (status : BulkStatus) → Keeps n (status_taken n status)
 status-keeps n status = refl

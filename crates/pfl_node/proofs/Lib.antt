@@ -19,3 +19,4 @@ pub mod Asking
 pub mod Released
 pub mod Anew
 pub mod Received
+pub mod ForCallers

@@ -7,19 +7,19 @@ use Rattle.pfl_base.specs.declared.direction.Dir.{Dir}
 use Rattle.pfl_base.specs.declared.packet.Packet.{Packet}
 use Rattle.pfl_base.specs.declared.state_name.StateName.{StateName}
 use Rattle.pfl_base.specs.Keys.{key}
-use Rattle.pfl_base.proofs.Names.{names_total, names_exact}
+use Rattle.pfl_base.proofs.ForCallers.{names_total, names_exact}
 use Rattle.pfl_base.specs.Packets.{is_tcp}
 use Rattle.pfl_edits.specs.Maps as maps
-use Rattle.pfl_edits.proofs.Places.{get-set_at_same, get-set_at_other, key_cases}
+use Rattle.pfl_edits.proofs.ForCallers.{get-set_at_same, get-set_at_other, key_cases}
 use Rattle.pfl_rules.specs.declared.rule.Rule.{Rule}
 use Rattle.pfl_rules.specs.Rules.{timeout, verdict, rule_at}
 use Rattle.pfl_track.specs.declared.state.State.{State}
 use Rattle.pfl_track.specs.declared.tracked.Tracked.{Tracked}
 use Rattle.pfl_track.specs.declared.tracked.Tracked.TheVariants.{Moved, OutOfWindow, Reused}
 use Rattle.pfl_track.specs.Tracking.{tracked}
-use Rattle.pfl_track.proofs.Names.{Stays, tracked-stays}
+use Rattle.pfl_track.proofs.ForCallers.{Stays, tracked-stays}
 use Rattle.pfl_table.specs.Tables.{AreStates, found, key_in_use}
-use Rattle.pfl_table.proofs.Apart.{OwnsKeys-unused, OwnsKeys-known, SameKeys, SameKeys-itself, AreStates-with, AreStates-without, found-stands}
+use Rattle.pfl_table.proofs.ForCallers.{OwnsKeys-unused, OwnsKeys-known, SameKeys, SameKeys-itself, AreStates-with, AreStates-without, found-stands}
 use Rattle.pfl_wire.specs.declared.message.BulkStatus.{BulkStatus}
 use Rattle.pfl_wire.specs.declared.message.StateRecord.{StateRecord}
 use Rattle.pfl_wire.specs.declared.message.Message.{Message}
@@ -36,7 +36,7 @@ use Rattle.pfl_parts.specs.Changes.{put_state, mark, is_untold, is_insert, is_he
 use Rattle.pfl_track.specs.Keys.{wire_key}
 use Rattle.pfl_node.specs.Starting.{Handled, started, judged, by_rule, announced, hold, with_room, with_new, new_state, is_at_max, is_deferred}
 use Rattle.pfl_node.specs.Packets.{handled, handled_by, followed, accepted}
-use Rattle.pfl_receive.specs.Receiving.{taken, insert_taken, can_import, imported, merge_taken, merged_into, bulk_taken, answered, request_taken, ack_taken, is_known, cleared_names, status_taken}
+use Rattle.pfl_receive.specs.Receiving.{taken, insert_taken, can_import, imported, merge_taken, merged_into, bulk_taken, state_answered, request_taken, ack_taken, is_known, cleared_names, status_taken}
 
 -- the states of the node are named and keyed rightly
 abbrev Apart : Node → Type 0
@@ -198,7 +198,7 @@ merge-apart n s r k at = go (lost n s.name) (merged s r (timeout n.rules.list s.
         either (x.stale_src || x.stale_dst) _ _ (changed-apart (count_stale m) s (record x.state { ack_wanted = false }) k at calm) (put-known m s (record x.state { ack_wanted = false }) k at calm)
 
 request-apart : (n : Node) (name : StateName) → Apart n → Apart (request_taken n name)
-request-apart n name k = either _ (bulk_taken n) _ k (on_some (maps.get n.states name) (answered n) _ (λ s at. either _ _ n k k) k)
+request-apart n name k = either _ (bulk_taken n) _ k (on_some (maps.get n.states name) (state_answered n) _ (λ s at. either _ _ n k k) k)
 
 status-apart : (n : Node) (status : BulkStatus) → Apart n → Apart (status_taken n status)
 status-apart n status k = k

@@ -7,15 +7,15 @@ use Rattle.pfl_base.specs.declared.packet.Packet.{Packet}
 use Rattle.pfl_edits.specs.Changes.{Edits}
 use Rattle.pfl_track.specs.declared.state.State.{State}
 use Rattle.pfl_track.specs.declared.tracked.Tracked.{Tracked}
+use Rattle.pfl_language.specs.declared.fate.Fate.{Fate}
 use Rattle.pfl_parts.specs.declared.edit.NodeEdit.{NodeEdit}
-use Rattle.pfl_node.specs.declared.fate.Fate.{Fate}
 use Rattle.pfl_parts.specs.declared.parts.judge.Overfull.{Overfull}
 use Rattle.pfl_parts.specs.Edits.{NodeExtends}
 use Rattle.pfl_node.specs.inner.Carried.{Handles}
 use Rattle.pfl_parts.specs.Nodes.{Node, is_overfull, is_overcounted}
 use Rattle.pfl_node.specs.Packets.{followed, on_the_way, handled, packet_points}
 use Rattle.pfl_node.specs.Starting.{Handled}
-use Rattle.pfl_parts.proofs.Recording.{extends-more}
+use Rattle.pfl_parts.proofs.ForCallers.{extends-more}
 
 or_false : (a : Bool) → a ≡ (a || false)
 or_false true = λ i. true

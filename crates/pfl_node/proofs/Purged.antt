@@ -12,9 +12,8 @@ use Rattle.pfl_parts.specs.Edits.{NodeExtends}
 use Rattle.pfl_parts.specs.Nodes.{Node, AreParts, is_overfull, is_overcounted}
 use Rattle.pfl_parts.specs.Changes.{deleted}
 use Rattle.pfl_node.specs.Purging.{purged, purge_points, expired_states}
-use Rattle.pfl_parts.proofs.Deletions.{Rest, deleted-rest}
+use Rattle.pfl_parts.proofs.ForCallers.{Rest, deleted-rest, extends-none, extends-then, extends-more}
 use Rattle.pfl_node.proofs.Expired.{expired-without, expired-few, first-stands}
-use Rattle.pfl_parts.proofs.Recording.{extends-none, extends-then, extends-more}
 
 -- ---- one deletion after another
 

@@ -3,19 +3,19 @@ use Rattle.std.specs.Prelude.{◌≡◌, ◌≤◌, ℕ, ◌+◌, ◌*◌, Bool,
 use Rattle.std.specs.List.{list_any}
 use Rattle.std.proofs.Common.{◌∙◌, ap, sym, subst, arith}
 use Rattle.pfl_base.specs.declared.refusal.Refusal.{Refusal}
+use Rattle.pfl_base.specs.Numbers.{greatest}
 use Rattle.pfl_edits.specs.Changes.{Edits, Fits, LeadsBack, back}
-use Rattle.pfl_edits.proofs.Leading.{LeadsBack-none}
+use Rattle.pfl_edits.proofs.ForCallers.{LeadsBack-none}
 use Rattle.pfl_queue.specs.Queues.{most_numbers}
+use Rattle.pfl_language.specs.declared.limits.Limits.{Limits}
 use Rattle.pfl_parts.specs.declared.edit.NodeEdit.{NodeEdit}
 use Rattle.pfl_parts.specs.declared.edit.NodeEdit.TheVariants.{OfState, OfQueue, OfHeld, Server, Client, Clock, NextId, Push, Count}
 use Rattle.pfl_parts.specs.declared.parts.judge.Overfull.{Overfull}
-use Rattle.pfl_parts.specs.declared.limits.Limits.{Limits}
 use Rattle.pfl_parts.specs.Edits.{Finds, put_back, NodeExtends, NodeLeadsBack, total}
 use Rattle.pfl_parts.specs.inner.Judging.{Went, judgement}
-use Rattle.pfl_parts.specs.Nodes.{Node, AreParts, IsNode, IsRefusal, is_overcounted, points_refusal, greatest}
-use Rattle.pfl_parts.proofs.Keeps.{counted_all}
-use Rattle.pfl_parts.proofs.Settling.{leads_through, went-refusal, went-counted}
-pub use Rattle.pfl_parts.proofs.Settling.{settled-answer}
+use Rattle.pfl_parts.specs.Nodes.{Node, AreParts, IsNode, IsRefusal, is_overcounted, points_refusal}
+use Rattle.pfl_parts.proofs.ForCallers.{counted_all, leads_through, went-refusal, went-counted}
+pub use Rattle.pfl_parts.proofs.ForCallers.{settled-answer}
 use Rattle.pfl_node.specs.inner.Room.{IsReady, most_edits}
 
 -- ---- where an event begins

@@ -4,20 +4,20 @@ use Rattle.std.specs.List.{fold, list_any}
 use Rattle.std.proofs.Common.{◌∙◌, ap, sym, subst, inl, inr, arith}
 use Rattle.pfl_base.specs.declared.refusal.Refusal.{Refusal}
 use Rattle.pfl_base.specs.declared.refusal.Refusal.TheVariants.{NoMemory}
+use Rattle.pfl_base.specs.Numbers.{greatest}
 use Rattle.pfl_edits.specs.Changes.{Edits, Fits, LeadsBack, back}
-use Rattle.pfl_edits.proofs.Leading.{LeadsBack-none}
+use Rattle.pfl_edits.proofs.ForCallers.{LeadsBack-none}
 use Rattle.pfl_edits.specs.Maps as maps
 use Rattle.pfl_queue.specs.Queues.{most_numbers}
 use Rattle.pfl_wire.specs.declared.message.Message.{Message}
 use Rattle.pfl_wire.specs.Frames.{Frame}
+use Rattle.pfl_language.specs.declared.limits.Limits.{Limits}
 use Rattle.pfl_parts.specs.declared.edit.NodeEdit.{NodeEdit}
 use Rattle.pfl_parts.specs.declared.parts.judge.Overfull.{Overfull}
-use Rattle.pfl_parts.specs.declared.limits.Limits.{Limits}
 use Rattle.pfl_parts.specs.Edits.{Finds, put_back, NodeExtends, NodeLeadsBack, total}
 use Rattle.pfl_parts.specs.inner.Judging.{Went, judgement}
-use Rattle.pfl_parts.specs.Nodes.{Node, AreParts, IsNode, IsRefusal, is_overcounted, greatest}
-use Rattle.pfl_parts.proofs.Keeps.{counted_all}
-use Rattle.pfl_parts.proofs.Settling.{leads_through, went-refusal, went-counted}
+use Rattle.pfl_parts.specs.Nodes.{Node, AreParts, IsNode, IsRefusal, is_overcounted}
+use Rattle.pfl_parts.proofs.ForCallers.{counted_all, leads_through, went-refusal, went-counted}
 use Rattle.pfl_receive.specs.Delivering.{frame_work, most_records, receive_points, received, records_of, same_rules, taken_points}
 use Rattle.pfl_receive.specs.inner.Delivering.{most_taken}
 use Rattle.pfl_receive.specs.Receiving.{taken}

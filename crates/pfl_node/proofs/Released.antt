@@ -8,20 +8,20 @@ use Rattle.std.proofs.lemmas.Map.Keys.{IsDistinct-head, IsDistinct-tail}
 use Rattle.pfl_base.specs.declared.refusal.Refusal.{Refusal}
 use Rattle.pfl_base.specs.declared.state_name.StateName.{StateName}
 use Rattle.pfl_base.specs.Names.{is_name}
-use Rattle.pfl_base.proofs.Names.{is_name-itself}
+use Rattle.pfl_base.proofs.ForCallers.{is_name-itself}
 use Rattle.pfl_edits.specs.Changes.{Edits}
 use Rattle.pfl_edits.specs.Maps as maps
 use Rattle.pfl_defer.specs.declared.Held.{Held}
 use Rattle.pfl_defer.specs.Deferring.{Deferrals, held_of, let_go, due}
-use Rattle.pfl_defer.proofs.Kept.{absent_stays}
+use Rattle.pfl_defer.proofs.ForCallers.{absent_stays}
 use Rattle.pfl_track.specs.declared.state.State.{State}
+use Rattle.pfl_language.specs.declared.limits.Limits.{Limits}
 use Rattle.pfl_parts.specs.declared.edit.NodeEdit.{NodeEdit}
-use Rattle.pfl_parts.specs.declared.limits.Limits.{Limits}
 use Rattle.pfl_parts.specs.Changes.{count_freed, without_held, freed, not_waiting, put_state, released}
 use Rattle.pfl_parts.specs.Edits.{NodeExtends}
 use Rattle.pfl_parts.specs.inner.Judging.{judged_as}
 use Rattle.pfl_parts.specs.Nodes.{Node, AreParts, is_overcounted}
-use Rattle.pfl_parts.proofs.Recording.{extends-none, extends-then, extends-more}
+use Rattle.pfl_parts.proofs.ForCallers.{extends-none, extends-then, extends-more}
 use Rattle.pfl_node.specs.Releasing.{due_names, released_due}
 
 -- ---- the first of the names that are due, and those of the list without it

@@ -10,8 +10,8 @@ use Rattle.std.proofs.Common.{cond, T, ◌∙◌, ap, sym, subst, arith}
 use Rattle.std.proofs.lemmas.List.{append_assoc, append-nil, length-set, length-take-le, take_all, take-append-le, take_more_set}
 use Rattle.pfl_base.specs.declared.state_name.StateName.{StateName}
 use Rattle.pfl_base.specs.Names.{name_cmp}
-use Rattle.pfl_base.proofs.Names.{names_total}
-use Rattle.pfl_bulk.specs.Bulk.{after}
+use Rattle.pfl_base.proofs.ForCallers.{names_total}
+use Rattle.pfl_bulk.specs.Bulk.{names_after}
 use Rattle.pfl_edits.specs.Maps as maps
 use Rattle.pfl_edits.specs.Maps.{entries_sorted}
 use Rattle.pfl_edits.specs.Ordered.{IsBelow, IsRising}
@@ -94,9 +94,9 @@ not_self a = equal_not (name_cmp a a) ((eq_by_cmp_equiv names_total).refl a)
     equal_not Equal e = refl
     equal_not Greater e = refl
 
-after-all : (c : StateName) (ns : List StateName) → IsBelow name_cmp (λ (n : StateName). n) c ns → after c ns ≡ ns
+after-all : (c : StateName) (ns : List StateName) → IsBelow name_cmp (λ (n : StateName). n) c ns → names_after c ns ≡ ns
 after-all c [] b = refl
-after-all c (n ∷ ns) b = ap (λ r. cond (is_lt r) (n ∷ after c ns) (after c ns)) b.0 ∙ ap (λ (ms : List StateName). n ∷ ms) (after-all c ns b.1)
+after-all c (n ∷ ns) b = ap (λ r. cond (is_lt r) (n ∷ names_after c ns) (names_after c ns)) b.0 ∙ ap (λ (ms : List StateName). n ∷ ms) (after-all c ns b.1)
 
 below-all : (a b : StateName) (ns : List StateName) → name_cmp a b ≡ Less → IsBelow name_cmp (λ (n : StateName). n) b ns → IsBelow name_cmp (λ (n : StateName). n) a ns
 below-all a b [] less below = tt
@@ -111,47 +111,47 @@ found-below p q (t ∷ ss) s b e = elim (p t) as (λ c. cond c (Some t) (find p 
 
 module _ (p : State → Bool) where
   -- a state that is not behind the cursor is of no matter
-  after-drop : (c : StateName) (t : State) (ss : List State) → is_lt (name_cmp c t.name) ≡ false → after c (names (filter p (t ∷ ss))) ≡ after c (names (filter p ss))
-  after-drop c t ss late = elim (p t) as (λ b. after c (names (cond b (t ∷ filter p ss) (filter p ss))) ≡ after c (names (filter p ss))) [
-    | true ↦ ap (λ b. cond b (t.name ∷ after c (names (filter p ss))) (after c (names (filter p ss)))) late
+  after-drop : (c : StateName) (t : State) (ss : List State) → is_lt (name_cmp c t.name) ≡ false → names_after c (names (filter p (t ∷ ss))) ≡ names_after c (names (filter p ss))
+  after-drop c t ss late = elim (p t) as (λ b. names_after c (names (cond b (t ∷ filter p ss) (filter p ss))) ≡ names_after c (names (filter p ss))) [
+    | true ↦ ap (λ b. cond b (t.name ∷ names_after c (names (filter p ss))) (names_after c (names (filter p ss)))) late
     | false ↦ refl
   ]
 
   -- the first is behind the cursor, and so are all others
   after-first : (c : StateName) (t : State) (ss : List State) → IsBelow name_cmp (λ (s : State). s.name) t.name ss → is_lt (name_cmp c t.name) ≡ true
-      → after c (names (filter p (t ∷ ss))) ≡ cond (p t) (t.name ∷ after t.name (names (filter p (t ∷ ss)))) (after t.name (names (filter p (t ∷ ss))))
+      → names_after c (names (filter p (t ∷ ss))) ≡ cond (p t) (t.name ∷ names_after t.name (names (filter p (t ∷ ss)))) (names_after t.name (names (filter p (t ∷ ss))))
   after-first c t ss b is =
       let below = below-names p t.name ss b in
       let here = after-all t.name (names (filter p ss)) below in
       let there = after-all c (names (filter p ss)) (below-all c t.name (names (filter p ss)) (lt_less (name_cmp c t.name) is) below) in
-      elim (p t) as (λ d. after c (names (cond d (t ∷ filter p ss) (filter p ss))) ≡ cond d (t.name ∷ after t.name (names (cond d (t ∷ filter p ss) (filter p ss)))) (after t.name (names (cond d (t ∷ filter p ss) (filter p ss))))) [
+      elim (p t) as (λ d. names_after c (names (cond d (t ∷ filter p ss) (filter p ss))) ≡ cond d (t.name ∷ names_after t.name (names (cond d (t ∷ filter p ss) (filter p ss)))) (names_after t.name (names (cond d (t ∷ filter p ss) (filter p ss))))) [
         | true ↦
-            ap (λ d. cond d (t.name ∷ after c (names (filter p ss))) (after c (names (filter p ss)))) is
+            ap (λ d. cond d (t.name ∷ names_after c (names (filter p ss))) (names_after c (names (filter p ss)))) is
             ∙ (ap (λ (ns : List StateName). t.name ∷ ns) (there ∙ sym here)
-            ∙ ap (λ d. t.name ∷ cond d (t.name ∷ after t.name (names (filter p ss))) (after t.name (names (filter p ss)))) (sym (not_self t.name)))
+            ∙ ap (λ d. t.name ∷ cond d (t.name ∷ names_after t.name (names (filter p ss))) (names_after t.name (names (filter p ss)))) (sym (not_self t.name)))
         | false ↦ there ∙ sym here
       ]
 
   -- the first state behind the cursor, if it passes, and then those behind that
   pub after-next : (c : StateName) (ss : List State) (s : State) → IsRising name_cmp (λ (t : State). t.name) ss → find (λ t. is_lt (name_cmp c t.name)) ss ≡ Some s
-      → after c (names (filter p ss)) ≡ cond (p s) (s.name ∷ after s.name (names (filter p ss))) (after s.name (names (filter p ss)))
+      → names_after c (names (filter p ss)) ≡ cond (p s) (s.name ∷ names_after s.name (names (filter p ss))) (names_after s.name (names (filter p ss)))
   after-next c [] s r e = absurd (cc)
   after-next c (t ∷ ss) s r e =
       elim (is_lt (name_cmp c t.name)) as (λ b. is_lt (name_cmp c t.name) ≡ b → cond b (Some t) (find (λ u. is_lt (name_cmp c u.name)) ss) ≡ Some s
-      → after c (names (filter p (t ∷ ss))) ≡ cond (p s) (s.name ∷ after s.name (names (filter p (t ∷ ss)))) (after s.name (names (filter p (t ∷ ss))))) [
+      → names_after c (names (filter p (t ∷ ss))) ≡ cond (p s) (s.name ∷ names_after s.name (names (filter p (t ∷ ss)))) (names_after s.name (names (filter p (t ∷ ss))))) [
         | true ↦ λ is f.
             let same : t ≡ s = cc in
-            subst (λ (u : State). after c (names (filter p (t ∷ ss))) ≡ cond (p u) (u.name ∷ after u.name (names (filter p (t ∷ ss)))) (after u.name (names (filter p (t ∷ ss))))) same (after-first c t ss r.0 is)
+            subst (λ (u : State). names_after c (names (filter p (t ∷ ss))) ≡ cond (p u) (u.name ∷ names_after u.name (names (filter p (t ∷ ss)))) (names_after u.name (names (filter p (t ∷ ss))))) same (after-first c t ss r.0 is)
         | false ↦ λ late f.
             let gone = after-drop s.name t ss (not_back t.name s.name (found-below (λ u. is_lt (name_cmp c u.name)) t.name ss s r.0 f)) in
             after-drop c t ss late ∙ (after-next c ss s r.1 f ∙ sym (λ i. cond (p s) (s.name ∷ gone i) (gone i)))
       ] refl e
 
   -- and where there is none, none
-  pub after-none : (c : StateName) (ss : List State) → find (λ t. is_lt (name_cmp c t.name)) ss ≡ None → after c (names (filter p ss)) ≡ []
+  pub after-none : (c : StateName) (ss : List State) → find (λ t. is_lt (name_cmp c t.name)) ss ≡ None → names_after c (names (filter p ss)) ≡ []
   after-none c [] e = refl
   after-none c (t ∷ ss) e =
-      elim (is_lt (name_cmp c t.name)) as (λ b. is_lt (name_cmp c t.name) ≡ b → cond b (Some t) (find (λ u. is_lt (name_cmp c u.name)) ss) ≡ None → after c (names (filter p (t ∷ ss))) ≡ []) [
+      elim (is_lt (name_cmp c t.name)) as (λ b. is_lt (name_cmp c t.name) ≡ b → cond b (Some t) (find (λ u. is_lt (name_cmp c u.name)) ss) ≡ None → names_after c (names (filter p (t ∷ ss))) ≡ []) [
         | true ↦ λ is f. absurd (cc)
         | false ↦ λ late f. after-drop c t ss late ∙ after-none c ss f
       ] refl e
@@ -162,20 +162,20 @@ module _ (m : States) (are : AreStates m) (p : State → Bool) (at : StateName) 
   abbrev all : List StateName
   all = names (filter p (maps.values m))
 
-  stepped : after at all ≡ cond (p s) (name ∷ after name all) (after name all)
-  stepped = after-next p at (maps.values m) s (values-rising m are) found ∙ (λ i. cond (p s) (sym named i ∷ after (sym named i) all) (after (sym named i) all))
+  stepped : names_after at all ≡ cond (p s) (name ∷ names_after name all) (names_after name all)
+  stepped = after-next p at (maps.values m) s (values-rising m are) found ∙ (λ i. cond (p s) (sym named i ∷ names_after (sym named i) all) (names_after (sym named i) all))
 
   -- it passes
-  pub next-passes : p s ≡ true → after at all ≡ name ∷ after name all
-  next-passes passes = stepped ∙ ap (λ b. cond b (name ∷ after name all) (after name all)) passes
+  pub next-passes : p s ≡ true → names_after at all ≡ name ∷ names_after name all
+  next-passes passes = stepped ∙ ap (λ b. cond b (name ∷ names_after name all) (names_after name all)) passes
 
   -- or not
-  pub next-skipped : p s ≡ false → after at all ≡ after name all
-  next-skipped fails = stepped ∙ ap (λ b. cond b (name ∷ after name all) (after name all)) fails
+  pub next-skipped : p s ≡ false → names_after at all ≡ names_after name all
+  next-skipped fails = stepped ∙ ap (λ b. cond b (name ∷ names_after name all) (names_after name all)) fails
 
 -- one less is behind it
 pub fewer-behind : (m : States) → AreStates m → (at : StateName) (s : State) (name : StateName) → state_after m at ≡ Some s → name ≡ s.name
-    → length (after name (names (filter (λ t. true) (maps.values m)))) < length (after at (names (filter (λ t. true) (maps.values m))))
+    → length (names_after name (names (filter (λ t. true) (maps.values m)))) < length (names_after at (names (filter (λ t. true) (maps.values m))))
 fewer-behind m are at s name found named =
     let more = ap (λ (ns : List StateName). length ns) (next-passes m are (λ t. true) at s name found named refl) in
     omega (arith, more)
@@ -186,14 +186,14 @@ fewer-behind m are at s name found named =
 pub record IsGathered (all : List StateName) (cursor at : StateName) (ns : List StateName) (count most : ℕ) : Type 0 where
   pub within : count ≤ most
   pub room : most ≤ length ns
-  pub rest : take count ns ++ after at all ≡ after cursor all
+  pub rest : take count ns ++ names_after at all ≡ names_after cursor all
 
 pub gathered-first : (all : List StateName) (cursor : StateName) (ns : List StateName) (most : ℕ) → most ≤ length ns → IsGathered all cursor cursor ns 0 most
 gathered-first all cursor ns most room = record { within = omega arith; room = room; rest = refl }
 
 module _ (all : List StateName) (cursor at : StateName) (ns : List StateName) (count most : ℕ) (so : IsGathered all cursor at ns count most) where
   -- one more
-  pub gathered-more : (name : StateName) → count < most → after at all ≡ name ∷ after name all → IsGathered all cursor name (set ns count name) (count + 1) most
+  pub gathered-more : (name : StateName) → count < most → names_after at all ≡ name ∷ names_after name all → IsGathered all cursor name (set ns count name) (count + 1) most
   gathered-more name less next =
       let room = so.room in
       let long = length-set ns count name in
@@ -201,29 +201,29 @@ module _ (all : List StateName) (cursor at : StateName) (ns : List StateName) (c
         within = omega arith;
         room = omega (arith, room, long);
         rest =
-            ap (λ (ms : List StateName). ms ++ after name all) (take_more_set ns count name (omega (arith, room)))
-            ∙ (append_assoc (take count ns) (name ∷ []) (after name all)
+            ap (λ (ms : List StateName). ms ++ names_after name all) (take_more_set ns count name (omega (arith, room)))
+            ∙ (append_assoc (take count ns) (name ∷ []) (names_after name all)
             ∙ (ap (λ (ms : List StateName). take count ns ++ ms) (sym next) ∙ so.rest));
       }
 
   -- one that is passed over
-  pub gathered-skip : (name : StateName) → after at all ≡ after name all → IsGathered all cursor name ns count most
+  pub gathered-skip : (name : StateName) → names_after at all ≡ names_after name all → IsGathered all cursor name ns count most
   gathered-skip name next = record { within = so.within; room = so.room; rest = ap (λ (ms : List StateName). take count ns ++ ms) (sym next) ∙ so.rest }
 
   long : length (take count ns) ≡ count
   long = let within = so.within in let room = so.room in length-take-le count ns (omega (arith, within, room))
 
   -- as many as were wanted
-  pub gathered-full : most ≤ count → take count ns ≡ take most (after cursor all)
+  pub gathered-full : most ≤ count → take count ns ≡ take most (names_after cursor all)
   gathered-full full =
       let within = so.within in
       sym (ap (take most) (sym so.rest)
-      ∙ (take-append-le most (take count ns) (after at all) (omega (arith, full, long)) ∙ take_all most (take count ns) (omega (arith, within, long))))
+      ∙ (take-append-le most (take count ns) (names_after at all) (omega (arith, full, long)) ∙ take_all most (take count ns) (omega (arith, within, long))))
 
   -- or all that there are
-  pub gathered-all : after at all ≡ [] → take count ns ≡ take most (after cursor all)
+  pub gathered-all : names_after at all ≡ [] → take count ns ≡ take most (names_after cursor all)
   gathered-all none =
       let within = so.within in
-      let whole : take count ns ≡ after cursor all = sym (append-nil (take count ns)) ∙ (ap (λ (ms : List StateName). take count ns ++ ms) (sym none) ∙ so.rest) in
+      let whole : take count ns ≡ names_after cursor all = sym (append-nil (take count ns)) ∙ (ap (λ (ms : List StateName). take count ns ++ ms) (sym none) ∙ so.rest) in
       let size = ap (λ (ms : List StateName). length ms) whole in
-      whole ∙ sym (take_all most (after cursor all) (omega (arith, within, long, size)))
+      whole ∙ sym (take_all most (names_after cursor all) (omega (arith, within, long, size)))

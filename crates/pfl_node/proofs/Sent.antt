@@ -6,6 +6,8 @@ use Rattle.std.specs.Option.{option_map_or}
 use Rattle.std.proofs.lemmas.Bool.Decides.{nat_tests}
 use Rattle.std.proofs.lemmas.List.{take_all}
 use Rattle.std.proofs.lemmas.List.Sums.{fold_more}
+use Rattle.pfl_base.specs.declared.refusal.Refusal.TheVariants.{NothingPending, NoMemory}
+use Rattle.pfl_base.specs.declared.refusal.Refusal.{Refusal}
 use Rattle.pfl_edits.specs.Changes.{Edits}
 use Rattle.pfl_edits.specs.Maps as maps
 use Rattle.pfl_track.specs.declared.state.State.{State}
@@ -16,20 +18,16 @@ use Rattle.pfl_queue.specs.declared.Kind.TheVariants.{Insert, InsertAck, Update,
 use Rattle.pfl_queue.specs.inner.Fitting.{entry_bytes}
 use Rattle.pfl_queue.specs.Queues.{pending}
 use Rattle.pfl_queue.specs.Taking.{in_turn, gone, left_by, next_frame}
-use Rattle.pfl_queue.proofs.Carried.{frame_carries, pending-in_turn}
-use Rattle.pfl_queue.proofs.Framed.{Stands, frame_stands, frame_begins, frame_fits}
+use Rattle.pfl_queue.proofs.ForCallers.{frame_carries, pending-in_turn, Stands, frame_stands, frame_begins, frame_fits}
 use Rattle.pfl_parts.specs.declared.edit.NodeEdit.{NodeEdit}
 use Rattle.pfl_parts.specs.Edits.{NodeExtends}
 use Rattle.pfl_parts.specs.Nodes.{Node, AreParts, IsRefusal, is_overcounted}
 use Rattle.pfl_parts.specs.inner.Judging.{judged_as}
-use Rattle.pfl_base.specs.declared.refusal.Refusal.TheVariants.{NothingPending, NoMemory}
-use Rattle.pfl_base.specs.declared.refusal.Refusal.{Refusal}
 use Rattle.pfl_parts.specs.Changes.{put_state}
-use Rattle.pfl_node.specs.Flushing.{frame_of, flushed, update_count_cleared, flush_refusal}
+use Rattle.pfl_node.specs.Flushing.{frame_of, flushed, update_count_cleared, send_refusal}
 use Rattle.pfl_node.specs.inner.Sending.{IsTold, frame_with}
 use Rattle.pfl_parts.specs.inner.Taking.{taken_from}
-use Rattle.pfl_parts.proofs.Taking.{frame_entries, left-next}
-use Rattle.pfl_parts.proofs.Recording.{extends-none, extends-then, extends-more}
+use Rattle.pfl_parts.proofs.ForCallers.{frame_entries, left-next, extends-none, extends-then, extends-more}
 
 -- ---- what its entries tell is there
 
@@ -139,7 +137,7 @@ not_refused false e = refl
 not_none : (k : ℕ) → (k == 0) ≡ false → 0 < k
 not_none k e = grind (arith, nat_tests)
 
-pub sent-carries : (n : Node) → AreParts n → flush_refusal n ≡ None → 0 < length (frame_entries n)
+pub sent-carries : (n : Node) → AreParts n → send_refusal n ≡ None → 0 < length (frame_entries n)
 sent-carries n is free =
     let range = is.limits.1.1.1.0 in
     let low = range.0 in

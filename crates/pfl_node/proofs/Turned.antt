@@ -8,14 +8,14 @@ use Rattle.std.proofs.lemmas.List.{length-append, length-map, take-append-drop, 
 use Rattle.std.proofs.lemmas.List.Sums.{fold_more, fold-append}
 use Rattle.pfl_base.specs.declared.state_name.StateName.{StateName}
 use Rattle.pfl_base.specs.Names.{name_cmp}
-use Rattle.pfl_base.proofs.Names.{names_total}
-use Rattle.pfl_bulk.specs.Bulk.{after, first_names, turn_names, is_last_turn, after_turn}
-use Rattle.pfl_bulk.proofs.FirstNames.{turn_names-first, is_last_turn-first, after_turn-first}
+use Rattle.pfl_base.proofs.ForCallers.{names_total}
+use Rattle.pfl_bulk.specs.Bulk.{names_after, first_names, turn_names, is_last_turn, after_turn}
+use Rattle.pfl_bulk.proofs.ForCallers.{turn_names-first, is_last_turn-first, after_turn-first}
 use Rattle.pfl_bulk.specs.declared.BulkServer.{BulkServer}
 use Rattle.pfl_bulk.specs.declared.BulkServer.TheVariants as server
 use Rattle.pfl_edits.specs.Changes.{Edits}
 use Rattle.pfl_edits.specs.Maps as maps
-use Rattle.pfl_edits.proofs.Maps.{len-insert, len-entries}
+use Rattle.pfl_edits.proofs.ForCallers.{len-insert, len-entries}
 use Rattle.pfl_edits.specs.Ordered.{IsRising}
 use Rattle.pfl_queue.specs.declared.Kind.{Kind}
 use Rattle.pfl_queue.specs.declared.Kind.TheVariants.{Update}
@@ -23,14 +23,13 @@ use Rattle.pfl_queue.specs.Queues.{Queue, pending, marked}
 use Rattle.pfl_track.specs.declared.state.State.{State}
 use Rattle.pfl_wire.specs.declared.message.BulkStatus.{BulkStatus}
 use Rattle.pfl_wire.specs.declared.message.BulkStatus.TheVariants.{End as Finish}
+use Rattle.pfl_language.specs.declared.limits.Limits.{Limits}
 use Rattle.pfl_parts.specs.declared.edit.NodeEdit.{NodeEdit}
-use Rattle.pfl_parts.specs.declared.limits.Limits.{Limits}
 use Rattle.pfl_parts.specs.Changes.{mark, tell_status}
 use Rattle.pfl_parts.specs.Edits.{NodeExtends}
 use Rattle.pfl_parts.specs.inner.Kept.{MayMark}
 use Rattle.pfl_parts.specs.Nodes.{Node, AreParts, ServesSince, is_overfull}
-use Rattle.pfl_parts.proofs.Putting.{told-may}
-use Rattle.pfl_parts.proofs.Recording.{extends-none, extends-then, extends-more}
+use Rattle.pfl_parts.proofs.ForCallers.{told-may, extends-none, extends-then, extends-more}
 use Rattle.pfl_node.specs.Turning.{is_eligible, eligible_names, queued, turn_of, ended, turned}
 use Rattle.pfl_node.proofs.Expired.{values-stand}
 use Rattle.pfl_node.proofs.Risen.{names, values-rising, rising-names, rising-filter, rising-take}
@@ -132,7 +131,7 @@ turn-few n = by n.server
     by server.Idle = omega arith
     by (server.Serving cursor since) =
         let all = names (filter (is_eligible n since) (maps.values n.states)) in
-        let sent = few_taken n.limits.batch (after cursor all) in
+        let sent = few_taken n.limits.batch (names_after cursor all) in
         let behind = few_kept (λ name. is_lt (name_cmp cursor name)) all in
         let named = length-map (filter (is_eligible n since) (maps.values n.states)) (λ (s : State). s.name) in
         let kept = few_kept (is_eligible n since) (maps.values n.states) in
@@ -187,7 +186,7 @@ all_eligible n = eligible_names n n.server
 
 -- the first names behind the cursor of a server at work
 pub first-names : (n : Node) (cursor : StateName) (since most : ℕ) → n.server ≡ server.Serving cursor since
-    → take most (after cursor (names (filter (is_eligible n since) (maps.values n.states)))) ≡ first_names n.server (all_eligible n) most
+    → take most (names_after cursor (names (filter (is_eligible n since) (maps.values n.states)))) ≡ first_names n.server (all_eligible n) most
 first-names n cursor since most serves = ap (λ (s : BulkServer). first_names s (eligible_names n s) most) (sym serves)
 
 -- names, server and end of the node's turn
@@ -208,19 +207,19 @@ module _ (n : Node) (few : List StateName) (first : few ≡ first_names n.server
 
   pub turn-is : (ns : List StateName) (next : BulkServer) (last : Bool) → ns ≡ turn_names n.server few n.limits.batch → next ≡ after_turn n.server few n.limits.batch → last ≡ is_last_turn n.server few n.limits.batch → IsTurn n ns next last
   unfolding turn_of
-  turn-is ns next last names after last_of_few = record {
+  turn-is ns next last names names_after last_of_few = record {
     names = names ∙ (ap (λ (ms : List StateName). turn_names n.server ms n.limits.batch) first ∙ turn_names-first n.server (all_eligible n) (n.limits.batch + 1) n.limits.batch (omega arith));
-    server_after = after ∙ (ap (λ (ms : List StateName). after_turn n.server ms n.limits.batch) first ∙ after_turn-first n.server (all_eligible n) (n.limits.batch + 1) n.limits.batch (omega arith));
+    server_after = names_after ∙ (ap (λ (ms : List StateName). after_turn n.server ms n.limits.batch) first ∙ after_turn-first n.server (all_eligible n) (n.limits.batch + 1) n.limits.batch (omega arith));
     ends = last_of_few ∙ (ap (λ (ms : List StateName). is_last_turn n.server ms n.limits.batch) first ∙ is_last_turn-first n.server (all_eligible n) (n.limits.batch + 1) n.limits.batch (omega arith));
   }
 
 -- the same, as the code has its server and its limits
 pub turn-by : (n : Node) (few : List StateName) (s : BulkServer) (l : Limits) → few ≡ first_names n.server (all_eligible n) (l.batch + 1) → s ≡ n.server → l ≡ n.limits
     → (ns : List StateName) (next : BulkServer) (last : Bool) → ns ≡ turn_names s few l.batch → next ≡ after_turn s few l.batch → last ≡ is_last_turn s few l.batch → IsTurn n ns next last
-turn-by n few s l first serves limits ns next last names after ends =
+turn-by n few s l first serves limits ns next last names names_after ends =
     turn-is n few (first ∙ ap (λ (k : Limits). first_names n.server (all_eligible n) (k.batch + 1)) limits) ns next last
     (names ∙ (λ i. turn_names (serves i) few (limits i).batch))
-    (after ∙ (λ i. after_turn (serves i) few (limits i).batch))
+    (names_after ∙ (λ i. after_turn (serves i) few (limits i).batch))
     (ends ∙ (λ i. is_last_turn (serves i) few (limits i).batch))
 
 -- ---- the node after it
@@ -239,7 +238,7 @@ serves_by n k (server.Serving cursor since) same past = subst (λ (t : ℕ). sin
 
 serves-after : (n : Node) (s : BulkServer) (ns : List StateName) (batch : ℕ) → ServesSince n s → ServesSince n (after_turn s ns batch)
 serves-after n server.Idle ns batch past = tt
-serves-after n (server.Serving cursor since) ns batch past = by (nat_le (length (after cursor ns)) batch) _
+serves-after n (server.Serving cursor since) ns batch past = by (nat_le (length (names_after cursor ns)) batch) _
   where
     by : (b : Bool) (c : StateName) → ServesSince n (if b then server.Idle else server.Serving c since)
     by true c = tt

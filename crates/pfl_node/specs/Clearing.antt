@@ -3,13 +3,25 @@ use Rattle.std.specs.Prelude.{◌-◌, [], ◌∷◌, Option}
 use Rattle.std.specs.List.{fold}
 use Rattle.pfl_base.specs.declared.refusal.Refusal.{Refusal}
 use Rattle.pfl_edits.specs.Maps as maps
+use Rattle.pfl_language.specs.declared.node_event.NodeOutcome.TheVariants.{Cleared}
 use Rattle.pfl_parts.specs.Nodes.{Node, points_refusal}
 use Rattle.pfl_parts.specs.Changes.{tell_clear, forgotten}
+use Rattle.pfl_node.specs.Meanings.{NodeMeaning}
 
 -- all states go unannounced, and the peer is told to clear up to the last id
 unfoldable pub cleared : Node → Node
 cleared n = tell_clear (fold forgotten n (maps.keys n.states)) n.creator (n.next_id - 1)
 
--- the clear can be told
+-- why a clear is refused: it cannot be told
 abbrev pub clear_refusal : Node → Option Refusal
 clear_refusal n = points_refusal (cleared n ∷ [])
+
+-- what a clear means
+abbrev pub clear_meaning : Node → NodeMeaning
+clear_meaning n = record {
+  refusal = clear_refusal n;
+  after = cleared n;
+  outcome = Cleared (maps.len n.states);
+  points = cleared n ∷ [];
+  work = maps.len n.states;
+}

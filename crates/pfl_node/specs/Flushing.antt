@@ -49,16 +49,16 @@ abbrev pub of_named : Node → StateName → (State → Message) → List Messag
 of_named n name make = option_map_or (λ s. make s ∷ []) (maps.get n.states name) []
 
 -- what is told of a name on a queue
-abbrev pub told : Node → Kind → StateName → List Message
-told n Insert name = of_named n name (λ s. message.Insert (state_record n s))
-told n InsertAck name = message.InsertAck name ∷ []
-told n Update name = of_named n name (λ s. message.Update (state_record n s))
-told n UpdateShort name = of_named n name (λ s. message.UpdateShort (update_record n s))
-told n Delete name = message.DeleteShort name ∷ []
+abbrev pub mark_messages : Node → Kind → StateName → List Message
+mark_messages n Insert name = of_named n name (λ s. message.Insert (state_record n s))
+mark_messages n InsertAck name = message.InsertAck name ∷ []
+mark_messages n Update name = of_named n name (λ s. message.Update (state_record n s))
+mark_messages n UpdateShort name = of_named n name (λ s. message.UpdateShort (update_record n s))
+mark_messages n Delete name = message.DeleteShort name ∷ []
 
 -- the message of an entry
 abbrev pub messages_of : Node → Entry → List Message
-messages_of n (Marked kind number name) = told n kind name
+messages_of n (Marked kind number name) = mark_messages n kind name
 messages_of n (Request name) = message.UpdateRequest name ∷ []
 messages_of n (Status status) = message.Bulk n.creator status ∷ []
 messages_of n (Clear creator bound) = message.Clear creator bound ∷ []
@@ -82,5 +82,5 @@ flushed n =
     fold update_count_cleared (record n { queue = left_by n.queue entries; push = false }) entries
 
 -- a node that has nothing pending sends no frame
-abbrev pub flush_refusal : Node → Option Refusal
-flush_refusal n = if pending n.queue == 0 then Some NothingPending else None
+abbrev pub send_refusal : Node → Option Refusal
+send_refusal n = if pending n.queue == 0 then Some NothingPending else None

@@ -1,3 +1,4 @@
+pub mod Meanings
 pub mod Starting
 pub mod Packets
 pub mod Flushing

@@ -8,10 +8,12 @@ use Rattle.pfl_track.specs.declared.tracked.Tracked.{Tracked}
 use Rattle.pfl_track.specs.declared.tracked.Tracked.TheVariants.{Moved, OutOfWindow, Reused}
 use Rattle.pfl_track.specs.Tracking.{tracked}
 use Rattle.pfl_table.specs.Tables.{found}
-use Rattle.pfl_node.specs.declared.fate.Reason.TheVariants as reason
-use Rattle.pfl_parts.specs.Nodes.{Node}
+use Rattle.pfl_language.specs.declared.node_event.NodeOutcome.TheVariants as outcome
+use Rattle.pfl_language.specs.declared.fate.Reason.TheVariants as reason
+use Rattle.pfl_parts.specs.Nodes.{Node, points_refusal}
 use Rattle.pfl_parts.specs.Changes.{freed, changed, deleted}
 use Rattle.pfl_node.specs.Starting.{Handled, pass, drop, judged}
+use Rattle.pfl_node.specs.Meanings.{NodeMeaning}
 
 -- a packet that was accepted on the state: it lets a held one go, and changes the state
 abbrev pub accepted : Node → State → Handled
@@ -45,3 +47,13 @@ before_rules n dir p (Some s) = on_the_way n s (tracked s p dir n.clock)
 -- the points that the packet goes through
 unfoldable pub packet_points : Node → Dir → Packet → List Node
 packet_points n dir p = (handled n dir p).node ∷ before_rules n dir p (found n.states (key p dir) dir)
+
+-- what a packet means
+abbrev pub packet_meaning : Node → Dir → Packet → NodeMeaning
+packet_meaning n dir p = record {
+  refusal = points_refusal (packet_points n dir p);
+  after = (handled n dir p).node;
+  outcome = outcome.Handled (handled n dir p).fate;
+  points = packet_points n dir p;
+  work = 1;
+}

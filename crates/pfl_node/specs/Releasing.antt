@@ -5,8 +5,10 @@ use Rattle.pfl_base.specs.declared.refusal.Refusal.{Refusal}
 use Rattle.pfl_base.specs.declared.refusal.Refusal.TheVariants.{NothingPending, CountFull, TooEarly}
 use Rattle.pfl_base.specs.declared.state_name.StateName.{StateName}
 use Rattle.pfl_defer.specs.Deferring.{due}
+use Rattle.pfl_language.specs.declared.node_event.NodeOutcome.TheVariants.{Released}
 use Rattle.pfl_parts.specs.Nodes.{Node, is_overcounted, refused_by}
 use Rattle.pfl_parts.specs.Changes.{released}
+use Rattle.pfl_node.specs.Meanings.{NodeMeaning}
 
 -- the names of the packets that are due, the oldest first
 abbrev pub due_names : Node → List StateName
@@ -19,4 +21,14 @@ released_due n = fold released n (due_names n)
 -- none is held, or none is due
 abbrev pub release_refusal : Node → Option Refusal
 release_refusal n = refused_by
-    ((length n.held.list == 0, NothingPending) ∷ (is_overcounted (released_due n), CountFull) ∷ (length (due_names n) == 0, TooEarly) ∷ [])
+    ((length n.held.list == 0, NothingPending) ∷ (length (due_names n) == 0, TooEarly) ∷ (is_overcounted (released_due n), CountFull) ∷ [])
+
+-- what a release means
+abbrev pub release_meaning : Node → NodeMeaning
+release_meaning n = record {
+  refusal = release_refusal n;
+  after = released_due n;
+  outcome = Released (length (due_names n));
+  points = released_due n ∷ [];
+  work = length (due_names n);
+}

@@ -3,10 +3,12 @@ use Rattle.std.specs.Prelude.{◌+◌, not, [], ◌∷◌, Option, if◌then◌e
 use Rattle.pfl_base.specs.declared.refusal.Refusal.{Refusal}
 use Rattle.pfl_base.specs.declared.refusal.Refusal.TheVariants.{NotSyncing, TooEarly, QueueFull}
 use Rattle.pfl_bulk.specs.Bulk.{no_name, is_waiting, is_due, asks_again, retried, tries_of}
-use Rattle.pfl_node.specs.declared.retried.Retried.{Retried}
-use Rattle.pfl_node.specs.declared.retried.Retried.TheVariants.{Asked, Served}
+use Rattle.pfl_language.specs.declared.retried.Retried.{Retried}
+use Rattle.pfl_language.specs.declared.retried.Retried.TheVariants.{Asked, Served}
+use Rattle.pfl_language.specs.declared.node_event.NodeOutcome.TheVariants.{Tried}
 use Rattle.pfl_parts.specs.Nodes.{Node, is_overfull, refused_by}
 use Rattle.pfl_parts.specs.Changes.{ask}
+use Rattle.pfl_node.specs.Meanings.{NodeMeaning}
 
 -- a client that waited long enough asks again, or goes on as if served
 unfoldable pub retried_client : Node → Node
@@ -20,3 +22,13 @@ retry_answer n = if asks_again n.client then Asked (tries_of n.client + 1) else 
 abbrev pub retry_refusal : Node → Option Refusal
 retry_refusal n = refused_by
     ((not (is_waiting n.client), NotSyncing) ∷ (not (is_due n.client n.limits.bulk_ms n.clock), TooEarly) ∷ (is_overfull (retried_client n), QueueFull) ∷ [])
+
+-- what a retry means
+abbrev pub retry_meaning : Node → NodeMeaning
+retry_meaning n = record {
+  refusal = retry_refusal n;
+  after = retried_client n;
+  outcome = Tried (retry_answer n);
+  points = retried_client n ∷ [];
+  work = 0;
+}

@@ -16,10 +16,10 @@ use Rattle.pfl_track.specs.Tracking.{start_state}
 use Rattle.pfl_table.specs.Tables.{key_in_use, count_of_rule}
 use Rattle.pfl_queue.specs.declared.Kind.TheVariants.{Insert}
 use Rattle.pfl_defer.specs.Deferring.{pushed_out, with_held}
-use Rattle.pfl_node.specs.declared.fate.Fate.{Fate}
-use Rattle.pfl_node.specs.declared.fate.Fate.TheVariants as fate
-use Rattle.pfl_node.specs.declared.fate.Reason.{Reason}
-use Rattle.pfl_node.specs.declared.fate.Reason.TheVariants as reason
+use Rattle.pfl_language.specs.declared.fate.Fate.{Fate}
+use Rattle.pfl_language.specs.declared.fate.Fate.TheVariants as fate
+use Rattle.pfl_language.specs.declared.fate.Reason.{Reason}
+use Rattle.pfl_language.specs.declared.fate.Reason.TheVariants as reason
 use Rattle.pfl_parts.specs.Nodes.{Node}
 use Rattle.pfl_parts.specs.Changes.{put_state, mark, push_if, count_passed, count_blocked, released}
 

@@ -1,5 +1,5 @@
 -- A turn of a bulk update: the server queues its next states (if_pfsync.c; turns are this project's profile).
-use Rattle.std.specs.Prelude.{ℕ, Bool, true, not, ◌&&◌, nat_le, List, [], ◌∷◌, map, filter, Option, is_none, if◌then◌else◌}
+use Rattle.std.specs.Prelude.{ℕ, Bool, true, not, ◌&&◌, nat_le, List, [], ◌∷◌, map, filter, Option, is_none, if◌then◌else◌, length}
 use Rattle.std.specs.List.{fold}
 use Rattle.std.specs.Option.{option_map_or}
 use Rattle.pfl_base.specs.declared.refusal.Refusal.{Refusal}
@@ -13,8 +13,10 @@ use Rattle.pfl_queue.specs.Queues.{kind_of}
 use Rattle.pfl_bulk.specs.Bulk.{is_serving, turn_names, is_last_turn, after_turn}
 use Rattle.pfl_bulk.specs.declared.BulkServer.{BulkServer}
 use Rattle.pfl_bulk.specs.declared.BulkServer.TheVariants as server
+use Rattle.pfl_language.specs.declared.node_event.NodeOutcome.TheVariants.{Queued}
 use Rattle.pfl_parts.specs.Nodes.{Node, full_tests, refused_by}
 use Rattle.pfl_parts.specs.Changes.{mark, tell_status}
+use Rattle.pfl_node.specs.Meanings.{NodeMeaning}
 
 -- the state may be sent in a bulk update that runs since then
 abbrev pub is_eligible : Node → ℕ → State → Bool
@@ -46,3 +48,13 @@ turned n =
 -- a node that serves none queues nothing
 abbrev pub turn_refusal : Node → Option Refusal
 turn_refusal n = refused_by ((not (is_serving n.server), NotSyncing) ∷ full_tests (turned n ∷ []))
+
+-- what a turn means
+abbrev pub turn_meaning : Node → NodeMeaning
+turn_meaning n = record {
+  refusal = turn_refusal n;
+  after = turned n;
+  outcome = Queued (length (turn_of n));
+  points = turned n ∷ [];
+  work = length (turn_of n);
+}

@@ -1,6 +1,10 @@
 -- How many edits what an event does takes at most, beside those of the changes of a node's parts (this project's profile).
-use Rattle.std.specs.Prelude.{ℕ, ◌+◌}
+use Rattle.std.specs.Prelude.{ℕ, ◌+◌, ◌*◌}
 use Rattle.pfl_parts.specs.Weights.{listed_edits}
+
+-- the edits of an event that is about so many states, records or packets
+abbrev pub edits_for : ℕ → ℕ
+edits_for n = 12 + 12 * n
 
 -- what becomes of a packet: no more than an event about one state may take
 abbrev pub packet_edits : ℕ

@@ -28,16 +28,16 @@ impl<A: Allocator + Copy> Node<A> {
     /// Sends one frame, the longest prefix of what is pending that fits, and answers its bytes. Where something is pending, there
     /// is room for at least one entry.
     pub fn flush(&mut self) -> Result<(Vec<u8, A>, Change<NodeEdit, A>), Refusal>
-        ensures refused { IfErr result (IsRefusal (flushing.flush_refusal self.old)) }
+        ensures refused { IfErr result (IsRefusal (flushing.send_refusal self.old)) }
         ensures unchanged { OnErr result (self.new ≡ self.old) }
-        ensures not_refused { OnOk result (flushing.flush_refusal self.old ≡ None) }
+        ensures not_refused { OnOk result (flushing.send_refusal self.old ≡ None) }
         ensures node { OnOk result (self.new ≡ flushing.flushed self.old) }
         ensures bytes { IfOk result (λ r. r.0.items ≡ spelling (flushing.frame_of self.old)) }
         ensures carries { OnOk result (0 < length (next_frame self.old.queue self.old.limits.mtu)) }
         ensures leads_back { IfOk result (λ r. NodeLeadsBack r.1.list self.old self.new) }
         ensures weight { IfOk result (λ r. length r.1.list ≤ 1 + sent_edits * length (next_frame self.old.queue self.old.limits.mtu)) }
     {
-        if let Some(refusal) = self.flush_refusal() {
+        if let Some(refusal) = self.send_refusal() {
             return Err(refusal);
         }
         let sent = send(&mut self.parts, self.alloc, &mut self.edits);
@@ -47,8 +47,8 @@ impl<A: Allocator + Copy> Node<A> {
 
 impl<A: Allocator> Node<A> {
     /// Why no frame is sent, if there is a reason. It takes no memory.
-    pub fn flush_refusal(&self) -> Option<Refusal>
-        ensures refusal { result ≡ flushing.flush_refusal self.now }
+    pub fn send_refusal(&self) -> Option<Refusal>
+        ensures refusal { result ≡ flushing.send_refusal self.now }
     {
         if self.parts.queue().is_empty() {
             return Some(Refusal::NothingPending);

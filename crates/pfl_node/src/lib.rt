@@ -2,8 +2,6 @@
 #![tactic(auto)]
 
 mod clear;
-mod event;
-mod fate;
 mod flush;
 mod kill;
 mod laws;
@@ -13,14 +11,10 @@ mod purge;
 mod receive;
 mod release;
 mod restart;
-mod retried;
 mod retry;
 mod step;
 mod tick;
 mod turn;
 
-pub use event::{NodeEvent, NodeOutcome};
-pub use fate::{Fate, Reason};
 pub use laws::{one_state_per_key, records_leave_the_rest};
 pub use node::Node;
-pub use retried::Retried;

@@ -3,12 +3,13 @@
 mod readers;
 
 ghost use Rattle.std.specs.Prelude.{◌≡◌, IfOk};
+ghost use Rattle.pfl_language.specs.Limits.{AreLimits};
 ghost use Rattle.pfl_node.specs.inner.Room.{most_edits as most};
-ghost use Rattle.pfl_parts.specs.Limits.{AreLimits};
 ghost use Rattle.pfl_parts.specs.Nodes.{Node as Whole, IsNode, new_node};
 
 use pfl_edits::{Change, NoMemory, Reversible};
-use pfl_parts::{Limits, NodeEdit, Parts};
+use pfl_language::Limits;
+use pfl_parts::{NodeEdit, Parts};
 use pfl_rules::RuleSet;
 use std::alloc::Allocator;
 use std::marker::Model;

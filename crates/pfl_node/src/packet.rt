@@ -19,11 +19,11 @@ ghost use Rattle.pfl_table.specs.Tables.{found};
 ghost use Rattle.pfl_track.specs.Tracking.{tracked};
 ghost use Rattle.pfl_node.specs.Weights.{packet_edits};
 
-use crate::fate::{Fate, Reason};
 use crate::node::Node;
 use crate::packet::start::{drop_packet, judge, pass};
 use pfl_base::{Dir, Packet, Refusal, key};
 use pfl_edits::Change;
+use pfl_language::{Fate, Reason};
 use pfl_parts::{NodeEdit, Overfull, Parts, any, settle};
 use pfl_track::{State, Tracked, track};
 use std::alloc::Allocator;

@@ -63,16 +63,16 @@ fn first_due<A: Allocator>(parts: &Parts<A>) -> Option<StateName>
     Some(held.name)
 }
 
-/// What becomes of a release of so many packets: no number may be too high, and at least one has to go out.
+/// What becomes of a release of so many packets: at least one has to go out, and no number may be too high.
 fn judge<A: Allocator>(parts: &Parts<A>, count: usize) -> Result<usize, Refusal>
-    ensures refused { judged_as result ≡ refused_by ((is_overcounted parts.now, refusal.CountFull) ∷ (count == 0, refusal.TooEarly) ∷ []) }
+    ensures refused { judged_as result ≡ refused_by ((count == 0, refusal.TooEarly) ∷ (is_overcounted parts.now, refusal.CountFull) ∷ []) }
     ensures count { IfOk result (λ c. c ≡ count) }
     ensures counted { OnOk result (is_overcounted parts.now ≡ false) }
 {
-    if parts.is_overcounted() {
-        Err(Refusal::CountFull)
-    } else if count == 0 {
+    if count == 0 {
         Err(Refusal::TooEarly)
+    } else if parts.is_overcounted() {
+        Err(Refusal::CountFull)
     } else {
         Ok(count)
     }

@@ -9,10 +9,10 @@ ghost use Rattle.pfl_parts.specs.Nodes.{Node as Whole, IsRefusal};
 ghost use Rattle.pfl_node.specs.Weights.{retried_edits};
 
 use crate::node::Node;
-use crate::retried::Retried;
 use pfl_base::{Refusal, StateName};
 use pfl_bulk::Retry;
 use pfl_edits::Change;
+use pfl_language::Retried;
 use pfl_parts::{NodeEdit, Overfull, Parts, settle};
 use std::alloc::Allocator;
 

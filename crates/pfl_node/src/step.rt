@@ -5,10 +5,10 @@ ghost use Rattle.pfl_node.specs.Stepping as stepping;
 ghost use Rattle.pfl_parts.specs.Edits.{NodeLeadsBack};
 ghost use Rattle.pfl_parts.specs.Nodes.{Node as Whole, IsRefusal};
 
-use crate::event::{NodeEvent, NodeOutcome};
 use crate::node::Node;
 use pfl_base::Refusal;
 use pfl_edits::Change;
+use pfl_language::{NodeEvent, NodeOutcome};
 use pfl_parts::NodeEdit;
 use std::alloc::Allocator;
 

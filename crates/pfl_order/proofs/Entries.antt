@@ -6,7 +6,7 @@ use Rattle.std.specs.FinMap.Entries.{put, find, is_sorted, is_sorted-put, is_sor
 use Rattle.std.proofs.Common.{T, cond, ◌∙◌, ap, sym, arith}
 use Rattle.pfl_edits.specs.Maps as maps
 use Rattle.pfl_edits.specs.Maps.{same_entries_map, set_at}
-use Rattle.pfl_edits.proofs.Maps.{get-entries, entries-from_sorted, len-entries, entries-insert, len-insert, len-remove}
+use Rattle.pfl_edits.proofs.ForCallers.{get-entries, entries-from_sorted, len-entries, entries-insert, len-insert, len-remove}
 use Rattle.pfl_order.specs.inner.Changes.{without}
 use Rattle.pfl_order.specs.Entries.{EntryList, map_of, AreEntries}
 

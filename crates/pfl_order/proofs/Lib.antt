@@ -5,3 +5,4 @@ pub mod Mapping
 pub mod Searching
 pub mod Sorted
 pub mod Standing
+pub mod ForCallers

@@ -9,8 +9,7 @@ use Rattle.std.specs.FinMap.{IsAntisymmetric}
 use Rattle.std.specs.FinMap.Entries.{find, is_sorted}
 use Rattle.pfl_edits.specs.Maps as maps
 use Rattle.pfl_edits.specs.Maps.{set_at}
-use Rattle.pfl_edits.proofs.Maps.{len-insert}
-use Rattle.pfl_edits.proofs.Places.{set_at-same}
+use Rattle.pfl_edits.proofs.ForCallers.{len-insert, set_at-same}
 use Rattle.pfl_order.specs.declared.node.Node.{Node}
 use Rattle.pfl_order.specs.declared.arena.Arena.{Arena}
 use Rattle.pfl_order.specs.inner.Trees.{Tree, leaf, fork, entries, Holds}

@@ -12,7 +12,7 @@ use Rattle.pfl_defer.specs.declared.edits.DeferEdit.{DeferEdit}
 use Rattle.pfl_defer.specs.Deferring as deferring
 use Rattle.pfl_defer.specs.Deferring.{Deferrals, held_of, let_go, pushed_out, with_held}
 use Rattle.pfl_defer.specs.Edits.{held_by}
-use Rattle.pfl_defer.proofs.Kept.{with_held-keeps, last_cases}
+use Rattle.pfl_defer.proofs.ForCallers.{with_held-keeps, last_cases}
 use Rattle.pfl_parts.specs.Changes.{put_state, is_held, freed, count_freed, without_held, not_waiting}
 use Rattle.pfl_parts.specs.inner.Kept.{MayReplace}
 use Rattle.pfl_parts.specs.Nodes.{Node, AreParts, IsGiven}

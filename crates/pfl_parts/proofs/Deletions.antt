@@ -3,21 +3,19 @@ use Rattle.std.specs.Prelude.{◌≡◌, ◌≤◌, ℕ, ◌+◌, ◌-◌, Bool,
 use Rattle.std.proofs.Common.{cond, ◌∙◌, ap, sym, subst, arith, inl, inr}
 use Rattle.pfl_base.specs.declared.state_name.StateName.{StateName}
 use Rattle.pfl_base.specs.Names.{name_cmp}
-use Rattle.pfl_base.proofs.Names.{names_total, names_exact}
+use Rattle.pfl_base.proofs.ForCallers.{names_total, names_exact}
 use Rattle.pfl_edits.specs.Maps as maps
 use Rattle.pfl_edits.specs.Maps.{Map}
-use Rattle.pfl_edits.proofs.Maps.{len-remove}
-use Rattle.pfl_edits.proofs.Places.{get-set_at_same, get-set_at_other, get-set_at_cases, set_at-set_at, key_cases}
-use Rattle.pfl_edits.proofs.RowMaps.{some_is_none}
+use Rattle.pfl_edits.proofs.ForCallers.{len-remove, get-set_at_same, get-set_at_other, get-set_at_cases, set_at-set_at, key_cases, some_is_none}
 use Rattle.pfl_rules.specs.Rules.{Rules}
 use Rattle.pfl_track.specs.declared.state.State.{State}
 use Rattle.pfl_table.specs.Tables.{States}
-use Rattle.pfl_table.proofs.Apart.{AreStates-without}
+use Rattle.pfl_table.proofs.ForCallers.{AreStates-without}
 use Rattle.pfl_queue.specs.declared.Kind.TheVariants.{Delete}
 use Rattle.pfl_queue.specs.declared.Mark.{Mark}
 use Rattle.pfl_queue.specs.Queues.{Queue, kind_of, unmarked}
-use Rattle.pfl_queue.proofs.Keeping.{unmarked_kept, unmarked_absent, kept}
-use Rattle.pfl_parts.specs.declared.limits.Limits.{Limits}
+use Rattle.pfl_queue.proofs.ForCallers.{unmarked_kept, unmarked_absent, kept}
+use Rattle.pfl_language.specs.declared.limits.Limits.{Limits}
 use Rattle.pfl_parts.specs.Changes.{without_state, mark, unmark, is_held, is_insert, lost, count_lost, without_held, deleted, deletion_told, forgotten}
 use Rattle.pfl_parts.specs.Nodes.{Node, AreParts}
 use Rattle.pfl_parts.proofs.Keeps.{keeps_states, keeps_queue}

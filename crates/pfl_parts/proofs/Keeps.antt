@@ -5,6 +5,7 @@ use Rattle.std.proofs.Common.{◌∙◌, sym, subst, arith}
 use Rattle.std.proofs.lemmas.Bool.{le-ltb}
 use Rattle.std.proofs.lemmas.Bool.Decides.{nat_tests}
 use Rattle.pfl_base.specs.declared.state_name.StateName.{StateName}
+use Rattle.pfl_base.specs.Numbers.{greatest}
 use Rattle.pfl_edits.specs.Maps as maps
 use Rattle.pfl_track.specs.declared.state.State.{State}
 use Rattle.pfl_table.specs.Tables.{States, AreStates}
@@ -17,7 +18,7 @@ use Rattle.pfl_bulk.specs.declared.BulkServer.TheVariants as server
 use Rattle.pfl_bulk.specs.declared.BulkClient.{BulkClient}
 use Rattle.pfl_bulk.specs.declared.BulkClient.TheVariants as client
 use Rattle.pfl_parts.specs.declared.counters.Counters.{Counters}
-use Rattle.pfl_parts.specs.Nodes.{Node, AreParts, IsNodeState, IsGiven, IsPast, MarksRightly, ServesSince, AskedAt, is_overcounted, greatest, last_millisecond}
+use Rattle.pfl_parts.specs.Nodes.{Node, AreParts, IsNodeState, IsGiven, IsPast, MarksRightly, ServesSince, AskedAt, is_overcounted, last_millisecond}
 
 -- a time that is kept stays past
 past_later : (o : Option ℕ) (t u : ℕ) → t ≤ u → IfSome o (λ x. x ≤ t) → IfSome o (λ x. x ≤ u)

@@ -9,3 +9,4 @@ pub mod Recording
 pub mod Deletions
 pub mod Settling
 pub mod Taking
+pub mod ForCallers

@@ -3,13 +3,13 @@ use Rattle.std.specs.Prelude.{◌≡◌, ◌≤◌, ℕ, ◌+◌, Bool, true, fa
 use Rattle.std.proofs.Common.{cond, ◌∙◌, ap, sym, arith}
 use Rattle.pfl_base.specs.declared.state_name.StateName.{StateName}
 use Rattle.pfl_edits.specs.Changes.{Edits}
-use Rattle.pfl_edits.proofs.Leading.{LeadsBack-one}
+use Rattle.pfl_edits.proofs.ForCallers.{LeadsBack-one}
 use Rattle.pfl_wire.specs.declared.message.BulkStatus.{BulkStatus}
 use Rattle.pfl_queue.specs.declared.QueueFault.{QueueFault}
 use Rattle.pfl_queue.specs.declared.edits.QueueEdit.{QueueEdit}
 use Rattle.pfl_queue.specs.Edits.{QueueLeadsBack}
 use Rattle.pfl_queue.specs.Queues.{Queue, IsQueue, list_fault, request_fault, is_requested}
-use Rattle.pfl_queue.proofs.Keeping.{status_kept, clear_kept, request_kept}
+use Rattle.pfl_queue.proofs.ForCallers.{status_kept, clear_kept, request_kept}
 use Rattle.pfl_parts.specs.declared.edit.NodeEdit.{NodeEdit}
 use Rattle.pfl_parts.specs.declared.edit.NodeEdit.TheVariants.{OfQueue}
 use Rattle.pfl_parts.specs.Changes.{list_request, list_status, list_clear}

@@ -5,23 +5,23 @@ use Rattle.std.proofs.Common.{◌∙◌, ap, sym, subst, arith}
 use Rattle.std.proofs.lemmas.Bool.{le-ltb}
 use Rattle.pfl_base.specs.Names.{name_cmp}
 use Rattle.pfl_base.specs.declared.state_name.StateName.{StateName}
+use Rattle.pfl_base.specs.Numbers.{greatest}
 use Rattle.pfl_edits.specs.Maps as maps
-use Rattle.pfl_edits.proofs.Maps.{get-empty, len-empty}
-use Rattle.pfl_edits.proofs.RowMaps.{some_is_none}
+use Rattle.pfl_edits.proofs.ForCallers.{get-empty, len-empty, some_is_none}
 use Rattle.pfl_rules.specs.Rules.{Rules}
 use Rattle.pfl_track.specs.declared.state.State.{State}
 use Rattle.pfl_table.specs.Tables.{Table, AreStates}
-use Rattle.pfl_table.proofs.Tables.{states_of-empty}
+use Rattle.pfl_table.proofs.ForCallers.{states_of-empty}
 use Rattle.pfl_queue.specs.declared.Mark.{Mark}
 use Rattle.pfl_queue.specs.Queues.{Queue, IsQueue, empty_queue}
 use Rattle.pfl_defer.specs.Deferring.{Deferrals, IsDeferrals, no_deferrals}
 use Rattle.pfl_bulk.specs.declared.BulkServer.TheVariants as server
 use Rattle.pfl_bulk.specs.declared.BulkClient.TheVariants as client
-use Rattle.pfl_parts.specs.declared.limits.Limits.{Limits}
+use Rattle.pfl_language.specs.declared.limits.Limits.{Limits}
 use Rattle.pfl_parts.specs.Laws.{NewNodesAreNodes}
 use Rattle.pfl_parts.specs.declared.counters.Counters.{Counters}
 use Rattle.pfl_parts.specs.inner.Kept.{node_of}
-use Rattle.pfl_parts.specs.Nodes.{new_node, no_counts, greatest}
+use Rattle.pfl_parts.specs.Nodes.{new_node, no_counts}
 
 -- an empty map has nothing at a name
 nothing : {X : Type 0} {A : Type 0} (n : StateName) (x : X) → maps.get (maps.empty {R = name_cmp}) n ≡ Some x → A

@@ -2,19 +2,17 @@
 use Rattle.std.specs.Prelude.{◌≡◌, ◌≢◌, ◌≤◌, ◌<◌, ℕ, ◌+◌, false, Option, Some, None, is_some, IfSome, refl}
 use Rattle.std.proofs.Common.{cond, ◌∙◌, ap, sym, subst, arith, inl, inr}
 use Rattle.pfl_base.specs.declared.state_name.StateName.{StateName}
-use Rattle.pfl_base.proofs.Names.{names_total, names_exact}
+use Rattle.pfl_base.proofs.ForCallers.{names_total, names_exact}
 use Rattle.pfl_edits.specs.Maps as maps
-use Rattle.pfl_edits.proofs.Maps.{len-insert}
-use Rattle.pfl_edits.proofs.Places.{get-set_at_same, get-set_at_other, get-set_at_cases, key_cases}
-use Rattle.pfl_edits.proofs.RowMaps.{some_is_none}
+use Rattle.pfl_edits.proofs.ForCallers.{len-insert, get-set_at_same, get-set_at_other, get-set_at_cases, key_cases, some_is_none}
 use Rattle.pfl_track.specs.declared.state.State.{State}
 use Rattle.pfl_table.specs.Tables.{States}
-use Rattle.pfl_table.proofs.Apart.{OwnsKeys, OwnsKeys-known, AreStates-with}
+use Rattle.pfl_table.proofs.ForCallers.{OwnsKeys, OwnsKeys-known, AreStates-with}
 use Rattle.pfl_queue.specs.declared.Kind.{Kind}
 use Rattle.pfl_queue.specs.declared.Kind.TheVariants.{Delete}
 use Rattle.pfl_queue.specs.declared.Mark.{Mark}
 use Rattle.pfl_queue.specs.Queues.{room_fault, most_numbers}
-use Rattle.pfl_queue.proofs.Keeping.{marked_kept}
+use Rattle.pfl_queue.proofs.ForCallers.{marked_kept}
 use Rattle.pfl_parts.specs.inner.Kept.{MayReplace, MayMark}
 use Rattle.pfl_parts.specs.Nodes.{Node, AreParts, IsNodeState, IsGiven, MarksRightly}
 use Rattle.pfl_parts.specs.Changes.{put_state, mark}

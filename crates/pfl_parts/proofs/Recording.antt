@@ -3,12 +3,11 @@ use Rattle.std.specs.Prelude.{◌≡◌, ◌≤◌, ℕ, ◌+◌, Bool, true, fa
 use Rattle.std.proofs.Common.{cond, ◌∙◌, ap, sym, subst, arith, length-append}
 use Rattle.std.proofs.lemmas.Bool.Decides.{nat_tests}
 use Rattle.pfl_base.specs.declared.state_name.StateName.{StateName}
-use Rattle.pfl_base.proofs.Names.{names_total}
+use Rattle.pfl_base.proofs.ForCallers.{names_total}
 use Rattle.pfl_base.specs.Names.{is_name}
 use Rattle.pfl_edits.specs.Changes.{Edits, LeadsBack}
-use Rattle.pfl_edits.proofs.Leading.{LeadsBack-one, LeadsBack-append}
+use Rattle.pfl_edits.proofs.ForCallers.{LeadsBack-one, LeadsBack-append, len-insert}
 use Rattle.pfl_edits.specs.Maps as maps
-use Rattle.pfl_edits.proofs.Maps.{len-insert}
 use Rattle.pfl_queue.specs.declared.Kind.{Kind}
 use Rattle.pfl_queue.specs.declared.Mark.{Mark}
 use Rattle.pfl_queue.specs.declared.QueueFault.{QueueFault}
@@ -18,7 +17,7 @@ use Rattle.pfl_queue.specs.Queues.{Queue, pending, marked, room_fault}
 use Rattle.pfl_defer.specs.declared.edits.DeferEdit.{DeferEdit}
 use Rattle.pfl_defer.specs.Deferring.{Deferrals, let_go}
 use Rattle.pfl_defer.specs.Edits.{DefersBack}
-use Rattle.pfl_defer.proofs.Kept.{let_go-keeps, kept_stood}
+use Rattle.pfl_defer.proofs.ForCallers.{let_go-keeps, kept_stood}
 use Rattle.pfl_parts.specs.declared.edit.Counter.{Counter}
 use Rattle.pfl_parts.specs.declared.edit.Counter.TheVariants.{Passed, Blocked, Freed, Lost, Bad, Stale, Broken}
 use Rattle.pfl_parts.specs.declared.edit.NodeEdit.{NodeEdit}

@@ -4,6 +4,7 @@ use Rattle.std.specs.List.{list_any}
 use Rattle.std.proofs.Common.{◌∙◌, ap, sym, subst}
 use Rattle.pfl_base.specs.declared.refusal.Refusal.{Refusal}
 use Rattle.pfl_base.specs.declared.refusal.Refusal.TheVariants.{QueueFull, CountFull}
+use Rattle.pfl_base.specs.Numbers.{greatest}
 use Rattle.pfl_edits.specs.Changes.{Edits, Fits, LeadsBack, back}
 use Rattle.pfl_queue.specs.declared.edits.QueueEdit.TheVariants.{OfMark, OfName, OfRequest, OfStatus, OfClear}
 use Rattle.pfl_parts.specs.declared.edit.Counter.TheVariants.{Passed, Blocked, Freed, Lost, Bad, Stale, Broken}
@@ -12,7 +13,7 @@ use Rattle.pfl_parts.specs.declared.edit.NodeEdit.TheVariants.{OfState, OfQueue,
 use Rattle.pfl_parts.specs.declared.parts.judge.Overfull.{Overfull}
 use Rattle.pfl_parts.specs.Edits.{Finds, put_back, NodeLeadsBack}
 use Rattle.pfl_parts.specs.inner.Judging.{Went, judgement}
-use Rattle.pfl_parts.specs.Nodes.{Node, AreParts, IsNode, is_overfull, is_overcounted, refused_by, points_refusal, greatest}
+use Rattle.pfl_parts.specs.Nodes.{Node, AreParts, IsNode, is_overfull, is_overcounted, refused_by, points_refusal}
 use Rattle.pfl_parts.proofs.Keeps.{counted_all, all_counted}
 
 -- ---- the way back is through nodes

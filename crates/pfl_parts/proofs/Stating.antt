@@ -3,18 +3,18 @@ use Rattle.std.specs.Prelude.{◌≡◌, ◌≤◌, ◌<◌, ◌^◌, ℕ, Bool,
 use Rattle.std.specs.Option.{option_map}
 use Rattle.std.proofs.Common.{◌∙◌, ap, sym, subst, arith, inl, inr}
 use Rattle.pfl_base.specs.declared.state_name.StateName.{StateName}
-use Rattle.pfl_base.proofs.Names.{names_total, names_exact}
+use Rattle.pfl_base.proofs.ForCallers.{names_total, names_exact}
 use Rattle.pfl_edits.specs.Maps as maps
 use Rattle.pfl_edits.specs.Maps.{set_at}
-use Rattle.pfl_edits.proofs.Places.{get-set_at_same, get-set_at_cases}
+use Rattle.pfl_edits.proofs.ForCallers.{get-set_at_same, get-set_at_cases}
 use Rattle.pfl_rules.specs.Rules.{Rules}
 use Rattle.pfl_track.specs.declared.state.State.{State}
 use Rattle.pfl_table.specs.declared.row.Row.{Row}
 use Rattle.pfl_table.specs.Tables.{Table, States, IsTable, AreStates, states_of, row_with, with_row, put_fault, key_in_use}
-use Rattle.pfl_table.proofs.Tables.{states_of-with_row, len-states_of}
+use Rattle.pfl_table.proofs.ForCallers.{states_of-with_row, len-states_of}
 use Rattle.pfl_table.specs.declared.fault.PutFault.TheVariants.{Full, NameInUse, WireInUse, StackInUse}
 use Rattle.std.proofs.lemmas.Bool.Decides.{nat_tests}
-use Rattle.pfl_parts.specs.declared.limits.Limits.{Limits}
+use Rattle.pfl_language.specs.declared.limits.Limits.{Limits}
 use Rattle.pfl_parts.specs.inner.Kept.{IsTimely, MayAdd, expires_by}
 use Rattle.pfl_parts.specs.Nodes.{Node, AreParts}
 

@@ -3,16 +3,14 @@ use Rattle.std.proofs.Common.{◌≡◌, ◌≢◌, ℕ, ◌+◌, ◌^◌, ◌<�
 use Rattle.std.specs.Prelude.{◌==◌, if◌then◌else◌}
 use Rattle.std.proofs.lemmas.List.{length-map}
 use Rattle.pfl_edits.specs.Changes.{Edits, LeadsBack}
-use Rattle.pfl_edits.proofs.Leading.{LeadsBack-one, LeadsBack-none, LeadsBack-append}
+use Rattle.pfl_edits.proofs.ForCallers.{LeadsBack-one, LeadsBack-none, LeadsBack-append}
 use Rattle.pfl_queue.specs.declared.Entry.{Entry}
 use Rattle.pfl_queue.specs.declared.Entry.TheVariants.{Marked, Request, Status, Clear}
 use Rattle.pfl_queue.specs.declared.edits.QueueEdit.{QueueEdit}
 use Rattle.pfl_queue.specs.Edits.{taking}
 use Rattle.pfl_queue.specs.Queues.{Queue}
 use Rattle.pfl_queue.specs.Taking.{in_turn, gone, left_by, next_frame}
-use Rattle.pfl_queue.proofs.Framed.{mark_stood, frame_begins}
-use Rattle.pfl_queue.proofs.Fronts.{first_found, front_gone, redone_gone, next_stays}
-use Rattle.pfl_queue.proofs.Keeping.{gone_kept}
+use Rattle.pfl_queue.proofs.ForCallers.{mark_stood, frame_begins, first_found, front_gone, redone_gone, next_stays, gone_kept}
 use Rattle.pfl_parts.specs.declared.edit.NodeEdit.{NodeEdit}
 use Rattle.pfl_parts.specs.declared.edit.NodeEdit.TheVariants.{OfQueue}
 use Rattle.pfl_parts.specs.Edits.{Finds, FindsFormer, NextStays, put_back, redone, NodeExtends, total}

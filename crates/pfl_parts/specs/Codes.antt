@@ -16,8 +16,8 @@ use Rattle.pfl_bulk.specs.declared.BulkServer.{BulkServer}
 use Rattle.pfl_bulk.specs.contracts.BulkServer as server_type
 use Rattle.pfl_bulk.specs.declared.BulkClient.{BulkClient}
 use Rattle.pfl_bulk.specs.contracts.BulkClient as client_type
-use Rattle.pfl_parts.specs.declared.limits.Limits.{Limits}
-use Rattle.pfl_parts.specs.contracts.limits.Limits as limits_type
+use Rattle.pfl_language.specs.declared.limits.Limits.{Limits}
+use Rattle.pfl_language.specs.contracts.limits.Limits as limits_type
 use Rattle.pfl_parts.specs.declared.counters.Counters.{Counters}
 use Rattle.pfl_parts.specs.contracts.counters.Counters as counters_type
 use Rattle.pfl_parts.specs.Nodes.{Node}

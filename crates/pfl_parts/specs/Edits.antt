@@ -1,5 +1,6 @@
 -- The edits of a node: each names one place, its former value and its new one (this project's profile).
 use Rattle.std.specs.Prelude.{◌≡◌, ◌≤◌, ℕ, ◌+◌, List, length}
+use Rattle.pfl_base.specs.Numbers.{greatest}
 use Rattle.pfl_edits.specs.Changes.{Edits, LeadsBack}
 use Rattle.pfl_edits.specs.Maps as maps
 use Rattle.pfl_edits.specs.Maps.{set_at}
@@ -12,7 +13,7 @@ use Rattle.pfl_parts.specs.declared.edit.Counter.{Counter}
 use Rattle.pfl_parts.specs.declared.edit.Counter.TheVariants.{Passed, Blocked, Freed, Lost, Bad, Stale, Broken}
 use Rattle.pfl_parts.specs.declared.edit.NodeEdit.{NodeEdit}
 use Rattle.pfl_parts.specs.declared.edit.NodeEdit.TheVariants.{OfState, OfQueue, OfHeld, Server, Client, Clock, NextId, Push, Count}
-use Rattle.pfl_parts.specs.Nodes.{Node, AreParts, IsNode, greatest}
+use Rattle.pfl_parts.specs.Nodes.{Node, AreParts, IsNode}
 
 -- a number of the counters
 abbrev pub count_of : Counter → Counters → ℕ

@@ -1,4 +1,3 @@
-pub mod Limits
 pub mod Nodes
 pub mod Codes
 pub mod Edits

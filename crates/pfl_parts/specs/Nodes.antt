@@ -1,7 +1,8 @@
 -- A node of the pair, and what is true of each (pf.c, if_pfsync.c; what limits an event is this project's profile).
-use Rattle.std.specs.Prelude.{◌≡◌, ◌≤◌, ◌<◌, ℕ, Bool, false, nat_lt, List, [], ◌∷◌, length, find, Option, Some, None, IfSome, ◌↔◌}
+use Rattle.std.specs.Prelude.{◌≡◌, ◌≤◌, ◌<◌, ℕ, Bool, false, nat_lt, List, [], ◌∷◌, length, find, Option, Some, None, Result, Ok, Err, IfSome, ◌↔◌}
 use Rattle.std.specs.List.{list_any, slice_get}
 use Rattle.std.specs.Option.{option_map}
+use Rattle.pfl_base.specs.Numbers.{greatest}
 use Rattle.pfl_base.specs.declared.refusal.Refusal.{Refusal}
 use Rattle.pfl_base.specs.declared.refusal.Refusal.TheVariants.{QueueFull, CountFull, NoMemory}
 use Rattle.pfl_base.specs.declared.state_name.StateName.{StateName}
@@ -20,9 +21,9 @@ use Rattle.pfl_bulk.specs.declared.BulkServer.{BulkServer}
 use Rattle.pfl_bulk.specs.declared.BulkServer.TheVariants as server
 use Rattle.pfl_bulk.specs.declared.BulkClient.{BulkClient}
 use Rattle.pfl_bulk.specs.declared.BulkClient.TheVariants as client
-use Rattle.pfl_parts.specs.declared.limits.Limits.{Limits}
+use Rattle.pfl_language.specs.declared.limits.Limits.{Limits}
+use Rattle.pfl_language.specs.Limits.{AreLimits}
 use Rattle.pfl_parts.specs.declared.counters.Counters.{Counters}
-use Rattle.pfl_parts.specs.Limits.{AreLimits}
 
 -- a node: its limits and rules never change
 pub record Node : Type 0 where
@@ -60,10 +61,6 @@ new_node limits rules creator next clock = record {
   counters = no_counts;
 }
 
--- the greatest number that is counted to
-abbrev pub greatest : ℕ
-greatest = 4294967295
-
 -- a clock's last millisecond
 abbrev pub last_millisecond : ℕ
 last_millisecond = 1000000000000
@@ -98,6 +95,11 @@ refused_by tests = option_map (λ t. t.1) (find (λ t. t.0) tests)
 -- why an event that goes through these points is refused, if there is a reason: the first one
 abbrev pub points_refusal : List Node → Option Refusal
 points_refusal points = refused_by (full_tests points)
+
+-- the refusal, or else what the event gives
+abbrev pub unless_refused : {X : Type 0} → Option Refusal → X → Result X Refusal
+unless_refused None x = Ok x
+unless_refused (Some r) x = Err r
 
 -- an event that is refused tells this refusal; where there is none, it wanted memory
 abbrev pub IsRefusal : Option Refusal → Refusal → Type 0

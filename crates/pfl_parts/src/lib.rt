@@ -4,12 +4,10 @@
 mod counters;
 mod edit;
 mod laws;
-mod limits;
 mod parts;
 
 pub use counters::Counters;
 pub use edit::{Counter, NodeEdit, StateEdit};
 pub use laws::new_nodes_are_nodes;
-pub use limits::{Limit, LimitFault, Limits};
 pub use parts::Parts;
 pub use parts::judge::{Overfull, any, conclude, settle};

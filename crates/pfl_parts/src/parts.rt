@@ -11,15 +11,15 @@ mod taking;
 mod undo;
 
 ghost use Rattle.std.specs.Prelude.{◌≡◌, IfOk};
-ghost use Rattle.pfl_parts.specs.Limits.{AreLimits};
+ghost use Rattle.pfl_language.specs.Limits.{AreLimits};
 ghost use Rattle.pfl_parts.specs.Nodes.{Node as Whole, AreParts, new_node};
 
 use crate::counters::Counters;
-use crate::limits::Limits;
 use pfl_base::Millis;
 use pfl_bulk::{BulkClient, BulkServer};
 use pfl_defer::Deferrals;
 use pfl_edits::NoMemory;
+use pfl_language::Limits;
 use pfl_queue::Pending;
 use pfl_rules::RuleSet;
 use pfl_table::StateTable;

@@ -1,3 +1,4 @@
 pub mod Lists
 pub mod Keeps
 mod Tries
+pub mod ForCallers

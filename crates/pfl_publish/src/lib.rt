@@ -9,7 +9,7 @@
 //! no word was overwritten, and the words are whole.
 #![tactic(auto)]
 
-mod naming;
+mod names;
 mod no_memory;
 mod publisher;
 mod rule;
@@ -18,7 +18,7 @@ mod steps;
 mod view;
 mod words;
 
-pub use naming::Naming;
+pub use names::Naming;
 pub use no_memory::NoMemory;
 pub use publisher::Publisher;
 pub use seats::{Overtaken, Revision, Told, ViewerSeat, WriterSeat};

@@ -4,7 +4,7 @@ ghost use Rattle.pfl_publish.specs.Revisions.{published, longer, StartsWith};
 ghost use Rattle.pfl_publish.specs.Views.{blank};
 ghost use Rattle.pfl_publish.specs.Seats.{SeesOn, LoadsOnce, MakesTry, MakesTries, IsRead, IsOvertaken, OvertakenBefore};
 
-use crate::naming::Naming;
+use crate::names::Naming;
 use crate::no_memory::NoMemory;
 use crate::seats::{Overtaken, Revision, Told, ViewerSeat, WriterSeat};
 use crate::steps::{append, begin_try, first_look, join_seats, load_word, look, split_seat};

@@ -1,5 +1,5 @@
 //! The rule of the words, and what each kind of atomic step tells the thread that makes it.
-use crate::naming::Picked;
+use crate::names::Picked;
 use crate::view::View;
 use atomic_table::{Join, Play, Split, TableRule};
 use std::marker::PhantomData;

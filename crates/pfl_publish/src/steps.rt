@@ -4,7 +4,7 @@ ghost use Rattle.pfl_publish.specs.Revisions.{IsRevision, published};
 ghost use Rattle.pfl_publish.specs.Views.{with_next, with_entry, with_held, without_writer, without_try, united};
 ghost use Rattle.pfl_publish.specs.Steps.{Looks};
 
-use crate::naming::{Naming, Picked};
+use crate::names::{Naming, Picked};
 use crate::rule::{BeginTry, JoinSeats, LoadWord, Look, SplitSeat, StoreNumber, StoreWord};
 use crate::seats::Revision;
 use crate::words::{NUMBER, REVISION_WORDS, SharedWords, WordsSeat, word_index};

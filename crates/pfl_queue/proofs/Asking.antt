@@ -9,11 +9,11 @@ use Rattle.std.proofs.Math.Seq.{split_at}
 use Rattle.std.proofs.lemmas.List.{take-append-drop}
 use Rattle.pfl_base.specs.declared.state_name.StateName.{StateName}
 use Rattle.pfl_base.specs.Names.{name_cmp, is_name}
-use Rattle.pfl_base.proofs.Names.{names_total, is_name-same, apart}
+use Rattle.pfl_base.proofs.ForCallers.{names_total, is_name-same, apart}
 use Rattle.pfl_edits.specs.Maps as maps
 use Rattle.pfl_edits.specs.Maps.{Map}
-use Rattle.pfl_edits.proofs.RowMaps.{row_at, Distinct, Distinct-without}
-use Rattle.pfl_hash.proofs.Entries.{entry_map-none}
+use Rattle.pfl_edits.proofs.ForCallers.{row_at, Distinct, Distinct-without}
+use Rattle.pfl_hash.proofs.ForCallers.{entry_map-none}
 use Rattle.pfl_queue.specs.declared.marks.ByName.{ByName}
 use Rattle.pfl_queue.specs.inner.Asked.{as_key}
 use Rattle.pfl_queue.specs.inner.Marked.{by_name_cmp, by_name_total, by_name_exact}

@@ -7,7 +7,7 @@ use Rattle.std.proofs.lemmas.List.{length-append, length-map}
 use Rattle.std.proofs.lemmas.List.Sums.{sum_by-cons}
 use Rattle.pfl_base.specs.Lists.{in_order, last_of, prefixes}
 use Rattle.pfl_edits.specs.Maps as maps
-use Rattle.pfl_edits.proofs.Maps.{len-entries}
+use Rattle.pfl_edits.proofs.ForCallers.{len-entries}
 use Rattle.pfl_edits.specs.Maps.{entries}
 use Rattle.pfl_wire.specs.Actions.{record_len}
 use Rattle.pfl_wire.specs.declared.action.Action.{Action}

@@ -5,7 +5,7 @@ use Rattle.std.specs.List.{AllByRecursion, remove, sum_by}
 use Rattle.std.proofs.lemmas.List.Sums.{sum_by-cons}
 use Rattle.pfl_base.specs.declared.state_name.StateName.{StateName}
 use Rattle.pfl_base.specs.Lists.{last_of, prefixes, in_order}
-use Rattle.pfl_edits.proofs.Leading.{LeadsBack-none, LeadsBack-append}
+use Rattle.pfl_edits.proofs.ForCallers.{LeadsBack-none, LeadsBack-append}
 use Rattle.pfl_edits.specs.Maps as maps
 use Rattle.pfl_wire.specs.declared.message.BulkStatus.{BulkStatus}
 use Rattle.pfl_queue.specs.declared.Cleared.{Cleared}

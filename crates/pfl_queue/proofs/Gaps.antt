@@ -2,8 +2,8 @@
 use Rattle.std.specs.Prelude.{◌≡◌, ℕ, ◌<◌, List, [], ◌∷◌, ◌++◌, length, Option, Some, None}
 use Rattle.std.proofs.Common.{◌∙◌, ap, sym, subst, arith, refl}
 use Rattle.pfl_chains.specs.Lists.{Link, link, Lists, Place, links_of, with_links, last_from, last_slot}
-use Rattle.pfl_edits.proofs.RowMaps.{some_is_none}
-use Rattle.pfl_chains.proofs.Places.{links_of-same}
+use Rattle.pfl_edits.proofs.ForCallers.{some_is_none}
+use Rattle.pfl_chains.proofs.ForCallers.{links_of-same}
 use Rattle.pfl_queue.specs.inner.Rising.{IsAbove, IsBelow, IsRising, InsertsInOrder, OrderedGap}
 
 module _ {V : Type 0} (number : V → ℕ) where

@@ -1,10 +1,9 @@
 -- A mark that was taken off goes back into later queues too.
 use Rattle.std.proofs.Common.{◌≡◌, ◌≢◌, ◌<◌, Some, None, inl, inr, sym, ◌∙◌, ap, arith}
 use Rattle.pfl_base.specs.declared.state_name.StateName.{StateName}
-use Rattle.pfl_base.proofs.Names.{names_total, names_exact}
+use Rattle.pfl_base.proofs.ForCallers.{names_total, names_exact}
 use Rattle.pfl_edits.specs.Maps as maps
-use Rattle.pfl_edits.proofs.Maps.{len-insert}
-use Rattle.pfl_edits.proofs.Places.{get-set_at_cases}
+use Rattle.pfl_edits.proofs.ForCallers.{len-insert, get-set_at_cases}
 use Rattle.pfl_queue.specs.declared.Mark.{Mark}
 use Rattle.pfl_queue.specs.Queues.{Queue, IsQueue, pending}
 use Rattle.pfl_queue.specs.Edits.{with_name}

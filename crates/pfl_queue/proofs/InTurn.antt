@@ -10,10 +10,10 @@ use Rattle.std.proofs.lemmas.Cmp.{on_total, then_total}
 use Rattle.std.proofs.lemmas.List.Sorted.{ranks_by}
 use Rattle.pfl_base.specs.declared.state_name.StateName.{StateName}
 use Rattle.pfl_base.specs.Names.{name_cmp}
-use Rattle.pfl_base.proofs.Names.{names_total, names_exact}
+use Rattle.pfl_base.proofs.ForCallers.{names_total, names_exact}
 use Rattle.pfl_edits.specs.Maps as maps
 use Rattle.pfl_edits.specs.Maps.{Map}
-use Rattle.pfl_edits.proofs.RowMaps.{row_at, Distinct, get-map_of, same_key, own_key, some_is_none}
+use Rattle.pfl_edits.proofs.ForCallers.{row_at, Distinct, get-map_of, same_key, own_key, some_is_none}
 use Rattle.pfl_edits.specs.Rows.{map_of}
 use Rattle.pfl_queue.specs.declared.Mark.{Mark}
 use Rattle.pfl_queue.specs.Queues.{Queue, IsQueue}

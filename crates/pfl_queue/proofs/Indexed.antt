@@ -7,7 +7,7 @@ use Rattle.std.proofs.Common.{◌∙◌, ap, sym, subst, arith}
 use Rattle.pfl_edits.specs.Maps as maps
 use Rattle.pfl_edits.specs.Maps.{Map}
 use Rattle.pfl_chains.specs.Lists.{Link, link}
-use Rattle.pfl_hash.proofs.Entries.{entry_map-none}
+use Rattle.pfl_hash.proofs.ForCallers.{entry_map-none}
 use Rattle.pfl_queue.specs.inner.Slots.{IsIndex, HasNone}
 use Rattle.pfl_queue.proofs.Linked.{index-len, index-empty, index-with, index-without}
 

@@ -9,11 +9,9 @@ use Rattle.std.proofs.lemmas.List.Sorted.{IsPermutation-sym, IsPermutation-to_fr
 use Rattle.std.proofs.lemmas.Map.Keys.{IsDistinct-cons, IsDistinct-tail, IsDistinct-IsPermutation}
 use Rattle.pfl_base.specs.declared.state_name.StateName.{StateName}
 use Rattle.pfl_base.specs.Names.{name_cmp, is_name}
-use Rattle.pfl_base.proofs.Names.{names_total, names_exact, is_name-itself, is_name-same}
+use Rattle.pfl_base.proofs.ForCallers.{names_total, names_exact, is_name-itself, is_name-same}
 use Rattle.pfl_edits.specs.Maps as maps
-use Rattle.pfl_edits.proofs.Maps.{get-empty, len-empty, len-insert, len-remove}
-use Rattle.pfl_edits.proofs.Places.{get-set_at_cases, set_at-same}
-use Rattle.pfl_edits.proofs.RowMaps.{some_is_none}
+use Rattle.pfl_edits.proofs.ForCallers.{get-empty, len-empty, len-insert, len-remove, get-set_at_cases, set_at-same, some_is_none}
 use Rattle.pfl_wire.specs.declared.message.BulkStatus.{BulkStatus}
 use Rattle.pfl_queue.specs.declared.Cleared.{Cleared}
 use Rattle.pfl_queue.specs.declared.Kind.{Kind}

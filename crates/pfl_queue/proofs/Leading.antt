@@ -1,6 +1,6 @@
 -- An edit of a queue that is made leads back.
 use Rattle.std.specs.Prelude.{[], ◌∷◌}
-use Rattle.pfl_edits.proofs.Leading.{LeadsBack-one}
+use Rattle.pfl_edits.proofs.ForCallers.{LeadsBack-one}
 use Rattle.pfl_queue.specs.declared.edits.QueueEdit.{QueueEdit}
 use Rattle.pfl_queue.specs.Queues.{Queue, IsQueue}
 use Rattle.pfl_queue.specs.Edits.{FindsFormer, redone, Finds, put_back, QueueLeadsBack}

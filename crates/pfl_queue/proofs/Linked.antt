@@ -9,9 +9,9 @@ use Rattle.std.proofs.Common.{cond, ◌∙◌, ap, sym}
 use Rattle.pfl_edits.specs.Maps as maps
 use Rattle.pfl_edits.specs.Maps.{Map}
 use Rattle.pfl_edits.specs.Rows.{map_of}
-use Rattle.pfl_edits.proofs.RowMaps.{row_at, Distinct, own_key, same_key, get-map_of, len-map_of, row_at-between, map_of-between, map_of-without, Distinct-without, some_is_none}
+use Rattle.pfl_edits.proofs.ForCallers.{row_at, Distinct, own_key, same_key, get-map_of, len-map_of, row_at-between, map_of-between, map_of-without, Distinct-without, some_is_none}
 use Rattle.pfl_chains.specs.Lists.{Link}
-use Rattle.pfl_chains.proofs.Places.{Stands}
+use Rattle.pfl_chains.proofs.ForCallers.{Stands}
 use Rattle.pfl_queue.specs.inner.Mapped.{map_values}
 use Rattle.pfl_queue.proofs.Mapped.{get-map_values, len-map_values, map_values-set_at, map_values-empty}
 use Rattle.pfl_queue.specs.inner.Slots.{key_of, IsIndexOf, IsIndex, HasNone}

@@ -9,8 +9,7 @@ use Rattle.std.specs.FinMap.Entries.{find, is_sorted, below_all}
 use Rattle.std.proofs.Common.{cond, T, ◌∙◌, ap, sym, subst}
 use Rattle.pfl_edits.specs.Maps as maps
 use Rattle.pfl_edits.specs.Maps.{Map, set_at, same_entries_map, entries_sorted}
-use Rattle.pfl_edits.proofs.Maps.{same_map, entries-from_sorted, entries-empty, get-entries, len-entries}
-use Rattle.pfl_edits.proofs.Places.{get-set_at}
+use Rattle.pfl_edits.proofs.ForCallers.{same_map, entries-from_sorted, entries-empty, get-entries, len-entries, get-set_at}
 use Rattle.pfl_queue.specs.inner.Mapped.{at_value, map_values}
 
 values_at : {K X Y : Type 0} (f : X → Y) (es : List (K × X)) → map (λ e. e.1) (map (at_value f) es) ≡ map f (map (λ e. e.1) es)

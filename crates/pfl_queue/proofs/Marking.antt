@@ -7,15 +7,13 @@ use Rattle.std.proofs.Common.{cond, ◌∙◌, ap, sym, subst, arith}
 use Rattle.std.proofs.lemmas.List.{length-map, map-append}
 use Rattle.pfl_base.specs.declared.state_name.StateName.{StateName}
 use Rattle.pfl_base.specs.Names.{name_cmp}
-use Rattle.pfl_base.proofs.Names.{names_total, names_exact}
+use Rattle.pfl_base.proofs.ForCallers.{names_total, names_exact}
 use Rattle.pfl_edits.specs.Maps as maps
 use Rattle.pfl_edits.specs.Maps.{Map, set_at}
-use Rattle.pfl_edits.proofs.Maps.{len-insert}
-use Rattle.pfl_edits.proofs.Places.{get-set_at_same, get-set_at_other, set_at-set_at, set_at-same}
+use Rattle.pfl_edits.proofs.ForCallers.{len-insert, get-set_at_same, get-set_at_other, set_at-set_at, set_at-same, row_at, Distinct, get-map_of, len-map_of, map_of-between, map_of-without, some_is_none}
 use Rattle.pfl_edits.specs.Rows.{map_of}
-use Rattle.pfl_edits.proofs.RowMaps.{row_at, Distinct, get-map_of, len-map_of, map_of-between, map_of-without, some_is_none}
 use Rattle.pfl_chains.specs.Lists.{Link, link, Lists, Place, links_of, with_links, count_of}
-use Rattle.pfl_chains.proofs.Places.{length-with_links}
+use Rattle.pfl_chains.proofs.ForCallers.{length-with_links}
 use Rattle.pfl_hash.specs.Entries.{EntryList}
 use Rattle.pfl_order.specs.Entries.{EntryList as TurnList}
 use Rattle.pfl_queue.specs.declared.Kind.{Kind}

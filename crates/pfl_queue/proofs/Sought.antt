@@ -10,10 +10,9 @@ use Rattle.std.proofs.Common.{cond, inl, inr, T, ◌∙◌, ap, sym, subst, arit
 use Rattle.std.proofs.lemmas.Bool.{cases_lt}
 use Rattle.std.proofs.lemmas.List.{append-nil}
 use Rattle.pfl_edits.specs.Maps as maps
-use Rattle.pfl_edits.proofs.Maps.{entries-from_sorted}
+use Rattle.pfl_edits.proofs.ForCallers.{entries-from_sorted, filed, entries-map_of, some_is_none}
 use Rattle.pfl_edits.specs.Ordered.{IsBelow as IsLower, IsRising as Rise}
 use Rattle.pfl_edits.specs.Rows.{map_of}
-use Rattle.pfl_edits.proofs.RowMaps.{filed, entries-map_of, some_is_none}
 use Rattle.pfl_chains.specs.Lists.{Link, link, Lists, Place, links_of, last_slot}
 use Rattle.pfl_order.specs.Entries.{EntryList as TurnList}
 use Rattle.pfl_queue.specs.declared.Mark.{Mark}

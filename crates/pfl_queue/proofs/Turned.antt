@@ -8,13 +8,11 @@ use Rattle.std.proofs.lemmas.List.{append-nil, map-append, length-append}
 use Rattle.std.proofs.lemmas.List.Sums.{sum_by-cons}
 use Rattle.pfl_base.specs.Lists.{in_order}
 use Rattle.pfl_base.specs.Names.{name_cmp}
-use Rattle.pfl_base.proofs.Names.{names_total, names_exact}
+use Rattle.pfl_base.proofs.ForCallers.{names_total, names_exact}
 use Rattle.pfl_edits.specs.Maps as maps
 use Rattle.pfl_edits.specs.Maps.{Map}
-use Rattle.pfl_edits.proofs.Maps.{entries-empty}
-use Rattle.pfl_edits.proofs.Places.{get-set_at_same, set_at-back}
+use Rattle.pfl_edits.proofs.ForCallers.{entries-empty, get-set_at_same, set_at-back, Distinct, get-map_of, some_is_none}
 use Rattle.pfl_edits.specs.Rows.{map_of}
-use Rattle.pfl_edits.proofs.RowMaps.{Distinct, get-map_of, some_is_none}
 use Rattle.pfl_chains.specs.Lists.{Link, link, Lists, Place, links_of, first_slot}
 use Rattle.pfl_queue.specs.declared.Mark.{Mark}
 use Rattle.pfl_queue.specs.inner.Marked.{mark_of_link, mark_name, mark_number, all_links, listed, marks_of, AreOfKind, AreInTurn}

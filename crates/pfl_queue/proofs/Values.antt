@@ -10,11 +10,10 @@ use Rattle.std.proofs.lemmas.Bool.Decides.{nat_tests}
 use Rattle.std.proofs.lemmas.List.Sums.{sum_by-cons}
 use Rattle.pfl_base.specs.declared.state_name.StateName.{StateName}
 use Rattle.pfl_base.specs.Names.{name_cmp, is_name}
-use Rattle.pfl_base.proofs.Names.{names_total, names_exact, is_name-same}
+use Rattle.pfl_base.proofs.ForCallers.{names_total, names_exact, is_name-same}
 use Rattle.pfl_edits.specs.Maps as maps
 use Rattle.pfl_edits.specs.Maps.{Map, entries, entries_sorted}
-use Rattle.pfl_edits.proofs.Maps.{get-entries}
-use Rattle.pfl_edits.proofs.RowMaps.{same_key, own_key, some_is_none}
+use Rattle.pfl_edits.proofs.ForCallers.{get-entries, same_key, own_key, some_is_none}
 use Rattle.pfl_queue.specs.declared.Mark.{Mark}
 use Rattle.pfl_queue.specs.Queues.{Queue, IsQueue}
 

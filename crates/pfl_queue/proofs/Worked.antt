@@ -1,10 +1,10 @@
 -- Worked examples of full queues, computed.
-use Rattle.std.specs.Prelude.{◌≡◌, true, false, Some, None, refl}
+use Rattle.std.specs.Prelude.{◌≡◌, Some, None, refl}
 use Rattle.pfl_base.specs.declared.state_name.StateName.{StateName}
-use Rattle.pfl_edits.proofs.Maps as maps
+use Rattle.pfl_edits.proofs.ForCallers as maps
 use Rattle.pfl_queue.specs.declared.Kind.TheVariants.{Insert}
 use Rattle.pfl_queue.specs.declared.QueueFault.TheVariants.{QueueFull, CountFull}
-use Rattle.pfl_queue.specs.Queues.{empty_queue, is_counted_out, room_fault, mark_fault, marked, requested, request_fault}
+use Rattle.pfl_queue.specs.Queues.{empty_queue, room_fault, mark_fault, marked, requested, request_fault}
 
 abbrev name : StateName
 name = record { creator = 1; id = 1 }
@@ -23,12 +23,6 @@ one_before_the_last = refl
 room_past_the_last : room_fault (empty_queue 4 4294967295) name ≡ None
 unfolding maps.computing
 room_past_the_last = refl
-
-counted_out : is_counted_out (marked (empty_queue 4 4294967295) name Insert) ≡ true
-counted_out = refl
-
-not_yet : is_counted_out (marked (empty_queue 4 4294967294) name Insert) ≡ false
-not_yet = refl
 
 full_after_the_last : room_fault (marked (empty_queue 1 4294967295) name Insert) other ≡ Some QueueFull
 unfolding maps.computing

@@ -1,6 +1,6 @@
 -- The pending queues: names with a kind and a number, and lists of requests, statuses and clears (if_pfsync.c; the numbers are
 -- this project's profile).
-use Rattle.std.specs.Prelude.{◌≡◌, ◌≤◌, ◌<◌, ℕ, ◌+◌, ◌^◌, Bool, not, ◌&&◌, nat_lt, nat_le, List, [], ◌∷◌, ◌++◌, length, refl, Option, Some, None, is_some, if◌then◌else◌}
+use Rattle.std.specs.Prelude.{◌≡◌, ◌≤◌, ◌<◌, ℕ, ◌+◌, ◌^◌, Bool, not, ◌&&◌, nat_le, List, [], ◌∷◌, ◌++◌, length, refl, Option, Some, None, is_some, if◌then◌else◌}
 use Rattle.std.specs.List.{list_any, IsDistinct}
 use Rattle.std.specs.Option.{option_map}
 use Rattle.std.specs.Coded.{Coded, code_by, coded×, coded_ℕ, coded_list}
@@ -44,10 +44,6 @@ pending q = maps.len q.marks + length q.requests + length q.statuses + length q.
 -- no event comes near.
 abbrev pub most_numbers : ℕ
 most_numbers = 2 ^ 63
-
--- the numbers have passed the greatest
-abbrev pub is_counted_out : Queue → Bool
-is_counted_out q = nat_lt 4294967295 q.next
 
 -- the pending queues: each mark under its own name with a number of its own below the next one, and no request twice
 pub record IsQueue (q : Queue) : Type 0 where

@@ -1,10 +1,10 @@
 //! The pending queues of a node.
 ghost use Rattle.std.specs.Prelude.{◌≡◌, ◌==◌, ◌≤◌, ◌<◌, [], ◌∷◌, take, IfOk, IfSome, IfErr, OnErr, OnOk, OnSome, IfNone, Some, None, is_some, nat_le, if◌then◌else◌};
 ghost use Rattle.std.specs.VecDeque.Iter.{deque_iter_rest};
-ghost use Rattle.pfl_edits.specs.Maps as maps;
-ghost use Rattle.pfl_queue.specs.Queues.{Queue, IsQueue, empty_queue, pending, kind_of, marked, unmarked, is_requested, requested, with_status, with_clear, most_numbers, is_counted_out, room_fault, mark_fault, list_fault, request_fault};
-ghost use Rattle.pfl_queue.specs.Laws.{NothingTwice};
 ghost use Rattle.pfl_base.specs.Lists.{in_order};
+ghost use Rattle.pfl_edits.specs.Maps as maps;
+ghost use Rattle.pfl_queue.specs.Queues.{Queue, IsQueue, empty_queue, pending, kind_of, marked, unmarked, is_requested, requested, with_status, with_clear, most_numbers, room_fault, mark_fault, list_fault, request_fault};
+ghost use Rattle.pfl_queue.specs.Laws.{NothingTwice};
 ghost use Rattle.pfl_queue.specs.Taking.{mark_before, gone, left_by};
 ghost use Rattle.pfl_queue.specs.Edits.{QueueLeadsBack, FindsFormer, redone, marking, unmarking, requesting, listing_status, listing_clear};
 
@@ -189,13 +189,6 @@ impl<A: Allocator> Pending<A> {
         Some(mark.kind)
     }
 
-    /// The numbers have passed the greatest, so the event that has led here is refused with CountFull.
-    pub fn is_counted_out(&self) -> bool
-        ensures counted_out { result ≡ is_counted_out self.now }
-    {
-        GREATEST_NUMBER < self.next
-    }
-
     /// Why there is no room to mark a name, if there is a reason. A name that is marked already takes no room.
     pub fn room_fault(&self, name: StateName) -> Option<QueueFault>
         ensures fault { result ≡ room_fault self.now name }
@@ -207,7 +200,7 @@ impl<A: Allocator> Pending<A> {
     }
 
     /// Why a name may not be marked, if there is a reason: the first one.
-    pub fn mark_fault(&self, name: StateName) -> Option<QueueFault>
+    fn mark_fault(&self, name: StateName) -> Option<QueueFault>
         ensures fault { result ≡ mark_fault self.now name }
     {
         if let Some(fault) = self.room_fault(name) {
@@ -235,7 +228,7 @@ impl<A: Allocator> Pending<A> {
     }
 
     /// Marks as `mark` does, also with a number past the greatest. An event goes on so, since one that meets QueueFull
-    /// later is refused with that; where it ends, `is_counted_out` tells of CountFull.
+    /// later is refused with that; where it ends, the next number tells of CountFull.
     pub fn mark_on(&mut self, name: StateName, kind: Kind) -> Result<QueueEdit, QueueFault>
         requires countable { self.old.next < most_numbers }
         ensures fault { IfErr result (λ f. room_fault self.old name ≡ Some f) }
@@ -305,16 +298,6 @@ impl<A: Allocator> Pending<A> {
             return Some(QueueFault::QueueFull);
         }
         None
-    }
-
-    /// Why a name may not be asked for, if there is a reason. A request that is listed already takes no room.
-    pub fn request_fault(&self, name: StateName) -> Option<QueueFault>
-        ensures fault { result ≡ request_fault self.now name }
-    {
-        if self.is_requested(name) {
-            return None;
-        }
-        self.list_fault()
     }
 
     /// Lists a request, once. There is no edit where it is listed already.

@@ -9,18 +9,18 @@ use Rattle.std.specs.FinMap.Entries.{is_sorted, below_all}
 use Rattle.std.proofs.Common.{cond, T, ◌∙◌, ap, sym, subst, arith}
 use Rattle.pfl_base.specs.declared.state_name.StateName.{StateName}
 use Rattle.pfl_base.specs.Names.{name_cmp}
-use Rattle.pfl_base.proofs.Names.{names_total}
+use Rattle.pfl_base.proofs.ForCallers.{names_total}
 use Rattle.pfl_edits.specs.Changes.{Edits}
 use Rattle.pfl_edits.specs.Maps as maps
 use Rattle.pfl_edits.specs.Maps.{entries_sorted}
-use Rattle.pfl_edits.proofs.Maps.{len-entries, len-remove, contains_key-keys}
+use Rattle.pfl_edits.proofs.ForCallers.{len-entries, len-remove, contains_key-keys}
 use Rattle.pfl_track.specs.declared.state.State.{State}
 use Rattle.pfl_table.specs.Tables.{States}
 use Rattle.pfl_parts.specs.declared.edit.NodeEdit.{NodeEdit}
 use Rattle.pfl_parts.specs.Changes.{forgotten, is_held, count_lost, without_held}
 use Rattle.pfl_parts.specs.Edits.{NodeExtends}
 use Rattle.pfl_parts.specs.Nodes.{Node}
-use Rattle.pfl_parts.proofs.Recording.{extends-none, extends-then}
+use Rattle.pfl_parts.proofs.ForCallers.{extends-none, extends-then}
 use Rattle.pfl_receive.specs.Receiving.{clear_taken, cleared_names}
 
 -- ---- the names of a map

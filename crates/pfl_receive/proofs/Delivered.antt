@@ -9,7 +9,7 @@ use Rattle.pfl_wire.specs.declared.message.Message.{Message}
 use Rattle.pfl_parts.specs.declared.edit.NodeEdit.{NodeEdit}
 use Rattle.pfl_parts.specs.Edits.{NodeExtends}
 use Rattle.pfl_parts.specs.Nodes.{Node, is_overfull, is_overcounted}
-use Rattle.pfl_parts.proofs.Recording.{extends-none, extends-then}
+use Rattle.pfl_parts.proofs.ForCallers.{extends-none, extends-then}
 use Rattle.pfl_receive.specs.inner.Delivering.{ArePaid, IsPaid, most_taken}
 use Rattle.pfl_receive.specs.Delivering.{cleared_by, records_work, taken_points}
 use Rattle.pfl_receive.specs.Receiving.{taken}

@@ -12,10 +12,10 @@ use Rattle.std.proofs.Common.{cond, T, ◌∙◌, ap, sym, arith, inl, inr}
 use Rattle.std.proofs.lemmas.Bool.Decides.{nat_tests}
 use Rattle.pfl_base.specs.declared.state_name.StateName.{StateName}
 use Rattle.pfl_base.specs.Names.{name_cmp}
-use Rattle.pfl_base.proofs.Names.{names_exact, names_total}
+use Rattle.pfl_base.proofs.ForCallers.{names_exact, names_total}
 use Rattle.pfl_edits.specs.Maps as maps
 use Rattle.pfl_edits.specs.Maps.{entries_sorted}
-use Rattle.pfl_edits.proofs.Maps.{get-entries}
+use Rattle.pfl_edits.proofs.ForCallers.{get-entries}
 use Rattle.pfl_track.specs.declared.state.State.{State}
 use Rattle.pfl_table.specs.Tables.{States, AreStates, state_after}
 use Rattle.pfl_parts.specs.Nodes.{Node}

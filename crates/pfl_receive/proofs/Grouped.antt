@@ -12,7 +12,7 @@ use Rattle.pfl_wire.specs.Frames.{lists}
 use Rattle.pfl_parts.specs.declared.edit.NodeEdit.{NodeEdit}
 use Rattle.pfl_parts.specs.Edits.{NodeExtends}
 use Rattle.pfl_parts.specs.Nodes.{Node, is_overfull, is_overcounted}
-use Rattle.pfl_parts.proofs.Recording.{extends-none, extends-then}
+use Rattle.pfl_parts.proofs.ForCallers.{extends-none, extends-then}
 use Rattle.pfl_receive.specs.inner.Delivering.{ArePaid, most_taken}
 use Rattle.pfl_receive.specs.Delivering.{all_of, most_records, records_work, taken_points}
 use Rattle.pfl_receive.specs.Receiving.{taken}

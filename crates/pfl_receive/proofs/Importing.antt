@@ -4,13 +4,12 @@ use Rattle.std.specs.Option.{option_map}
 use Rattle.std.proofs.Common.{cond, T, ◌∙◌, ap, sym, subst, arith}
 use Rattle.std.proofs.lemmas.Bool.Decides.{nat_tests}
 use Rattle.pfl_base.specs.declared.state_name.StateName.{StateName}
-use Rattle.pfl_base.proofs.Names.{names_total, names_exact}
+use Rattle.pfl_base.proofs.ForCallers.{names_total, names_exact}
 use Rattle.pfl_edits.specs.Maps as maps
-use Rattle.pfl_edits.proofs.Maps.{len-insert}
-use Rattle.pfl_edits.proofs.Places.{get-set_at_same}
+use Rattle.pfl_edits.proofs.ForCallers.{len-insert, get-set_at_same}
 use Rattle.pfl_track.specs.States.{IsState}
 use Rattle.pfl_table.specs.Tables.{key_in_use}
-use Rattle.pfl_table.proofs.Apart.{OwnsKeys-unused}
+use Rattle.pfl_table.proofs.ForCallers.{OwnsKeys-unused}
 use Rattle.pfl_wire.specs.declared.message.StateRecord.{StateRecord}
 use Rattle.pfl_queue.specs.declared.Kind.{Kind}
 use Rattle.pfl_queue.specs.declared.Kind.TheVariants.{InsertAck}
@@ -19,7 +18,7 @@ use Rattle.pfl_queue.specs.Queues.{kind_of}
 use Rattle.pfl_parts.specs.Changes.{put_state}
 use Rattle.pfl_parts.specs.inner.Kept.{MayAdd, MayMark}
 use Rattle.pfl_parts.specs.Nodes.{Node, AreParts, IsNodeState, IsGiven}
-use Rattle.pfl_parts.proofs.Putting.{put-node, told-may}
+use Rattle.pfl_parts.proofs.ForCallers.{put-node, told-may}
 use Rattle.pfl_receive.specs.Receiving.{is_not_given, is_delete, can_import, imported, kept_rule}
 
 -- ---- why it may be

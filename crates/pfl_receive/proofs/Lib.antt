@@ -8,3 +8,4 @@ pub mod Paying
 pub mod Serving
 pub mod Grouped
 pub mod Weighing
+pub mod ForCallers

@@ -3,11 +3,11 @@ use Rattle.std.specs.Prelude.{◌≡◌, ◌≤◌, ℕ, ◌+◌, ◌-◌, ◌||
 use Rattle.std.specs.Option.{option_map_or}
 use Rattle.std.proofs.Common.{cond, ◌∙◌, ap, sym, subst, arith}
 use Rattle.pfl_base.specs.declared.state_name.StateName.{StateName}
-use Rattle.pfl_base.proofs.Names.{names_total}
+use Rattle.pfl_base.proofs.ForCallers.{names_total}
 use Rattle.pfl_base.specs.Packets.{is_tcp}
 use Rattle.pfl_edits.specs.Changes.{Edits}
 use Rattle.pfl_edits.specs.Maps as maps
-use Rattle.pfl_edits.proofs.Maps.{len-insert, len-remove}
+use Rattle.pfl_edits.proofs.ForCallers.{len-insert, len-remove}
 use Rattle.pfl_rules.specs.Rules.{timeout}
 use Rattle.pfl_track.specs.declared.state.State.{State}
 use Rattle.pfl_wire.specs.declared.message.StateRecord.{StateRecord}

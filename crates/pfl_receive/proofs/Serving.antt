@@ -7,7 +7,7 @@ use Rattle.pfl_bulk.specs.declared.BulkServer.{BulkServer}
 use Rattle.pfl_bulk.specs.declared.BulkServer.TheVariants as server
 use Rattle.pfl_bulk.specs.declared.BulkClient.{BulkClient}
 use Rattle.pfl_bulk.specs.declared.BulkClient.TheVariants as client
-use Rattle.pfl_bulk.specs.Bulk.{started, after_status}
+use Rattle.pfl_bulk.specs.Bulk.{server_started, after_status}
 use Rattle.pfl_parts.specs.Nodes.{Node, AreParts, ServesSince, AskedAt}
 
 serves : (n m : Node) (s : BulkServer) → m.clock ≡ n.clock → ServesSince n s → ServesSince m s
@@ -15,7 +15,7 @@ serves n m server.Idle same h = tt
 serves n m (server.Serving cursor since) same h = omega (arith, same, h)
 
 -- a server that begins, at a node that has the same clock
-pub started-past : (n m : Node) (has_states : Bool) → AreParts n → m.clock ≡ n.clock → ServesSince m (started n.server has_states n.clock)
+pub started-past : (n m : Node) (has_states : Bool) → AreParts n → m.clock ≡ n.clock → ServesSince m (server_started n.server has_states n.clock)
 started-past n m true is same = omega (arith, same)
 started-past n m false is same = serves n m n.server same is.serving
 

@@ -21,7 +21,7 @@ use Rattle.pfl_queue.specs.Queues.{kind_of}
 use Rattle.pfl_merge.specs.declared.received.Received.{Received}
 use Rattle.pfl_merge.specs.declared.merged.Merged.{Merged}
 use Rattle.pfl_merge.specs.Merging.{merged, last_use}
-use Rattle.pfl_bulk.specs.Bulk.{no_name, started, after_status}
+use Rattle.pfl_bulk.specs.Bulk.{no_name, server_started, after_status}
 use Rattle.pfl_parts.specs.Nodes.{Node}
 use Rattle.pfl_parts.specs.Changes.{put_state, mark, push_if, ask, tell_status, count_bad, count_stale, lost, released, changed, forgotten}
 
@@ -106,7 +106,7 @@ has_states n = nat_lt 0 (maps.len n.states)
 
 -- all states are asked for: a node without states is done at once
 abbrev pub bulk_taken : Node → Node
-bulk_taken n = record (tell_status n (if has_states n then Start else Finish)) { server = started n.server (has_states n) n.clock }
+bulk_taken n = record (tell_status n (if has_states n then Start else Finish)) { server = server_started n.server (has_states n) n.clock }
 
 -- on no queue, or on one that tells less than the whole state
 abbrev pub is_partly_told : Option Kind → Bool
@@ -116,13 +116,13 @@ is_partly_told (Some InsertAck) = true
 is_partly_told (Some _) = false
 
 -- a state is asked for
-abbrev pub answered : Node → State → Node
-answered n s = if not s.no_sync && is_partly_told (kind_of n.queue s.name) then push_if true (mark n s.name Update) else n
+abbrev pub state_answered : Node → State → Node
+state_answered n s = if not s.no_sync && is_partly_told (kind_of n.queue s.name) then push_if true (mark n s.name Update) else n
 
 -- a request: for all, for a state, or a bad one
 abbrev pub request_taken : Node → StateName → Node
 request_taken n name =
-    if is_name no_name name then bulk_taken n else option_map_or (answered n) (maps.get n.states name) (count_bad n)
+    if is_name no_name name then bulk_taken n else option_map_or (state_answered n) (maps.get n.states name) (count_bad n)
 
 -- ---- the rest
 

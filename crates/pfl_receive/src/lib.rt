@@ -4,14 +4,14 @@
 mod ack;
 mod bulk;
 mod clear;
-mod counting;
 mod deletion;
 mod frame;
 mod insertion;
+mod record_count;
 mod records;
 mod request;
 mod update;
 
-pub use counting::count_records;
 pub use frame::{take_all, take_frame};
+pub use record_count::count_records;
 pub use records::take_record;

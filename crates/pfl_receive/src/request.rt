@@ -80,8 +80,8 @@ fn answer<A: Allocator>(
     requires countable { total parts.old + change.old.spare ≤ most_numbers }
     requires parts { AreParts parts.old }
     requires stands { maps.get parts.old.states state.now.name ≡ Some state.now }
-    ensures full { OnErr result (is_overfull (receiving.answered parts.old state.now) ≡ true) }
-    ensures node { OnOk result (parts.new ≡ receiving.answered parts.old state.now) }
+    ensures full { OnErr result (is_overfull (receiving.state_answered parts.old state.now) ≡ true) }
+    ensures node { OnOk result (parts.new ≡ receiving.state_answered parts.old state.now) }
     ensures extends { NodeExtends 2 change.old change.new parts.old parts.new }
 {
     let name = state.name();

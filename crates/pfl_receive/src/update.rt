@@ -72,7 +72,7 @@ fn take_merge<A: Allocator>(
 {
     let timeout = parts.rules().timeout(state.rule(), received.class);
     let merged = merge(state, received, timeout, parts.clock());
-    parts.lose(state.name(), change);
+    parts.drop_held(state.name(), change);
     put_merged(parts, &merged, change)
 }
 

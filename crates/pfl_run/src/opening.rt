@@ -7,7 +7,7 @@ ghost use Rattle.pfl_run.specs.inner.Runs.{IsLimitsStop};
 
 use crate::fault::LabFault;
 use pfl_base::Input;
-use pfl_parts::{LimitFault, Limits};
+use pfl_language::{LimitFault, Limits};
 use pfl_script::{LineReader, Setup, read_setup};
 use pfl_world::WorldFault;
 use std::alloc::Allocator;

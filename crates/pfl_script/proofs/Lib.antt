@@ -8,3 +8,4 @@ pub mod Logging
 pub mod Setting
 pub mod Turns
 pub mod Scans
+pub mod ForCallers

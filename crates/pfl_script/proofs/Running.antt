@@ -7,7 +7,7 @@ use Rattle.pfl_lines.specs.Commands.{parsed}
 use Rattle.pfl_timeline.specs.Timelines.{Timeline}
 use Rattle.pfl_script.specs.Lines.{lines_of}
 use Rattle.pfl_script.specs.Scans.{Kept, Keeps, ReadsLine, TakesLine, TakesLines, IsOver}
-use Rattle.pfl_script.specs.Answers.{Answer, line_answer, is_bad, is_command, kept_answer, kept_bad, kept_command, kept_said, text, after, bad_lines, one_if, IsAfter, AreLines, AreFirst, Drains, RunsWhole, RunsPart, RunsLines, RunsUnanswered, RunsUntil}
+use Rattle.pfl_script.specs.Answers.{Answer, line_answer, is_bad, is_command, kept_answer, kept_bad, kept_command, kept_said, text, timeline_after, bad_lines, one_if, IsAfter, AreLines, AreFirst, Drains, RunsWhole, RunsPart, RunsLines, RunsUnanswered, RunsUntil}
 use Rattle.pfl_script.specs.inner.Answers.{Breaks}
 use Rattle.pfl_script.specs.declared.fault.EngineFault.{EngineFault}
 use Rattle.pfl_script.specs.declared.fault.EngineFault.TheVariants as engine
@@ -18,7 +18,7 @@ use Rattle.pfl_script.proofs.Pieces.{appends_none, appends_then}
 pub record Ran (old new : Option (List ℕ)) (t u : Timeline) (w v : Option (List ℕ)) (n bad : ℕ) : Type 0 where
   pub lines : List (List ℕ)
   pub left : TakesLines old new lines
-  pub timeline : u ≡ after lines t
+  pub timeline : u ≡ timeline_after lines t
   pub written : Appends w v (text lines t)
   pub counted : n ≡ length lines
   pub faulty : bad ≡ bad_lines lines
@@ -47,13 +47,13 @@ unfolding kept_command is_command
 command-kept k body h = rw (h.head, said-kept k body h) refl
 
 -- one line more
-after-push : (lines : List (List ℕ)) (line : List ℕ) (t : Timeline) → after (lines ++ line ∷ []) t ≡ (line_answer line (after lines t)).timeline
+after-push : (lines : List (List ℕ)) (line : List ℕ) (t : Timeline) → timeline_after (lines ++ line ∷ []) t ≡ (line_answer line (timeline_after lines t)).timeline
 after-push [] line t = refl
 after-push (x ∷ lines) line t = after-push lines line (line_answer x t).timeline
 
 -- the text of one line more
 text-push : (lines : List (List ℕ)) (line : List ℕ) (t : Timeline) →
-    text (lines ++ line ∷ []) t ≡ text lines t ++ (line_answer line (after lines t)).text
+    text (lines ++ line ∷ []) t ≡ text lines t ++ (line_answer line (timeline_after lines t)).text
 text-push [] line t = append-nil _
 text-push (x ∷ lines) line t =
     ap (λ (s : List ℕ). (line_answer x t).text ++ s) (text-push lines line (line_answer x t).timeline)
@@ -125,7 +125,7 @@ pub Ran-more : (old mid new : Option (List ℕ)) (t u s : Timeline) (w v x : Opt
 Ran-more old mid new t u s w v x n bad k ran reads moved appends =
     let line = reads.body in
     let lines = ran.lines in
-    let answer : kept_answer k u ≡ line_answer line (after lines t) =
+    let answer : kept_answer k u ≡ line_answer line (timeline_after lines t) =
     answer-kept k line u reads.keeps ∙ ap (line_answer line) ran.timeline in
     record {
       lines = lines ++ line ∷ [];
@@ -169,7 +169,7 @@ Ran-cut : (old mid new : Option (List ℕ)) (t u s : Timeline) (w v x : Option (
 Ran-cut old mid new t u s w v x n bad part k ran reads moved appends =
     let line = reads.body in
     let lines = ran.lines in
-    let answer : kept_answer k u ≡ line_answer line (after lines t) =
+    let answer : kept_answer k u ≡ line_answer line (timeline_after lines t) =
     answer-kept k line u reads.keeps ∙ ap (line_answer line) ran.timeline in
     record {
       lines = lines;
@@ -221,7 +221,7 @@ Ran-unanswered old mid new t u s w v x n bad k ran reads command same moved = re
   last = reads.body;
   taken = taken-line old mid new ran.lines reads.body ran.left reads.takes;
   command = sym (command-kept k reads.body reads.keeps) ∙ command;
-  timeline = after-kept k reads.body (after ran.lines t) u s reads.keeps ran.timeline moved;
+  timeline = after-kept k reads.body (timeline_after ran.lines t) u s reads.keeps ran.timeline moved;
   written = rw same ran.written;
 }
 

@@ -1,7 +1,7 @@
 -- What lines do to a timeline, and the text of their replies.
 use Rattle.std.specs.Prelude.{◌≡◌, ◌≤◌, ℕ, ◌+◌, Bool, true, false, not, ◌&&◌, is_err, List, [], ◌∷◌, ◌++◌, length, take, if◌then◌else◌, Option, Some, None, ⊤, ◌⊎◌, Result, Ok, Err}
 use Rattle.std.specs.Io.KnownBytes.{Appends}
-use Rattle.pfl_timeline.specs.declared.command.Command.{Command}
+use Rattle.pfl_language.specs.declared.command.Command.{Command}
 use Rattle.pfl_lines.specs.declared.fault.LineFault.{LineFault}
 use Rattle.pfl_lines.specs.declared.fault.LineFault.TheVariants.{Long}
 use Rattle.pfl_lines.specs.Commands.{parsed}
@@ -46,9 +46,9 @@ text [] t = []
 text (line ∷ lines) t = (line_answer line t).text ++ text lines (line_answer line t).timeline
 
 -- the timeline after lines
-abbrev pub after : List (List ℕ) → Timeline → Timeline
-after [] t = t
-after (line ∷ lines) t = after lines (line_answer line t).timeline
+abbrev pub timeline_after : List (List ℕ) → Timeline → Timeline
+timeline_after [] t = t
+timeline_after (line ∷ lines) t = timeline_after lines (line_answer line t).timeline
 
 -- one for a faulty line
 abbrev pub one_if : Bool → ℕ
@@ -109,7 +109,7 @@ pub record RunsWhole (old new : Option (List ℕ)) (t u : Timeline) (w v : Optio
   pub lines : List (List ℕ)
   pub all : AreLines old lines
   pub end : Drains old new
-  pub timeline : u ≡ after lines t
+  pub timeline : u ≡ timeline_after lines t
   pub written : Appends w v (text lines t)
   pub counted : n ≡ length lines
   pub faulty : bad ≡ bad_lines lines
@@ -120,15 +120,15 @@ pub record RunsPart (old : Option (List ℕ)) (t u : Timeline) (w v : Option (Li
   pub last : List (List ℕ)
   pub few : length last ≤ 1
   pub first : AreFirst old (lines ++ last)
-  pub timeline : u ≡ after (lines ++ last) t
+  pub timeline : u ≡ timeline_after (lines ++ last) t
   pub part : ℕ
-  pub written : Appends w v (text lines t ++ take part (text last (after lines t)))
+  pub written : Appends w v (text lines t ++ take part (text last (timeline_after lines t)))
 
 -- First lines were read: the timeline is the one that they give, and their whole text was written.
 pub record RunsLines (old : Option (List ℕ)) (t u : Timeline) (w v : Option (List ℕ)) : Type 0 where
   pub lines : List (List ℕ)
   pub first : AreFirst old lines
-  pub timeline : u ≡ after lines t
+  pub timeline : u ≡ timeline_after lines t
   pub written : Appends w v (text lines t)
 
 -- First lines were read, the last of them a command: it was executed or not, and the whole text of those before it was written.
@@ -137,7 +137,7 @@ pub record RunsUnanswered (old new : Option (List ℕ)) (t u : Timeline) (w v : 
   pub last : List ℕ
   pub taken : TakesLines old new (lines ++ last ∷ [])
   pub command : is_command last ≡ true
-  pub timeline : IsAfter (line_answer last (after lines t)) (after lines t) u
+  pub timeline : IsAfter (line_answer last (timeline_after lines t)) (timeline_after lines t) u
   pub written : Appends w v (text lines t)
 
 -- what a run did before this fault

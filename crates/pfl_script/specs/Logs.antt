@@ -1,7 +1,7 @@
 -- The lines that tell the events of a branch (this project's profile).
 use Rattle.std.specs.Prelude.{ℕ, ◌+◌, List, [], ◌∷◌, ◌++◌, length, codes}
 use Rattle.std.specs.Fmt.{decimal}
-use Rattle.pfl_world.specs.declared.event.Event.{Event}
+use Rattle.pfl_language.specs.declared.event.Event.{Event}
 use Rattle.pfl_lines.specs.Written.{step_text}
 
 -- the branch, with the number of its events and its cursor

@@ -7,8 +7,8 @@ use Rattle.pfl_base.specs.declared.node_id.NodeId.TheVariants.{A, B}
 use Rattle.pfl_rules.specs.declared.rule.Rule.{Rule}
 use Rattle.pfl_rules.specs.declared.fault.RuleFault.{RuleFault}
 use Rattle.pfl_rules.specs.Rules.{Rules, rule_set, rule_fault}
-use Rattle.pfl_parts.specs.declared.limits.Limits.{Limits}
-use Rattle.pfl_parts.specs.Limits.{default_limits, with_limit}
+use Rattle.pfl_language.specs.declared.limits.Limits.{Limits}
+use Rattle.pfl_language.specs.Limits.{default_limits, with_limit}
 use Rattle.pfl_lines.specs.declared.fault.LineFault.{LineFault}
 use Rattle.pfl_lines.specs.declared.setup.SetupLine.{SetupLine}
 use Rattle.pfl_lines.specs.declared.setup.SetupLine.TheVariants as setup

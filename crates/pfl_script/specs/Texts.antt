@@ -4,17 +4,17 @@ use Rattle.std.specs.Fmt.{decimal}
 use Rattle.pfl_base.specs.Refusals.{refusal_number}
 use Rattle.pfl_base.specs.Texts.{name_text, refusal_text}
 use Rattle.pfl_wire.specs.Faults.{frame_fault, fault_number as frame_fault_number}
-use Rattle.pfl_node.specs.declared.event.NodeOutcome.{NodeOutcome}
-use Rattle.pfl_node.specs.declared.event.NodeOutcome.TheVariants as given
-use Rattle.pfl_node.specs.declared.fate.Fate.{Fate}
-use Rattle.pfl_node.specs.declared.fate.Fate.TheVariants as fate
-use Rattle.pfl_node.specs.declared.fate.Reason.{Reason}
-use Rattle.pfl_node.specs.declared.retried.Retried.TheVariants as retried
-use Rattle.pfl_node.specs.declared.fate.Reason.TheVariants.{Block, Max, Full, Key, Window}
-use Rattle.pfl_world.specs.declared.outcome.Outcome.{Outcome}
-use Rattle.pfl_world.specs.declared.outcome.Outcome.TheVariants.{At, Sent, Taken, Broken, Lost, CutTo, Boot}
-use Rattle.pfl_timeline.specs.declared.refused.Refused.{Refused}
-use Rattle.pfl_timeline.specs.declared.refused.Refused.TheVariants as refused
+use Rattle.pfl_language.specs.declared.node_event.NodeOutcome.{NodeOutcome}
+use Rattle.pfl_language.specs.declared.node_event.NodeOutcome.TheVariants as given
+use Rattle.pfl_language.specs.declared.fate.Fate.{Fate}
+use Rattle.pfl_language.specs.declared.fate.Fate.TheVariants as fate
+use Rattle.pfl_language.specs.declared.fate.Reason.{Reason}
+use Rattle.pfl_language.specs.declared.retried.Retried.TheVariants as retried
+use Rattle.pfl_language.specs.declared.fate.Reason.TheVariants.{Block, Max, Full, Key, Window}
+use Rattle.pfl_language.specs.declared.outcome.Outcome.{Outcome}
+use Rattle.pfl_language.specs.declared.outcome.Outcome.TheVariants.{At, Sent, Taken, Broken, Lost, CutTo, Boot}
+use Rattle.pfl_language.specs.declared.refused.Refused.{Refused}
+use Rattle.pfl_language.specs.declared.refused.Refused.TheVariants as refused
 use Rattle.pfl_lines.specs.declared.fault.LineFault.{LineFault}
 use Rattle.pfl_lines.specs.declared.fault.LineFault.TheVariants.{Long, NotAscii, Unknown, Missing, Number, Extra, Packet}
 

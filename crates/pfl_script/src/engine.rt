@@ -5,7 +5,7 @@ ghost use Rattle.pfl_base.specs.Counts.{Counts};
 ghost use Rattle.pfl_script.specs.Answers.{RunsWhole, RunsPart, RunsUntil, one_if};
 ghost use Rattle.pfl_script.specs.Readers.{IsRunFault, counted_on};
 
-use crate::answering::answer_line;
+use crate::answer::answer_line;
 use crate::fault::EngineFault;
 use crate::line_reader::LineReader;
 use pfl_base::{Input, Output};

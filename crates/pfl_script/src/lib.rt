@@ -1,8 +1,8 @@
 //! Lines that are read and executed: setups, commands, and the text of their replies.
 #![tactic(auto)]
 
-mod answering;
-mod checking;
+mod answer;
+mod check;
 mod engine;
 mod fault;
 mod head;
@@ -14,6 +14,7 @@ mod logged;
 mod node_lines;
 mod optional;
 mod outcomes;
+mod output;
 mod refusals;
 mod replies;
 mod setup;
@@ -21,9 +22,8 @@ mod setup_fault;
 mod short_line;
 mod shown;
 mod state_lines;
-mod writing;
 
-pub use checking::{Checked, check_lines};
+pub use check::{Checked, check_lines};
 pub use engine::{Ended, run_lines};
 pub use fault::EngineFault;
 pub use head::Head;
@@ -33,9 +33,9 @@ pub use link_lines::{FrameLine, LinkLine};
 pub use node_lines::{
     AskLine, BulkWords, BusLine, ClearLine, CountLine, HeldLine, NodeLine, NumbersWords, QueueLine,
 };
+pub use output::{write_reply, write_text};
 pub use replies::fault_line;
 pub use setup::{Setup, read_setup};
 pub use setup_fault::SetupFault;
 pub use short_line::{ShortLine, plain_line, push_number};
 pub use state_lines::StateLine;
-pub use writing::{write_reply, write_text};

@@ -5,10 +5,10 @@ ghost use Rattle.pfl_script.specs.Answers.{kept_said, kept_session, kept_setup};
 ghost use Rattle.pfl_script.specs.Scans.{nothing, pushed, settled, added, head_after, has_word};
 
 use crate::head::Head;
+use pfl_language::Command;
 use pfl_lines::{
     LONGEST, LineFault, SessionLine, SetupLine, parse_line, parse_session, parse_setup,
 };
-use pfl_timeline::Command;
 use std::marker::Model;
 
 const CARRIAGE_RETURN: u8 = 13;

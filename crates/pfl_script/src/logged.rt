@@ -6,8 +6,8 @@ ghost use Rattle.pfl_script.specs.Logs.{log_line, logged_line, logged_lines, log
 
 use crate::listed::push_shown;
 use pfl_edits::NoMemory;
+use pfl_language::Event;
 use pfl_lines::EventWords;
-use pfl_world::Event;
 use std::alloc::Allocator;
 
 /// Puts the first line behind a text.

@@ -4,9 +4,8 @@ ghost use Rattle.std.specs.Prelude.{◌≡◌, Some};
 ghost use Rattle.pfl_script.specs.Texts.{reason_text, fate_text, given_text, outcome_text};
 
 use crate::optional::OptionalName;
-use pfl_node::{Fate, NodeOutcome, Reason, Retried};
+use pfl_language::{Fate, NodeOutcome, Outcome, Reason, Retried};
 use pfl_wire::FrameFault;
-use pfl_world::Outcome;
 use std::fmt;
 
 /// Why a packet is dropped, as a word of a line.

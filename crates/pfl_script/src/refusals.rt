@@ -3,7 +3,7 @@
 ghost use Rattle.std.specs.Prelude.{◌≡◌, Some};
 ghost use Rattle.pfl_script.specs.Texts.{refused_text};
 
-use pfl_timeline::Refused;
+use pfl_language::Refused;
 use std::fmt;
 
 /// Why a command is refused: its number and its word, and for an event the refusal behind them.

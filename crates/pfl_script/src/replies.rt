@@ -13,9 +13,9 @@ use crate::outcomes::OutcomeWords;
 use crate::refusals::RefusedWords;
 use crate::shown::shown_text;
 use pfl_edits::NoMemory;
+use pfl_language::{BranchWord, Outcome, Refused};
 use pfl_lines::LineFault;
-use pfl_timeline::{BranchWord, Refused, Reply};
-use pfl_world::Outcome;
+use pfl_timeline::Reply;
 use std::alloc::Allocator;
 
 /// The line for a faulty line. It takes no memory.

@@ -2,10 +2,10 @@
 use Rattle.std.proofs.Common.{◌≡◌, ℕ, ◌≤◌, Bool, true, List, length, take, refl, ap, inl, Option, Some, None, Ok, Err}
 use Rattle.std.specs.Prelude.{Result, IfErr, IfOk, OnErr, OnOk}
 use Rattle.std.specs.Io.KnownBytes.{Appends, Keeps as KeepsBytes}
-use Rattle.pfl_timeline.specs.declared.command.Command.{Command}
+use Rattle.pfl_language.specs.declared.command.Command.{Command}
 use Rattle.pfl_timeline.specs.Replies.{Reply}
 use Rattle.pfl_timeline.specs.Timelines.{Timeline}
-use Rattle.pfl_session.specs.Desks.{counted}
+use Rattle.pfl_session.specs.Desks.{one_more_counted}
 use Rattle.pfl_session.specs.Journals.{count_of}
 use Rattle.pfl_session.specs.Passes.{Seen, seen_in, GoesOn, HasSeenJournal, AddsCall}
 use Rattle.pfl_lines.specs.declared.fault.LineFault.{LineFault}
@@ -40,7 +40,7 @@ breaks-text (Err engine.Read) Is Lacks text w v is fault part = absurd cc
 breaks-text (Err engine.TooManyTurns) Is Lacks text w v is fault part = absurd cc
 
 module _ {M : Type 0} (opening : Timeline) (n limit : ℕ) (old new : Seen M) (command : Command) (reply : Reply) (goes_on : GoesOn old new) (journal : HasSeenJournal opening n new)
-    (own : old.half.count ≡ count_of old.session (seen_in old)) (call : AddsCall old new command reply) (half : new.half ≡ counted old.half) where
+    (own : old.half.count ≡ count_of old.session (seen_in old)) (call : AddsCall old new command reply) (half : new.half ≡ one_more_counted old.half) where
   asked : HasAsked opening n old new
   asked = record { goes_on = goes_on; journal = journal; own = own }
 

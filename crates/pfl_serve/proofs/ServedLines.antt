@@ -4,7 +4,7 @@ use Rattle.std.specs.Prelude.{Result}
 use Rattle.std.specs.Io.KnownBytes.{Appends, Keeps as KeepsBytes}
 use Rattle.std.proofs.lemmas.Bool.{lt-ltb, le-ltb, cases_lt}
 use Rattle.std.proofs.lemmas.List.{append-nil, take_all}
-use Rattle.pfl_publish.proofs.Lists.{begun_all}
+use Rattle.pfl_publish.proofs.ForCallers.{begun_all}
 use Rattle.pfl_timeline.specs.Timelines.{Timeline}
 use Rattle.pfl_session.specs.Passes.{Seen, GoesOn}
 use Rattle.pfl_lines.specs.declared.fault.LineFault.{LineFault}
@@ -16,8 +16,7 @@ use Rattle.pfl_script.specs.Scans.{Kept, Keeps, ReadsLine, TakesLines, IsOver}
 use Rattle.pfl_script.specs.declared.fault.EngineFault.{EngineFault}
 use Rattle.pfl_script.specs.declared.fault.EngineFault.TheVariants as engine
 use Rattle.pfl_script.specs.Readers.{Source, IsReadFault}
-use Rattle.pfl_script.proofs.Pieces.{appends_none, appends_then}
-use Rattle.pfl_script.proofs.Running.{taken-none, taken-line, taken-first, taken-all, taken-drained, appends-keeps}
+use Rattle.pfl_script.proofs.ForCallers.{appends_none, appends_then, taken-none, taken-line, taken-first, taken-all, taken-drained, appends-keeps}
 use Rattle.pfl_serve.specs.Services.{said, is_fault, bad_lines, IsAnswer, Serves, ServesWhole, ServesFirst, ServesPart, ServesUnanswered, ServesUntil}
 use Rattle.pfl_serve.specs.inner.Answers.{kept_said, Writes, Breaks, Lacks}
 

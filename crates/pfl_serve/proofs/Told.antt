@@ -2,13 +2,13 @@
 use Rattle.std.proofs.Common.{◌≡◌, ℕ, ◌+◌, ◌≤◌, Bool, true, false, cond, List, [], ◌∷◌, ◌++◌, length, drop, refl, sym, ◌∙◌, ap, subst, arith, append_assoc, eq-eqb, inl, inr, Option, Some, None, Ok, Err}
 use Rattle.std.specs.Prelude.{nat_eq, Result, ◌⊎◌}
 use Rattle.std.proofs.lemmas.List.{append-nil}
-use Rattle.pfl_timeline.specs.declared.command.Command.{Command}
+use Rattle.pfl_language.specs.declared.command.Command.{Command}
 use Rattle.pfl_timeline.specs.Replies.{Reply, reply_of}
 use Rattle.pfl_timeline.specs.Timelines.{Timeline}
 use Rattle.pfl_session.specs.declared.entry.Entry.{Entry}
 use Rattle.pfl_session.specs.Journals.{calls_in, count_of}
 use Rattle.pfl_session.specs.Passes.{Seen, seen_in}
-use Rattle.pfl_session.proofs.Replays.{calls-since, count-append, count-begun, count-own}
+use Rattle.pfl_session.proofs.ForCallers.{calls-since, count-append, count-begun, count-own}
 use Rattle.pfl_lines.specs.declared.fault.LineFault.{LineFault}
 use Rattle.pfl_lines.specs.declared.session.SessionLine.{SessionLine}
 use Rattle.pfl_lines.specs.declared.session.SessionLine.TheVariants.{View, Ask}

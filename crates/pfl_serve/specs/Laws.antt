@@ -1,6 +1,6 @@
 -- What the answers of a session tell, in the words of the journal (this project's profile).
 use Rattle.std.specs.Prelude.{◌≡◌, ◌≤◌, ℕ, List, [], ◌∷◌, ◌++◌, cond, nat_eq, Option, Some, None, Result, Ok, Err, ◌⊎◌}
-use Rattle.pfl_timeline.specs.declared.command.Command.{Command}
+use Rattle.pfl_language.specs.declared.command.Command.{Command}
 use Rattle.pfl_timeline.specs.Replies.{Reply, reply_of}
 use Rattle.pfl_timeline.specs.Timelines.{Timeline}
 use Rattle.pfl_session.specs.declared.entry.Entry.{Entry}

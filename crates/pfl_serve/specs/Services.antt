@@ -1,11 +1,11 @@
 -- What serving a session does, line by line (this project's profile).
 use Rattle.std.specs.Prelude.{◌≡◌, ◌≤◌, ◌<◌, ℕ, ◌+◌, Bool, false, is_err, List, [], ◌∷◌, ◌++◌, length, take, slice_index, if◌then◌else◌, Option, Some, None, Result, Ok, Err, ◌⊎◌}
 use Rattle.std.specs.Io.KnownBytes.{Appends}
+use Rattle.pfl_language.specs.declared.command.Command.{Command}
 use Rattle.pfl_publish.specs.Seats.{IsRead, IsOvertaken, MakesTries}
-use Rattle.pfl_timeline.specs.declared.command.Command.{Command}
 use Rattle.pfl_timeline.specs.Replies.{Reply}
 use Rattle.pfl_timeline.specs.Timelines.{Timeline}
-use Rattle.pfl_session.specs.Desks.{counted}
+use Rattle.pfl_session.specs.Desks.{one_more_counted}
 use Rattle.pfl_session.specs.Journals.{count_of}
 use Rattle.pfl_session.specs.Passes.{Seen, seen_in, GoesOn, HasSeenJournal, AddsOthers, AddsCall}
 use Rattle.pfl_lines.specs.declared.fault.LineFault.{LineFault}
@@ -63,7 +63,7 @@ module _ {M : Type 0} where
   -- the pass has called once more, and has seen its call
   pub record IsCalled (old new : Seen M) (command : Command) (reply : Reply) : Type 0 where
     pub call : AddsCall old new command reply
-    pub half : new.half ≡ counted old.half
+    pub half : new.half ≡ one_more_counted old.half
 
   -- the pass has not called, and may have seen more calls of others
   pub record IsNotCalled (old new : Seen M) : Type 0 where

@@ -8,7 +8,7 @@ ghost use Rattle.pfl_serve.specs.inner.Promises.{seats_of};
 
 use crate::gate::Gate;
 use crate::seat::{Seat, ServeFault, Served};
-use crate::serving::serve_session;
+use crate::service::serve_session;
 use pfl_base::{Input, Output};
 use pfl_session::{Lab, Which};
 use std::alloc::Allocator;

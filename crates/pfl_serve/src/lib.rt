@@ -5,15 +5,15 @@
 #![tactic(auto)]
 
 mod all;
-mod answering;
+mod answer;
 mod gate;
 mod laws;
 mod seat;
-mod serving;
+mod service;
 mod texts;
 
 pub use all::serve_all;
 pub use gate::{Gate, Open};
 pub use laws::sessions_are_told_their_calls;
 pub use seat::{Seat, ServeFault, Served};
-pub use serving::serve_session;
+pub use service::serve_session;

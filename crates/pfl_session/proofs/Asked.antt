@@ -3,31 +3,31 @@ use Rattle.std.proofs.Common.{◌≡◌, ℕ, ◌+◌, ◌-◌, ◌<◌, ◌≤�
 use Rattle.std.specs.Prelude.{slice_get, slice_set}
 use Rattle.std.proofs.lemmas.Option.{slice_get_within}
 use Rattle.atomic_table.specs.Seated.{TableId}
+use Rattle.pfl_language.specs.declared.command.Command.{Command}
 use Rattle.pfl_count.specs.Count.{Count}
 use Rattle.pfl_publish.specs.Revisions.{Log, StartsWith}
-use Rattle.pfl_timeline.specs.declared.command.Command.{Command}
 use Rattle.pfl_timeline.specs.Commands.{command_step, replied}
 use Rattle.pfl_timeline.specs.Replies.{Reply, Replied, reply_of}
 use Rattle.pfl_timeline.specs.Timelines.{Timeline}
 use Rattle.pfl_session.specs.declared.entry.Entry.{Entry}
 use Rattle.pfl_session.specs.declared.mark.Mark.{Mark}
 use Rattle.pfl_session.specs.Totals.{HasFewEvents}
-use Rattle.pfl_session.specs.Journals.{after, replay, IsRight, IsJournal, history, calls_in, count_of, counts_of}
+use Rattle.pfl_session.specs.Journals.{after_entry, replay, IsRight, IsJournal, revisions_of, calls_in, count_of, counts_of}
 use Rattle.pfl_session.specs.Passes.{Seen, seen_in, GoesOn, HasSeenJournal, AddsOthers, AddsCall}
 use Rattle.pfl_session.specs.Labs.{HasSeenOwn}
-use Rattle.pfl_session.specs.Desks.{counted, HasMet, IsEntered}
+use Rattle.pfl_session.specs.Desks.{one_more_counted, HasMet, IsEntered}
 use Rattle.pfl_session.proofs.Replays.{some_same, replay-snoc, legal-snoc, calls-history, count-own, counts-get, counts-set, all-seen, seen-is, seen-journal, others-since, call-since}
 use Rattle.pfl_session.proofs.Growth.{all_behind, grown}
 
 module _ {M : Type 0} where
   -- a pass that was compared, and has then met
   pub has-met : (opening : Timeline) (n : ℕ) (js js' js'' : List (Entry M)) (old compared met : Seen M) → js' ≡ js → js'' ≡ js' → compared ≡ old → old.half.count ≤ count_of old.session (seen_in old) → old.half.count ≡ count_of old.session js
-      → GoesOn compared met → met.half ≡ compared.half → IsJournal opening n js' → met.viewer.seen ≡ history opening js' → HasMet opening n js'' old met
+      → GoesOn compared met → met.half ≡ compared.half → IsJournal opening n js' → met.viewer.seen ≡ revisions_of opening js' → HasMet opening n js'' old met
   has-met opening n js js' js'' old compared met same same' is below all on half journal seen = record {
     goes_on = subst (λ (p : Seen M). GoesOn p met) is on;
     half = half ∙ ap (λ (p : Seen M). p.half) is;
     journal = subst (IsJournal opening n) (sym same') journal;
-    seen = seen ∙ ap (history opening) (sym same');
+    seen = seen ∙ ap (revisions_of opening) (sym same');
     below = below;
     all = all ∙ ap (count_of old.session) (sym (same' ∙ same));
   }
@@ -42,7 +42,7 @@ module _ {M : Type 0} where
     pub met-others : AddsOthers old met
     met-others = others-since opening js old met is.seen is.goes_on.seen is.below is.all
 
-    begun : StartsWith (history opening js) old.viewer.seen
+    begun : StartsWith (revisions_of opening js) old.viewer.seen
     begun = subst (λ (l : Log (Mark M)). StartsWith l old.viewer.seen) is.seen is.goes_on.seen
 
     all_own : count_of old.session (seen_in old) ≡ count_of old.session js
@@ -71,7 +71,7 @@ pub record IsKept {M : Type 0} (t u : Timeline) (e : Entry M) (c : Command) (r :
 
 -- ---- an entry more
 module _ {M : Type 0} (opening t u : Timeline) (js : List (Entry M)) (e : Entry M) (c : Command) (r : Reply) (s : ℕ) (was : t ≡ replay opening js) (is : IsKept t u e c r s) where
-  pub kept-after : u ≡ after (replay opening js) e
+  pub kept-after : u ≡ after_entry (replay opening js) e
   kept-after = sym (ap (λ (d : Replied). d.timeline) is.step) ∙ (λ z. (command_step (was z) (sym is.entry.1 z)).timeline)
 
   right : IsRight (replay opening js) e
@@ -93,14 +93,14 @@ module _ {M : Type 0} (opening t u : Timeline) (js : List (Entry M)) (e : Entry 
     pub kept-many : length items ≡ length js + 1
     kept-many = omega (arith, ap (λ (l : List (Entry M)). length l) more, length-append js (e ∷ []))
 
-    pub kept-counts : (ts : List TableId) (hs hs' : List Count) (tally : TableId) (mine : Count) → 1 ≤ s → slice_get ts (s - 1) ≡ Some tally → hs ≡ counts_of 1 ts js → slice_get hs (s - 1) ≡ Some mine → hs' ≡ slice_set hs (s - 1) (counted mine)
+    pub kept-counts : (ts : List TableId) (hs hs' : List Count) (tally : TableId) (mine : Count) → 1 ≤ s → slice_get ts (s - 1) ≡ Some tally → hs ≡ counts_of 1 ts js → slice_get hs (s - 1) ≡ Some mine → hs' ≡ slice_set hs (s - 1) (one_more_counted mine)
         → hs' ≡ counts_of 1 ts items
     kept-counts ts hs hs' tally mine first there are same kept =
         let mine_is = half-is ts hs js tally mine s first there are same in
         let own = is.entry.0 in
-        kept ∙ ((λ z. set (are z) (s - 1) (counted (mine_is z))) ∙ (counts-set 1 (s - 1) ts js e tally there (omega (arith, own, first)) ∙ ap (counts_of 1 ts) (sym more)))
+        kept ∙ ((λ z. set (are z) (s - 1) (one_more_counted (mine_is z))) ∙ (counts-set 1 (s - 1) ts js e tally there (omega (arith, own, first)) ∙ ap (counts_of 1 ts) (sym more)))
 
-    pub kept-below : (ts : List TableId) (hs : List Count) (tally : TableId) (mine result : Count) (seen : Log (Mark M)) → 1 ≤ s → slice_get ts (s - 1) ≡ Some tally → hs ≡ counts_of 1 ts js → slice_get hs (s - 1) ≡ Some mine → result ≡ counted mine → seen ≡ history opening items
+    pub kept-below : (ts : List TableId) (hs : List Count) (tally : TableId) (mine result : Count) (seen : Log (Mark M)) → 1 ≤ s → slice_get ts (s - 1) ≡ Some tally → hs ≡ counts_of 1 ts js → slice_get hs (s - 1) ≡ Some mine → result ≡ one_more_counted mine → seen ≡ revisions_of opening items
         → result.count ≤ count_of s (calls_in seen)
     kept-below ts hs tally mine result seen first there are same one shown =
         let mine_is = ap (λ (h : Count). h.count) (half-is ts hs js tally mine s first there are same) in

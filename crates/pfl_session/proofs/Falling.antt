@@ -2,7 +2,7 @@
 use Rattle.std.specs.Prelude.{◌≡◌, ◌≤◌, ℕ, zero, suc, ◌+◌, ◌-◌, List, [], ◌∷◌, ◌++◌, length, take, drop, fold, Result, Ok, Err, refl}
 use Rattle.std.proofs.Common.{ap, arith, length-append, length-take, length-drop}
 use Rattle.std.proofs.lemmas.List.{length-map}
-use Rattle.pfl_world.specs.declared.event.Event.{Event}
+use Rattle.pfl_language.specs.declared.event.Event.{Event}
 use Rattle.pfl_world.specs.Events.{step}
 use Rattle.pfl_world.specs.Worlds.{World}
 use Rattle.pfl_timeline.specs.Excisions.{Placed, placed_behind, placed, without, Sieved, sifted, sift, sieve, sieved_without, excised, fallen_places}

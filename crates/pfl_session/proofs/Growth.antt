@@ -3,18 +3,19 @@ use Rattle.std.specs.Prelude.{◌≡◌, ◌≤◌, ℕ, zero, suc, ◌+◌, ◌
 use Rattle.std.specs.List.{AllByRecursion}
 use Rattle.std.specs.Option.{option_map_or}
 use Rattle.std.proofs.Common.{cond, sym, ◌∙◌, ap, subst, arith, length-append}
+use Rattle.pfl_language.specs.declared.event.Event.{Event}
+use Rattle.pfl_language.specs.declared.command.Command.{Command}
+use Rattle.pfl_language.specs.declared.command.Command.TheVariants as command
+use Rattle.pfl_language.specs.declared.refused.Refused.{Refused}
+use Rattle.pfl_language.specs.declared.refused.Refused.TheVariants as refused
+use Rattle.pfl_language.specs.BranchWords.{same_name}
 use Rattle.pfl_parts.specs.Nodes.{refused_by}
-use Rattle.pfl_world.specs.declared.event.Event.{Event}
 use Rattle.pfl_world.specs.Events.{step}
 use Rattle.pfl_world.specs.Worlds.{World}
-use Rattle.pfl_timeline.specs.declared.command.Command.{Command}
-use Rattle.pfl_timeline.specs.declared.command.Command.TheVariants as command
-use Rattle.pfl_timeline.specs.declared.refused.Refused.{Refused}
-use Rattle.pfl_timeline.specs.declared.refused.Refused.TheVariants as refused
-use Rattle.pfl_timeline.specs.Commands.{replied, answered, with_branch, with_changed, extended, undone, at_cursor, step_answered, step_reply, back_reply, forward_reply, first_events, fork_refusal, fork_reply, drop_reply, show_reply, excise_reply, restore_reply, step_command, back_command, forward_command, fork_command, drop_command, show_command, excise_command, restore_command, log_reply, log_command, names_command, command_step}
+use Rattle.pfl_timeline.specs.Commands.{replied, reply_unless, with_branch, with_changed, extended, undone, at_cursor, step_answered, step_reply, back_reply, forward_reply, first_events, fork_refusal, fork_reply, drop_reply, show_reply, excise_reply, restore_reply, step_command, back_command, forward_command, fork_command, drop_command, show_command, excise_command, restore_command, log_reply, log_command, names_command, command_step}
 use Rattle.pfl_timeline.specs.Excisions.{has_event, excised, fallen_places, restored}
 use Rattle.pfl_timeline.specs.Replies.{Reply, Replied, Forked, Removed, Shown, Excised, Restored, Refused as Refusing}
-use Rattle.pfl_timeline.specs.Timelines.{Branch, Former, Timeline, branch_of, same_name, standing, world_of}
+use Rattle.pfl_timeline.specs.Timelines.{Branch, Former, Timeline, branch_of, standing, world_of}
 use Rattle.pfl_session.specs.Totals.{HasFew, HasFewEvents}
 use Rattle.pfl_session.proofs.Falling.{left-few}
 
@@ -78,7 +79,7 @@ module _ (t : Timeline) (n : ℕ) (few : HasFewEvents n t) where
   changed : (b : Branch) → HasFew (n + 1) b → HasFewEvents (n + 1) (with_changed t b)
   changed b is = all_put (HasFew (n + 1)) b t.branches is roomy
 
-  answered_grown : (o : Option Refused) (done : Replied) → Grown done → Grown (answered t o done)
+  answered_grown : (o : Option Refused) (done : Replied) → Grown done → Grown (reply_unless t o done)
   answered_grown None done is = is
   answered_grown (Some r) done is = roomy
 

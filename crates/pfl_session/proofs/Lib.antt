@@ -8,3 +8,4 @@ pub mod Seatings
 pub mod Shown
 pub mod Sums
 pub mod Telling
+pub mod ForCallers

@@ -3,12 +3,12 @@ use Rattle.std.proofs.Common.{◌≡◌, ℕ, zero, suc, ◌+◌, ◌-◌, ◌<�
 use Rattle.std.specs.Prelude.{nat_eq, slice_get, slice_index}
 use Rattle.std.proofs.lemmas.List.{append_assoc, take-append-drop}
 use Rattle.atomic_table.specs.Seated.{TableId}
+use Rattle.pfl_language.specs.declared.command.Command.{Command}
 use Rattle.pfl_count.specs.Count.{Count}
 use Rattle.pfl_publish.specs.declared.view.Published.{Published}
-use Rattle.pfl_publish.proofs.Lists.{begun_since}
+use Rattle.pfl_publish.proofs.ForCallers.{begun_since}
 use Rattle.pfl_publish.specs.Revisions.{Log, published, StartsWith}
 use Rattle.pfl_publish.specs.Seats.{Viewer}
-use Rattle.pfl_timeline.specs.declared.command.Command.{Command}
 use Rattle.pfl_timeline.specs.Commands.{command_step, replied}
 use Rattle.pfl_timeline.specs.Replies.{Reply, reply_of}
 use Rattle.pfl_timeline.specs.Summaries.{summary}
@@ -18,7 +18,7 @@ use Rattle.pfl_session.specs.declared.mark.Mark.{Mark}
 use Rattle.pfl_session.specs.declared.mark.Mark.TheVariants.{Start, Call}
 use Rattle.pfl_session.specs.Desks.{IsEntered}
 use Rattle.pfl_session.specs.Passes.{Seen, seen_in, IsPassOf, GoesOn, HasSeenJournal, AddsOthers, AddsCall}
-use Rattle.pfl_session.specs.Journals.{after, replay, IsRight, IsLegal, IsJournal, following, history, call_of, calls_in, count_of, counts_of}
+use Rattle.pfl_session.specs.Journals.{after_entry, replay, IsRight, IsLegal, IsJournal, following, revisions_of, call_of, calls_in, count_of, counts_of}
 
 pub some_same : {A : Type 0} (a b : A) → Some a ≡ Some b → a ≡ b
 some_same a b e = cc
@@ -35,38 +35,38 @@ unfolding summary
 summary-number t n = refl
 
 module _ {M : Type 0} where
-  pub replay-snoc : (t : Timeline) (js : List (Entry M)) (e : Entry M) → replay t (js ++ e ∷ []) ≡ after (replay t js) e
+  pub replay-snoc : (t : Timeline) (js : List (Entry M)) (e : Entry M) → replay t (js ++ e ∷ []) ≡ after_entry (replay t js) e
   replay-snoc t [] e = refl
-  replay-snoc t (x ∷ js) e = replay-snoc (after t x) js e
+  replay-snoc t (x ∷ js) e = replay-snoc (after_entry t x) js e
 
   pub legal-snoc : (t : Timeline) (js : List (Entry M)) (e : Entry M) → IsLegal t js → IsRight (replay t js) e → IsLegal t (js ++ e ∷ [])
   legal-snoc t [] e legal right = (right, tt)
-  legal-snoc t (x ∷ js) e legal right = (legal.0, legal-snoc (after t x) js e legal.1 right)
+  legal-snoc t (x ∷ js) e legal right = (legal.0, legal-snoc (after_entry t x) js e legal.1 right)
 
   pub length-following : (t : Timeline) (n : ℕ) (js : List (Entry M)) → length (following t n js) ≡ length js
   length-following t n [] = refl
-  length-following t n (x ∷ js) = let h = length-following (after t x) (n + 1) js in omega arith
+  length-following t n (x ∷ js) = let h = length-following (after_entry t x) (n + 1) js in omega arith
 
-  pub length-history : (t : Timeline) (js : List (Entry M)) → length (history t js) ≡ length js + 1
+  pub length-history : (t : Timeline) (js : List (Entry M)) → length (revisions_of t js) ≡ length js + 1
   length-history t js = omega (arith, length-following t 0 js)
 
-  following-snoc : (t : Timeline) (n : ℕ) (js : List (Entry M)) (e : Entry M) → following t n (js ++ e ∷ []) ≡ following t n js ++ published (summary (after (replay t js) e) (n + length js + 1)) (Call e) ∷ []
-  following-snoc t n [] e = let a : n + 1 ≡ n + 0 + 1 = omega arith in λ z. published (summary (after t e) (a z)) (Call e) ∷ []
+  following-snoc : (t : Timeline) (n : ℕ) (js : List (Entry M)) (e : Entry M) → following t n (js ++ e ∷ []) ≡ following t n js ++ published (summary (after_entry (replay t js) e) (n + length js + 1)) (Call e) ∷ []
+  following-snoc t n [] e = let a : n + 1 ≡ n + 0 + 1 = omega arith in λ z. published (summary (after_entry t e) (a z)) (Call e) ∷ []
   following-snoc t n (x ∷ js) e =
-      let h = following-snoc (after t x) (n + 1) js e in
+      let h = following-snoc (after_entry t x) (n + 1) js e in
       let a : (n + 1) + length js + 1 ≡ n + length (x ∷ js) + 1 = omega arith in
-      ap (λ (l : Log (Mark M)). published (summary (after t x) (n + 1)) (Call x) ∷ l)
-      (h ∙ (λ z. following (after t x) (n + 1) js ++ published (summary (after (replay (after t x) js) e) (a z)) (Call e) ∷ []))
+      ap (λ (l : Log (Mark M)). published (summary (after_entry t x) (n + 1)) (Call x) ∷ l)
+      (h ∙ (λ z. following (after_entry t x) (n + 1) js ++ published (summary (after_entry (replay (after_entry t x) js) e) (a z)) (Call e) ∷ []))
 
   -- the revision of one entry more, behind the others
   pub extends : (t u : Timeline) (js items : List (Entry M)) (e : Entry M) (words : List ℕ) (number : ℕ) (list list' : Log (Mark M))
-      → list ≡ history t js → u ≡ after (replay t js) e → words ≡ summary u number → number ≡ length js + 1 → list' ≡ list ++ published words (Call e) ∷ [] → items ≡ js ++ e ∷ [] → list' ≡ history t items
+      → list ≡ revisions_of t js → u ≡ after_entry (replay t js) e → words ≡ summary u number → number ≡ length js + 1 → list' ≡ list ++ published words (Call e) ∷ [] → items ≡ js ++ e ∷ [] → list' ≡ revisions_of t items
   extends t u js items e words number list list' is then shows count longer more =
       let n : number ≡ 0 + length js + 1 = omega (arith, count) in
-      let row : words ≡ summary (after (replay t js) e) (0 + length js + 1) = shows ∙ (λ z. summary (then z) (n z)) in
+      let row : words ≡ summary (after_entry (replay t js) e) (0 + length js + 1) = shows ∙ (λ z. summary (then z) (n z)) in
       longer
       ∙ ((λ z. is z ++ published (row z) (Call e) ∷ [])
-      ∙ (ap (λ (l : Log (Mark M)). published (summary t 0) (Start t) ∷ l) (sym (following-snoc t 0 js e)) ∙ ap (history t) (sym more)))
+      ∙ (ap (λ (l : Log (Mark M)). published (summary t 0) (Start t) ∷ l) (sym (following-snoc t 0 js e)) ∙ ap (revisions_of t) (sym more)))
 
   -- ---- calls
 
@@ -76,9 +76,9 @@ module _ {M : Type 0} where
 
   calls-following : (t : Timeline) (n : ℕ) (js : List (Entry M)) → calls_in (following t n js) ≡ js
   calls-following t n [] = refl
-  calls-following t n (x ∷ js) = ap (λ (l : List (Entry M)). x ∷ l) (calls-following (after t x) (n + 1) js)
+  calls-following t n (x ∷ js) = ap (λ (l : List (Entry M)). x ∷ l) (calls-following (after_entry t x) (n + 1) js)
 
-  pub calls-history : (t : Timeline) (js : List (Entry M)) → calls_in (history t js) ≡ js
+  pub calls-history : (t : Timeline) (js : List (Entry M)) → calls_in (revisions_of t js) ≡ js
   calls-history t js = calls-following t 0 js
 
   pub count-append : (s : ℕ) (xs ys : List (Entry M)) → count_of s (xs ++ ys) ≡ count_of s xs + count_of s ys
@@ -105,14 +105,14 @@ module _ {M : Type 0} where
   count-begun s n list seen begun below = omega (arith, count-since s list seen begun, below)
 
   -- all of a session's entries were seen, so what came since is of others
-  pub none-since : (s n : ℕ) (t : Timeline) (js : List (Entry M)) (list seen : Log (Mark M)) → list ≡ history t js → StartsWith list seen → n ≤ count_of s (calls_in seen) → n ≡ count_of s js
+  pub none-since : (s n : ℕ) (t : Timeline) (js : List (Entry M)) (list seen : Log (Mark M)) → list ≡ revisions_of t js → StartsWith list seen → n ≤ count_of s (calls_in seen) → n ≡ count_of s js
       → count_of s (calls_in (drop (length seen) list)) ≡ 0
   none-since s n t js list seen is begun below all =
       omega (arith, count-since s list seen begun, below, all, ap (λ (l : Log (Mark M)). count_of s (calls_in l)) is, ap (count_of s) (calls-history t js))
 
   -- ... and all of them were seen
-  pub all-seen : (s n : ℕ) (t : Timeline) (js : List (Entry M)) (seen : Log (Mark M)) → StartsWith (history t js) seen → n ≤ count_of s (calls_in seen) → n ≡ count_of s js → count_of s (calls_in seen) ≡ count_of s js
-  all-seen s n t js seen begun below all = omega (arith, count-since s (history t js) seen begun, below, all, ap (count_of s) (calls-history t js))
+  pub all-seen : (s n : ℕ) (t : Timeline) (js : List (Entry M)) (seen : Log (Mark M)) → StartsWith (revisions_of t js) seen → n ≤ count_of s (calls_in seen) → n ≡ count_of s js → count_of s (calls_in seen) ≡ count_of s js
+  all-seen s n t js seen begun below all = omega (arith, count-since s (revisions_of t js) seen begun, below, all, ap (count_of s) (calls-history t js))
 
   -- ---- the counts of all sessions
 
@@ -152,14 +152,14 @@ module _ {M : Type 0} where
   seen-on s n v w list same begun below = count-begun s n list w.seen (subst (λ (x : Viewer (Mark M)). StartsWith list x.seen) (some_same v w same) begun) below
 
   -- a pass that has seen all revisions of a journal
-  pub seen-is : (t : Timeline) (js : List (Entry M)) (p : Seen M) → p.viewer.seen ≡ history t js → seen_in p ≡ js
+  pub seen-is : (t : Timeline) (js : List (Entry M)) (p : Seen M) → p.viewer.seen ≡ revisions_of t js → seen_in p ≡ js
   seen-is t js p is = ap calls_in is ∙ calls-history t js
 
-  pub seen-journal : (t : Timeline) (n : ℕ) (js : List (Entry M)) (p : Seen M) → p.viewer.seen ≡ history t js → IsJournal t n js → HasSeenJournal t n p
-  seen-journal t n js p is journal = record { journal = subst (IsJournal t n) (sym (seen-is t js p is)) journal; revisions = is ∙ ap (history t) (sym (seen-is t js p is)) }
+  pub seen-journal : (t : Timeline) (n : ℕ) (js : List (Entry M)) (p : Seen M) → p.viewer.seen ≡ revisions_of t js → IsJournal t n js → HasSeenJournal t n p
+  seen-journal t n js p is journal = record { journal = subst (IsJournal t n) (sym (seen-is t js p is)) journal; revisions = is ∙ ap (revisions_of t) (sym (seen-is t js p is)) }
 
   -- what came since is of others
-  pub others-since : (t : Timeline) (js : List (Entry M)) (old new : Seen M) → new.viewer.seen ≡ history t js → StartsWith new.viewer.seen old.viewer.seen → old.half.count ≤ count_of old.session (seen_in old) → old.half.count ≡ count_of old.session js
+  pub others-since : (t : Timeline) (js : List (Entry M)) (old new : Seen M) → new.viewer.seen ≡ revisions_of t js → StartsWith new.viewer.seen old.viewer.seen → old.half.count ≤ count_of old.session (seen_in old) → old.half.count ≡ count_of old.session js
       → AddsOthers old new
   others-since t js old new is begun below all = record {
     others = calls_in (drop (length old.viewer.seen) new.viewer.seen);
@@ -168,7 +168,7 @@ module _ {M : Type 0} where
   }
 
   -- ... and then the call
-  pub call-since : (t : Timeline) (n : ℕ) (js js' : List (Entry M)) (old met new : Seen M) (c : Command) (r : Reply) → AddsOthers old met → met.viewer.seen ≡ history t js → met.session ≡ old.session → IsEntered t n js js' met new c r → AddsCall old new c r
+  pub call-since : (t : Timeline) (n : ℕ) (js js' : List (Entry M)) (old met new : Seen M) (c : Command) (r : Reply) → AddsOthers old met → met.viewer.seen ≡ revisions_of t js → met.session ≡ old.session → IsEntered t n js js' met new c r → AddsCall old new c r
   call-since t n js js' old met new c r adds is same entered = record {
     others = adds.others;
     entry = entered.entry;

@@ -4,15 +4,15 @@ use Rattle.std.specs.Prelude.{map}
 use Rattle.std.specs.List.{AllByRecursion}
 use Rattle.std.proofs.lemmas.List.{append-nil, take-append-drop}
 use Rattle.pfl_publish.specs.Revisions.{Log, words_at, StartsWith}
-use Rattle.pfl_publish.proofs.Lists.{words_at-append, begun_length}
+use Rattle.pfl_publish.proofs.ForCallers.{words_at-append, begun_length}
 use Rattle.pfl_timeline.specs.Commands.{command_step, replayed}
 use Rattle.pfl_timeline.specs.Laws.{ShowsItsRun}
 use Rattle.pfl_timeline.specs.Summaries.{summary}
 use Rattle.pfl_timeline.specs.Timelines.{Timeline, new_timeline}
-use Rattle.pfl_timeline.proofs.Shows.{branches-show-runs}
+use Rattle.pfl_timeline.proofs.ForCallers.{branches-show-runs}
 use Rattle.pfl_session.specs.declared.entry.Entry.{Entry}
 use Rattle.pfl_session.specs.declared.mark.Mark.{Mark}
-use Rattle.pfl_session.specs.Journals.{after, replay, following, history, calls_in, count_of}
+use Rattle.pfl_session.specs.Journals.{after_entry, replay, following, revisions_of, calls_in, count_of}
 use Rattle.pfl_session.specs.Laws.{RevisionsShowTimelines, SeenEntriesAreFirst, LastCallersHaveSeenAll, JournalsAreCommands, BranchesShowTheirRunsInJournals}
 use Rattle.pfl_session.specs.Passes.{Seen, seen_in}
 use Rattle.pfl_session.proofs.Replays.{calls-since, calls-history, count-own, count-since, length-history}
@@ -34,9 +34,9 @@ module _ {M : Type 0} where
   words-following t k zero (e ∷ js) lt = refl
   words-following t k (suc n) (e ∷ js) lt =
       let next : (k + 1) + suc n ≡ k + suc (suc n) = omega arith in
-      words-following (after t e) (k + 1) n js (omega (arith, lt)) ∙ ap (summary (replay (after t e) (take (suc n) js))) next
+      words-following (after_entry t e) (k + 1) n js (omega (arith, lt)) ∙ ap (summary (replay (after_entry t e) (take (suc n) js))) next
 
-  words-history : (t : Timeline) (n : ℕ) (js : List (Entry M)) → n < length (history t js) → words_at n (history t js) ≡ summary (replay t (take n js)) n
+  words-history : (t : Timeline) (n : ℕ) (js : List (Entry M)) → n < length (revisions_of t js) → words_at n (revisions_of t js) ≡ summary (replay t (take n js)) n
   words-history t zero js lt = refl
   words-history t (suc n) js lt =
       let number : 0 + suc n ≡ suc n = omega arith in
@@ -50,11 +50,11 @@ module _ {M : Type 0} where
 
   pub revisions-show : RevisionsShowTimelines M
   revisions-show opening js seen n begun lt =
-      sym (words-seen (history opening js) seen n begun lt) ∙ words-history opening n js (omega (arith, lt, begun_length (history opening js) seen begun))
+      sym (words-seen (revisions_of opening js) seen n begun lt) ∙ words-history opening n js (omega (arith, lt, begun_length (revisions_of opening js) seen begun))
 
   pub seen-are-first : SeenEntriesAreFirst M
   seen-are-first opening js seen begun =
-      ap (take (length (calls_in seen))) (sym (calls-history opening js) ∙ calls-since (history opening js) seen begun) ∙ front (calls_in seen) (calls_in (drop (length seen) (history opening js)))
+      ap (take (length (calls_in seen))) (sym (calls-history opening js) ∙ calls-since (revisions_of opening js) seen begun) ∙ front (calls_in seen) (calls_in (drop (length seen) (revisions_of opening js)))
 
   -- what stands behind the entries that hold all of a session's, where the last entry is of that session
   none-behind : (s : ℕ) (js : List (Entry M)) (e : Entry M) (xs ys : List (Entry M)) → e.session ≡ s → js ++ e ∷ [] ≡ xs ++ ys → count_of s ys ≡ 0 → ys ≡ []
@@ -64,7 +64,7 @@ module _ {M : Type 0} where
 
   pub last-callers-saw-all : LastCallersHaveSeenAll M
   last-callers-saw-all opening js e p is own =
-      let list = history opening (js ++ e ∷ []) in
+      let list = revisions_of opening (js ++ e ∷ []) in
       let later = calls_in (drop (length p.viewer.seen) list) in
       let parts : js ++ e ∷ [] ≡ seen_in p ++ later = sym (calls-history opening (js ++ e ∷ [])) ∙ calls-since list p.viewer.seen is.begun in
       let none : count_of p.session later ≡ 0 = omega (arith, count-since p.session list p.viewer.seen is.begun, ap (count_of p.session) (calls-history opening (js ++ e ∷ [])), is.all_own) in
@@ -74,7 +74,7 @@ module _ {M : Type 0} where
   pub journals-are : JournalsAreCommands M
   unfolding replayed
   journals-are opening [] = refl
-  journals-are opening (e ∷ js) = journals-are (after opening e) js
+  journals-are opening (e ∷ js) = journals-are (after_entry opening e) js
 
   pub branches-show : BranchesShowTheirRunsInJournals M
   branches-show opening js is =

@@ -2,19 +2,20 @@
 use Rattle.std.specs.Prelude.{◌≡◌, ◌≤◌, ◌<◌, ℕ, zero, suc, ◌+◌, ◌-◌, Bool, List, [], ◌∷◌, ◌++◌, length, get_or, map, filter, find, drop, not, nat_lt, nat_le, Option, Some, None, Result, Ok, Err, refl, if◌then◌else◌}
 use Rattle.std.specs.Option.{option_map, option_map_or}
 use Rattle.std.proofs.Common.{true, false, cond, sym, ◌∙◌, ap, arith, drop_of_length-le}
+use Rattle.pfl_language.specs.declared.event.Event.{Event}
+use Rattle.pfl_language.specs.declared.command.Command.{Command}
+use Rattle.pfl_language.specs.declared.command.Command.TheVariants as command
+use Rattle.pfl_language.specs.declared.refused.Refused.{Refused}
+use Rattle.pfl_language.specs.declared.refused.Refused.TheVariants as refused
+use Rattle.pfl_language.specs.BranchWords.{same_name}
 use Rattle.pfl_parts.specs.Nodes.{refused_by}
-use Rattle.pfl_world.specs.declared.event.Event.{Event}
 use Rattle.pfl_world.specs.Events.{step}
 use Rattle.pfl_world.specs.Worlds.{World}
-use Rattle.pfl_timeline.specs.declared.command.Command.{Command}
-use Rattle.pfl_timeline.specs.declared.command.Command.TheVariants as command
-use Rattle.pfl_timeline.specs.declared.refused.Refused.{Refused}
-use Rattle.pfl_timeline.specs.declared.refused.Refused.TheVariants as refused
-use Rattle.pfl_timeline.specs.Commands.{replied, answered, with_branch, with_changed, undone, at_cursor, step_answered, step_reply, back_reply, forward_reply, first_events, fork_refusal, fork_reply, drop_reply, show_reply, excise_reply, restore_reply, step_command, back_command, forward_command, fork_command, drop_command, show_command, excise_command, restore_command, log_reply, log_command, names_command, command_step}
+use Rattle.pfl_timeline.specs.Commands.{replied, reply_unless, with_branch, with_changed, undone, at_cursor, step_answered, step_reply, back_reply, forward_reply, first_events, fork_refusal, fork_reply, drop_reply, show_reply, excise_reply, restore_reply, step_command, back_command, forward_command, fork_command, drop_command, show_command, excise_command, restore_command, log_reply, log_command, names_command, command_step}
 use Rattle.pfl_timeline.specs.Excisions.{has_event, excised, fallen_places, restored}
 use Rattle.pfl_timeline.specs.Replies.{Reply, Replied, Forked, Removed, Shown, Excised, Restored, Refused as Refusing}
 use Rattle.pfl_timeline.specs.Rooted.{Rooted}
-use Rattle.pfl_timeline.specs.Timelines.{Branch, Timeline, branch_of, same_name, world_of}
+use Rattle.pfl_timeline.specs.Timelines.{Branch, Timeline, branch_of, world_of}
 use Rattle.pfl_session.specs.Listings.{places_in, most_places}
 use Rattle.pfl_session.proofs.Falling.{fallen-few}
 
@@ -22,7 +23,7 @@ use Rattle.pfl_session.proofs.Falling.{fallen-few}
 abbrev Tells : ℕ → Replied → Type 0
 Tells n done = length (places_in done.reply) ≤ n
 
-answered_tells : (n : ℕ) (t : Timeline) (o : Option Refused) (done : Replied) → Tells n done → Tells n (answered t o done)
+answered_tells : (n : ℕ) (t : Timeline) (o : Option Refused) (done : Replied) → Tells n done → Tells n (reply_unless t o done)
 answered_tells n t None done is = is
 answered_tells n t (Some r) done is = omega arith
 

@@ -1,12 +1,12 @@
 -- What lies under the lock (this project's profile).
 use Rattle.std.specs.Prelude.{◌≡◌, ◌≤◌, ℕ, ◌+◌, List, [], ◌∷◌, ◌++◌, length}
+use Rattle.pfl_language.specs.declared.command.Command.{Command}
 use Rattle.pfl_count.specs.Count.{Count}
-use Rattle.pfl_timeline.specs.declared.command.Command.{Command}
 use Rattle.pfl_timeline.specs.Replies.{Reply, reply_of}
 use Rattle.pfl_timeline.specs.Timelines.{Timeline}
 use Rattle.pfl_session.specs.declared.entry.Entry.{Entry}
 use Rattle.pfl_session.specs.Totals.{HasFewEvents}
-use Rattle.pfl_session.specs.Journals.{replay, IsJournal, history, count_of}
+use Rattle.pfl_session.specs.Journals.{replay, IsJournal, revisions_of, count_of}
 use Rattle.pfl_session.specs.Passes.{Seen, seen_in, GoesOn}
 
 -- the journal is one of n sessions, and its replay gives the timeline, whose branches have no more events than they can have come to; the journal keeps to its limit
@@ -19,15 +19,15 @@ pub record IsDesk {M : Type 0} (opening : Timeline) (n limit : ℕ) (timeline : 
   pub small : limit ≤ 1000000
 
 -- a half that has counted one more
-abbrev pub counted : Count → Count
-counted h = record { table = h.table; count = h.count + 1 }
+abbrev pub one_more_counted : Count → Count
+one_more_counted h = record { table = h.table; count = h.count + 1 }
 
 -- the pass has seen the journal on its way from old to met, and has counted each entry of its session there
 pub record HasMet {M : Type 0} (opening : Timeline) (n : ℕ) (js : List (Entry M)) (old met : Seen M) : Type 0 where
   pub goes_on : GoesOn old met
   pub half : met.half ≡ old.half
   pub journal : IsJournal opening n js
-  pub seen : met.viewer.seen ≡ history opening js
+  pub seen : met.viewer.seen ≡ revisions_of opening js
   pub below : old.half.count ≤ count_of old.session (seen_in old)
   pub all : old.half.count ≡ count_of old.session js
 
@@ -39,4 +39,4 @@ pub record IsEntered {M : Type 0} (opening : Timeline) (n : ℕ) (old new : List
   pub reply_is : reply_of entry.reply ≡ reply
   pub longer : new ≡ old ++ entry ∷ []
   pub journal : IsJournal opening n new
-  pub seen : after.viewer.seen ≡ history opening new
+  pub seen : after.viewer.seen ≡ revisions_of opening new

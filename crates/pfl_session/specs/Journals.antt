@@ -13,12 +13,12 @@ use Rattle.pfl_session.specs.declared.mark.Mark.{Mark}
 use Rattle.pfl_session.specs.declared.mark.Mark.TheVariants.{Start, Call}
 
 -- the timeline after the command of an entry
-abbrev pub after : {M : Type 0} → Timeline → Entry M → Timeline
-after t e = (command_step t e.command).timeline
+abbrev pub after_entry : {M : Type 0} → Timeline → Entry M → Timeline
+after_entry t e = (command_step t e.command).timeline
 
 -- the timeline after the commands of all entries
 abbrev pub replay : {M : Type 0} → Timeline → List (Entry M) → Timeline
-replay t js = fold after t js
+replay t js = fold after_entry t js
 
 -- the entry's reply is the one that its command gives there
 abbrev pub IsRight : {M : Type 0} → Timeline → Entry M → Type 0
@@ -27,7 +27,7 @@ IsRight t e = reply_of e.reply ≡ (command_step t e.command).reply
 -- each reply is the one that its command gives where it stands
 abbrev pub IsLegal : {M : Type 0} → Timeline → List (Entry M) → Type 0
 IsLegal t [] = ⊤
-IsLegal t (e ∷ js) = IsRight t e × IsLegal (after t e) js
+IsLegal t (e ∷ js) = IsRight t e × IsLegal (after_entry t e) js
 
 -- each entry is of a session from 1 to n
 abbrev pub AreOfSessions : {M : Type 0} → ℕ → List (Entry M) → Type 0
@@ -41,11 +41,11 @@ pub record IsJournal {M : Type 0} (opening : Timeline) (n : ℕ) (js : List (Ent
 -- the revisions of these entries, after revision n with the timeline t
 abbrev pub following : {M : Type 0} → Timeline → ℕ → List (Entry M) → Log (Mark M)
 following t n [] = []
-following t n (e ∷ js) = published (summary (after t e) (n + 1)) (Call e) ∷ following (after t e) (n + 1) js
+following t n (e ∷ js) = published (summary (after_entry t e) (n + 1)) (Call e) ∷ following (after_entry t e) (n + 1) js
 
 -- the revisions of a journal: the summary of the opening, and that of each timeline after it, under the entry that led there
-abbrev pub history : {M : Type 0} → Timeline → List (Entry M) → Log (Mark M)
-history t js = published (summary t 0) (Start t) ∷ following t 0 js
+abbrev pub revisions_of : {M : Type 0} → Timeline → List (Entry M) → Log (Mark M)
+revisions_of t js = published (summary t 0) (Start t) ∷ following t 0 js
 
 -- the entry that a revision stands for; revision 0 stands for none
 abbrev pub call_of : {M : Type 0} → Mark M → List (Entry M)

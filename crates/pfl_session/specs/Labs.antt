@@ -12,7 +12,7 @@ use Rattle.pfl_session.specs.declared.fault.LabFault.{LabFault}
 use Rattle.pfl_session.specs.declared.fault.LabFault.TheVariants as fault
 use Rattle.pfl_session.specs.declared.mark.Mark.{Mark}
 use Rattle.pfl_session.specs.Totals.{HasFewEvents}
-use Rattle.pfl_session.specs.Journals.{replay, IsJournal, history, counts_of, count_of}
+use Rattle.pfl_session.specs.Journals.{replay, IsJournal, revisions_of, counts_of, count_of}
 use Rattle.pfl_session.specs.Passes.{Seen, seen_in}
 
 -- equations of tables are facts
@@ -62,7 +62,7 @@ AreNewPasses publisher seen session (t ∷ ts) (p ∷ ps) = IsNewPass publisher 
 
 -- the pass has seen a beginning of the journal, in which every entry of its session stands
 pub record HasSeenOwn {M : Type 0} (opening : Timeline) (js : List (Entry M)) (p : Seen M) : Type 0 where
-  pub begun : StartsWith (history opening js) p.viewer.seen
+  pub begun : StartsWith (revisions_of opening js) p.viewer.seen
   pub all_own : count_of p.session (seen_in p) ≡ count_of p.session js
 
 -- the journal is one of n sessions, and its replay gives the timeline

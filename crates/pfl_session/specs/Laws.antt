@@ -9,20 +9,20 @@ use Rattle.pfl_timeline.specs.Timelines.{Timeline, new_timeline}
 use Rattle.pfl_world.specs.Worlds.{World, IsWorld}
 use Rattle.pfl_session.specs.declared.entry.Entry.{Entry}
 use Rattle.pfl_session.specs.declared.mark.Mark.{Mark}
-use Rattle.pfl_session.specs.Journals.{replay, history, calls_in}
+use Rattle.pfl_session.specs.Journals.{replay, revisions_of, calls_in}
 use Rattle.pfl_session.specs.Labs.{HasSeenOwn}
 use Rattle.pfl_session.specs.Passes.{Seen, seen_in}
 
 -- each revision that was seen is the summary of what the first entries of the journal give, as many as its number
 abbrev pub RevisionsShowTimelines : Type 0 → Type 0
 RevisionsShowTimelines M =
-    (opening : Timeline) (js : List (Entry M)) (seen : Log (Mark M)) (n : ℕ) → StartsWith (history opening js) seen → n < length seen
+    (opening : Timeline) (js : List (Entry M)) (seen : Log (Mark M)) (n : ℕ) → StartsWith (revisions_of opening js) seen → n < length seen
     → words_at n seen ≡ summary (replay opening (take n js)) n
 
 -- the entries that were seen are the first ones of the journal
 abbrev pub SeenEntriesAreFirst : Type 0 → Type 0
 SeenEntriesAreFirst M =
-    (opening : Timeline) (js : List (Entry M)) (seen : Log (Mark M)) → StartsWith (history opening js) seen
+    (opening : Timeline) (js : List (Entry M)) (seen : Log (Mark M)) → StartsWith (revisions_of opening js) seen
     → take (length (calls_in seen)) js ≡ calls_in seen
 
 -- a pass whose session made the last entry has seen all of them

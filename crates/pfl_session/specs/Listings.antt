@@ -1,8 +1,8 @@
 -- Replies that are of no fixed size, and how much room their copies want (this project's profile).
 use Rattle.std.specs.Prelude.{ℕ, Bool, true, false, List, [], length}
 use Rattle.std.specs.Option.{option_map_or}
-use Rattle.pfl_timeline.specs.declared.command.Command.{Command}
-use Rattle.pfl_timeline.specs.declared.command.Command.TheVariants as command
+use Rattle.pfl_language.specs.declared.command.Command.{Command}
+use Rattle.pfl_language.specs.declared.command.Command.TheVariants as command
 use Rattle.pfl_timeline.specs.Replies.{Reply, Shown, Names, Excised, Logged}
 use Rattle.pfl_timeline.specs.Timelines.{Timeline, branch_of}
 

@@ -1,17 +1,17 @@
 -- What contracts see of a pass, and what a call adds to it (this project's profile).
 use Rattle.std.specs.Prelude.{◌≡◌, ◌≤◌, ◌<◌, ℕ, ◌+◌, ◌-◌, false, List, [], ◌∷◌, ◌++◌, length, slice_get, Option, Some, None}
 use Rattle.atomic_table.specs.Seated.{TableId}
+use Rattle.pfl_language.specs.declared.command.Command.{Command}
 use Rattle.pfl_count.specs.Count.{Count}
 use Rattle.pfl_publish.specs.Revisions.{StartsWith}
 use Rattle.pfl_publish.specs.Seats.{Viewer}
-use Rattle.pfl_timeline.specs.declared.command.Command.{Command}
 use Rattle.pfl_timeline.specs.Replies.{Reply, reply_of}
 use Rattle.pfl_timeline.specs.Timelines.{Timeline}
 use Rattle.pfl_session.specs.declared.entry.Entry.{Entry}
 use Rattle.pfl_session.specs.declared.mark.Mark.{Mark}
 use Rattle.pfl_session.specs.declared.fault.AskFault.{AskFault}
 use Rattle.pfl_session.specs.declared.fault.AskFault.TheVariants as fault
-use Rattle.pfl_session.specs.Journals.{IsJournal, history, calls_in, count_of}
+use Rattle.pfl_session.specs.Journals.{IsJournal, revisions_of, calls_in, count_of}
 
 -- the name of no table
 abbrev pub no_table : TableId
@@ -54,7 +54,7 @@ pub record GoesOn {M : Type 0} (old new : Seen M) : Type 0 where
 -- what it has seen is a journal of n sessions, whose replies are those that its commands give from the opening; each revision is the summary of what the entries up to it give
 pub record HasSeenJournal {M : Type 0} (opening : Timeline) (n : ℕ) (p : Seen M) : Type 0 where
   pub journal : IsJournal opening n (seen_in p)
-  pub revisions : p.viewer.seen ≡ history opening (seen_in p)
+  pub revisions : p.viewer.seen ≡ revisions_of opening (seen_in p)
 
 -- what it has seen since then is of other sessions
 pub record AddsOthers {M : Type 0} (old new : Seen M) : Type 0 where

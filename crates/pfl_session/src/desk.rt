@@ -5,13 +5,13 @@ ghost use Rattle.pfl_count.specs.Count.{Count};
 ghost use Rattle.pfl_publish.specs.Revisions.{StartsWith};
 ghost use Rattle.pfl_timeline.specs.Replies.{reply_of};
 ghost use Rattle.pfl_session.specs.Totals.{HasFewEvents};
-ghost use Rattle.pfl_session.specs.Journals.{after, replay, IsJournal, history, count_of};
+ghost use Rattle.pfl_session.specs.Journals.{after_entry, replay, IsJournal, revisions_of, count_of};
 ghost use Rattle.pfl_session.specs.Passes.{seen_in, IsPassOf, GoesOn, HasSeenJournal, AddsOthers, AddsCall, IsAskFault};
-ghost use Rattle.pfl_session.specs.Desks.{counted, HasMet, IsEntered};
+ghost use Rattle.pfl_session.specs.Desks.{one_more_counted, HasMet, IsEntered};
 ghost use Rattle.pfl_session.specs.Labs.{HasSeenOwn, IsClosed};
 
 use crate::entry::{Closed, Entry};
-use crate::executing::execute;
+use crate::execution::execute;
 use crate::fault::AskFault;
 use crate::mark::{Called, Mark};
 use crate::pass::Pass;
@@ -19,8 +19,9 @@ use crate::revision::revision_of;
 use crate::which::Which;
 use pfl_count::{Half, Tally};
 use pfl_edits::NoMemory;
+use pfl_language::Command;
 use pfl_publish::{Publisher, ViewerSeat, WriterSeat};
-use pfl_timeline::{Command, Reply, Timeline};
+use pfl_timeline::{Reply, Timeline};
 use std::alloc::Allocator;
 use std::marker::{Model, PhantomData};
 
@@ -41,14 +42,14 @@ impl<J: Which, A: Allocator> Model for Desk<J, A> {
     ghost use Rattle.pfl_publish.specs.Seats.{Writer};
     ghost use Rattle.pfl_session.specs.declared.entry.Entry.{Entry};
     ghost use Rattle.pfl_session.specs.declared.mark.Mark.{Mark};
-    ghost use Rattle.pfl_session.specs.Journals.{history, counts_of};
+    ghost use Rattle.pfl_session.specs.Journals.{revisions_of, counts_of};
     ghost use Rattle.pfl_session.specs.Desks.{IsDesk};
 
     ghost Value = { List (Entry A) };
 
     ghost view = { λ d. d.journal.items };
 
-    ghost invariant = { λ d. ((w : Writer (Mark A)) × (d.writer ≡ Some w) × (w.table ≡ J.publisher) × (w.list ≡ history J.opening d.journal.items)) × (d.halves.items ≡ counts_of 1 J.tallies d.journal.items) × IsDesk J.opening (length J.tallies) J.limit d.timeline d.journal.items d.limit };
+    ghost invariant = { λ d. ((w : Writer (Mark A)) × (d.writer ≡ Some w) × (w.table ≡ J.publisher) × (w.list ≡ revisions_of J.opening d.journal.items)) × (d.halves.items ≡ counts_of 1 J.tallies d.journal.items) × IsDesk J.opening (length J.tallies) J.limit d.timeline d.journal.items d.limit };
 }
 
 /// Puts the entry behind the others, publishes what the timeline then shows, and lets the viewer see it.
@@ -62,14 +63,14 @@ fn append<J: Which, A: Allocator>(
 ) -> (WriterSeat<Mark<A>>, ViewerSeat<Mark<A>>)
     requires tables { (writer.table ≡ publisher.now) × (viewer.table ≡ publisher.now) }
     requires closed { viewer.trying ≡ false }
-    requires list { writer.list ≡ history J.opening journal.old.items }
-    requires executed { timeline.now ≡ after (replay J.opening journal.old.items) entry }
+    requires list { writer.list ≡ revisions_of J.opening journal.old.items }
+    requires executed { timeline.now ≡ after_entry (replay J.opening journal.old.items) entry }
     requires few { HasFewEvents 8589934592 timeline.now }
     requires room { vec_len journal.old < vec_capacity journal.old }
     ensures items { journal.new.items ≡ journal.old.items ++ entry ∷ [] }
     ensures tables { (result.0.table ≡ publisher.now) × (result.1.table ≡ publisher.now) }
     ensures closed { result.1.trying ≡ false }
-    ensures list { result.0.list ≡ history J.opening journal.new.items }
+    ensures list { result.0.list ≡ revisions_of J.opening journal.new.items }
     ensures seen { result.1.seen ≡ result.0.list }
     ensures still { StartsWith result.1.seen viewer.seen }
 {
@@ -90,8 +91,8 @@ fn count_one<A: Allocator>(
     requires kept { (h : Count) × (slice_get halves.old.items place ≡ Some h) × (h.table ≡ tally.now) }
     requires mine { mine.table ≡ tally.now }
     ensures same { slice_get halves.old.items place ≡ Some mine }
-    ensures kept { halves.new.items ≡ slice_set halves.old.items place (counted mine) }
-    ensures mine { result ≡ counted mine }
+    ensures kept { halves.new.items ≡ slice_set halves.old.items place (one_more_counted mine) }
+    ensures mine { result ≡ one_more_counted mine }
 {
     tally.count_in(&mut halves[place], mine)
 }
@@ -126,7 +127,7 @@ impl<J: Which, A: Allocator> Desk<J, A> {
         requires publisher { (publisher.now ≡ J.publisher) × (pass.old.viewer.table ≡ J.publisher) }
         ensures journal { self.new ≡ self.old }
         ensures legal { IsJournal J.opening (length J.tallies) self.old }
-        ensures seen { pass.new.viewer.seen ≡ history J.opening self.old }
+        ensures seen { pass.new.viewer.seen ≡ revisions_of J.opening self.old }
         ensures half { pass.new.half ≡ pass.old.half }
         ensures goes_on { GoesOn pass.old pass.new }
         ensures number { result ≡ length self.old }
@@ -189,7 +190,7 @@ impl<J: Which, A: Allocator + Copy> Desk<J, A> {
         requires room { length self.old < J.limit }
         ensures entered { IfOk result (λ reply. IsEntered J.opening (length J.tallies) self.old self.new pass.old pass.new command.now (reply_of reply)) }
         ensures goes_on { GoesOn pass.old pass.new }
-        ensures one_more { OnOk result (pass.new.half ≡ counted pass.old.half) }
+        ensures one_more { OnOk result (pass.new.half ≡ one_more_counted pass.old.half) }
         ensures unchanged { OnErr result ((self.new ≡ self.old) × (pass.new ≡ pass.old)) }
     {
         self.journal.reserve(1)?;
@@ -237,7 +238,7 @@ impl<J: Which, A: Allocator + Copy> Desk<J, A> {
         ensures refused { IfErr result (IsAskFault J.limit pass.new) }
         ensures not_called { OnErr result (AddsOthers pass.old pass.new) }
         ensures counted { pass.old.half.count ≡ count_of pass.old.session (seen_in pass.old) }
-        ensures one_more { OnOk result (pass.new.half ≡ counted pass.old.half) }
+        ensures one_more { OnOk result (pass.new.half ≡ one_more_counted pass.old.half) }
         ensures no_more { OnErr result (pass.new.half ≡ pass.old.half) }
     {
         self.catch_up(publisher, tally, pass);

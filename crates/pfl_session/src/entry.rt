@@ -2,7 +2,8 @@
 
 ghost use Rattle.std.specs.Prelude.{◌≡◌};
 
-use pfl_timeline::{Command, Reply, Timeline};
+use pfl_language::Command;
+use pfl_timeline::{Reply, Timeline};
 use std::alloc::Allocator;
 
 /// One call: the session that made it, its command, and its reply. Sessions count from 1.

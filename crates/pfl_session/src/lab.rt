@@ -6,7 +6,7 @@ ghost use Rattle.pfl_publish.specs.Seats.{LoadsOnce, IsRead, IsOvertaken, Overta
 ghost use Rattle.pfl_timeline.specs.Replies.{reply_of};
 ghost use Rattle.pfl_session.specs.Passes.{IsPassOf, GoesOn, HasSeenJournal, AddsOthers, AddsCall, IsAskFault, seen_in};
 ghost use Rattle.pfl_session.specs.Journals.{count_of};
-ghost use Rattle.pfl_session.specs.Desks.{counted};
+ghost use Rattle.pfl_session.specs.Desks.{one_more_counted};
 ghost use Rattle.pfl_session.specs.Labs.{table_prop, tables_prop, HasSeenOwn, IsClosed};
 
 use crate::desk::Desk;
@@ -16,8 +16,9 @@ use crate::mark::Mark;
 use crate::pass::Pass;
 use crate::which::Which;
 use pfl_count::Tally;
+use pfl_language::Command;
 use pfl_publish::{Overtaken, Publisher, Revision, Told};
-use pfl_timeline::{Command, Reply};
+use pfl_timeline::Reply;
 use std::alloc::Allocator;
 use std::sync::{Mutex, Wait};
 
@@ -67,7 +68,7 @@ impl<J: Which, A: Allocator + Copy> Lab<J, A> {
         ensures refused { IfErr result (IsAskFault J.limit pass.new) }
         ensures not_called { OnErr result (AddsOthers pass.old pass.new) }
         ensures counted { pass.old.half.count ≡ count_of pass.old.session (seen_in pass.old) }
-        ensures one_more { OnOk result (pass.new.half ≡ counted pass.old.half) }
+        ensures one_more { OnOk result (pass.new.half ≡ one_more_counted pass.old.half) }
         ensures no_more { OnErr result (pass.new.half ≡ pass.old.half) }
     {
         let tally = tally_of(&self.tallies, pass);

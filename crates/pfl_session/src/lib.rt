@@ -12,7 +12,7 @@
 mod counts;
 mod desk;
 mod entry;
-mod executing;
+mod execution;
 mod fault;
 mod lab;
 mod laws;

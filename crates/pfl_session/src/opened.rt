@@ -4,7 +4,7 @@ ghost use Rattle.std.specs.Prelude.{◌≡◌, ◌+◌, ◌≤◌, [], ◌∷◌
 ghost use Rattle.std.specs.List.{AllByRecursion};
 ghost use Rattle.atomic_table.specs.Seated.{TableId};
 ghost use Rattle.pfl_session.specs.Totals.{HasFewEvents};
-ghost use Rattle.pfl_session.specs.Journals.{history};
+ghost use Rattle.pfl_session.specs.Journals.{revisions_of};
 ghost use Rattle.pfl_session.specs.Passes.{IsPassOf};
 ghost use Rattle.pfl_session.specs.Labs.{lab_fault, IsLabFault, AreNewPasses};
 
@@ -84,12 +84,12 @@ impl<A: Allocator> Model for Opened<A> {
     ghost use Rattle.pfl_publish.specs.Seats.{Viewer};
     ghost use Rattle.pfl_session.specs.declared.mark.Mark.{Mark};
     ghost use Rattle.pfl_session.specs.Totals.{HasFewEvents};
-    ghost use Rattle.pfl_session.specs.Journals.{history, counts_of};
+    ghost use Rattle.pfl_session.specs.Journals.{revisions_of, counts_of};
     ghost use Rattle.pfl_session.specs.Labs.{AreNewPasses};
 
     ghost view = { λ o. record { publisher = o.publisher; tallies = o.tallies.items; opening = o.timeline; limit = o.limit } };
 
-    ghost invariant = { λ o. ((v : Viewer (Mark A)) × (o.viewer ≡ Some v) × (v.table ≡ o.publisher) × (v.seen ≡ history o.timeline o.journal.items) × (v.trying ≡ false)) × (o.journal.items ≡ []) × (o.writer.table ≡ o.publisher) × (o.writer.list ≡ history o.timeline o.journal.items) × (o.halves.items ≡ counts_of 1 o.tallies.items o.journal.items) × AreNewPasses o.publisher (history o.timeline o.journal.items) 1 o.tallies.items o.passes.items × HasFewEvents 4294967295 o.timeline × (o.limit ≤ 1000000) };
+    ghost invariant = { λ o. ((v : Viewer (Mark A)) × (o.viewer ≡ Some v) × (v.table ≡ o.publisher) × (v.seen ≡ revisions_of o.timeline o.journal.items) × (v.trying ≡ false)) × (o.journal.items ≡ []) × (o.writer.table ≡ o.publisher) × (o.writer.list ≡ revisions_of o.timeline o.journal.items) × (o.halves.items ≡ counts_of 1 o.tallies.items o.journal.items) × AreNewPasses o.publisher (revisions_of o.timeline o.journal.items) 1 o.tallies.items o.passes.items × HasFewEvents 4294967295 o.timeline × (o.limit ≤ 1000000) };
 }
 
 impl<A: Allocator + Copy> Opened<A> {
@@ -180,7 +180,7 @@ impl<A: Allocator> Opened<A> {
     pub fn named<J: Which>(self) -> (Lab<J, A>, Vec<Pass<A>, A>)
         requires tables { (self.publisher ≡ J.publisher) × (self.tallies ≡ J.tallies) }
         requires opening { (self.opening ≡ J.opening) × (self.limit ≡ J.limit) }
-        ensures new { AreNewPasses J.publisher (history J.opening []) 1 J.tallies result.1.items }
+        ensures new { AreNewPasses J.publisher (revisions_of J.opening []) 1 J.tallies result.1.items }
         ensures lab { AllByRecursion (IsPassOf J.publisher J.tallies) result.1.items }
     {
         let Opened {

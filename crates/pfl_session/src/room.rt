@@ -3,10 +3,11 @@
 
 ghost use Rattle.std.specs.Prelude.{◌≡◌, ◌≤◌, [], length, find, vec_capacity};
 ghost use Rattle.std.specs.Option.{option_map_or};
-ghost use Rattle.pfl_timeline.specs.Timelines.{same_name};
+ghost use Rattle.pfl_language.specs.BranchWords.{same_name};
 ghost use Rattle.pfl_session.specs.Listings.{most_places};
 
-use pfl_timeline::{Branch, BranchWord, Command, Timeline};
+use pfl_language::{BranchWord, Command};
+use pfl_timeline::{Branch, Timeline};
 use std::alloc::Allocator;
 
 /// Whether this is the branch's name.

@@ -11,11 +11,9 @@ use Rattle.pfl_base.specs.declared.flow.Key.{Key}
 use Rattle.pfl_base.specs.declared.state_name.StateName.{StateName}
 use Rattle.pfl_base.specs.Ends.{is_addr, is_end}
 use Rattle.pfl_base.specs.Keys.{is_key}
-use Rattle.pfl_base.proofs.Names.{names_total, names_exact}
+use Rattle.pfl_base.proofs.ForCallers.{names_total, names_exact}
 use Rattle.pfl_edits.specs.Maps as maps
-use Rattle.pfl_edits.proofs.Places.{get-set_at_cases}
-use Rattle.pfl_edits.proofs.RowMaps.{some_is_none}
-use Rattle.pfl_edits.proofs.Scans.{first_value-stands, no_value_passes}
+use Rattle.pfl_edits.proofs.ForCallers.{get-set_at_cases, some_is_none, first_value-stands, no_value_passes}
 use Rattle.pfl_track.specs.declared.state.State.{State}
 use Rattle.pfl_table.specs.Tables.{States, AreStates, by_wire, by_stack, found, key_in_use}
 

@@ -10,9 +10,7 @@ use Rattle.std.proofs.lemmas.Bool.Decides.{nat_tests}
 use Rattle.std.proofs.lemmas.List.Recursion.{is_count_by}
 use Rattle.pfl_edits.specs.Maps as maps
 use Rattle.pfl_edits.specs.Maps.{Map}
-use Rattle.pfl_edits.proofs.Maps.{same_map, get-empty, get-insert, len-empty, len-insert}
-use Rattle.pfl_edits.proofs.Places.{set_at-back, get-set_at_same}
-use Rattle.pfl_edits.proofs.RowMaps.{own_key, same_key}
+use Rattle.pfl_edits.proofs.ForCallers.{same_map, get-empty, get-insert, len-empty, len-insert, set_at-back, get-set_at_same, own_key, same_key}
 use Rattle.pfl_chains.specs.Lists.{Link}
 use Rattle.pfl_table.specs.declared.row.Row.{Row}
 use Rattle.pfl_table.specs.inner.Counts.{count_at, one_more, one_less, counts_of, has_rule}

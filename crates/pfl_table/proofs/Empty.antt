@@ -4,8 +4,7 @@ use Rattle.std.proofs.Common.{◌∙◌, ap, sym, subst, arith}
 use Rattle.pfl_base.specs.Names.{name_cmp}
 use Rattle.pfl_edits.specs.Maps as maps
 use Rattle.pfl_edits.specs.Maps.{Map}
-use Rattle.pfl_edits.proofs.Maps.{len-empty, get-empty}
-use Rattle.pfl_edits.proofs.RowMaps.{some_is_none}
+use Rattle.pfl_edits.proofs.ForCallers.{len-empty, get-empty, some_is_none}
 use Rattle.pfl_table.specs.declared.row.Row.{Row}
 use Rattle.pfl_table.proofs.Mapped.{map_values-empty}
 use Rattle.pfl_table.specs.Tables.{IsTable, AreStates}

@@ -8,9 +8,9 @@ use Rattle.std.proofs.Common.{cond, ap, ◌∙◌, sym}
 use Rattle.pfl_base.specs.declared.state_name.StateName.{StateName}
 use Rattle.pfl_base.specs.Names.{name_cmp}
 use Rattle.pfl_base.specs.Lists.{put_before, in_order}
-use Rattle.pfl_base.proofs.Names.{names_total, names_exact}
+use Rattle.pfl_base.proofs.ForCallers.{names_total, names_exact}
 use Rattle.pfl_edits.specs.Maps as maps
-use Rattle.pfl_edits.proofs.Maps.{same_map}
+use Rattle.pfl_edits.proofs.ForCallers.{same_map}
 use Rattle.pfl_track.specs.declared.state.State.{State}
 use Rattle.pfl_table.specs.declared.row.Row.{Row}
 use Rattle.pfl_table.specs.Tables.{Table, states_of, row_before, first_expiring}

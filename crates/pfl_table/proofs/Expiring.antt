@@ -8,7 +8,7 @@ use Rattle.std.proofs.Common.{cond, T, sym, ◌∙◌, ap, subst}
 use Rattle.std.proofs.lemmas.Cmp.{on_total, then_total}
 use Rattle.pfl_base.specs.Lists.{in_order, put_before}
 use Rattle.pfl_base.specs.Names.{name_cmp}
-use Rattle.pfl_base.proofs.Names.{names_total}
+use Rattle.pfl_base.proofs.ForCallers.{names_total}
 use Rattle.pfl_track.specs.declared.state.State.{State}
 use Rattle.pfl_table.proofs.Expiries.{state_before}
 

@@ -11,11 +11,10 @@ use Rattle.std.proofs.Common.{cond, T, inl, inr, ◌∙◌, ap, sym, subst, arit
 use Rattle.pfl_base.specs.Lists.{in_order, put_before}
 use Rattle.pfl_base.specs.Names.{name_cmp}
 use Rattle.pfl_edits.specs.Maps as maps
-use Rattle.pfl_order.proofs.Entries.{get-map_of}
-use Rattle.pfl_edits.proofs.Maps.{len-entries, entries-from_sorted}
+use Rattle.pfl_order.proofs.ForCallers.{get-map_of}
+use Rattle.pfl_edits.proofs.ForCallers.{len-entries, entries-from_sorted, row_at, Distinct, own_key, same_key, some_is_none}
 use Rattle.std.proofs.lemmas.List.{append_assoc}
 use Rattle.pfl_table.proofs.Keyed.{key_of_row}
-use Rattle.pfl_edits.proofs.RowMaps.{row_at, Distinct, own_key, same_key, some_is_none}
 use Rattle.pfl_chains.specs.Lists.{Link}
 use Rattle.pfl_table.specs.declared.row.Row.{Row}
 use Rattle.pfl_table.specs.declared.keys.Expiry.{Expiry}

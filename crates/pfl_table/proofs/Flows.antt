@@ -8,7 +8,7 @@ use Rattle.pfl_base.specs.declared.addr.Addr.TheVariants.{V4, V6}
 use Rattle.pfl_base.specs.declared.flow.Key.{Key}
 use Rattle.pfl_base.specs.Ends.{is_addr, is_end}
 use Rattle.pfl_base.specs.Keys.{is_key}
-use Rattle.pfl_edits.proofs.RowMaps.{own_key, same_key}
+use Rattle.pfl_edits.proofs.ForCallers.{own_key, same_key}
 use Rattle.pfl_table.specs.declared.keys.Flow.{Flow}
 use Rattle.pfl_table.specs.inner.Ordering.{number_of, version_of, flow_of, flow_cmp, flow_total, flow_exact}
 

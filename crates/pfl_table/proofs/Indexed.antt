@@ -13,7 +13,7 @@ use Rattle.pfl_table.specs.declared.keys.ByName.{ByName}
 use Rattle.pfl_table.specs.inner.Ordering.{by_name}
 use Rattle.pfl_table.specs.inner.Filed.{IsIndex, HasNone}
 use Rattle.pfl_hash.specs.Entries.{renamed}
-use Rattle.pfl_hash.proofs.Entries.{entry_map-none, renamed-some}
+use Rattle.pfl_hash.proofs.ForCallers.{entry_map-none, renamed-some}
 use Rattle.pfl_table.proofs.Linked.{index-len, index-empty, index-with, index-without, index-changed, index-has}
 
 -- a name as a key of indexes

@@ -7,8 +7,7 @@ use Rattle.std.specs.declared.cmp.Ordering.{Ordering}
 use Rattle.std.proofs.Common.{cond, T, ◌∙◌, ap, sym, subst}
 use Rattle.pfl_edits.specs.Maps as maps
 use Rattle.pfl_edits.specs.Maps.{Map}
-use Rattle.pfl_edits.proofs.RowMaps.{row_at, Distinct, same_key, row_at-between, some_is_none}
-use Rattle.pfl_edits.proofs.Scans.{first_value, first_value-stands, no_value_passes}
+use Rattle.pfl_edits.proofs.ForCallers.{row_at, Distinct, same_key, row_at-between, some_is_none, first_value, first_value-stands, no_value_passes}
 
 true_is_false : {A : Type 0} → true ≡ false → A
 true_is_false e = absurd (subst T e tt)

@@ -18,3 +18,4 @@ pub mod Listed
 pub mod Putting
 pub mod Counted
 pub mod Empty
+pub mod ForCallers

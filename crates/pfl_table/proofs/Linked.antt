@@ -10,10 +10,9 @@ use Rattle.pfl_edits.specs.Maps as maps
 use Rattle.pfl_edits.specs.Maps.{Map}
 use Rattle.pfl_edits.specs.Rows.{map_of}
 use Rattle.pfl_table.proofs.Keyed.{Distinct-between}
-use Rattle.pfl_edits.proofs.RowMaps.{row_at, Distinct, own_key, get-map_of, len-map_of, row_at-between, map_of-between, map_of-without, Distinct-without, some_is_none}
-use Rattle.pfl_edits.proofs.Places.{set_at-back}
+use Rattle.pfl_edits.proofs.ForCallers.{row_at, Distinct, own_key, get-map_of, len-map_of, row_at-between, map_of-between, map_of-without, Distinct-without, some_is_none, set_at-back}
 use Rattle.pfl_chains.specs.Lists.{Link, link}
-use Rattle.pfl_chains.proofs.Places.{Stands}
+use Rattle.pfl_chains.proofs.ForCallers.{Stands}
 use Rattle.pfl_table.specs.declared.row.Row.{Row}
 use Rattle.pfl_table.specs.Mapped.{map_values}
 use Rattle.pfl_table.proofs.Mapped.{get-map_values, len-map_values, map_values-set_at, map_values-empty}

@@ -7,15 +7,13 @@ use Rattle.std.proofs.Common.{cond, T, ◌∙◌, ap, sym, subst, arith}
 use Rattle.std.proofs.lemmas.List.{append-nil}
 use Rattle.pfl_base.specs.declared.state_name.StateName.{StateName}
 use Rattle.pfl_base.specs.Names.{name_cmp}
-use Rattle.pfl_base.proofs.Names.{names_total}
+use Rattle.pfl_base.proofs.ForCallers.{names_total}
 use Rattle.pfl_edits.specs.Maps as maps
-use Rattle.pfl_edits.proofs.Maps.{entries-from_sorted}
+use Rattle.pfl_edits.proofs.ForCallers.{entries-from_sorted, filed, entries-map_of, some_is_none}
 use Rattle.pfl_edits.specs.Ordered.{IsBelow, IsRising}
-use Rattle.pfl_edits.proofs.RowMaps.{filed, entries-map_of}
 use Rattle.pfl_edits.specs.Rows.{map_of}
-use Rattle.pfl_edits.proofs.RowMaps.{some_is_none}
 use Rattle.pfl_chains.specs.Lists.{Link, link, Lists, Place, links_of, last_slot}
-use Rattle.pfl_chains.proofs.Places.{Stands}
+use Rattle.pfl_chains.proofs.ForCallers.{Stands}
 use Rattle.pfl_table.specs.declared.row.Row.{Row}
 use Rattle.pfl_table.specs.declared.keys.ByName.{ByName}
 use Rattle.pfl_table.specs.Mapped.{at_value}

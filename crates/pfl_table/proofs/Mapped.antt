@@ -9,8 +9,7 @@ use Rattle.std.specs.declared.cmp.Ordering.{Ordering}
 use Rattle.std.proofs.Common.{ap, ◌∙◌, cond, T, sym, subst}
 use Rattle.pfl_edits.specs.Maps.{Map, entries_sorted, same_entries_map, set_at}
 use Rattle.pfl_edits.specs.Maps as maps
-use Rattle.pfl_edits.proofs.Maps.{entries-from_sorted, get-entries, len-entries, entries-empty, same_map}
-use Rattle.pfl_edits.proofs.Places.{get-set_at}
+use Rattle.pfl_edits.proofs.ForCallers.{entries-from_sorted, get-entries, len-entries, entries-empty, same_map, get-set_at}
 use Rattle.pfl_table.specs.Mapped.{at_value, map_values}
 
 values_at : {K X Y : Type 0} (f : X → Y) (es : List (K × X)) → map (λ e. e.1) (map (at_value f) es) ≡ map f (map (λ e. e.1) es)

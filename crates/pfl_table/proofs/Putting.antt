@@ -4,12 +4,10 @@ use Rattle.std.specs.Option.{option_map}
 use Rattle.std.proofs.Common.{cond, ◌∙◌, ap, sym, subst, arith}
 use Rattle.pfl_base.specs.declared.state_name.StateName.{StateName}
 use Rattle.pfl_base.specs.Names.{name_cmp}
-use Rattle.pfl_base.proofs.Names.{names_total, names_exact}
+use Rattle.pfl_base.proofs.ForCallers.{names_total, names_exact}
 use Rattle.pfl_edits.specs.Maps as maps
-use Rattle.pfl_edits.proofs.Maps.{len-insert}
-use Rattle.pfl_edits.proofs.RowMaps.{Distinct-rising}
+use Rattle.pfl_edits.proofs.ForCallers.{len-insert, Distinct-rising, row_at, Distinct, some_is_none}
 use Rattle.pfl_table.proofs.Keyed.{key_of_row}
-use Rattle.pfl_edits.proofs.RowMaps.{row_at, Distinct, some_is_none}
 use Rattle.pfl_chains.specs.Lists.{Link}
 use Rattle.pfl_table.specs.declared.row.Row.{Row}
 use Rattle.pfl_table.specs.Tables.{IsTable, with_row}

@@ -7,7 +7,7 @@ use Rattle.std.specs.Cmp.{IsTotalOrder}
 use Rattle.std.proofs.Common.{cond, T, ◌∙◌, ap, sym, subst}
 use Rattle.pfl_edits.specs.Ordered.{IsBelow, IsRising}
 use Rattle.pfl_edits.specs.inner.Ordered.{IsAbove}
-use Rattle.pfl_edits.proofs.RowMaps.{row_at, some_is_none}
+use Rattle.pfl_edits.proofs.ForCallers.{row_at, some_is_none}
 
 module _ {K X : Type 0} (R : K → K → Ordering) (key : X → K) where
   below-without : (q : K) (f : List X) (x : X) (b : List X) → IsBelow R key q (f ++ x ∷ b) → IsBelow R key q (f ++ b)

@@ -9,13 +9,12 @@ use Rattle.pfl_base.specs.declared.proto.Proto.{Proto}
 use Rattle.pfl_base.specs.declared.state_name.StateName.{StateName}
 use Rattle.pfl_base.specs.Ends.{proto_number, proto_of, IsProto}
 use Rattle.pfl_base.specs.Names.{name_cmp}
-use Rattle.pfl_base.proofs.Names.{names_total, names_exact}
+use Rattle.pfl_base.proofs.ForCallers.{names_total, names_exact}
 use Rattle.pfl_edits.specs.Maps as maps
 use Rattle.pfl_edits.specs.Maps.{Map, set_at}
-use Rattle.pfl_edits.proofs.Places.{get-set_at_same, get-set_at_other, set_at-set_at}
+use Rattle.pfl_edits.proofs.ForCallers.{get-set_at_same, get-set_at_other, set_at-set_at, row_at, Distinct, Distinct-without, map_of-between, map_of-without, some_is_none}
 use Rattle.pfl_edits.specs.Rows.{map_of}
 use Rattle.pfl_table.proofs.Keyed.{key_of_row}
-use Rattle.pfl_edits.proofs.RowMaps.{row_at, Distinct, Distinct-without, map_of-between, map_of-without, some_is_none}
 use Rattle.pfl_chains.specs.Lists.{Link, link}
 use Rattle.pfl_track.specs.declared.state.State.{State}
 use Rattle.pfl_track.specs.States.{IsState}

@@ -4,10 +4,9 @@ use Rattle.std.specs.Option.{option_map}
 use Rattle.std.proofs.Common.{cond, ◌∙◌, ap, sym, subst, arith}
 use Rattle.std.proofs.lemmas.Bool.Decides.{nat_tests}
 use Rattle.pfl_base.specs.declared.state_name.StateName.{StateName}
-use Rattle.pfl_base.proofs.Names.{names_total, names_exact}
+use Rattle.pfl_base.proofs.ForCallers.{names_total, names_exact}
 use Rattle.pfl_edits.specs.Maps as maps
-use Rattle.pfl_edits.proofs.Maps.{len-insert, len-remove}
-use Rattle.pfl_edits.proofs.Places.{get-set_at_same, set_at-same}
+use Rattle.pfl_edits.proofs.ForCallers.{len-insert, len-remove, get-set_at_same, set_at-same}
 use Rattle.pfl_track.specs.declared.state.State.{State}
 use Rattle.pfl_table.specs.declared.edit.TableEdit.{TableEdit}
 use Rattle.pfl_table.specs.declared.row.Row.{Row}

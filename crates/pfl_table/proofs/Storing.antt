@@ -8,14 +8,14 @@ use Rattle.std.specs.FinMap.{IsAntisymmetric}
 use Rattle.std.proofs.Common.{cond, ◌∙◌, ap, sym, subst, arith}
 use Rattle.pfl_base.specs.declared.state_name.StateName.{StateName}
 use Rattle.pfl_base.specs.Names.{name_cmp}
-use Rattle.pfl_base.proofs.Names.{names_total, names_exact}
+use Rattle.pfl_base.proofs.ForCallers.{names_total, names_exact}
 use Rattle.pfl_edits.specs.Maps as maps
 use Rattle.pfl_edits.specs.Maps.{Map}
 use Rattle.pfl_edits.specs.Ordered.{IsRising}
 use Rattle.pfl_table.proofs.Keyed.{key_of_row}
-use Rattle.pfl_edits.proofs.RowMaps.{row_at, some_is_none}
+use Rattle.pfl_edits.proofs.ForCallers.{row_at, some_is_none}
 use Rattle.pfl_chains.specs.Lists.{Link, link, Lists, Place, links_of, with_links, count_of}
-use Rattle.pfl_chains.proofs.Places.{Stands, length-with_links, links_of-same}
+use Rattle.pfl_chains.proofs.ForCallers.{Stands, length-with_links, links_of-same}
 use Rattle.pfl_track.specs.States.{IsState}
 use Rattle.pfl_table.specs.declared.row.Row.{Row}
 use Rattle.pfl_table.specs.declared.indexes.Indexes.{Indexes}

@@ -4,11 +4,10 @@ use Rattle.std.specs.Option.{option_map}
 use Rattle.std.proofs.Common.{ap, ◌∙◌}
 use Rattle.pfl_base.specs.declared.state_name.StateName.{StateName}
 use Rattle.pfl_base.specs.Names.{name_cmp}
-use Rattle.pfl_base.proofs.Names.{names_total, names_exact}
+use Rattle.pfl_base.proofs.ForCallers.{names_total, names_exact}
 use Rattle.pfl_edits.specs.Maps.{set_at}
 use Rattle.pfl_edits.specs.Maps as maps
-use Rattle.pfl_edits.proofs.Leading.{LeadsBack-one}
-use Rattle.pfl_edits.proofs.Places.{get-set_at_same, set_at-back}
+use Rattle.pfl_edits.proofs.ForCallers.{LeadsBack-one, get-set_at_same, set_at-back}
 use Rattle.pfl_table.specs.declared.row.Row.{Row}
 use Rattle.pfl_table.specs.Tables.{Table, IsTable, with_row, edit_of, Finds, put_back, TableLeadsBack, states_of}
 use Rattle.pfl_table.specs.Mapped.{map_values}

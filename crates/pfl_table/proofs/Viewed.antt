@@ -10,13 +10,12 @@ use Rattle.pfl_base.specs.declared.flow.Key.{Key}
 use Rattle.pfl_base.specs.declared.state_name.StateName.{StateName}
 use Rattle.pfl_base.specs.Keys.{is_key}
 use Rattle.pfl_base.specs.Names.{name_cmp}
-use Rattle.pfl_base.proofs.Names.{names_total, names_exact}
+use Rattle.pfl_base.proofs.ForCallers.{names_total, names_exact}
 use Rattle.pfl_edits.specs.Maps as maps
 use Rattle.pfl_edits.specs.Ordered.{IsRising}
-use Rattle.pfl_edits.proofs.RowMaps.{Distinct-rising, values-map_of, keys-map_of}
+use Rattle.pfl_edits.proofs.ForCallers.{Distinct-rising, values-map_of, keys-map_of, row_at, Distinct, own_key, same_key, get-map_of, len-map_of, some_is_none}
 use Rattle.pfl_edits.specs.Rows.{map_of}
 use Rattle.pfl_table.proofs.Keyed.{key_of_row}
-use Rattle.pfl_edits.proofs.RowMaps.{row_at, Distinct, own_key, same_key, get-map_of, len-map_of, some_is_none}
 use Rattle.pfl_table.proofs.Keyed.{first_value-none, first_value-some}
 use Rattle.pfl_chains.specs.Lists.{Link}
 use Rattle.pfl_track.specs.declared.state.State.{State}

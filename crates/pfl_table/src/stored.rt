@@ -4,13 +4,13 @@ ghost use Rattle.std.specs.Prelude.{◌≡◌, ◌<◌, [], find, map, Some, IfO
 ghost use Rattle.std.specs.List.{count_by, slice_get};
 ghost use Rattle.std.specs.Ordering.{is_lt};
 ghost use Rattle.pfl_base.specs.Lists.{in_order};
+ghost use Rattle.pfl_base.specs.Names.{name_cmp};
 ghost use Rattle.pfl_table.specs.Tables.{IsTable, row_before, with_row};
 ghost use Rattle.std.specs.Option.{option_copied, option_map};
-ghost use Rattle.pfl_base.specs.Names.{name_cmp};
 ghost use Rattle.pfl_chains.specs.Lists.{links_of as links_in};
 ghost use Rattle.pfl_edits.specs.Maps as maps;
 ghost use Rattle.pfl_edits.specs.Ordered.{IsRising};
-ghost use Rattle.pfl_edits.proofs.RowMaps.{row_at};
+ghost use Rattle.pfl_edits.proofs.ForCallers.{row_at};
 ghost use Rattle.pfl_track.specs.States.{IsState};
 ghost use Rattle.pfl_table.specs.inner.Filed.{AreFiled, FoundAt, GainsRow, LosesRow, ChangesRow, HasNone, HasNoKey, OthersHaveNoKey, IsIndex, NameGap, key_of, name_of, wire_flow, stack_flow, row_of_link, rows_of, table_of};
 ghost use Rattle.pfl_table.specs.inner.Counts.{has_rule};

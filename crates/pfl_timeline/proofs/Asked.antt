@@ -4,17 +4,17 @@ use Rattle.std.specs.Option.{option_map, option_map_or}
 use Rattle.std.proofs.Common.{sym, ◌∙◌, ap, subst}
 use Rattle.pfl_base.specs.declared.refusal.Refusal.{Refusal}
 use Rattle.pfl_base.specs.declared.refusal.Refusal.TheVariants.{NoMemory}
+use Rattle.pfl_language.specs.declared.event.Event.{Event}
+use Rattle.pfl_language.specs.declared.outcome.Outcome.{Outcome}
+use Rattle.pfl_language.specs.declared.command.Command.{Command}
+use Rattle.pfl_language.specs.declared.command.Command.TheVariants as command
+use Rattle.pfl_language.specs.declared.refused.Refused.{Refused}
+use Rattle.pfl_language.specs.declared.refused.Refused.TheVariants as refused
 use Rattle.pfl_parts.specs.Nodes.{refused_by}
-use Rattle.pfl_world.specs.declared.event.Event.{Event}
 use Rattle.pfl_world.specs.Events.{step, IsEventRefusal}
-use Rattle.pfl_world.specs.declared.outcome.Outcome.{Outcome}
 use Rattle.pfl_world.specs.Runs.{run}
 use Rattle.pfl_world.specs.Worlds.{World}
-use Rattle.pfl_timeline.specs.declared.command.Command.{Command}
-use Rattle.pfl_timeline.specs.declared.command.Command.TheVariants as command
-use Rattle.pfl_timeline.specs.declared.refused.Refused.{Refused}
-use Rattle.pfl_timeline.specs.declared.refused.Refused.TheVariants as refused
-use Rattle.pfl_timeline.specs.Commands.{replied, answered, with_branch, with_changed, extended, undone, at_cursor, step_answered, step_reply, back_reply, forward_reply, fork_reply, drop_reply, show_reply, step_command, back_command, forward_command, fork_command, drop_command, show_command, names_command, excise_reply, restore_reply, excise_command, restore_command, log_reply, log_command, command_step}
+use Rattle.pfl_timeline.specs.Commands.{replied, reply_unless, with_branch, with_changed, extended, undone, at_cursor, step_answered, step_reply, back_reply, forward_reply, fork_reply, drop_reply, show_reply, step_command, back_command, forward_command, fork_command, drop_command, show_command, names_command, excise_reply, restore_reply, excise_command, restore_command, log_reply, log_command, command_step}
 use Rattle.pfl_timeline.specs.Excisions.{has_event, excised, fallen_places, restored}
 use Rattle.pfl_timeline.specs.Replies.{Reply, Replied, Stepped as StepReply, At, Shown, Names, Excised, Restored, Logged, Refused as Refusing}
 use Rattle.pfl_timeline.specs.inner.Replies.{moved, fell_out, brought_back}
@@ -72,20 +72,20 @@ told-refused r e w why here is other = record {
 -- A way to another cursor, unless it is too far.
 module _ (far : Branch → Bool) (to : Branch → ℕ) (why : Refused) (r : Rooted) where
   abbrev asked : Timeline → Branch → Replied
-  asked t b = answered t (refused_by ((far b, why) ∷ [])) (at_cursor t b (to b))
+  asked t b = reply_unless t (refused_by ((far b, why) ∷ [])) (at_cursor t b (to b))
 
   told_far : far r.branch ≡ true → IsReplyOf asked r r (Refusing why)
   told_far is = record {
     opening = refl;
     name = refl;
-    told = λ t stands. ap (λ b. answered t (refused_by ((b, why) ∷ [])) (at_cursor t r.branch (to r.branch))) is ∙ same_branch r t (Refusing why) stands;
+    told = λ t stands. ap (λ b. reply_unless t (refused_by ((b, why) ∷ [])) (at_cursor t r.branch (to r.branch))) is ∙ same_branch r t (Refusing why) stands;
   }
 
   told_near : far r.branch ≡ false → IsReplyOf asked r (with_cursor r (to r.branch)) (At (to r.branch))
   told_near is = record {
     opening = refl;
     name = refl;
-    told = λ t stands. ap (λ b. answered t (refused_by ((b, why) ∷ [])) (at_cursor t r.branch (to r.branch))) is;
+    told = λ t stands. ap (λ b. reply_unless t (refused_by ((b, why) ∷ [])) (at_cursor t r.branch (to r.branch))) is;
   }
 
   pub told-moved : (s : Rooted) (cursor : Option ℕ) → cursor ≡ (if far r.branch then None else Some (to r.branch)) → s ≡ (if far r.branch then r else with_cursor r (to r.branch))
@@ -106,7 +106,7 @@ module _ (k : ℕ) (r : Rooted) where
   fell = fallen_places r.opening k r.branch
 
   abbrev taken_out : Timeline → Bool → Replied
-  taken_out t there = answered t (refused_by ((not there, refused.NoEvent) ∷ [])) (replied (with_changed t (excised t.opening k r.branch)) (Excised (fallen_places t.opening k r.branch)))
+  taken_out t there = reply_unless t (refused_by ((not there, refused.NoEvent) ∷ [])) (replied (with_changed t (excised t.opening k r.branch)) (Excised (fallen_places t.opening k r.branch)))
 
   told_there : has_event k r.branch ≡ true → IsReplyOf (λ t b. excise_reply t k b) r without_it (Excised fell)
   told_there is = record {

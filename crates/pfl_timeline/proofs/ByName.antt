@@ -5,9 +5,10 @@ use Rattle.std.specs.Map.{keys_of, values_of, lookup, set_value, remove_entry}
 use Rattle.std.proofs.Common.{cond, sym, ◌∙◌, ap, subst}
 use Rattle.std.proofs.lemmas.Cmp.{nat_list_eq_equiv}
 use Rattle.indexmap.specs.IndexMap.{insert_entry}
+use Rattle.pfl_language.specs.BranchWords.{same_name}
 use Rattle.pfl_timeline.specs.Kept.{by_name, StandByName, AreKept}
 use Rattle.pfl_timeline.specs.Rooted.{Rooted}
-use Rattle.pfl_timeline.specs.Timelines.{Branch, same_name}
+use Rattle.pfl_timeline.specs.Timelines.{Branch}
 
 abbrev pub branches_of : List Rooted → List Branch
 branches_of rs = map (λ r. r.branch) rs

@@ -5,8 +5,9 @@ use Rattle.std.proofs.Common.{cond, sym, ◌∙◌, ap, subst, arith, length-app
 use Rattle.std.proofs.lemmas.Bool.{both_ways}
 use Rattle.std.proofs.lemmas.List.{map-append}
 use Rattle.std.proofs.lemmas.Slice.Eq.{bytes_eq-Decides}
-use Rattle.pfl_edits.proofs.RowMaps.{some_is_none}
-use Rattle.pfl_timeline.specs.Timelines.{Branch, same_name}
+use Rattle.pfl_edits.proofs.ForCallers.{some_is_none}
+use Rattle.pfl_language.specs.BranchWords.{same_name}
+use Rattle.pfl_timeline.specs.Timelines.{Branch}
 
 -- a name is itself
 pub itself : (a : List ℕ) → same_name a a ≡ true

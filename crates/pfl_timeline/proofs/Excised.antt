@@ -4,18 +4,19 @@ use Rattle.std.specs.Option.{option_map, option_map_or}
 use Rattle.std.proofs.Common.{cond, sym, ◌∙◌, ap, subst}
 use Rattle.std.proofs.lemmas.Bool.{leb-true}
 use Rattle.std.proofs.lemmas.Slice.Eq.{bytes_eq-Decides}
-use Rattle.pfl_edits.proofs.RowMaps.{some_is_none}
+use Rattle.pfl_edits.proofs.ForCallers.{some_is_none}
+use Rattle.pfl_language.specs.declared.event.Event.{Event}
+use Rattle.pfl_language.specs.declared.command.Command.TheVariants as command
+use Rattle.pfl_language.specs.declared.refused.Refused.TheVariants as refused
+use Rattle.pfl_language.specs.BranchWords.{same_name}
 use Rattle.pfl_parts.specs.Nodes.{refused_by}
-use Rattle.pfl_world.specs.declared.event.Event.{Event}
 use Rattle.pfl_world.specs.Runs.{run}
 use Rattle.pfl_world.specs.Worlds.{World}
-use Rattle.pfl_timeline.specs.declared.command.Command.TheVariants as command
-use Rattle.pfl_timeline.specs.declared.refused.Refused.TheVariants as refused
-use Rattle.pfl_timeline.specs.Commands.{replied, answered, with_changed, excise_reply, restore_reply, excise_command, restore_command, command_step, replayed}
+use Rattle.pfl_timeline.specs.Commands.{replied, reply_unless, with_changed, excise_reply, restore_reply, excise_command, restore_command, command_step, replayed}
 use Rattle.pfl_timeline.specs.Excisions.{placed, without, has_event, excised, fallen_places}
-use Rattle.pfl_timeline.specs.Laws.{ExcisionsAreRunsWithout, ExcisionsLeaveStanding, ExcisionsTellTheRefused, NothingElseFallsOut, RestorationsTakeBack, accepted, refused_behind, events_of}
+use Rattle.pfl_timeline.specs.Laws.{ExcisionsAreRunsWithout, ExcisionsLeaveStanding, ExcisionsTellTheRefused, NothingElseFallsOut, RestorationsTakeBack, accepted_events, refused_behind, events_of}
 use Rattle.pfl_timeline.specs.Replies.{Replied, Excised, Restored, Refused as Refusing}
-use Rattle.pfl_timeline.specs.Timelines.{Branch, Timeline, branch_of, same_name, standing}
+use Rattle.pfl_timeline.specs.Timelines.{Branch, Timeline, branch_of, standing}
 use Rattle.pfl_timeline.proofs.Distinct.{called}
 use Rattle.pfl_timeline.proofs.Others.{has_the_name}
 use Rattle.pfl_timeline.proofs.Parting.{sieve-standing, sieve-refused}
@@ -63,18 +64,18 @@ module _ (t : Timeline) (name : List ℕ) (k : ℕ) (b : Branch) (here : branch_
   unfolding command_step excise_command
   taken_out =
       ap (λ (o : Option Branch). option_map_or (excise_reply t k) o (replied t (Refusing refused.NoBranch))) here
-      ∙ ap (λ there. answered t (refused_by ((not there, refused.NoEvent) ∷ [])) (replied (with_changed t new) (Excised (fallen_places t.opening k b)))) has
+      ∙ ap (λ there. reply_unless t (refused_by ((not there, refused.NoEvent) ∷ [])) (replied (with_changed t new) (Excised (fallen_places t.opening k b)))) has
 
   new_there : branch_of (with_changed t new) name ≡ Some new
   new_there = changed_there t name b new here refl
 
-  pub what-is-left : events_of (command_step t (command.Excise name k)).timeline name ≡ Some (accepted t.opening (without k b.events))
+  pub what-is-left : events_of (command_step t (command.Excise name k)).timeline name ≡ Some (accepted_events t.opening (without k b.events))
   what-is-left =
       ap (λ (r : Replied). events_of r.timeline name) taken_out
       ∙ ap (λ (o : Option Branch). option_map (λ c. c.events) o) new_there
-      ∙ ap Some (sieve-accepted t.opening (without k (placed b.events)) ∙ ap (accepted t.opening) (events_without k b.events))
+      ∙ ap Some (sieve-accepted t.opening (without k (placed b.events)) ∙ ap (accepted_events t.opening) (events_without k b.events))
 
-  pub what-stands : option_map standing (branch_of (command_step t (command.Excise name k)).timeline name) ≡ Some (accepted t.opening (without k (standing b)))
+  pub what-stands : option_map standing (branch_of (command_step t (command.Excise name k)).timeline name) ≡ Some (accepted_events t.opening (without k (standing b)))
   what-stands =
       ap (λ (r : Replied). option_map standing (branch_of r.timeline name)) taken_out
       ∙ ap (λ (o : Option Branch). option_map standing o) new_there

@@ -3,16 +3,17 @@ use Rattle.std.specs.Prelude.{◌≡◌, ℕ, Bool, true, false, nat_le, List, [
 use Rattle.std.specs.Map.{values_of, lookup, remove_entry}
 use Rattle.std.proofs.Common.{sym, ◌∙◌, ap, subst}
 use Rattle.indexmap.specs.IndexMap.{insert_entry}
+use Rattle.pfl_language.specs.declared.command.Command.TheVariants as command
+use Rattle.pfl_language.specs.declared.refused.Refused.{Refused}
+use Rattle.pfl_language.specs.declared.refused.Refused.TheVariants as refused
+use Rattle.pfl_language.specs.BranchWords.{same_name}
 use Rattle.pfl_parts.specs.Nodes.{refused_by}
-use Rattle.pfl_timeline.specs.declared.command.Command.TheVariants as command
-use Rattle.pfl_timeline.specs.declared.refused.Refused.{Refused}
-use Rattle.pfl_timeline.specs.declared.refused.Refused.TheVariants as refused
-use Rattle.pfl_timeline.specs.Commands.{replied, answered, with_branch, first_events, fork_refusal, fork_reply, fork_command, drop_reply}
+use Rattle.pfl_timeline.specs.Commands.{replied, reply_unless, with_branch, first_events, fork_refusal, fork_reply, fork_command, drop_reply}
 use Rattle.pfl_timeline.specs.Kept.{opening_of, timeline_of, by_name, AreKept, StandByName}
 use Rattle.pfl_timeline.specs.Memory.{IsAccepted}
 use Rattle.pfl_timeline.specs.Replies.{Replied, Forked, Removed, Refused as Refusing}
 use Rattle.pfl_timeline.specs.Rooted.{Rooted}
-use Rattle.pfl_timeline.specs.Timelines.{Branch, Timeline, IsTimeline, same_name}
+use Rattle.pfl_timeline.specs.Timelines.{Branch, Timeline, IsTimeline}
 use Rattle.pfl_timeline.proofs.Asked.{fork-asks, drop-asks, is-fork, is-drop}
 use Rattle.pfl_timeline.proofs.ByName.{Spot, spot, values_are, stand_by, put_last}
 use Rattle.pfl_timeline.proofs.Distinct.{no_some, others}
@@ -23,7 +24,7 @@ use Rattle.pfl_timeline.proofs.Places.{Entries, asks-at, begins-there, has_branc
 
 -- a branch more, unless there is a reason against it
 abbrev with_first : Timeline → ℕ → List ℕ → Branch → Option Refused → Replied
-with_first t k name b why = answered t why (replied (record t { branches = t.branches ++ first_events k name b ∷ [] }) Forked)
+with_first t k name b why = reply_unless t why (replied (record t { branches = t.branches ++ first_events k name b ∷ [] }) Forked)
 
 module _ (from : List ℕ) (es : Entries) (old : Rooted) (t : Timeline) (view : timeline_of (values_of es) ≡ t) (stand : StandByName es) (here : Some old ≡ lookup (same_name from) es) (k : ℕ) (name : List ℕ) where
   pub told-why : (why : Refused) → Some why ≡ fork_refusal t k name old.branch → with_branch t from (λ b. fork_reply t k name b) ≡ replied t (Refusing why)
@@ -79,7 +80,7 @@ module _ (from : List ℕ) (es : Entries) (old : Rooted) (t : Timeline) (view : 
 
 -- a branch less, unless it is the last
 abbrev without : Timeline → Branch → Bool → Replied
-without t b last = answered t (refused_by ((last, refused.LastBranch) ∷ [])) (replied (record t { branches = others b.name t.branches }) Removed)
+without t b last = reply_unless t (refused_by ((last, refused.LastBranch) ∷ [])) (replied (record t { branches = others b.name t.branches }) Removed)
 
 module _ (name : List ℕ) (es : Entries) (old : Rooted) (t : Timeline) (view : timeline_of (values_of es) ≡ t) (stand : StandByName es) (here : Some old ≡ lookup (same_name name) es) where
   asked : with_branch t name (λ b. drop_reply t b) ≡ drop_reply t old.branch

@@ -6,22 +6,23 @@ use Rattle.std.proofs.Common.{cond, sym, ◌∙◌, ap, subst, arith, length-app
 use Rattle.std.proofs.lemmas.Bool.{ltb-false, leb-false}
 use Rattle.std.proofs.lemmas.List.{length-map, take-append-drop}
 use Rattle.std.proofs.lemmas.Slice.Eq.{bytes_eq-Decides}
-use Rattle.pfl_edits.proofs.RowMaps.{some_is_none}
+use Rattle.pfl_edits.proofs.ForCallers.{some_is_none}
+use Rattle.pfl_language.specs.declared.event.Event.{Event}
+use Rattle.pfl_language.specs.declared.command.Command.{Command}
+use Rattle.pfl_language.specs.declared.command.Command.TheVariants as command
+use Rattle.pfl_language.specs.declared.refused.Refused.{Refused}
+use Rattle.pfl_language.specs.declared.refused.Refused.TheVariants as refused
+use Rattle.pfl_language.specs.BranchWords.{is_branch_name, same_name}
 use Rattle.pfl_parts.specs.Nodes.{refused_by}
-use Rattle.pfl_world.specs.declared.event.Event.{Event}
 use Rattle.pfl_world.specs.Events.{step}
-use Rattle.pfl_world.specs.Outcomes.{Stepped}
-use Rattle.pfl_world.specs.Runs.{run, after}
+use Rattle.pfl_world.specs.Meanings.{Stepped}
+use Rattle.pfl_world.specs.Runs.{run, world_after}
 use Rattle.pfl_world.specs.Worlds.{World}
-use Rattle.pfl_timeline.specs.declared.command.Command.{Command}
-use Rattle.pfl_timeline.specs.declared.command.Command.TheVariants as command
-use Rattle.pfl_timeline.specs.declared.refused.Refused.{Refused}
-use Rattle.pfl_timeline.specs.declared.refused.Refused.TheVariants as refused
-use Rattle.pfl_timeline.specs.Commands.{replied, answered, with_branch, with_changed, extended, undone, at_cursor, step_answered, step_reply, back_reply, forward_reply, first_events, fork_refusal, fork_reply, drop_reply, show_reply, step_command, back_command, forward_command, fork_command, drop_command, show_command, names_command, excise_reply, restore_reply, excise_command, restore_command, log_reply, log_command, command_step, replayed}
+use Rattle.pfl_timeline.specs.Commands.{replied, reply_unless, with_branch, with_changed, extended, undone, at_cursor, step_answered, step_reply, back_reply, forward_reply, first_events, fork_refusal, fork_reply, drop_reply, show_reply, step_command, back_command, forward_command, fork_command, drop_command, show_command, names_command, excise_reply, restore_reply, excise_command, restore_command, log_reply, log_command, command_step, replayed}
 use Rattle.pfl_timeline.specs.Excisions.{has_event, excised, fallen_places, restored}
 use Rattle.pfl_timeline.specs.Laws.{CommandsKeepTimelines, BranchesShowWorlds}
 use Rattle.pfl_timeline.specs.Replies.{Replied, Forked, Removed, Shown, Excised, Restored, Refused as Refusing}
-use Rattle.pfl_timeline.specs.Timelines.{Branch, Timeline, IsFormer, IsBranch, IsTimeline, branch_of, is_branch_name, same_name, standing, world_of}
+use Rattle.pfl_timeline.specs.Timelines.{Branch, Timeline, IsFormer, IsBranch, IsTimeline, branch_of, standing, world_of}
 use Rattle.pfl_timeline.proofs.Distinct.{all_behind, distinct_behind, no_some, others, all_others, distinct_others, one_less}
 use Rattle.pfl_timeline.proofs.Prefixes.{run-front}
 use Rattle.pfl_timeline.proofs.Runs.{run-last}
@@ -76,7 +77,7 @@ longer : (t : Timeline) (b : Branch) (e : Event) (w : World) (s : Stepped) → I
 unfolding world_of
 longer t b e w s branch here stepped =
     let ends : run t.opening (standing b ++ e ∷ []) ≡ Some s.world =
-    run-last t.opening (standing b) e ∙ ap (λ (o : Option World). option_and_then (λ v. after (step v e)) o) here ∙ ap after stepped in
+    run-last t.opening (standing b) e ∙ ap (λ (o : Option World). option_and_then (λ v. world_after (step v e)) o) here ∙ ap world_after stepped in
     record {
       name = branch.name;
       within = omega (arith, length-append (standing b) (e ∷ []), length-take-le b.cursor b.events branch.within);
@@ -101,7 +102,7 @@ shorter t n b branch = record { name = branch.name; within = omega (arith, branc
 
 back_keeps : (t : Timeline) (n : ℕ) (b : Branch) → IsTimeline t → IsBranch t.opening b → IsTimeline (back_reply t n b).timeline
 back_keeps t n b is branch =
-    elim (nat_lt b.cursor n) as (λ far. IsTimeline (answered t (refused_by ((far, refused.TooFarBack) ∷ [])) (at_cursor t b (b.cursor - n))).timeline) [
+    elim (nat_lt b.cursor n) as (λ far. IsTimeline (reply_unless t (refused_by ((far, refused.TooFarBack) ∷ [])) (at_cursor t b (b.cursor - n))).timeline) [
       | true ↦ is
       | false ↦ keeps t (record b { cursor = b.cursor - n }) is (shorter t n b branch)
     ]
@@ -109,7 +110,7 @@ back_keeps t n b is branch =
 -- more events of a branch stand
 forward_keeps : (t : Timeline) (n : ℕ) (b : Branch) → IsTimeline t → IsBranch t.opening b → IsTimeline (forward_reply t n b).timeline
 forward_keeps t n b is branch =
-    elim (nat_lt (undone b) n) as (λ far. nat_lt (undone b) n ≡ far → IsTimeline (answered t (refused_by ((far, refused.NothingForward) ∷ [])) (at_cursor t b (b.cursor + n))).timeline) [
+    elim (nat_lt (undone b) n) as (λ far. nat_lt (undone b) n ≡ far → IsTimeline (reply_unless t (refused_by ((far, refused.NothingForward) ∷ [])) (at_cursor t b (b.cursor + n))).timeline) [
       | true ↦ λ _. is
       | false ↦ λ near.
           keeps t (record b { cursor = b.cursor + n }) is
@@ -181,7 +182,7 @@ first_is t k name b branch named within = record {
 fork_keeps : (t : Timeline) (k : ℕ) (name : List ℕ) (b : Branch) → IsTimeline t → IsBranch t.opening b → IsTimeline (fork_reply t k name b).timeline
 fork_keeps t k name b is branch =
     let new = first_events k name b in
-    elim (fork_refusal t k name b) as (λ o. fork_refusal t k name b ≡ o → IsTimeline (answered t o (replied (record t { branches = t.branches ++ new ∷ [] }) Forked)).timeline) [
+    elim (fork_refusal t k name b) as (λ o. fork_refusal t k name b ≡ o → IsTimeline (reply_unless t o (replied (record t { branches = t.branches ++ new ∷ [] }) Forked)).timeline) [
       | Some why ↦ λ _. is
       | None ↦ λ free.
           let known = fork_known t k name b free in
@@ -198,7 +199,7 @@ fork_keeps t k name b is branch =
 drop_keeps : (t : Timeline) (name : List ℕ) (b : Branch) → IsTimeline t → branch_of t name ≡ Some b → IsTimeline (drop_reply t b).timeline
 drop_keeps t name b is here =
     elim (nat_le (length t.branches) 1) as (λ last. nat_le (length t.branches) 1 ≡ last
-    → IsTimeline (answered t (refused_by ((last, refused.LastBranch) ∷ [])) (replied (record t { branches = others b.name t.branches }) Removed)).timeline) [
+    → IsTimeline (reply_unless t (refused_by ((last, refused.LastBranch) ∷ [])) (replied (record t { branches = others b.name t.branches }) Removed)).timeline) [
       | true ↦ λ _. is
       | false ↦ λ more.
           let left = one_less (λ c. same_name c.name name) t.branches b here is.names in
@@ -221,7 +222,7 @@ show_keeps t b is =
 -- an event taken out
 excise_keeps : (t : Timeline) (k : ℕ) (b : Branch) → IsTimeline t → IsBranch t.opening b → IsTimeline (excise_reply t k b).timeline
 excise_keeps t k b is branch =
-    elim (not (has_event k b)) as (λ none. IsTimeline (answered t (refused_by ((none, refused.NoEvent) ∷ [])) (replied (with_changed t (excised t.opening k b)) (Excised (fallen_places t.opening k b)))).timeline) [
+    elim (not (has_event k b)) as (λ none. IsTimeline (reply_unless t (refused_by ((none, refused.NoEvent) ∷ [])) (replied (with_changed t (excised t.opening k b)) (Excised (fallen_places t.opening k b)))).timeline) [
       | true ↦ is
       | false ↦ keeps t (excised t.opening k b) is (excised-is t.opening k b branch)
     ]

@@ -19,3 +19,4 @@ pub mod Stepped
 pub mod Others
 pub mod Shows
 pub mod Rooted
+pub mod ForCallers

@@ -3,18 +3,19 @@ use Rattle.std.specs.Prelude.{◌≡◌, ℕ, ◌+◌, ◌-◌, true, false, not
 use Rattle.std.specs.Option.{option_map_or}
 use Rattle.std.proofs.Common.{cond, sym, ◌∙◌, ap}
 use Rattle.std.proofs.lemmas.Slice.Eq.{bytes_eq-Decides}
-use Rattle.pfl_edits.proofs.RowMaps.{some_is_none}
+use Rattle.pfl_edits.proofs.ForCallers.{some_is_none}
+use Rattle.pfl_language.specs.declared.event.Event.{Event}
+use Rattle.pfl_language.specs.declared.command.Command.TheVariants as command
+use Rattle.pfl_language.specs.declared.refused.Refused.{Refused}
+use Rattle.pfl_language.specs.declared.refused.Refused.TheVariants as refused
+use Rattle.pfl_language.specs.BranchWords.{same_name}
 use Rattle.pfl_parts.specs.Nodes.{refused_by}
-use Rattle.pfl_world.specs.declared.event.Event.{Event}
 use Rattle.pfl_world.specs.Events.{step}
-use Rattle.pfl_timeline.specs.declared.command.Command.TheVariants as command
-use Rattle.pfl_timeline.specs.declared.refused.Refused.{Refused}
-use Rattle.pfl_timeline.specs.declared.refused.Refused.TheVariants as refused
-use Rattle.pfl_timeline.specs.Commands.{replied, answered, with_branch, with_changed, extended, undone, step_answered, step_reply, back_reply, forward_reply, first_events, fork_refusal, fork_reply, drop_reply, show_reply, step_command, back_command, forward_command, fork_command, drop_command, show_command, names_command, excise_reply, restore_reply, excise_command, restore_command, log_reply, log_command, command_step}
+use Rattle.pfl_timeline.specs.Commands.{replied, reply_unless, with_branch, with_changed, extended, undone, step_answered, step_reply, back_reply, forward_reply, first_events, fork_refusal, fork_reply, drop_reply, show_reply, step_command, back_command, forward_command, fork_command, drop_command, show_command, names_command, excise_reply, restore_reply, excise_command, restore_command, log_reply, log_command, command_step}
 use Rattle.pfl_timeline.specs.Excisions.{has_event, excised, restored}
 use Rattle.pfl_timeline.specs.Laws.{CommandsLeaveOthers}
 use Rattle.pfl_timeline.specs.Replies.{Replied, Shown, Restored, Refused as Refusing}
-use Rattle.pfl_timeline.specs.Timelines.{Branch, Timeline, branch_of, same_name, world_of}
+use Rattle.pfl_timeline.specs.Timelines.{Branch, Timeline, branch_of, world_of}
 use Rattle.pfl_timeline.proofs.Distinct.{called, others}
 
 -- ---- a search for another name
@@ -59,7 +60,7 @@ leaves_named t of name done leaves =
       | Some b ↦ λ here. leaves b (has_the_name of t.branches b here)
     ] refl
 
-leaves_answered : (t : Timeline) (name : List ℕ) (o : Option Refused) (done : Replied) → Leaves t name done → Leaves t name (answered t o done)
+leaves_answered : (t : Timeline) (name : List ℕ) (o : Option Refused) (done : Replied) → Leaves t name done → Leaves t name (reply_unless t o done)
 leaves_answered t name None done leaves = leaves
 leaves_answered t name (Some why) done leaves = refl
 

@@ -7,12 +7,12 @@ use Rattle.std.proofs.lemmas.List.{length-map, map-append, take-map, take-append
 use Rattle.std.proofs.lemmas.List.Elements.{filter-append}
 use Rattle.std.proofs.lemmas.List.Sums.{fold-append}
 use Rattle.std.proofs.Math.Seq.{take-append_seam}
-use Rattle.pfl_world.specs.declared.event.Event.{Event}
+use Rattle.pfl_language.specs.declared.event.Event.{Event}
 use Rattle.pfl_world.specs.Events.{step}
 use Rattle.pfl_world.specs.Runs.{run}
 use Rattle.pfl_world.specs.Worlds.{World}
 use Rattle.pfl_timeline.specs.Excisions.{Placed, placed_behind, placed, without, Sieved, sifted, sift, sieve}
-use Rattle.pfl_timeline.specs.Laws.{accepted, refused_behind, refused_with}
+use Rattle.pfl_timeline.specs.Laws.{accepted_events, refused_behind, refused_with}
 use Rattle.pfl_timeline.proofs.Sieving.{events_in, places_in, stand, events_placed, at_first, sieve-sound, sieve-accepted, sieve-keeps}
 
 -- ---- the list without one event, taken apart
@@ -163,7 +163,7 @@ module _ (o : World) (c : ℕ) (front rest : List Placed) (within : UpTo c front
       ap length (filter-append (λ (p : Placed). nat_le p.place c) first.kept k.more) ∙ length-append (filter (λ (p : Placed). nat_le p.place c) first.kept) (filter (λ (p : Placed). nat_le p.place c) k.more) in
       omega (arith, ap (stand c) kept_is, parts, all_stand c first.kept first_within, none_stands c k.more k.all, length-map first.kept (λ (p : Placed). p.event))
 
-  pub parted-standing : take (stand c whole.kept) (events_in whole.kept) ≡ accepted o (events_in front)
+  pub parted-standing : take (stand c whole.kept) (events_in whole.kept) ≡ accepted_events o (events_in front)
   unfolding first
   parted-standing =
       let k = then_kept in
@@ -174,7 +174,7 @@ module _ (o : World) (c : ℕ) (front rest : List Placed) (within : UpTo c front
       ∙ sieve-accepted o front
 
 pub sieve-standing : (o : World) (k c : ℕ) (es : List Event) → 1 ≤ k
-    → take (stand c (sieve o (without k (placed es))).kept) (events_in (sieve o (without k (placed es))).kept) ≡ accepted o (without k (take c es))
+    → take (stand c (sieve o (without k (placed es))).kept) (events_in (sieve o (without k (placed es))).kept) ≡ accepted_events o (without k (take c es))
 unfolding parted-standing
 sieve-standing o k c es some =
     let at : k ≡ suc (k - 1) = omega (arith, some) in
@@ -182,7 +182,7 @@ sieve-standing o k c es some =
     let p = parted 0 (k - 1) c c es all in
     ap (λ (ps : List Placed). take (stand c (sieve o ps).kept) (events_in (sieve o ps).kept)) (without_is k (k - 1) (placed es) at ∙ p.whole)
     ∙ parted-standing o c p.front p.rest p.within p.behind
-    ∙ ap (accepted o) (p.events ∙ sym (without_is k (k - 1) (take c es) at))
+    ∙ ap (accepted_events o) (p.events ∙ sym (without_is k (k - 1) (take c es) at))
 
 -- ---- those that are told
 

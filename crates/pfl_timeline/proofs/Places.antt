@@ -7,16 +7,17 @@ use Rattle.std.proofs.Common.{sym, ◌∙◌, ap, subst, arith, length-append}
 use Rattle.std.proofs.lemmas.Bool.{leb-false}
 use Rattle.std.proofs.lemmas.List.{length-map, map-append}
 use Rattle.std.proofs.lemmas.Map.Entries.{length-values_of}
+use Rattle.pfl_language.specs.declared.refused.Refused.TheVariants as refused
+use Rattle.pfl_language.specs.BranchWords.{main_name, same_name}
 use Rattle.pfl_world.specs.Runs.{run}
 use Rattle.pfl_world.specs.Worlds.{World, IsWorld}
 use Rattle.pfl_timeline.specs.Commands.{replied, with_branch, with_changed}
 use Rattle.pfl_timeline.specs.Kept.{opening_of, timeline_of, AreKept, StandByName}
 use Rattle.pfl_timeline.specs.Memory.{is_refusal, IsAccepted}
-use Rattle.pfl_timeline.specs.declared.refused.Refused.TheVariants as refused
 use Rattle.pfl_timeline.specs.Replies.{Reply, Replied, Refused as Refusing}
 use Rattle.pfl_timeline.specs.Rooted.{Rooted, shown}
 use Rattle.pfl_timeline.proofs.Rooted.{StandsIn, Accepts, IsReplyOf}
-use Rattle.pfl_timeline.specs.Timelines.{Branch, Timeline, IsBranch, IsTimeline, branch_of, main_name, same_name, standing, world_of}
+use Rattle.pfl_timeline.specs.Timelines.{Branch, Timeline, IsBranch, IsTimeline, branch_of, standing, world_of}
 use Rattle.pfl_timeline.proofs.ByName.{Spot, spot, branches_of, found_by, values_are, stand_by}
 use Rattle.pfl_timeline.proofs.Distinct.{itself, differ, all_behind, others, one_goes}
 use Rattle.pfl_timeline.proofs.NewTimelines.{new_timeline-is}

@@ -4,16 +4,16 @@ use Rattle.std.specs.Option.{option_and_then}
 use Rattle.std.proofs.Common.{◌∙◌, ap, subst}
 use Rattle.std.proofs.lemmas.List.Sums.{fold-append}
 use Rattle.pfl_base.specs.declared.refusal.Refusal.{Refusal}
-use Rattle.pfl_world.specs.declared.event.Event.{Event}
+use Rattle.pfl_language.specs.declared.event.Event.{Event}
 use Rattle.pfl_world.specs.Events.{step}
-use Rattle.pfl_world.specs.Outcomes.{Stepped}
-use Rattle.pfl_world.specs.Runs.{run, after}
+use Rattle.pfl_world.specs.Meanings.{Stepped}
+use Rattle.pfl_world.specs.Runs.{run, world_after}
 use Rattle.pfl_world.specs.Worlds.{World}
 use Rattle.pfl_timeline.proofs.Runs.{run-last}
 
 -- an event more, where the events before it have a world
 abbrev pub go_on : Option World → Event → Option World
-go_on at e = option_and_then (λ v. after (step v e)) at
+go_on at e = option_and_then (λ v. world_after (step v e)) at
 
 -- a refused event has no world after it
 pub never_again : (es : List Event) → fold go_on None es ≡ None
@@ -41,13 +41,13 @@ the_world : (o : Option World) → IsTrue (is_some o) → (v : World) × (o ≡ 
 the_world None is = absurd cc
 the_world (Some v) is = (v, refl)
 
-the_step : (r : Result Stepped Refusal) → IsTrue (is_some (after r)) → (s : Stepped) × (r ≡ Ok s)
+the_step : (r : Result Stepped Refusal) → IsTrue (is_some (world_after r)) → (s : Stepped) × (r ≡ Ok s)
 the_step (Ok s) is = (s, refl)
 the_step (Err why) is = absurd cc
 
 pub last_accepted : (w : World) (es : List Event) (e : Event) → IsTrue (is_some (run w (es ++ e ∷ []))) → Accepted w es e
 last_accepted w es e is =
     let before : (v : World) × (run w es ≡ Some v) = the_world (run w es) (run-front w es (e ∷ []) is) in
-    let ends : run w (es ++ e ∷ []) ≡ after (step before.0 e) = run-last w es e ∙ ap (λ (o : Option World). option_and_then (λ v. after (step v e)) o) before.1 in
+    let ends : run w (es ++ e ∷ []) ≡ world_after (step before.0 e) = run-last w es e ∙ ap (λ (o : Option World). option_and_then (λ v. world_after (step v e)) o) before.1 in
     let gives : (s : Stepped) × (step before.0 e ≡ Ok s) = the_step (step before.0 e) (subst (λ (o : Option World). IsTrue (is_some o)) ends is) in
     record { before = before.0; here = before.1; gives = gives.0; stepped = gives.1 }

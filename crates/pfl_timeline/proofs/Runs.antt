@@ -8,12 +8,12 @@ use Rattle.std.proofs.lemmas.List.Sums.{fold_push}
 use Rattle.std.proofs.lemmas.Bool.{cases_lt}
 use Rattle.pfl_edits.specs.Changes.{back, Fits}
 use Rattle.pfl_edits.specs.Tapes.{above, below}
-use Rattle.pfl_edits.proofs.Leading.{back-append, Fits-append, Fits-front, Fits-rest}
+use Rattle.pfl_edits.proofs.ForCallers.{back-append, Fits-append, Fits-front, Fits-rest}
+use Rattle.pfl_language.specs.declared.event.Event.{Event}
+use Rattle.pfl_language.specs.declared.outcome.Outcome.{Outcome}
 use Rattle.pfl_world.specs.declared.edit.WorldEdit.{WorldEdit}
-use Rattle.pfl_world.specs.declared.event.Event.{Event}
 use Rattle.pfl_world.specs.Events.{step}
-use Rattle.pfl_world.specs.declared.outcome.Outcome.{Outcome}
-use Rattle.pfl_world.specs.Runs.{run, after}
+use Rattle.pfl_world.specs.Runs.{run, world_after}
 use Rattle.pfl_world.specs.WorldEdits.{Finds, put_back}
 use Rattle.pfl_world.specs.Worlds.{World, IsWorld}
 use Rattle.pfl_timeline.specs.Histories.{History, reached}
@@ -28,9 +28,9 @@ take_none zero = refl
 take_none (suc k) = refl
 
 -- one event more
-pub run-last : (w : World) (es : List Event) (e : Event) → run w (es ++ e ∷ []) ≡ option_and_then (λ v. after (step v e)) (run w es)
+pub run-last : (w : World) (es : List Event) (e : Event) → run w (es ++ e ∷ []) ≡ option_and_then (λ v. world_after (step v e)) (run w es)
 unfolding run
-run-last w es e = fold_push (λ at e. option_and_then (λ v. after (step v e)) at) (Some w) es e
+run-last w es e = fold_push (λ at e. option_and_then (λ v. world_after (step v e)) at) (Some w) es e
 
 -- no event
 run-none : (w : World) → run w [] ≡ Some w
@@ -154,8 +154,8 @@ module _ {M : Type 0} (w new : World) (events fs : List Event) (tape more : List
   at_end =
       ap (run opening) front
       ∙ run-last opening (take (length marks) events) e
-      ∙ ap (λ (o : Option World). option_and_then (λ v. after (step v e)) o) (reached-kept w events tape marks k)
-      ∙ ap after stepped
+      ∙ ap (λ (o : Option World). option_and_then (λ v. world_after (step v e)) o) (reached-kept w events tape marks k)
+      ∙ ap world_after stepped
 
   -- the events that stood stand
   early : (i : ℕ) → i ≤ length marks → take i fs ≡ take i events

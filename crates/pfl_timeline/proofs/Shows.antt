@@ -4,20 +4,21 @@ use Rattle.std.specs.List.{AllByRecursion, IsDistinct}
 use Rattle.std.specs.Option.{option_map_or}
 use Rattle.std.proofs.Common.{cond, sym, ◌∙◌, ap}
 use Rattle.std.proofs.lemmas.Slice.Eq.{bytes_eq-Decides}
+use Rattle.pfl_language.specs.declared.event.Event.{Event}
+use Rattle.pfl_language.specs.declared.command.Command.{Command}
+use Rattle.pfl_language.specs.declared.command.Command.TheVariants as command
+use Rattle.pfl_language.specs.declared.refused.Refused.{Refused}
+use Rattle.pfl_language.specs.declared.refused.Refused.TheVariants as refused
+use Rattle.pfl_language.specs.BranchWords.{same_name}
 use Rattle.pfl_parts.specs.Nodes.{refused_by}
-use Rattle.pfl_world.specs.declared.event.Event.{Event}
 use Rattle.pfl_world.specs.Events.{step}
 use Rattle.pfl_world.specs.Runs.{run}
 use Rattle.pfl_world.specs.Worlds.{World}
-use Rattle.pfl_timeline.specs.declared.command.Command.{Command}
-use Rattle.pfl_timeline.specs.declared.command.Command.TheVariants as command
-use Rattle.pfl_timeline.specs.declared.refused.Refused.{Refused}
-use Rattle.pfl_timeline.specs.declared.refused.Refused.TheVariants as refused
-use Rattle.pfl_timeline.specs.Commands.{replied, answered, with_branch, with_changed, undone, step_answered, step_reply, back_reply, forward_reply, fork_refusal, fork_reply, drop_reply, show_reply, step_command, back_command, forward_command, fork_command, drop_command, show_command, names_command, excise_reply, restore_reply, excise_command, restore_command, log_reply, log_command, command_step, replayed}
+use Rattle.pfl_timeline.specs.Commands.{replied, reply_unless, with_branch, with_changed, undone, step_answered, step_reply, back_reply, forward_reply, fork_refusal, fork_reply, drop_reply, show_reply, step_command, back_command, forward_command, fork_command, drop_command, show_command, names_command, excise_reply, restore_reply, excise_command, restore_command, log_reply, log_command, command_step, replayed}
 use Rattle.pfl_timeline.specs.Excisions.{has_event, restored}
 use Rattle.pfl_timeline.specs.Laws.{ShowsItsRun, BranchesShowTheirRuns}
 use Rattle.pfl_timeline.specs.Replies.{Replied, Shown, Restored, Logged, Refused as Refusing}
-use Rattle.pfl_timeline.specs.Timelines.{Branch, Timeline, IsTimeline, branch_of, same_name, new_timeline, standing, world_of}
+use Rattle.pfl_timeline.specs.Timelines.{Branch, Timeline, IsTimeline, branch_of, new_timeline, standing, world_of}
 use Rattle.pfl_timeline.proofs.Keeping.{commands-keep, branches-show}
 use Rattle.pfl_timeline.proofs.NewTimelines.{new_timeline-is}
 
@@ -33,7 +34,7 @@ begins_named t of done begins =
       | Some b ↦ begins b
     ]
 
-begins_answered : (t : Timeline) (o : Option Refused) (done : Replied) → Begins t done → Begins t (answered t o done)
+begins_answered : (t : Timeline) (o : Option Refused) (done : Replied) → Begins t done → Begins t (reply_unless t o done)
 begins_answered t None done begins = begins
 begins_answered t (Some why) done begins = refl
 

@@ -6,17 +6,17 @@ use Rattle.std.proofs.lemmas.Bool.{le-leb, lt-leb, leb-true, leb-false}
 use Rattle.std.proofs.lemmas.List.{length-map, map-append, take-map, drop-map, take_more, drop-append-le, take-append-drop}
 use Rattle.std.proofs.lemmas.List.Sums.{fold_push}
 use Rattle.pfl_base.specs.declared.refusal.Refusal.{Refusal}
-use Rattle.pfl_world.specs.declared.event.Event.{Event}
+use Rattle.pfl_language.specs.declared.event.Event.{Event}
 use Rattle.pfl_world.specs.Events.{step}
-use Rattle.pfl_world.specs.Outcomes.{Stepped}
-use Rattle.pfl_world.specs.Runs.{run, after}
+use Rattle.pfl_world.specs.Meanings.{Stepped}
+use Rattle.pfl_world.specs.Runs.{run, world_after}
 use Rattle.pfl_world.specs.Worlds.{World}
 use Rattle.pfl_timeline.specs.Excisions.{Placed, placed_behind, placed, without, Sieved, sifted, sift, sieve, sieved_without, has_event, excised}
 use Rattle.pfl_timeline.specs.Histories.{History, IsHistory, reached, continued}
 use Rattle.pfl_timeline.specs.inner.Histories.{standing_at, first_of, SiftedBy, Sifts, so_far}
 use Rattle.pfl_timeline.specs.Kept.{rooted}
 use Rattle.pfl_timeline.specs.Rooted.{Rooted}
-use Rattle.pfl_timeline.specs.Laws.{accepted, accepted_with}
+use Rattle.pfl_timeline.specs.Laws.{accepted_events, accepted_with}
 use Rattle.pfl_timeline.specs.Timelines.{Branch, IsBranch}
 use Rattle.pfl_timeline.proofs.Prefixes.{run-front, go_on, never_again}
 use Rattle.pfl_timeline.proofs.Runs.{run-last, parts_as}
@@ -63,8 +63,8 @@ sift_sound o s p sound =
       | Ok new ↦ λ is.
           ap (run o) (map-append (λ (q : Placed). q.event) s.kept (p ∷ []))
           ∙ run-last o (events_in s.kept) p.event
-          ∙ ap (λ (w : Option World). option_and_then (λ v. after (step v p.event)) w) sound
-          ∙ ap after is
+          ∙ ap (λ (w : Option World). option_and_then (λ v. world_after (step v p.event)) w) sound
+          ∙ ap world_after is
       | Err why ↦ λ _. sound
     ] refl
 
@@ -89,19 +89,19 @@ sieve-last o ps p = fold_push sift (at_first o) ps p
 
 -- ---- those that are accepted
 
-fold_accepted : (s : Sieved) (ps : List Placed) → events_in (fold sift s ps).kept ≡ events_in s.kept ++ accepted s.world (events_in ps)
-unfolding accepted
+fold_accepted : (s : Sieved) (ps : List Placed) → events_in (fold sift s ps).kept ≡ events_in s.kept ++ accepted_events s.world (events_in ps)
+unfolding accepted_events
 fold_accepted s [] = sym (append-nil (events_in s.kept))
 fold_accepted s (p ∷ ps) =
-    elim (step s.world p.event) as (λ r. events_in (fold sift (sifted s p r) ps).kept ≡ events_in s.kept ++ accepted_with s.world p.event (λ v. accepted v (events_in ps)) r) [
+    elim (step s.world p.event) as (λ r. events_in (fold sift (sifted s p r) ps).kept ≡ events_in s.kept ++ accepted_with s.world p.event (λ v. accepted_events v (events_in ps)) r) [
       | Ok new ↦
           fold_accepted (sifted s p (Ok new)) ps
-          ∙ ap (λ (es : List Event). es ++ accepted new.world (events_in ps)) (map-append (λ (q : Placed). q.event) s.kept (p ∷ []))
-          ∙ append_assoc (events_in s.kept) (p.event ∷ []) (accepted new.world (events_in ps))
+          ∙ ap (λ (es : List Event). es ++ accepted_events new.world (events_in ps)) (map-append (λ (q : Placed). q.event) s.kept (p ∷ []))
+          ∙ append_assoc (events_in s.kept) (p.event ∷ []) (accepted_events new.world (events_in ps))
       | Err why ↦ fold_accepted (sifted s p (Err why)) ps
     ]
 
-pub sieve-accepted : (o : World) (ps : List Placed) → events_in (sieve o ps).kept ≡ accepted o (events_in ps)
+pub sieve-accepted : (o : World) (ps : List Placed) → events_in (sieve o ps).kept ≡ accepted_events o (events_in ps)
 unfolding sieve
 sieve-accepted o ps = fold_accepted (at_first o) ps
 
@@ -121,7 +121,7 @@ never es is = let none : IsTrue (is_some no_world) = subst (λ (o : Option World
 keeps_from : (s : Sieved) (ps : List Placed) → IsTrue (is_some (fold go_on (Some s.world) (events_in ps))) → KeepsAll s ps (fold sift s ps)
 keeps_from s [] runs = record { kept = sym (append-nil s.kept); fallen = refl }
 keeps_from s (p ∷ ps) runs =
-    elim (step s.world p.event) as (λ r. IsTrue (is_some (fold go_on (after r) (events_in ps))) → KeepsAll s (p ∷ ps) (fold sift (sifted s p r) ps)) [
+    elim (step s.world p.event) as (λ r. IsTrue (is_some (fold go_on (world_after r) (events_in ps))) → KeepsAll s (p ∷ ps) (fold sift (sifted s p r) ps)) [
       | Ok new ↦ λ on.
           let rest = keeps_from (sifted s p (Ok new)) ps on in
           record { kept = rest.kept ∙ append_assoc s.kept (p ∷ []) ps; fallen = rest.fallen }

@@ -3,17 +3,18 @@ use Rattle.std.specs.Prelude.{◌≡◌, ◌+◌, List, [], ◌∷◌, ◌++◌,
 use Rattle.std.specs.Option.{option_map_or}
 use Rattle.std.proofs.Common.{sym, ◌∙◌, ap, subst, le_refl, length-append, append_assoc, append-nil, take_all}
 use Rattle.pfl_base.specs.declared.refusal.Refusal.{Refusal}
-use Rattle.pfl_world.specs.declared.event.Event.{Event}
+use Rattle.pfl_language.specs.declared.event.Event.{Event}
+use Rattle.pfl_language.specs.declared.command.Command.TheVariants as command
+use Rattle.pfl_language.specs.declared.refused.Refused.TheVariants as refused
+use Rattle.pfl_language.specs.BranchWords.{main_name}
 use Rattle.pfl_world.specs.Events.{step}
-use Rattle.pfl_world.specs.Outcomes.{Stepped}
+use Rattle.pfl_world.specs.Meanings.{Stepped}
 use Rattle.pfl_world.specs.Runs.{run}
 use Rattle.pfl_world.specs.Worlds.{World}
-use Rattle.pfl_timeline.specs.declared.command.Command.TheVariants as command
-use Rattle.pfl_timeline.specs.declared.refused.Refused.TheVariants as refused
 use Rattle.pfl_timeline.specs.Commands.{replied, step_answered, step_command, show_command, command_step, replayed}
 use Rattle.pfl_timeline.specs.Laws.{StepsAreRuns, steps, all_stand}
 use Rattle.pfl_timeline.specs.Replies.{Shown, Refused as Refusing}
-use Rattle.pfl_timeline.specs.Timelines.{Branch, Timeline, new_timeline, main_name, world_of}
+use Rattle.pfl_timeline.specs.Timelines.{Branch, Timeline, new_timeline, world_of}
 use Rattle.pfl_timeline.proofs.Prefixes.{run-front, Accepted, last_accepted}
 
 abbrev main_with : List Event → Branch

@@ -7,19 +7,26 @@ use Rattle.std.proofs.Common.{sym, ◌∙◌, ap, subst, inl, inr}
 use Rattle.pfl_base.specs.declared.node_id.NodeId.{NodeId}
 use Rattle.pfl_base.specs.declared.refusal.Refusal.{Refusal}
 use Rattle.pfl_base.specs.declared.refusal.Refusal.TheVariants.{NoSuchFrame, NothingPending, NoSuchState, LinkFull, QueueFull, ClockFull, CountFull, NotSyncing, TooEarly, NoMemory}
+use Rattle.pfl_base.specs.Numbers.{greatest}
 use Rattle.pfl_edits.specs.Maps as maps
+use Rattle.pfl_language.specs.declared.node_event.NodeEvent.{NodeEvent}
+use Rattle.pfl_language.specs.declared.node_event.NodeEvent.TheVariants as own
+use Rattle.pfl_language.specs.declared.event.Event.{Event}
+use Rattle.pfl_language.specs.declared.event.Event.TheVariants as event
+use Rattle.pfl_language.specs.declared.event.FrameEvent.TheVariants as frame
+use Rattle.pfl_language.specs.declared.command.Command.{Command}
+use Rattle.pfl_language.specs.declared.command.Command.TheVariants as command
+use Rattle.pfl_language.specs.declared.refused.Refused.TheVariants as refused
+use Rattle.pfl_language.specs.BranchWords.{is_branch_name, same_name}
 use Rattle.pfl_link.specs.Links.{InFlight, is_full, is_counted_out}
 use Rattle.pfl_queue.specs.Queues.{pending}
 use Rattle.pfl_node.specs.Purging.{purge_points}
-use Rattle.pfl_parts.specs.Nodes.{Node, refused_by, points_refusal, full_tests, is_overfull, is_overcounted, greatest, last_millisecond}
+use Rattle.pfl_parts.specs.Nodes.{Node, refused_by, unless_refused, points_refusal, full_tests, is_overfull, is_overcounted, last_millisecond}
 use Rattle.pfl_parts.specs.Changes.{count_broken}
 use Rattle.pfl_receive.specs.Delivering.{receive_points}
 use Rattle.pfl_wire.specs.declared.fault.BadFrame.{BadFrame}
 use Rattle.pfl_wire.specs.Frames.{Frame}
 use Rattle.pfl_wire.specs.Reading.{reading}
-use Rattle.pfl_node.specs.declared.event.NodeEvent.{NodeEvent}
-use Rattle.pfl_node.specs.declared.event.NodeEvent.TheVariants as own
-use Rattle.pfl_node.specs.Stepping as stepping
 use Rattle.pfl_node.specs.Stepping.{NodeStepped, node_refusal, node_after}
 use Rattle.pfl_node.specs.Killing.{killed}
 use Rattle.pfl_node.specs.Packets.{packet_points}
@@ -28,24 +35,22 @@ use Rattle.pfl_node.specs.Releasing.{due_names, released_due}
 use Rattle.pfl_node.specs.Retrying.{retried_client}
 use Rattle.pfl_node.specs.Turning.{turned}
 use Rattle.pfl_bulk.specs.Bulk.{is_serving, is_waiting, is_due}
-use Rattle.pfl_world.specs.declared.event.Event.{Event}
-use Rattle.pfl_world.specs.declared.event.Event.TheVariants as event
-use Rattle.pfl_world.specs.declared.event.FrameEvent.TheVariants as frame
 use Rattle.pfl_world.specs.Events.{step, IsRefusalOf, IsEventRefusal}
-use Rattle.pfl_world.specs.Outcomes.{Stepped}
-use Rattle.pfl_world.specs.Steps.{answered as step_given, from_node, with_ticket, without, read_taken, flush_step, deliver_step, lose_step, repeat_step, cut_step, restart_step}
+use Rattle.pfl_world.specs.Meanings.{Stepped}
+use Rattle.pfl_world.specs.AtNodes.{from_node}
+use Rattle.pfl_world.specs.Tickets.{with_ticket, without_ticket, lose_step, repeat_step, cut_step}
+use Rattle.pfl_world.specs.Delivering.{read_taken, deliver_step}
+use Rattle.pfl_world.specs.Flushing.{flush_step}
+use Rattle.pfl_world.specs.Restarting.{restart_step}
 use Rattle.pfl_world.specs.Worlds.{World, node_at}
-use Rattle.pfl_timeline.specs.declared.command.Command.{Command}
-use Rattle.pfl_timeline.specs.declared.command.Command.TheVariants as command
-use Rattle.pfl_timeline.specs.declared.refused.Refused.TheVariants as refused
-use Rattle.pfl_timeline.specs.Commands.{replied, answered, with_branch, with_changed, undone, at_cursor, step_answered, step_reply, back_reply, forward_reply, first_events, fork_reply, drop_reply, show_reply, step_command, back_command, forward_command, fork_command, drop_command, show_command, names_command, excise_reply, restore_reply, excise_command, restore_command, log_reply, log_command, command_step}
+use Rattle.pfl_timeline.specs.Commands.{replied, reply_unless, with_branch, with_changed, undone, at_cursor, step_answered, step_reply, back_reply, forward_reply, first_events, fork_reply, drop_reply, show_reply, step_command, back_command, forward_command, fork_command, drop_command, show_command, names_command, excise_reply, restore_reply, excise_command, restore_command, log_reply, log_command, command_step}
 use Rattle.pfl_timeline.specs.Excisions.{has_event, excised, fallen_places, restored}
 use Rattle.pfl_timeline.specs.Laws.{NoReplyTellsWantOfMemory}
 use Rattle.pfl_timeline.specs.Memory.{is_refusal, IsAccepted, makes_something, Reads, StepMayWant, IsNotRefused, MayWantMemory}
 use Rattle.pfl_timeline.specs.Replies.{Reply, Replied, Forked, Removed, Shown, Excised, Restored, Refused as Refusing}
 use Rattle.pfl_timeline.specs.Rooted.{Rooted, shown}
 use Rattle.pfl_timeline.proofs.Rooted.{Accepts}
-use Rattle.pfl_timeline.specs.Timelines.{Branch, Timeline, branch_of, is_branch_name, same_name, world_of}
+use Rattle.pfl_timeline.specs.Timelines.{Branch, Timeline, branch_of, world_of}
 use Rattle.pfl_timeline.specs.Kept.{timeline_of, StandByName}
 use Rattle.pfl_timeline.proofs.Asked.{asked_of, step-asks, is-forward, is-fork, is-show, is-names, is-excise, is-log}
 use Rattle.pfl_timeline.proofs.Places.{Entries, accepted-at, shows-at}
@@ -63,14 +68,14 @@ first_is_other [] others is = cc
 first_is_other ((true, r) ∷ tests) others is = let same : r ≡ NoMemory = cc in others.0 same
 first_is_other ((false, r) ∷ tests) others is = first_is_other tests others.1 is
 
-answered_is_other : (o : Option Refusal) (s : Stepped) → (o ≡ Some NoMemory → ⊥) → step_given o s ≡ Err NoMemory → ⊥
+answered_is_other : (o : Option Refusal) (s : Stepped) → (o ≡ Some NoMemory → ⊥) → unless_refused o s ≡ Err NoMemory → ⊥
 answered_is_other None s other is = cc
 answered_is_other (Some r) s other is = let same : r ≡ NoMemory = cc in other (ap Some same)
 
-tests_are_other : (tests : List (Bool × Refusal)) → AreOther tests → (s : Stepped) → step_given (refused_by tests) s ≡ Err NoMemory → ⊥
+tests_are_other : (tests : List (Bool × Refusal)) → AreOther tests → (s : Stepped) → unless_refused (refused_by tests) s ≡ Err NoMemory → ⊥
 tests_are_other tests others s is = answered_is_other (refused_by tests) s (first_is_other tests others) is
 
-points_are_other : (points : List Node) (s : Stepped) → step_given (points_refusal points) s ≡ Err NoMemory → ⊥
+points_are_other : (points : List Node) (s : Stepped) → unless_refused (points_refusal points) s ≡ Err NoMemory → ⊥
 points_are_other points s is = tests_are_other (full_tests points) ((λ e. cc), ((λ e. cc), tt)) s is
 
 frame_is_other : (w : World) (ticket : ℕ) (done : InFlight → Result Stepped Refusal) → ((f : InFlight) → done f ≡ Err NoMemory → ⊥) → with_ticket w ticket done ≡ Err NoMemory → ⊥
@@ -90,7 +95,7 @@ node_is_other n (own.Packet dir p) is = first_is_other (full_tests (packet_point
 node_is_other n (own.Tick ms) is = clock_is_other (nat_lt last_millisecond (n.clock + ms)) is
 node_is_other n own.Purge is = first_is_other (full_tests (purge_points n)) ((λ e. cc), ((λ e. cc), tt)) is
 node_is_other n own.Release is =
-    first_is_other ((length n.held.list == 0, NothingPending) ∷ (is_overcounted (released_due n), CountFull) ∷ (length (due_names n) == 0, TooEarly) ∷ [])
+    first_is_other ((length n.held.list == 0, NothingPending) ∷ (length (due_names n) == 0, TooEarly) ∷ (is_overcounted (released_due n), CountFull) ∷ [])
     ((λ e. cc), ((λ e. cc), ((λ e. cc), tt))) is
 node_is_other n (own.Kill name) is =
     first_is_other ((is_none (maps.get n.states name), NoSuchState) ∷ full_tests (killed n name ∷ [])) ((λ e. cc), ((λ e. cc), ((λ e. cc), tt))) is
@@ -101,7 +106,7 @@ node_is_other n own.BulkRetry is =
     first_is_other ((not (is_waiting n.client), NotSyncing) ∷ (not (is_due n.client n.limits.bulk_ms n.clock), TooEarly) ∷ (is_overfull (retried_client n), QueueFull) ∷ [])
     ((λ e. cc), ((λ e. cc), ((λ e. cc), tt))) is
 
-own_is_other : (w : World) (id : NodeId) (o : Option Refusal) (s : NodeStepped) → (o ≡ Some NoMemory → ⊥) → from_node w id (stepping.answered o s) ≡ Err NoMemory → ⊥
+own_is_other : (w : World) (id : NodeId) (o : Option Refusal) (s : NodeStepped) → (o ≡ Some NoMemory → ⊥) → from_node w id (unless_refused o s) ≡ Err NoMemory → ⊥
 own_is_other w id None s other is = cc
 own_is_other w id (Some r) s other is = let same : r ≡ NoMemory = cc in other (ap Some same)
 
@@ -116,7 +121,7 @@ step_is_other w (event.At node e) is = own_is_other w node (node_refusal (node_a
 step_is_other w (event.Flush node) is =
     tests_are_other ((pending (node_at w node).queue == 0, NothingPending) ∷ (is_full w.link, LinkFull) ∷ (is_counted_out w.link, CountFull) ∷ [])
     ((λ e. cc), ((λ e. cc), ((λ e. cc), tt))) _ is
-step_is_other w (event.Of ticket frame.Deliver) is = frame_is_other w ticket _ (λ f at. read_is_other (without w ticket) f.to (node_at w f.to) (reading f.bytes) at) is
+step_is_other w (event.Of ticket frame.Deliver) is = frame_is_other w ticket _ (λ f at. read_is_other (without_ticket w ticket) f.to (node_at w f.to) (reading f.bytes) at) is
 step_is_other w (event.Of ticket frame.Lose) is = frame_is_other w ticket _ (λ f at. cc) is
 step_is_other w (event.Of ticket frame.Repeat) is =
     frame_is_other w ticket _ (λ f at. tests_are_other ((is_full w.link, LinkFull) ∷ (is_counted_out w.link, CountFull) ∷ []) ((λ e. cc), ((λ e. cc), tt)) _ at) is
@@ -152,12 +157,12 @@ show_accepts r w here = λ t stands.
 -- a way forward that is not too far
 pub forward_accepts : (r : Rooted) (n : ℕ) → nat_lt (undone r.branch) n ≡ false → Accepts (λ t b. forward_reply t n b) r
 forward_accepts r n near = λ t stands.
-    ap (λ far. is_refusal (answered t (refused_by ((far, refused.NothingForward) ∷ [])) (at_cursor t r.branch (r.branch.cursor + n))).reply) near
+    ap (λ far. is_refusal (reply_unless t (refused_by ((far, refused.NothingForward) ∷ [])) (at_cursor t r.branch (r.branch.cursor + n))).reply) near
 
 -- an event that is there can be taken out
 pub excise_accepts : (r : Rooted) (k : ℕ) → has_event k r.branch ≡ true → Accepts (λ t b. excise_reply t k b) r
 excise_accepts r k has = λ t stands.
-    ap (λ there. is_refusal (answered t (refused_by ((not there, refused.NoEvent) ∷ [])) (replied (with_changed t (excised t.opening k r.branch)) (Excised (fallen_places t.opening k r.branch)))).reply) has
+    ap (λ there. is_refusal (reply_unless t (refused_by ((not there, refused.NoEvent) ∷ [])) (replied (with_changed t (excised t.opening k r.branch)) (Excised (fallen_places t.opening k r.branch)))).reply) has
 
 -- ---- a command
 
@@ -228,21 +233,21 @@ step_tells t e b =
 
 back_tells : (t : Timeline) (n : ℕ) (b : Branch) → (back_reply t n b).reply ≡ wanted → ⊥
 back_tells t n b =
-    elim (nat_lt b.cursor n) as (λ far. (answered t (refused_by ((far, refused.TooFarBack) ∷ [])) (at_cursor t b (b.cursor - n))).reply ≡ wanted → ⊥) [
+    elim (nat_lt b.cursor n) as (λ far. (reply_unless t (refused_by ((far, refused.TooFarBack) ∷ [])) (at_cursor t b (b.cursor - n))).reply ≡ wanted → ⊥) [
       | true ↦ λ is. cc
       | false ↦ λ is. cc
     ]
 
 forward_tells : (t : Timeline) (n : ℕ) (b : Branch) → (forward_reply t n b).reply ≡ wanted → ⊥
 forward_tells t n b =
-    elim (nat_lt (undone b) n) as (λ far. (answered t (refused_by ((far, refused.NothingForward) ∷ [])) (at_cursor t b (b.cursor + n))).reply ≡ wanted → ⊥) [
+    elim (nat_lt (undone b) n) as (λ far. (reply_unless t (refused_by ((far, refused.NothingForward) ∷ [])) (at_cursor t b (b.cursor + n))).reply ≡ wanted → ⊥) [
       | true ↦ λ is. cc
       | false ↦ λ is. cc
     ]
 
 -- why a fork is refused
 fork_refused : (taken bad far full : Bool) (done : Replied) (t : Timeline) → (done.reply ≡ wanted → ⊥)
-    → (answered t (refused_by ((taken, refused.NameTaken) ∷ (bad, refused.BadName) ∷ (far, refused.NothingForward) ∷ (full, refused.BranchesFull) ∷ [])) done).reply ≡ wanted → ⊥
+    → (reply_unless t (refused_by ((taken, refused.NameTaken) ∷ (bad, refused.BadName) ∷ (far, refused.NothingForward) ∷ (full, refused.BranchesFull) ∷ [])) done).reply ≡ wanted → ⊥
 fork_refused true bad far full done t other is = cc
 fork_refused false true far full done t other is = cc
 fork_refused false false true full done t other is = cc
@@ -256,7 +261,7 @@ fork_tells t k name b is =
 
 drop_tells : (t : Timeline) (b : Branch) → (drop_reply t b).reply ≡ wanted → ⊥
 drop_tells t b =
-    elim (nat_le (length t.branches) 1) as (λ last. (answered t (refused_by ((last, refused.LastBranch) ∷ [])) (replied (record t { branches = filter (λ c. not (same_name c.name b.name)) t.branches }) Removed)).reply ≡ wanted → ⊥) [
+    elim (nat_le (length t.branches) 1) as (λ last. (reply_unless t (refused_by ((last, refused.LastBranch) ∷ [])) (replied (record t { branches = filter (λ c. not (same_name c.name b.name)) t.branches }) Removed)).reply ≡ wanted → ⊥) [
       | true ↦ λ is. cc
       | false ↦ λ is. cc
     ]
@@ -270,7 +275,7 @@ show_tells t b =
 
 excise_tells : (t : Timeline) (k : ℕ) (b : Branch) → (excise_reply t k b).reply ≡ wanted → ⊥
 excise_tells t k b =
-    elim (not (has_event k b)) as (λ none. (answered t (refused_by ((none, refused.NoEvent) ∷ [])) (replied (with_changed t (excised t.opening k b)) (Excised (fallen_places t.opening k b)))).reply ≡ wanted → ⊥) [
+    elim (not (has_event k b)) as (λ none. (reply_unless t (refused_by ((none, refused.NoEvent) ∷ [])) (replied (with_changed t (excised t.opening k b)) (Excised (fallen_places t.opening k b)))).reply ≡ wanted → ⊥) [
       | true ↦ λ is. cc
       | false ↦ λ is. cc
     ]

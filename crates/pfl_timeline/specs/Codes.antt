@@ -1,8 +1,8 @@
 -- A history, a branch and a timeline as nested pairs, by which the logic tells two of them apart. It says nothing of them.
 use Rattle.std.specs.Prelude.{ℕ, List, Option, refl}
 use Rattle.std.specs.Coded.{Coded, code_by, coded×, coded_ℕ, coded_list, coded_option}
-use Rattle.pfl_world.specs.declared.event.Event.{Event}
-use Rattle.pfl_world.specs.contracts.event.Event as event_type
+use Rattle.pfl_language.specs.declared.event.Event.{Event}
+use Rattle.pfl_language.specs.contracts.event.Event as event_type
 use Rattle.pfl_world.specs.Codes.{coded_world}
 use Rattle.pfl_world.specs.Worlds.{World}
 use Rattle.pfl_timeline.specs.Histories.{History}

@@ -3,30 +3,31 @@ use Rattle.std.specs.Prelude.{ℕ, ◌+◌, ◌-◌, Bool, not, nat_lt, nat_le, 
 use Rattle.std.specs.List.{fold}
 use Rattle.std.specs.Option.{option_map_or}
 use Rattle.pfl_base.specs.declared.refusal.Refusal.{Refusal}
-use Rattle.pfl_world.specs.declared.event.Event.{Event}
+use Rattle.pfl_language.specs.declared.event.Event.{Event}
+use Rattle.pfl_language.specs.declared.command.Command.{Command}
+use Rattle.pfl_language.specs.declared.command.Command.TheVariants as command
+use Rattle.pfl_language.specs.declared.refused.Refused.{Refused}
+use Rattle.pfl_language.specs.declared.refused.Refused.TheVariants as refused
+use Rattle.pfl_language.specs.BranchWords.{same_name, is_branch_name}
 use Rattle.pfl_parts.specs.Nodes.{refused_by}
-use Rattle.pfl_world.specs.Outcomes.{Stepped}
+use Rattle.pfl_world.specs.Meanings.{Stepped}
 use Rattle.pfl_world.specs.Events.{step}
-use Rattle.pfl_timeline.specs.declared.command.Command.{Command}
-use Rattle.pfl_timeline.specs.declared.command.Command.TheVariants as command
-use Rattle.pfl_timeline.specs.declared.refused.Refused.{Refused}
-use Rattle.pfl_timeline.specs.declared.refused.Refused.TheVariants as refused
 use Rattle.pfl_timeline.specs.Excisions.{has_event, excised, fallen_places, restored}
 use Rattle.pfl_timeline.specs.Replies.{Reply, Stepped as StepReply, At, Forked, Removed, Shown, Names, Excised, Restored, Logged, Refused as Refusing, Replied}
-use Rattle.pfl_timeline.specs.Timelines.{Branch, Timeline, branch_of, same_name, is_branch_name, standing, world_of}
+use Rattle.pfl_timeline.specs.Timelines.{Branch, Timeline, branch_of, standing, world_of}
 
 -- the timeline with a reply
 abbrev pub replied : Timeline → Reply → Replied
 replied t reply = record { timeline = t; reply = reply }
 
 -- the refusal, or else what was done
-abbrev pub answered : Timeline → Option Refused → Replied → Replied
-answered t None done = done
-answered t (Some r) done = replied t (Refusing r)
+abbrev pub reply_unless : Timeline → Option Refused → Replied → Replied
+reply_unless t None done = done
+reply_unless t (Some r) done = replied t (Refusing r)
 
 -- what the command gives, unless a test refuses it
-abbrev pub unless : Timeline → List (Bool × Refused) → Replied → Replied
-unless t tests done = answered t (refused_by tests) done
+abbrev pub command_unless : Timeline → List (Bool × Refused) → Replied → Replied
+command_unless t tests done = reply_unless t (refused_by tests) done
 
 -- what is done with the branch of the name
 abbrev pub with_branch : Timeline → List ℕ → (Branch → Replied) → Replied
@@ -59,11 +60,11 @@ at_cursor t b cursor = replied (with_changed t (record b { cursor = cursor })) (
 
 -- n events undone
 abbrev pub back_reply : Timeline → ℕ → Branch → Replied
-back_reply t n b = unless t ((nat_lt b.cursor n, refused.TooFarBack) ∷ []) (at_cursor t b (b.cursor - n))
+back_reply t n b = command_unless t ((nat_lt b.cursor n, refused.TooFarBack) ∷ []) (at_cursor t b (b.cursor - n))
 
 -- n events done again
 abbrev pub forward_reply : Timeline → ℕ → Branch → Replied
-forward_reply t n b = unless t ((nat_lt (undone b) n, refused.NothingForward) ∷ []) (at_cursor t b (b.cursor + n))
+forward_reply t n b = command_unless t ((nat_lt (undone b) n, refused.NothingForward) ∷ []) (at_cursor t b (b.cursor + n))
 
 -- the first k events under a new name
 abbrev pub first_events : ℕ → List ℕ → Branch → Branch
@@ -78,12 +79,12 @@ fork_refusal t k name b =
 
 -- the branch of the first k events, behind all branches
 abbrev pub fork_reply : Timeline → ℕ → List ℕ → Branch → Replied
-fork_reply t k name b = answered t (fork_refusal t k name b) (replied (record t { branches = t.branches ++ first_events k name b ∷ [] }) Forked)
+fork_reply t k name b = reply_unless t (fork_refusal t k name b) (replied (record t { branches = t.branches ++ first_events k name b ∷ [] }) Forked)
 
 -- the branch removed
 abbrev pub drop_reply : Timeline → Branch → Replied
 drop_reply t b =
-    unless t ((nat_le (length t.branches) 1, refused.LastBranch) ∷ [])
+    command_unless t ((nat_le (length t.branches) 1, refused.LastBranch) ∷ [])
     (replied (record t { branches = filter (λ c. not (same_name c.name b.name)) t.branches }) Removed)
 
 -- the branch with its world
@@ -93,7 +94,7 @@ show_reply t b = option_map_or (λ w. replied t (Shown b.name (length b.events) 
 -- the k-th event taken out, and what is refused then left out
 abbrev pub excise_reply : Timeline → ℕ → Branch → Replied
 excise_reply t k b =
-    unless t ((not (has_event k b), refused.NoEvent) ∷ [])
+    command_unless t ((not (has_event k b), refused.NoEvent) ∷ [])
     (replied (with_changed t (excised t.opening k b)) (Excised (fallen_places t.opening k b)))
 
 -- what was there before the newest excision

@@ -1,6 +1,6 @@
 -- Events over an opening world, the first of which stand (this project's profile).
 use Rattle.std.specs.Prelude.{◌+◌, ◌≤◌, ℕ, List, [], ◌∷◌, ◌++◌, length, take, Option, is_some, IsTrue}
-use Rattle.pfl_world.specs.declared.event.Event.{Event}
+use Rattle.pfl_language.specs.declared.event.Event.{Event}
 use Rattle.pfl_world.specs.Runs.{run}
 use Rattle.pfl_world.specs.Worlds.{World, IsWorld}
 

@@ -4,18 +4,19 @@ use Rattle.std.specs.List.{AllByRecursion}
 use Rattle.std.specs.Option.{option_map}
 use Rattle.pfl_base.specs.declared.refusal.Refusal.{Refusal}
 use Rattle.pfl_base.specs.declared.refusal.Refusal.TheVariants.{NoMemory}
-use Rattle.pfl_world.specs.declared.event.Event.{Event}
+use Rattle.pfl_language.specs.declared.event.Event.{Event}
+use Rattle.pfl_language.specs.declared.command.Command.{Command}
+use Rattle.pfl_language.specs.declared.command.Command.TheVariants as command
+use Rattle.pfl_language.specs.declared.refused.Refused.TheVariants as refused
+use Rattle.pfl_language.specs.BranchWords.{main_name, same_name}
 use Rattle.pfl_world.specs.Events.{step}
-use Rattle.pfl_world.specs.Outcomes.{Stepped}
+use Rattle.pfl_world.specs.Meanings.{Stepped}
 use Rattle.pfl_world.specs.Runs.{run}
 use Rattle.pfl_world.specs.Worlds.{World, IsWorld}
-use Rattle.pfl_timeline.specs.declared.command.Command.{Command}
-use Rattle.pfl_timeline.specs.declared.command.Command.TheVariants as command
-use Rattle.pfl_timeline.specs.declared.refused.Refused.TheVariants as refused
 use Rattle.pfl_timeline.specs.Commands.{show_command, log_command, command_step, replayed}
 use Rattle.pfl_timeline.specs.Excisions.{without, has_event}
 use Rattle.pfl_timeline.specs.Replies as reply
-use Rattle.pfl_timeline.specs.Timelines.{Branch, Timeline, IsTimeline, branch_of, new_timeline, main_name, same_name, standing, world_of}
+use Rattle.pfl_timeline.specs.Timelines.{Branch, Timeline, IsTimeline, branch_of, new_timeline, standing, world_of}
 
 -- the one branch `main` over a world is a timeline
 abbrev pub NewTimelinesAreTimelines : Type 0
@@ -88,9 +89,9 @@ accepted_with w e rest (Ok s) = e ∷ rest s.world
 accepted_with w e rest (Err why) = rest w
 
 -- of events that come one after another those that are accepted; the others are left out
-unfoldable pub accepted : World → List Event → List Event
-accepted w [] = []
-accepted w (e ∷ es) = accepted_with w e (λ v. accepted v es) (step w e)
+unfoldable pub accepted_events : World → List Event → List Event
+accepted_events w [] = []
+accepted_events w (e ∷ es) = accepted_with w e (λ v. accepted_events v es) (step w e)
 
 -- the events of the branch of the name
 abbrev pub events_of : Timeline → List ℕ → Option (List Event)
@@ -100,13 +101,13 @@ events_of t name = option_map (λ b. b.events) (branch_of t name)
 abbrev pub ExcisionsAreRunsWithout : Type 0
 ExcisionsAreRunsWithout =
     (t : Timeline) (name : List ℕ) (k : ℕ) (b : Branch) → branch_of t name ≡ Some b → IsTrue (has_event k b)
-    → events_of (command_step t (command.Excise name k)).timeline name ≡ Some (accepted t.opening (without k b.events))
+    → events_of (command_step t (command.Excise name k)).timeline name ≡ Some (accepted_events t.opening (without k b.events))
 
 -- those stand that stood and are accepted
 abbrev pub ExcisionsLeaveStanding : Type 0
 ExcisionsLeaveStanding =
     (t : Timeline) (name : List ℕ) (k : ℕ) (b : Branch) → branch_of t name ≡ Some b → IsTrue (has_event k b)
-    → option_map standing (branch_of (command_step t (command.Excise name k)).timeline name) ≡ Some (accepted t.opening (without k (standing b)))
+    → option_map standing (branch_of (command_step t (command.Excise name k)).timeline name) ≡ Some (accepted_events t.opening (without k (standing b)))
 
 -- the place of an event that is refused is told, and the others come after it
 abbrev pub refused_with : World → ℕ → (World → List ℕ) → Result Stepped Refusal → List ℕ

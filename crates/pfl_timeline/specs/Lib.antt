@@ -1,4 +1,3 @@
-pub mod Words
 pub mod Timelines
 pub mod Excisions
 pub mod Replies

@@ -1,13 +1,13 @@
 -- Where a command may want memory: only where something has to be made, and after all that it could be refused for; but for what a
 -- frame's records do memory is wanted before they are judged (this project's profile).
 use Rattle.std.specs.Prelude.{◌⊎◌, ℕ, Bool, true, false, List, IsTrue, IsFalse, IsSomeAnd}
-use Rattle.pfl_world.specs.declared.event.Event.{Event}
-use Rattle.pfl_world.specs.declared.event.Event.TheVariants as event
-use Rattle.pfl_world.specs.declared.event.FrameEvent.TheVariants as frame
+use Rattle.pfl_language.specs.declared.event.Event.{Event}
+use Rattle.pfl_language.specs.declared.event.Event.TheVariants as event
+use Rattle.pfl_language.specs.declared.event.FrameEvent.TheVariants as frame
+use Rattle.pfl_language.specs.declared.command.Command.{Command}
+use Rattle.pfl_language.specs.declared.command.Command.TheVariants as command
 use Rattle.pfl_world.specs.Events.{IsReadable}
 use Rattle.pfl_world.specs.Worlds.{World}
-use Rattle.pfl_timeline.specs.declared.command.Command.{Command}
-use Rattle.pfl_timeline.specs.declared.command.Command.TheVariants as command
 use Rattle.pfl_timeline.specs.Commands.{command_step, step_command}
 use Rattle.pfl_timeline.specs.Replies.{Reply, Replied, Refused as Refusing}
 use Rattle.pfl_timeline.specs.Timelines.{Timeline, branch_of, world_of}

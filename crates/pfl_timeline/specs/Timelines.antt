@@ -1,9 +1,8 @@
 -- A timeline: an opening world, and branches of events over it (this project's profile).
-use Rattle.std.specs.Prelude.{◌≤◌, ℕ, Bool, false, ◌&&◌, ◌||◌, ◌==◌, nat_le, List, [], ◌∷◌, length, map, find, take, Option, None, is_some, IsTrue, IfSome}
-use Rattle.std.specs.List.{list_all, IsDistinct}
-use Rattle.std.specs.List.{AllByRecursion}
-use Rattle.std.specs.Cmp.Lexicographic.{pointwise}
-use Rattle.pfl_world.specs.declared.event.Event.{Event}
+use Rattle.std.specs.Prelude.{◌≤◌, ℕ, List, [], ◌∷◌, length, map, find, take, Option, None, is_some, IsTrue, IfSome}
+use Rattle.std.specs.List.{AllByRecursion, IsDistinct}
+use Rattle.pfl_language.specs.BranchWords.{is_branch_name, main_name, same_name}
+use Rattle.pfl_language.specs.declared.event.Event.{Event}
 use Rattle.pfl_world.specs.Worlds.{World, IsWorld}
 use Rattle.pfl_world.specs.Runs.{run}
 
@@ -23,23 +22,6 @@ pub record Branch : Type 0 where
 pub record Timeline : Type 0 where
   pub opening : World
   pub branches : List Branch
-
--- a letter a to z
-abbrev pub is_letter : ℕ → Bool
-is_letter c = nat_le 97 c && nat_le c 122
-
--- a letter, a digit or a dash
-abbrev pub is_name_byte : ℕ → Bool
-is_name_byte c = is_letter c || (nat_le 48 c && nat_le c 57) || (c == 45)
-
--- a letter, and at most 15 letters, digits and dashes
-abbrev pub is_branch_name : List ℕ → Bool
-is_branch_name [] = false
-is_branch_name (c ∷ cs) = is_letter c && list_all is_name_byte cs && nat_le (length cs) 15
-
--- both are one name
-abbrev pub same_name : List ℕ → List ℕ → Bool
-same_name = pointwise ◌==◌
 
 -- the branch of the name
 abbrev pub branch_of : Timeline → List ℕ → Option Branch
@@ -72,10 +54,6 @@ pub record IsTimeline (t : Timeline) : Type 0 where
   pub few : length t.branches ≤ 16
   pub names : IsDistinct same_name (map (λ b. b.name) t.branches)
   pub branches : AllByRecursion (IsBranch t.opening) t.branches
-
--- m, a, i, n
-abbrev pub main_name : List ℕ
-main_name = 109 ∷ 97 ∷ 105 ∷ 110 ∷ []
 
 -- the one branch `main`, empty
 abbrev pub new_timeline : World → Timeline

@@ -2,19 +2,20 @@
 
 ghost use Rattle.std.specs.Prelude.{◌≡◌, ◌+◌, ◌-◌, ◌≤◌, true, false, nat_lt, [], length, Ok, Some, None, IfErr, IfOk, OnErr, OnOk, IsTrue, if◌then◌else◌};
 ghost use Rattle.std.specs.Option.{option_map, option_map_or};
+ghost use Rattle.pfl_language.specs.BranchWords.{is_branch_name};
 ghost use Rattle.pfl_world.specs.Events.{step, IsEventRefusal};
 ghost use Rattle.pfl_world.specs.Worlds.{World as Pair};
 ghost use Rattle.pfl_timeline.specs.Commands.{extended, undone, first_events};
 ghost use Rattle.pfl_timeline.specs.Excisions.{has_event, excised, fallen_places};
 ghost use Rattle.pfl_timeline.specs.Rooted.{shown};
 ghost use Rattle.pfl_timeline.specs.inner.Rooted.{with_cursor, with_former};
-ghost use Rattle.pfl_timeline.specs.Timelines.{IsBranch, is_branch_name};
+ghost use Rattle.pfl_timeline.specs.Timelines.{IsBranch};
 
 use crate::history::History;
-use crate::word::BranchWord;
 use pfl_base::Refusal;
 use pfl_edits::NoMemory;
-use pfl_world::{Event, Outcome, World};
+use pfl_language::{BranchWord, Event, Outcome};
+use pfl_world::World;
 use std::alloc::{AllocError, Allocator};
 use std::marker::Model;
 use std::mem;

@@ -7,10 +7,11 @@ ghost use Rattle.pfl_timeline.specs.Excisions.{placed, without, sieve};
 ghost use Rattle.pfl_timeline.specs.Histories.{IsHistory, reached, continued};
 ghost use Rattle.pfl_timeline.specs.inner.Histories.{standing_at, first_of, Sifts, so_far};
 
-use crate::copying::copy_tape;
+use crate::copies::copy_tape;
 use pfl_base::Refusal;
 use pfl_edits::{NoMemory, Tape, undo_to};
-use pfl_world::{Event, Outcome, World, WorldTape};
+use pfl_language::{Event, Outcome};
+use pfl_world::{World, WorldTape};
 use std::alloc::Allocator;
 use std::marker::Model;
 

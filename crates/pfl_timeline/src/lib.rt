@@ -2,23 +2,17 @@
 #![tactic(auto)]
 
 mod branch;
-mod command;
-mod copying;
+mod copies;
 mod history;
 mod laws;
-mod refused;
 mod reply;
 mod timeline;
-mod word;
 
 pub use branch::Branch;
-pub use command::Command;
 pub use laws::{
     branches_show_their_runs, commands_keep_timelines, commands_leave_others,
     excisions_are_runs_without_the_event, new_timelines_are_timelines,
     no_reply_tells_want_of_memory, steps_are_runs,
 };
-pub use refused::Refused;
 pub use reply::Reply;
 pub use timeline::Timeline;
-pub use word::BranchWord;

@@ -1,8 +1,7 @@
 //! Replies.
 
-use crate::refused::Refused;
-use crate::word::BranchWord;
-use pfl_world::{Event, Outcome, World};
+use pfl_language::{BranchWord, Event, Outcome, Refused};
+use pfl_world::World;
 use std::alloc::Allocator;
 
 /// The reply to a command. Clauses say by `reply_of` what it tells.

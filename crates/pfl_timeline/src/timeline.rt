@@ -10,14 +10,12 @@ ghost use Rattle.pfl_timeline.specs.inner.Replies.{moved, fell_out, brought_back
 ghost use Rattle.pfl_timeline.specs.Timelines.{IsTimeline, new_timeline};
 
 use crate::branch::Branch;
-use crate::command::Command;
-use crate::refused::Refused;
 use crate::reply::Reply;
-use crate::word::BranchWord;
 use indexmap::IndexMap;
 use pfl_base::Refusal;
 use pfl_edits::NoMemory;
-use pfl_world::{Event, World};
+use pfl_language::{BranchWord, Command, Event, Refused};
+use pfl_world::World;
 use std::alloc::Allocator;
 use std::hash::{BuildHasherDefault, FoldHasher};
 use std::marker::Model;

@@ -8,7 +8,7 @@ use Rattle.pfl_track.specs.declared.tracked.Tracked.{Tracked}
 use Rattle.pfl_track.specs.declared.tracked.Tracked.TheVariants.{Moved, OutOfWindow, Reused}
 use Rattle.pfl_track.specs.States.{IsState}
 use Rattle.pfl_track.specs.Tracking.{used, tracked}
-use Rattle.pfl_track.specs.Laws.{Arrival, left_of, after_packet, after_all, Rises}
+use Rattle.pfl_track.specs.Laws.{Arrival, left_of, after_packet, after_all, RisesInRange}
 use Rattle.pfl_track.proofs.Keeping.{tracked-is}
 use Rattle.pfl_track.proofs.Moving.{tracked-used}
 use Rattle.pfl_track.proofs.Rising.{tracked-rises}
@@ -42,9 +42,9 @@ module _ (P : State → Type 0) (Q : Arrival → Type 0) (step : (m : State) (a 
 -- a state whose levels have risen from those of s
 record Risen (s t : State) : Type 0 where
   is : IsState t
-  rises : Rises s t
+  rises : RisesInRange s t
 
-rises-on : (s m t : State) → Rises s m → Rises m t → Rises s t
+rises-on : (s m t : State) → RisesInRange s m → RisesInRange m t → RisesInRange s t
 rises-on s m t h k = let src = h.src in let dst = h.dst in let src_on = k.src in let dst_on = k.dst in
     record { src = omega arith; dst = omega arith; src_most = k.src_most; dst_most = k.dst_most }
 
@@ -60,7 +60,7 @@ risen s is = record { is = is; rises = record { src = omega arith; dst = omega a
 risen-along : (s : State) (run : List Arrival) (t : State) → IsState s → All (λ a. IsPacket a.packet) run → after_all s run ≡ Some t → Risen s t
 risen-along s run t is packets e = along (Risen s) (λ a. IsPacket a.packet) (risen-on s) s run t packets (risen s is) e
 
-pub levels-along : (s : State) (run : List Arrival) (t : State) → IsState s → All (λ a. IsPacket a.packet) run → after_all s run ≡ Some t → Rises s t
+pub levels-along : (s : State) (run : List Arrival) (t : State) → IsState s → All (λ a. IsPacket a.packet) run → after_all s run ≡ Some t → RisesInRange s t
 levels-along s run t is packets e = (risen-along s run t is packets e).rises
 
 pub states-along : (s : State) (run : List Arrival) (t : State) → IsState s → All (λ a. IsPacket a.packet) run → after_all s run ≡ Some t → IsState t

@@ -5,3 +5,4 @@ pub mod Keeping
 pub mod Along
 pub mod Families
 mod Worked
+pub mod ForCallers

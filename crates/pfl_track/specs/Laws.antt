@@ -33,19 +33,20 @@ abbrev pub after_all : State → List Arrival → Option State
 after_all s run = fold (λ at a. option_and_then (λ t. after_packet t a) at) (Some s) run
 
 -- both ends have at least their former levels, and at most that of TIME-WAIT
-pub record Rises (s t : State) : Type 0 where
+pub record RisesInRange (s t : State) : Type 0 where
   pub src : s.src.level ≤ t.src.level
   pub dst : s.dst.level ≤ t.dst.level
   pub src_most : t.src.level ≤ 10
   pub dst_most : t.dst.level ≤ 10
 
 -- a packet lowers no level
-abbrev pub LevelsNeverFall : Type 0
-LevelsNeverFall = (s : State) (p : Packet) (dir : Dir) (now : ℕ) (t : State) → IsState s → tracked s p dir now ≡ Moved t → Rises s t
+abbrev pub PacketsLowerNoLevel : Type 0
+PacketsLowerNoLevel = (s : State) (p : Packet) (dir : Dir) (now : ℕ) (t : State) → IsState s → tracked s p dir now ≡ Moved t → RisesInRange s t
 
 -- nor do packets, one after the other
-abbrev pub LevelsNeverFallAlong : Type 0
-LevelsNeverFallAlong = (s : State) (run : List Arrival) (t : State) → IsState s → All (λ a. IsPacket a.packet) run → after_all s run ≡ Some t → Rises s t
+abbrev pub PacketsLowerNoLevelAlong : Type 0
+PacketsLowerNoLevelAlong =
+    (s : State) (run : List Arrival) (t : State) → IsState s → All (λ a. IsPacket a.packet) run → after_all s run ≡ Some t → RisesInRange s t
 
 -- a packet changes the ends, the class that follows from their levels, and the last use, and leaves the rest: name, keys and all
 abbrev pub OnlyEndsMove : Type 0

@@ -1,11 +1,11 @@
 //! Laws of tracking. They have no code: each is a theorem over the definitions, which a function's contract names.
 
-ghost use Rattle.pfl_track.specs.Laws.{LevelsNeverFall, LevelsNeverFallAlong, OnlyEndsMove, OnlyEndsMoveAlong, StatesBegin, StatesStayStates, StatesStayStatesAlong};
+ghost use Rattle.pfl_track.specs.Laws.{PacketsLowerNoLevel, PacketsLowerNoLevelAlong, OnlyEndsMove, OnlyEndsMoveAlong, StatesBegin, StatesStayStates, StatesStayStatesAlong};
 
 /// A packet lowers the level of no end, and lifts none above [`crate::MAX_LEVEL`]; nor do packets, one after the other.
 pub fn levels_never_fall()
-    ensures packet { LevelsNeverFall }
-    ensures along { LevelsNeverFallAlong }
+    ensures packet { PacketsLowerNoLevel }
+    ensures along { PacketsLowerNoLevelAlong }
 {}
 
 /// A packet that moves a state changes its ends, the class that follows from their levels, and its last use, and leaves

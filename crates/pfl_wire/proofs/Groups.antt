@@ -21,7 +21,7 @@ use Rattle.pfl_wire.specs.declared.message.Message.{Message}
 use Rattle.pfl_wire.specs.declared.message.Message.TheVariants.{Clear, Insert, InsertAck, Update, UpdateShort, UpdateRequest, Delete, DeleteShort, Bulk}
 use Rattle.pfl_wire.specs.declared.fault.BadFrame.{BadFrame}
 use Rattle.pfl_wire.specs.declared.fault.BadFrame.TheVariants as bad
-use Rattle.pfl_wire.specs.Frames.{Fits, IsGroup, action_of}
+use Rattle.pfl_wire.specs.Frames.{FitsMessage, IsGroup, action_of}
 use Rattle.pfl_wire.specs.Actions.{action_number, action_with, record_len}
 use Rattle.pfl_wire.specs.Spelling.{number_bytes, name_bytes, peer_bytes, address_bytes, end_bytes, key_bytes, keys_bytes, class_bytes, state_bytes, update_bytes, status_byte, record_bytes, group_bytes}
 use Rattle.pfl_wire.specs.Fields.{Read, ◌>>=◌, wanted, byte_at, number_at, pads_at, name_at, status_of}
@@ -34,7 +34,7 @@ use Rattle.pfl_wire.proofs.Records.{bind_again, wanted_again, le_test, Takes-byt
 -- what is read of a record
 pub record IsRead (a : Action) (bytes : List ℕ) (x : Message × List ℕ) : Type 0 where
   pub takes : Takes bytes (record_bytes x.0) x.1
-  pub fits : Fits x.0
+  pub fits : FitsMessage x.0
   pub action : action_of x.0 ≡ a
 
 read_as_ok : {X P : Type 0} (make : X → Message) (r : Read X) (x : Message × List ℕ) → read_as make r ≡ Ok x → ((y : X × List ℕ) → r ≡ Ok y → (make y.0, y.1) ≡ x → P) → P
@@ -93,7 +93,7 @@ record_takes action.DeleteShort bytes x fits e = read_as_ok DeleteShort (name_at
     subst (λ (z : Message × List ℕ). IsRead action.DeleteShort bytes z) made (record { takes = t.0; fits = t.1; action = refl }))
 record_takes action.Bulk bytes x fits e = bulk_takes bytes x fits e
 
-pub record_again : (m : Message) (rest : List ℕ) → Fits m → record_at (action_of m) (record_bytes m ++ rest) ≡ Ok (m, rest)
+pub record_again : (m : Message) (rest : List ℕ) → FitsMessage m → record_at (action_of m) (record_bytes m ++ rest) ≡ Ok (m, rest)
 unfolding record_at record_bytes clear_at bulk_at
 record_again (Clear creator bound) rest fits =
     simp append_assoc (bind_again _ _ _ _ (number_again 4 creator _ fits.0) (bind_again _ _ _ _ (number_again 8 bound rest fits.1) refl))
@@ -154,7 +154,7 @@ AreOf a ms = AllByRecursion (λ m. action_of m ≡ a) ms
 pub record AreRead (a : Action) (n : ℕ) (bytes : List ℕ) (x : List Message × List ℕ) : Type 0 where
   pub takes : Takes bytes (flat_map record_bytes x.0) x.1
   pub count : length x.0 ≡ n
-  pub fit : AllByRecursion Fits x.0
+  pub fit : AllByRecursion FitsMessage x.0
   pub action : AreOf a x.0
 
 pub records_take : (a : Action) (n : ℕ) (bytes : List ℕ) (x : List Message × List ℕ) → IsBytes bytes → records_at a n bytes ≡ Ok x → AreRead a n bytes x
@@ -170,7 +170,7 @@ records_take a (suc n) bytes x fits e =
     subst (λ (y : List Message × List ℕ). AreRead a (suc n) bytes y) (ok_is made x e2)
     (record { takes = rw flat_map-cons (Takes-then _ _ _ _ _ t0.takes t1.takes); count = ap suc t1.count; fit = (t0.fits, t1.fit); action = (t0.action, t1.action) })))
 
-pub records_again : (a : Action) (ms : List Message) (rest : List ℕ) → AreOf a ms → AllByRecursion Fits ms → records_at a (length ms) (flat_map record_bytes ms ++ rest) ≡ Ok (ms, rest)
+pub records_again : (a : Action) (ms : List Message) (rest : List ℕ) → AreOf a ms → AllByRecursion FitsMessage ms → records_at a (length ms) (flat_map record_bytes ms ++ rest) ≡ Ok (ms, rest)
 unfolding records_at
 records_again a [] rest are fit = refl
 records_again a (m ∷ ms) rest are fit =
@@ -199,7 +199,7 @@ same_action a m [] is are = tt
 same_action a m (n ∷ ms) is are = (are.0 ∙ sym is, same_action a m ms is are.1)
 
 -- records with their four bytes in front are a group
-grouped : (a : Action) (count : ℕ) (bytes rest : List ℕ) (ms : List Message) → 0 < count → count < 2 ^ 16 → length ms ≡ count → AreOf a ms → AllByRecursion Fits ms
+grouped : (a : Action) (count : ℕ) (bytes rest : List ℕ) (ms : List Message) → 0 < count → count < 2 ^ 16 → length ms ≡ count → AreOf a ms → AllByRecursion FitsMessage ms
     → Takes bytes ((action_number a ∷ []) ++ (0 ∷ []) ++ number_bytes 2 count ++ flat_map record_bytes ms) rest → Takes bytes (group_bytes ms) rest × IsGroup ms
 unfolding group_bytes
 grouped a count bytes rest [] some few len are fit takes = absurd (omega arith)

@@ -15,7 +15,7 @@ use Rattle.pfl_wire.specs.declared.fault.FrameFault.{FrameFault}
 use Rattle.pfl_wire.specs.declared.fault.BadFrame.{BadFrame}
 use Rattle.pfl_wire.specs.declared.fault.BadFrame.TheVariants as bad
 use Rattle.pfl_wire.specs.Faults.{frame_fault}
-use Rattle.pfl_wire.specs.Frames.{Frame, lists, Fits, RuleFits, IsGroupOf, IsGroup, IsFrame, IsSendable, action_of, group_len, frame_len}
+use Rattle.pfl_wire.specs.Frames.{Frame, lists, FitsMessage, RuleFits, IsGroupOf, IsGroup, IsFrame, IsSendable, action_of, group_len, frame_len}
 use Rattle.pfl_wire.specs.Actions.{record_len}
 use Rattle.pfl_wire.specs.Spelling.{number_bytes, record_bytes, group_bytes, spelling, Spells}
 use Rattle.pfl_wire.specs.Fields.{wanted, byte_at, number_at}
@@ -186,17 +186,17 @@ each_record P [] is = absurd is
 each_record P (m ∷ ms) is = All-from_recursion P (m ∷ ms) is.2
 
 -- a group whose records have a spelling
-pub group_is : (ms : List Message) → IsGroupOf RuleFits ms → All Fits ms → IsGroup ms
+pub group_is : (ms : List Message) → IsGroupOf RuleFits ms → All FitsMessage ms → IsGroup ms
 group_is [] is fit = absurd is
-group_is (m ∷ ms) is fit = (is.0, is.1, recursion_from_All Fits (m ∷ ms) fit)
+group_is (m ∷ ms) is fit = (is.0, is.1, recursion_from_All FitsMessage (m ∷ ms) fit)
 
-pub group_ok : {E : Type 0} (r : Result (Unit {0}) E) (ms : List Message) → IsGroupOf RuleFits ms → OnOk r (All Fits ms) → OnOk r (IsGroup ms)
+pub group_ok : {E : Type 0} (r : Result (Unit {0}) E) (ms : List Message) → IsGroupOf RuleFits ms → OnOk r (All FitsMessage ms) → OnOk r (IsGroup ms)
 group_ok (Ok x) ms is fit = group_is ms is fit
 group_ok (Err e) ms is fit = tt
 
 -- ---- what has a spelling can be sent
 
-rule_fits : (m : Message) → Fits m → RuleFits m
+rule_fits : (m : Message) → FitsMessage m → RuleFits m
 rule_fits (Clear creator bound) fits = tt
 rule_fits (Insert s) fits = fits.rule
 rule_fits (InsertAck name) fits = tt
@@ -207,7 +207,7 @@ rule_fits (Delete s) fits = fits.rule
 rule_fits (DeleteShort name) fits = tt
 rule_fits (Bulk creator status) fits = tt
 
-rules_fit : (ms : List Message) → AllByRecursion Fits ms → AllByRecursion RuleFits ms
+rules_fit : (ms : List Message) → AllByRecursion FitsMessage ms → AllByRecursion RuleFits ms
 rules_fit [] fit = tt
 rules_fit (m ∷ ms) fit = (rule_fits m fit.0, rules_fit ms fit.1)
 

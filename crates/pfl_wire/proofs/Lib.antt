@@ -6,3 +6,4 @@ pub mod Groups
 pub mod Loop
 pub mod Laws
 pub mod Reading
+pub mod ForCallers

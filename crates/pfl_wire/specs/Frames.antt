@@ -93,16 +93,16 @@ pub record FitsUpdate (u : UpdateRecord) : Type 0 where
   pub remaining : u.remaining < 2 ^ 32
 
 -- a record
-abbrev pub Fits : Message → Type 0
-Fits (Clear creator bound) = (creator < 2 ^ 32) × (bound < 2 ^ 64)
-Fits (Insert s) = FitsState s
-Fits (InsertAck name) = FitsName name
-Fits (Update s) = FitsState s
-Fits (UpdateShort u) = FitsUpdate u
-Fits (UpdateRequest name) = FitsName name
-Fits (Delete s) = FitsState s
-Fits (DeleteShort name) = FitsName name
-Fits (Bulk creator status) = creator < 2 ^ 32
+abbrev pub FitsMessage : Message → Type 0
+FitsMessage (Clear creator bound) = (creator < 2 ^ 32) × (bound < 2 ^ 64)
+FitsMessage (Insert s) = FitsState s
+FitsMessage (InsertAck name) = FitsName name
+FitsMessage (Update s) = FitsState s
+FitsMessage (UpdateShort u) = FitsUpdate u
+FitsMessage (UpdateRequest name) = FitsName name
+FitsMessage (Delete s) = FitsState s
+FitsMessage (DeleteShort name) = FitsName name
+FitsMessage (Bulk creator status) = creator < 2 ^ 32
 
 -- a group: at least one record, and no more than a group can count, all of one action, and each as wanted
 abbrev pub IsGroupOf : (Message → Type 0) → List Message → Type 0
@@ -111,7 +111,7 @@ IsGroupOf P (m ∷ ms) = (length (m ∷ ms) < 2 ^ 16) × AllByRecursion (λ n. a
 
 -- a group of records that have a spelling
 abbrev pub IsGroup : List Message → Type 0
-IsGroup ms = IsGroupOf Fits ms
+IsGroup ms = IsGroupOf FitsMessage ms
 
 -- the bytes of a group: 4, and those of its records
 abbrev pub group_len : List Message → ℕ

@@ -2,7 +2,7 @@
 
 ghost use Rattle.std.specs.Prelude.{◌≡◌, ℕ, ◌<◌, ◌^◌, List, ◌++◌, length, IfOk, OnOk, Ok};
 ghost use Rattle.std.specs.List.{flat_map, All, AllByRecursion};
-ghost use Rattle.pfl_wire.specs.Frames.{Fits, RuleFits, IsGroupOf, IsGroup, IsSendable, group_len, frame_len, lists};
+ghost use Rattle.pfl_wire.specs.Frames.{FitsMessage, RuleFits, IsGroupOf, IsGroup, IsSendable, group_len, frame_len, lists};
 ghost use Rattle.pfl_wire.specs.Spelling.{Spells, record_bytes, group_bytes};
 ghost use Rattle.pfl_wire.specs.Reading.{reading};
 
@@ -16,7 +16,7 @@ use std::alloc::{AllocError, Allocator};
 fn put_records<A: Allocator>(out: &mut Vec<u8, A>, messages: &[Message]) -> Result<(), AllocError>
     requires { All RuleFits messages.now }
     ensures written { OnOk result (out.new.items ≡ out.old.items ++ flat_map record_bytes messages.now) }
-    ensures fit { OnOk result (All Fits messages.now) }
+    ensures fit { OnOk result (All FitsMessage messages.now) }
 {
     for message in messages {
         put_record(out, message)?;

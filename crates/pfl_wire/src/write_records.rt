@@ -1,7 +1,7 @@
 //! Records, written at the end of bytes.
 
 ghost use Rattle.std.specs.Prelude.{◌≡◌, ◌<◌, ◌-◌, ◌^◌, ◌++◌, IfSome, OnOk};
-ghost use Rattle.pfl_wire.specs.Frames.{FitsState, FitsUpdate, Fits, RuleFits};
+ghost use Rattle.pfl_wire.specs.Frames.{FitsState, FitsUpdate, FitsMessage, RuleFits};
 ghost use Rattle.pfl_wire.specs.Spelling.{state_bytes, update_bytes, record_bytes};
 
 use crate::message::{Message, StateRecord, UpdateRecord};
@@ -53,7 +53,7 @@ pub fn put_update<A: Allocator>(
 pub fn put_record<A: Allocator>(out: &mut Vec<u8, A>, message: &Message) -> Result<(), AllocError>
     requires { RuleFits message.now }
     ensures written { OnOk result (out.new.items ≡ out.old.items ++ record_bytes message.now) }
-    ensures fits { OnOk result (Fits message.now) }
+    ensures fits { OnOk result (FitsMessage message.now) }
 {
     match message {
         Message::Clear { creator, bound } => {

@@ -4,10 +4,10 @@ use Rattle.pfl_base.specs.declared.refusal.Refusal.TheVariants as refusal
 use Rattle.pfl_base.specs.declared.node_id.NodeId.TheVariants.{A, B}
 use Rattle.pfl_wire.specs.declared.message.BulkStatus.TheVariants as status
 use Rattle.pfl_bulk.specs.declared.BulkClient.TheVariants as client
-use Rattle.pfl_world.specs.declared.outcome.Outcome.TheVariants as outcome
+use Rattle.pfl_language.specs.declared.outcome.Outcome.TheVariants as outcome
+use Rattle.pfl_language.specs.declared.node_event.NodeOutcome.TheVariants as given
+use Rattle.pfl_language.specs.declared.retried.Retried.TheVariants as retried
 use Rattle.pfl_world.specs.Worlds.{World, node_at}
-use Rattle.pfl_node.specs.declared.event.NodeOutcome.TheVariants as given
-use Rattle.pfl_node.specs.declared.retried.Retried.TheVariants as retried
 use Rattle.pfl_world.proofs.Lab.{limits, opening, u1, u2, out, name, answers, final, computing, counts_at, counts, names_at, both, flush, deliver, lose, tick, clear, restart, turn, retry, passed, sent, taken, clock, did, asked}
 
 abbrev s : World

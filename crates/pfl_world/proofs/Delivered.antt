@@ -16,9 +16,11 @@ use Rattle.pfl_wire.specs.declared.fault.FrameFault.TheVariants as fault
 use Rattle.pfl_wire.specs.Answers.{Decodes}
 use Rattle.pfl_wire.specs.Frames.{Frame}
 use Rattle.pfl_wire.specs.Reading.{reading}
+use Rattle.pfl_language.specs.declared.outcome.Outcome.TheVariants as outcome
+use Rattle.pfl_language.specs.declared.outcome.Outcome.{Outcome}
 use Rattle.pfl_parts.specs.declared.edit.NodeEdit.{NodeEdit}
 use Rattle.pfl_parts.specs.Changes.{count_broken}
-use Rattle.pfl_parts.specs.Nodes.{Node, IsRefusal, points_refusal}
+use Rattle.pfl_parts.specs.Nodes.{Node, IsRefusal, points_refusal, unless_refused}
 use Rattle.pfl_receive.specs.Delivering.{records_of, received, receive_points}
 use Rattle.pfl_link.specs.declared.fault.LinkFault.{LinkFault}
 use Rattle.pfl_link.specs.declared.fault.LinkFault.TheVariants as link_fault
@@ -26,15 +28,12 @@ use Rattle.pfl_link.specs.Faults.{missing_fault}
 use Rattle.pfl_link.specs.Links.{Link, InFlight}
 use Rattle.pfl_world.specs.declared.edit.WorldEdit.{WorldEdit}
 use Rattle.pfl_world.specs.declared.edit.WorldEdit.TheVariants.{OfNode}
-use Rattle.pfl_world.specs.declared.event.Event.{Event}
-use Rattle.pfl_world.specs.declared.event.Event.TheVariants as event
 use Rattle.pfl_world.specs.inner.Delivering.{bad_frame, IsTakingRefusal}
-use Rattle.pfl_world.specs.Events.{step, IsRefusalOf, IsReadable, IsDeliveryRefusal, IsEventRefusal}
-use Rattle.pfl_world.specs.declared.outcome.Outcome.TheVariants as outcome
-use Rattle.pfl_world.specs.declared.outcome.Outcome.{Outcome}
-use Rattle.pfl_world.specs.Outcomes.{Stepped}
-use Rattle.pfl_world.specs.Steps.{answered, frame_taken, broken_taken, read_taken, without, deliver_step}
-use Rattle.pfl_world.specs.Weights.{edits_for, read_work, deliver_work}
+use Rattle.pfl_world.specs.Events.{IsRefusalOf, IsReadable, IsDeliveryRefusal}
+use Rattle.pfl_world.specs.Meanings.{Stepped}
+use Rattle.pfl_world.specs.Delivering.{frame_taken, broken_taken, read_taken, deliver_step, read_work, deliver_work}
+use Rattle.pfl_world.specs.Tickets.{without_ticket}
+use Rattle.pfl_node.specs.Weights.{edits_for}
 use Rattle.pfl_world.specs.inner.WorldEdits.{of_node}
 use Rattle.pfl_world.specs.Worlds.{World, node_at, with_node}
 use Rattle.pfl_world.proofs.Stepping.{accepted, refusal_of}
@@ -64,7 +63,7 @@ read-wants fault.NoMemory at is none = is
 -- ---- the frame of the ticket
 
 abbrev delivered : World → ℕ → InFlight → Result Stepped Refusal
-delivered w ticket f = read_taken (without w ticket) f.to (node_at w f.to) (reading f.bytes)
+delivered w ticket f = read_taken (without_ticket w ticket) f.to (node_at w f.to) (reading f.bytes)
 
 pub deliver_step-found : (w : World) (ticket : ℕ) (f : InFlight) → maps.get w.link.frames ticket ≡ Some f → deliver_step w ticket ≡ delivered w ticket f
 unfolding deliver_step
@@ -98,31 +97,31 @@ not_missing w ticket fault is missing = present (maps.get w.link.frames ticket) 
 -- ---- what was read is taken, and then the frame leaves the link
 
 -- the node in its place, and the frame gone: in either order
-gone : (w : World) (ticket : ℕ) (to : NodeId) (n : Node) → with_node (without w ticket) to n ≡ without (with_node w to n) ticket
+gone : (w : World) (ticket : ℕ) (to : NodeId) (n : Node) → with_node (without_ticket w ticket) to n ≡ without_ticket (with_node w to n) ticket
 gone w ticket A n = refl
 gone w ticket B n = refl
 
 answered-gone : (w : World) (ticket : ℕ) (to : NodeId) (n : Node) (o : Outcome) (why : Option Refusal) (s : Stepped)
-    → answered why (record { world = with_node w to n; outcome = o }) ≡ Ok s
-    → answered why (record { world = with_node (without w ticket) to n; outcome = o }) ≡ Ok (record { world = without s.world ticket; outcome = s.outcome })
+    → unless_refused {X = Stepped} why (record { world = with_node w to n; outcome = o }) ≡ Ok s
+    → unless_refused {X = Stepped} why (record { world = with_node (without_ticket w ticket) to n; outcome = o }) ≡ Ok (record { world = without_ticket s.world ticket; outcome = s.outcome })
 answered-gone w ticket to n o None s is =
     let same : record { world = with_node w to n; outcome = o } ≡ s = cc in
-    ap (λ (v : World). accepted v o) (gone w ticket to n) ∙ ap (λ (t : Stepped). accepted (without t.world ticket) t.outcome) same
+    ap (λ (v : World). accepted v o) (gone w ticket to n) ∙ ap (λ (t : Stepped). accepted (without_ticket t.world ticket) t.outcome) same
 answered-gone w ticket to n o (Some r) s is = absurd (cc)
 
 pub read_taken-gone : (w : World) (ticket : ℕ) (to : NodeId) (n : Node) (read : Result Frame BadFrame) (s : Stepped)
-    → read_taken w to n read ≡ Ok s → read_taken (without w ticket) to n read ≡ Ok (record { world = without s.world ticket; outcome = s.outcome })
+    → read_taken w to n read ≡ Ok s → read_taken (without_ticket w ticket) to n read ≡ Ok (record { world = without_ticket s.world ticket; outcome = s.outcome })
 read_taken-gone w ticket to n (Ok f) s is =
     answered-gone w ticket to (received n f) (outcome.Taken (length (records_of f))) (points_refusal (receive_points n f)) s is
 read_taken-gone w ticket to n (Err why) s is =
     answered-gone w ticket to (count_broken n) (outcome.Broken why) (points_refusal (count_broken n ∷ [])) s is
 
 -- the refusals are the same
-refused-gone : (v w : Stepped) (why : Option Refusal) (r : Refusal) → IsRefusalOf (answered why v) r → IsRefusalOf (answered why w) r
+refused-gone : (v w : Stepped) (why : Option Refusal) (r : Refusal) → IsRefusalOf (unless_refused why v) r → IsRefusalOf (unless_refused why w) r
 refused-gone v w None r is = is
 refused-gone v w (Some first) r is = is
 
-read_refused-gone : (w : World) (ticket : ℕ) (to : NodeId) (n : Node) (read : Result Frame BadFrame) (r : Refusal) → IsRefusalOf (read_taken w to n read) r → IsRefusalOf (read_taken (without w ticket) to n read) r
+read_refused-gone : (w : World) (ticket : ℕ) (to : NodeId) (n : Node) (read : Result Frame BadFrame) (r : Refusal) → IsRefusalOf (read_taken w to n read) r → IsRefusalOf (read_taken (without_ticket w ticket) to n read) r
 read_refused-gone w ticket to n (Ok f) r is = refused-gone _ _ (points_refusal (receive_points n f)) r is
 read_refused-gone w ticket to n (Err why) r is = refused-gone _ _ (points_refusal (count_broken n ∷ [])) r is
 
@@ -139,7 +138,7 @@ deliver_refused w ticket f to read r at goes is (inr why) =
 
 -- it is taken, and the frame leaves the link
 pub deliver_accepted : (w mid new : World) (ticket : ℕ) (f : InFlight) (to : NodeId) (read : Result Frame BadFrame) (o : Outcome) → maps.get w.link.frames ticket ≡ Some f → to ≡ f.to → read ≡ reading f.bytes
-    → read_taken w to (node_at w to) read ≡ Ok (record { world = mid; outcome = o }) → new ≡ without mid ticket → deliver_step w ticket ≡ accepted new o
+    → read_taken w to (node_at w to) read ≡ Ok (record { world = mid; outcome = o }) → new ≡ without_ticket mid ticket → deliver_step w ticket ≡ accepted new o
 deliver_accepted w mid new ticket f to read o at goes is taken made =
     let here : read_taken w f.to (node_at w f.to) (reading f.bytes) ≡ Ok (record { world = mid; outcome = o }) =
     subst (λ (x : Result Frame BadFrame). read_taken w f.to (node_at w f.to) x ≡ Ok (record { world = mid; outcome = o })) is
@@ -152,10 +151,10 @@ deliver_accepted w mid new ticket f to read o at goes is taken made =
 pub deliver_wanted : (w mid : World) (ticket : ℕ) (f : InFlight) (to : NodeId) (read : Result Frame BadFrame) (o : Outcome) → maps.get w.link.frames ticket ≡ Some f → to ≡ f.to → read ≡ reading f.bytes
     → read_taken w to (node_at w to) read ≡ Ok (record { world = mid; outcome = o }) → IsDeliveryRefusal w ticket NoMemory
 deliver_wanted w mid ticket f to read o at goes is taken =
-    inl (subst (λ (v : Result Stepped Refusal). IsRefusalOf v NoMemory) (sym (deliver_accepted w mid (without mid ticket) ticket f to read o at goes is taken refl)) refl)
+    inl (subst (λ (v : Result Stepped Refusal). IsRefusalOf v NoMemory) (sym (deliver_accepted w mid (without_ticket mid ticket) ticket f to read o at goes is taken refl)) refl)
 
 -- the ticket's frame is still there when its records were taken
-link-taken : (w : World) (to : NodeId) (n : Node) (o : Outcome) (why : Option Refusal) (s : Stepped) → answered why (record { world = with_node w to n; outcome = o }) ≡ Ok s → s.world.link ≡ w.link
+link-taken : (w : World) (to : NodeId) (n : Node) (o : Outcome) (why : Option Refusal) (s : Stepped) → unless_refused why (record { world = with_node w to n; outcome = o }) ≡ Ok s → s.world.link ≡ w.link
 link-taken w to n o None s is = let same : s ≡ record { world = with_node w to n; outcome = o } = cc in ap (λ (t : Stepped). t.world.link) same
 link-taken w to n o (Some r) s is = absurd (cc)
 
@@ -187,7 +186,7 @@ pub frame_taken-from : (w old new : World) (id : NodeId) (f : Frame) (was n : No
 frame_taken-from w old new id f was n count at view made none is counted =
     subst (λ (v : World). frame_taken v id (node_at v id) f ≡ accepted new (outcome.Taken count)) view
     (subst (λ (m : Node). frame_taken w id m f ≡ accepted new (outcome.Taken count)) at
-    (ap (λ (why : Option Refusal). answered why (record { world = with_node w id (received was f); outcome = outcome.Taken (length (records_of f)) })) none
+    (ap (λ (why : Option Refusal). unless_refused why (record { world = with_node w id (received was f); outcome = outcome.Taken (length (records_of f)) })) none
     ∙ ap (λ (m : Node). accepted (with_node w id m) (outcome.Taken (length (records_of f)))) (sym is)
     ∙ ap (λ (v : World). accepted v (outcome.Taken (length (records_of f)))) (sym made)
     ∙ ap (λ (k : ℕ). accepted new (outcome.Taken k)) (sym counted)))
@@ -205,7 +204,7 @@ pub broken_taken-from : (w old new : World) (id : NodeId) (why : BadFrame) (was 
 broken_taken-from w old new id why was n at view made none is =
     subst (λ (v : World). broken_taken v id (node_at v id) why ≡ accepted new (outcome.Broken why)) view
     (subst (λ (m : Node). broken_taken w id m why ≡ accepted new (outcome.Broken why)) at
-    (ap (λ (o : Option Refusal). answered o (record { world = with_node w id (count_broken was); outcome = outcome.Broken why })) none
+    (ap (λ (o : Option Refusal). unless_refused o (record { world = with_node w id (count_broken was); outcome = outcome.Broken why })) none
     ∙ ap (λ (m : Node). accepted (with_node w id m) (outcome.Broken why)) (sym is)
     ∙ ap (λ (v : World). accepted v (outcome.Broken why)) (sym made)))
 

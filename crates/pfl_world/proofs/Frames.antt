@@ -14,14 +14,16 @@ use Rattle.pfl_wire.specs.declared.message.Message.{Message}
 use Rattle.pfl_wire.specs.Frames.{Frame}
 use Rattle.pfl_wire.specs.Spelling.{spelling}
 use Rattle.pfl_wire.specs.Reading.{reading}
+use Rattle.pfl_language.specs.declared.outcome.Outcome.TheVariants as outcome
+use Rattle.pfl_language.specs.declared.node_event.NodeOutcome.TheVariants as given
 use Rattle.pfl_parts.specs.Nodes.{Node, new_node}
 use Rattle.pfl_node.specs.Flushing.{frame_of, remaining}
 use Rattle.pfl_receive.specs.Receiving.{taken as take_record}
 use Rattle.pfl_receive.specs.Delivering.{records_of}
-use Rattle.pfl_world.specs.Weights.{edits_for, deliver_work, weight}
-use Rattle.pfl_world.specs.declared.outcome.Outcome.TheVariants as outcome
+use Rattle.pfl_world.specs.Weights.{weight}
+use Rattle.pfl_node.specs.Weights.{edits_for}
+use Rattle.pfl_world.specs.Delivering.{deliver_work}
 use Rattle.pfl_world.specs.Worlds.{World, node_at, new_world}
-use Rattle.pfl_node.specs.declared.event.NodeOutcome.TheVariants as given
 use Rattle.pfl_world.proofs.Lab.{limits, rules, opening, inside, outside, plain, u1, u2, u3, v1, out, into, tcp_out, tcp_in, name, answers, final, computing, queue_at, queued, states_at, push_at, counts_at, counts, requests_at, held_at, names_at, seen, levels, times, both, flush, deliver, lose, repeat, cut, tick, purge, release, kill, passed, sent, taken, clock, rules_under, pass_out, held, did}
 
 abbrev s : World

@@ -13,7 +13,7 @@ use Rattle.pfl_base.specs.declared.node_id.NodeId.{NodeId}
 use Rattle.pfl_base.specs.declared.node_id.NodeId.TheVariants.{A}
 use Rattle.pfl_base.specs.declared.state_name.StateName.{StateName}
 use Rattle.pfl_edits.specs.Maps as maps
-use Rattle.pfl_edits.proofs.Maps as map_lemmas
+use Rattle.pfl_edits.proofs.ForCallers as map_lemmas
 use Rattle.pfl_rules.specs.declared.rule.Rule.{Rule}
 use Rattle.pfl_rules.specs.declared.action.Action.TheVariants.{Pass}
 use Rattle.pfl_rules.specs.declared.rule_dir.RuleDir.TheVariants.{Out}
@@ -23,9 +23,20 @@ use Rattle.pfl_track.specs.declared.state.State.{State}
 use Rattle.pfl_queue.specs.declared.Kind.{Kind}
 use Rattle.pfl_queue.specs.declared.Entry.{Entry}
 use Rattle.pfl_queue.specs.declared.Entry.TheVariants.{Marked}
+use Rattle.pfl_language.specs.declared.limits.Limits.{Limits}
+use Rattle.pfl_language.specs.declared.node_event.NodeEvent.TheVariants as own
+use Rattle.pfl_language.specs.declared.node_event.NodeOutcome.{NodeOutcome}
+use Rattle.pfl_language.specs.declared.node_event.NodeOutcome.TheVariants as given
+use Rattle.pfl_language.specs.declared.fate.Fate.TheVariants as fate
+use Rattle.pfl_language.specs.declared.fate.Reason.{Reason}
+use Rattle.pfl_language.specs.declared.retried.Retried.TheVariants as retried
+use Rattle.pfl_language.specs.declared.event.Event.{Event}
+use Rattle.pfl_language.specs.declared.event.Event.TheVariants as event
+use Rattle.pfl_language.specs.declared.event.FrameEvent.TheVariants as frame
+use Rattle.pfl_language.specs.declared.outcome.Outcome.TheVariants as outcome
+use Rattle.pfl_language.specs.declared.outcome.Outcome.{Outcome}
 use Rattle.pfl_parts.specs.declared.counters.Counters.{Counters}
 use Rattle.pfl_queue.specs.Taking.{in_turn}
-use Rattle.pfl_parts.specs.declared.limits.Limits.{Limits}
 use Rattle.pfl_parts.specs.Nodes.{Node}
 use Rattle.pfl_link.specs.Links.{InFlight}
 use Rattle.pfl_queue.specs.declared.Mark.{Mark}
@@ -34,25 +45,17 @@ use Rattle.pfl_wire.specs.declared.message.BulkStatus.{BulkStatus}
 use Rattle.pfl_defer.specs.declared.Held.{Held}
 use Rattle.pfl_bulk.specs.declared.BulkServer.{BulkServer}
 use Rattle.pfl_bulk.specs.declared.BulkClient.{BulkClient}
-use Rattle.pfl_node.specs.declared.event.NodeEvent.TheVariants as own
-use Rattle.pfl_node.specs.declared.event.NodeOutcome.{NodeOutcome}
-use Rattle.pfl_node.specs.declared.event.NodeOutcome.TheVariants as given
-use Rattle.pfl_node.specs.declared.fate.Fate.TheVariants as fate
-use Rattle.pfl_node.specs.declared.fate.Reason.{Reason}
-use Rattle.pfl_node.specs.declared.retried.Retried.TheVariants as retried
-use Rattle.pfl_world.specs.declared.event.Event.{Event}
-use Rattle.pfl_world.specs.declared.event.Event.TheVariants as event
-use Rattle.pfl_world.specs.declared.event.FrameEvent.TheVariants as frame
-use Rattle.pfl_world.specs.declared.outcome.Outcome.TheVariants as outcome
-use Rattle.pfl_world.specs.declared.outcome.Outcome.{Outcome}
-use Rattle.pfl_world.specs.Outcomes.{Stepped}
+use Rattle.pfl_world.specs.Meanings.{Stepped}
 use Rattle.pfl_world.specs.Worlds.{World, new_world, node_at}
 use Rattle.pfl_world.specs.Events as one
 use Rattle.pfl_world.specs.Events.{step}
 use Rattle.pfl_world.specs.Runs as runs
-use Rattle.pfl_world.specs.Steps as steps
+use Rattle.pfl_world.specs.Delivering as deliveries
+use Rattle.pfl_world.specs.Flushing as flushes
+use Rattle.pfl_world.specs.Restarting as restarts
+use Rattle.pfl_world.specs.Tickets as tickets
 use Rattle.pfl_wire.specs.Spelling as spelling
-use Rattle.pfl_wire.proofs.Reading as reading
+use Rattle.pfl_wire.proofs.ForCallers as reading
 use Rattle.pfl_queue.specs.Taking as taking
 use Rattle.pfl_parts.specs.Changes as changes
 use Rattle.pfl_node.specs.Starting as starting
@@ -232,7 +235,7 @@ final w (e ∷ es) = final (world_after w (step w e)) es
 
 -- what a run needs to compute on literals
 unfoldable pub computing : ℕ
-unfolding answers final map_lemmas.computing spelling.number_bytes spelling.name_bytes spelling.peer_bytes spelling.end_bytes spelling.key_bytes spelling.keys_bytes spelling.class_bytes spelling.state_bytes spelling.update_bytes spelling.record_bytes spelling.group_bytes spelling.spelling reading.computing taking.next_frame changes.changed changes.deleted changes.forgotten starting.started starting.judged packets.handled packets.packet_points receiving.taken flushing.frame_of flushing.flushed purging.purged purging.purge_points releasing.released_due clearing.cleared events.restarted turning.turn_of turning.turned retrying.retried_client steps.flush_step steps.deliver_step steps.lose_step steps.repeat_step steps.cut_step steps.restart_step one.step runs.run delivering.cleared_by delivering.records_work
+unfolding answers final map_lemmas.computing spelling.number_bytes spelling.name_bytes spelling.peer_bytes spelling.end_bytes spelling.key_bytes spelling.keys_bytes spelling.class_bytes spelling.state_bytes spelling.update_bytes spelling.record_bytes spelling.group_bytes spelling.spelling reading.computing taking.next_frame changes.changed changes.deleted changes.forgotten starting.started starting.judged packets.handled packets.packet_points receiving.taken flushing.frame_of flushing.flushed purging.purged purging.purge_points releasing.released_due clearing.cleared events.restarted turning.turn_of turning.turned retrying.retried_client flushes.flush_step deliveries.deliver_step tickets.lose_step tickets.repeat_step tickets.cut_step restarts.restart_step one.step runs.run delivering.cleared_by delivering.records_work
 computing = 0
 
 -- what is pending at a node

@@ -14,3 +14,4 @@ pub mod Ranges
 pub mod LimitFaults
 pub mod Little
 pub mod OnTapes
+pub mod ForCallers

@@ -1,25 +1,25 @@
 -- Worked examples of packets, computed.
-use Rattle.std.specs.Prelude.{◌≡◌, ℕ, true, false, List, [], ◌∷◌, ◌++◌, map, Some, None, Ok, Err, refl}
+use Rattle.std.specs.Prelude.{◌≡◌, ℕ, true, false, List, [], ◌∷◌, ◌++◌, map, Some, None, Err, refl}
 use Rattle.pfl_base.specs.declared.proto.Proto.TheVariants.{Tcp, Udp, Icmp, Other}
 use Rattle.pfl_base.specs.declared.addr.Addr.TheVariants.{V4}
 use Rattle.pfl_base.specs.declared.direction.Dir.TheVariants.{Outbound}
 use Rattle.pfl_base.specs.declared.fields.BadPacket.TheVariants as bad
 use Rattle.pfl_base.specs.Packets.{bad_packet}
 use Rattle.pfl_base.specs.declared.refusal.Refusal.TheVariants as refusal
+use Rattle.pfl_base.specs.declared.class.Class.TheVariants.{TcpClosed, UdpFirst, UdpSingle, UdpMultiple, IcmpFirst, IcmpError, OtherFirst}
+use Rattle.pfl_base.specs.declared.node_id.NodeId.TheVariants.{A}
 use Rattle.pfl_bulk.specs.declared.BulkServer.TheVariants as server
 use Rattle.pfl_bulk.specs.declared.BulkClient.TheVariants as client
 use Rattle.pfl_track.specs.declared.state.State.{State}
-use Rattle.pfl_base.specs.declared.class.Class.TheVariants.{TcpClosed, UdpFirst, UdpSingle, UdpMultiple, IcmpFirst, IcmpError, OtherFirst}
-use Rattle.pfl_base.specs.declared.node_id.NodeId.TheVariants.{A}
 use Rattle.pfl_rules.specs.declared.rule.Rule.{Rule}
 use Rattle.pfl_rules.specs.declared.action.Action.TheVariants.{Block}
 use Rattle.pfl_rules.specs.declared.rule_dir.RuleDir.TheVariants.{Any}
 use Rattle.pfl_queue.specs.declared.Kind.TheVariants.{Insert}
-use Rattle.pfl_node.specs.declared.fate.Reason.TheVariants as reason
+use Rattle.pfl_language.specs.declared.fate.Reason.TheVariants as reason
+use Rattle.pfl_language.specs.declared.event.Event.{Event}
+use Rattle.pfl_language.specs.declared.node_event.NodeOutcome.TheVariants as given
+use Rattle.pfl_language.specs.declared.fate.Fate.TheVariants as fate
 use Rattle.pfl_world.specs.Worlds.{World, new_world}
-use Rattle.pfl_world.specs.declared.event.Event.{Event}
-use Rattle.pfl_node.specs.declared.event.NodeOutcome.TheVariants as given
-use Rattle.pfl_node.specs.declared.fate.Fate.TheVariants as fate
 use Rattle.pfl_world.proofs.Lab.{limits, rules, opening, pass_out, host, inside, outside, plain, u1, u2, v1, out, into, tcp_out, tcp_in, name, answers, final, computing, queue_at, queued, states_at, names_at, seen, ends, both, tick, purge, passed, clock, flush, counts, NodeShot, shot, dropped, did}
 
 abbrev s : World

@@ -1,14 +1,16 @@
 -- Limits without a fault are limits.
 use Rattle.std.specs.Prelude.{◌≡◌, ◌≤◌, ℕ, Bool, true, false, ◌||◌, nat_lt, List, [], ◌∷◌, Option, Some, None, refl, if◌then◌else◌}
 use Rattle.std.specs.List.{list_any, AllByRecursion}
+use Rattle.std.specs.Option.{option_map}
 use Rattle.std.proofs.Common.{arith}
 use Rattle.std.proofs.lemmas.Bool.Decides.{nat_tests}
-use Rattle.pfl_edits.proofs.RowMaps.{some_is_none}
-use Rattle.pfl_parts.specs.declared.limits.Limits.{Limits}
-use Rattle.pfl_parts.specs.Limits.{AreLimits, ranges}
+use Rattle.pfl_edits.proofs.ForCallers.{some_is_none}
+use Rattle.pfl_language.specs.declared.limits.Limits.{Limits}
+use Rattle.pfl_language.specs.declared.limits.LimitFault.TheVariants as limit
+use Rattle.pfl_language.specs.Limits.{AreLimits, ranges}
 use Rattle.pfl_world.specs.declared.fault.WorldFault.{WorldFault}
 use Rattle.pfl_world.specs.declared.fault.WorldFault.TheVariants.{TooSmall, TooLarge}
-use Rattle.pfl_world.specs.Worlds.{world_fault}
+use Rattle.pfl_world.specs.Worlds.{from_limits, world_fault}
 
 both : (a b : Bool) → (a || b) ≡ false → (a ≡ false) × (b ≡ false)
 both true b e = cc
@@ -25,7 +27,7 @@ all_within (r ∷ rs) low high =
     ((not_below r.0 r.1 small.0, not_below r.2 r.0 large.0), all_within rs small.1 large.1)
 
 abbrev fault_by : Bool → Bool → Option WorldFault
-fault_by small large = if small then Some TooSmall else if large then Some TooLarge else None
+fault_by small large = option_map from_limits (if small then Some limit.TooSmall else if large then Some limit.TooLarge else None)
 
 neither : (small large : Bool) → fault_by small large ≡ None → (small ≡ false) × (large ≡ false)
 neither true large e = absurd (some_is_none TooSmall e)

@@ -2,10 +2,10 @@
 use Rattle.std.specs.Prelude.{◌≡◌, ℕ, [], ◌∷◌, map, Some, None, Ok, Err, refl}
 use Rattle.pfl_base.specs.declared.refusal.Refusal.TheVariants as refusal
 use Rattle.pfl_base.specs.declared.node_id.NodeId.TheVariants.{A, B}
-use Rattle.pfl_world.specs.declared.outcome.Outcome.TheVariants as outcome
+use Rattle.pfl_language.specs.declared.outcome.Outcome.TheVariants as outcome
+use Rattle.pfl_language.specs.declared.node_event.NodeOutcome.TheVariants as given
 use Rattle.pfl_world.specs.declared.fault.WorldFault.TheVariants as world
 use Rattle.pfl_world.specs.Worlds.{World, node_at, new_world_at, world_fault}
-use Rattle.pfl_node.specs.declared.event.NodeOutcome.TheVariants as given
 use Rattle.pfl_world.proofs.Lab.{limits, rules, opening, pass_out, u1, u2, out, name, answers, computing, flush, deliver, repeat, tick, kill, clear, restart, turn, retry, passed, sent, taken, clock, final, lose, did, asked}
 
 abbrev s : World

@@ -6,19 +6,21 @@ use Rattle.std.proofs.lemmas.Bool.Decides.{nat_tests}
 use Rattle.pfl_base.specs.declared.node_id.NodeId.{NodeId}
 use Rattle.pfl_base.specs.declared.refusal.Refusal.{Refusal}
 use Rattle.pfl_base.specs.declared.refusal.Refusal.TheVariants.{CountFull}
+use Rattle.pfl_base.specs.Numbers.{greatest}
 use Rattle.pfl_edits.specs.Changes.{Edits}
-use Rattle.pfl_edits.proofs.Leading.{LeadsBack-one}
-use Rattle.pfl_parts.specs.Nodes.{Node, greatest}
+use Rattle.pfl_edits.proofs.ForCallers.{LeadsBack-one}
+use Rattle.pfl_language.specs.declared.event.Event.{Event}
+use Rattle.pfl_language.specs.declared.event.Event.TheVariants as event
+use Rattle.pfl_language.specs.declared.outcome.Outcome.TheVariants as outcome
+use Rattle.pfl_parts.specs.Nodes.{Node}
 use Rattle.pfl_node.specs.Events.{restarted}
 use Rattle.pfl_world.specs.declared.edit.WorldEdit.{WorldEdit}
 use Rattle.pfl_world.specs.declared.edit.WorldEdit.TheVariants.{OfRestart}
-use Rattle.pfl_world.specs.declared.event.Event.{Event}
-use Rattle.pfl_world.specs.declared.event.Event.TheVariants as event
 use Rattle.pfl_world.specs.Events.{step, IsRefusalOf}
-use Rattle.pfl_world.specs.declared.outcome.Outcome.TheVariants as outcome
-use Rattle.pfl_world.specs.Outcomes.{Stepped}
+use Rattle.pfl_world.specs.Meanings.{Stepped}
 use Rattle.pfl_world.specs.Restarts.{RestartEdit}
-use Rattle.pfl_world.specs.Steps.{unless, restart_step}
+use Rattle.pfl_world.specs.Tickets.{step_unless}
+use Rattle.pfl_world.specs.Restarting.{restart_step}
 use Rattle.pfl_world.specs.Values.{HoldsNode, MayHold}
 use Rattle.pfl_world.specs.WorldEdits.{Finds, put_back, with_boot, WorldLeadsBack}
 use Rattle.pfl_world.specs.inner.BothWays.{edit-both_ways}
@@ -34,7 +36,7 @@ begun w id = with_boot w id (restarted (node_at w id) w.next_boot) (w.next_boot 
 
 -- by whether a number is left
 abbrev counted : World → NodeId → Bool → Result Stepped Refusal
-counted w id out = unless ((out, CountFull) ∷ []) (begun w id) (outcome.Boot w.next_boot)
+counted w id out = step_unless ((out, CountFull) ∷ []) (begun w id) (outcome.Boot w.next_boot)
 
 pub restart_step-begun : (w : World) (id : NodeId) → nat_le greatest w.next_boot ≡ false → restart_step w id ≡ accepted (begun w id) (outcome.Boot w.next_boot)
 unfolding restart_step

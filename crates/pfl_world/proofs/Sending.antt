@@ -8,26 +8,26 @@ use Rattle.pfl_base.specs.declared.node_id.NodeId.{NodeId}
 use Rattle.pfl_base.specs.declared.node_id.NodeId.TheVariants.{A, B}
 use Rattle.pfl_base.specs.Nodes.{other_node}
 use Rattle.pfl_edits.specs.Changes.{Edits, back, Fits}
-use Rattle.pfl_edits.proofs.Leading.{LeadsBack-push}
+use Rattle.pfl_edits.proofs.ForCallers.{LeadsBack-push}
 use Rattle.pfl_wire.specs.Spelling.{spelling}
+use Rattle.pfl_language.specs.declared.event.Event.{Event}
+use Rattle.pfl_language.specs.declared.event.Event.TheVariants as event
+use Rattle.pfl_language.specs.declared.outcome.Outcome.{Outcome}
+use Rattle.pfl_language.specs.declared.outcome.Outcome.TheVariants as outcome
 use Rattle.pfl_parts.specs.declared.edit.NodeEdit.{NodeEdit}
 use Rattle.pfl_node.specs.Flushing.{flushed, frame_of}
-use Rattle.pfl_parts.specs.Nodes.{Node, IsRefusal, refused_by}
+use Rattle.pfl_parts.specs.Nodes.{Node, IsRefusal, refused_by, unless_refused}
 use Rattle.pfl_link.specs.declared.fault.LinkFault.{LinkFault}
 use Rattle.pfl_link.specs.declared.fault.LinkFault.TheVariants.{LinkFull, CountFull}
 use Rattle.pfl_link.specs.Faults as links
 use Rattle.pfl_link.specs.Links.{Link, sent}
 use Rattle.pfl_link.specs.LinkEdits.{LinkEdit, LinkLeadsBack}
-use Rattle.pfl_world.specs.declared.event.Event.{Event}
-use Rattle.pfl_world.specs.declared.event.Event.TheVariants as event
 use Rattle.pfl_world.specs.declared.edit.WorldEdit.{WorldEdit}
 use Rattle.pfl_world.specs.declared.edit.WorldEdit.TheVariants.{OfNode, OfLink}
-use Rattle.pfl_world.specs.declared.outcome.Outcome.{Outcome}
 use Rattle.pfl_world.specs.Events.{step, IsRefusalOf}
-use Rattle.pfl_world.specs.declared.outcome.Outcome.TheVariants as outcome
-use Rattle.pfl_world.specs.Outcomes.{Stepped}
-use Rattle.pfl_world.specs.Steps.{answered, flush_refusal, sent_frame, flush_step}
-use Rattle.pfl_world.specs.Weights.{weight, flush_work}
+use Rattle.pfl_world.specs.Meanings.{Stepped}
+use Rattle.pfl_world.specs.Flushing.{flush_refusal, sent_frame, flush_step, flush_work}
+use Rattle.pfl_world.specs.Weights.{weight}
 use Rattle.pfl_world.specs.WorldEdits.{Finds, put_back, WorldLeadsBack}
 use Rattle.pfl_world.specs.inner.WorldEdits.{of_node}
 use Rattle.pfl_world.specs.Worlds.{World, IsWorld, node_at, with_node, with_link}
@@ -82,7 +82,7 @@ flushed_to w id = record {
   outcome = outcome.Sent w.link.next (length (sent_frame w id).bytes);
 }
 
-step_flush : (w : World) (e : Event) (id : NodeId) → e ≡ event.Flush id → step w e ≡ answered (flush_refusal w id) (flushed_to w id)
+step_flush : (w : World) (e : Event) (id : NodeId) → e ≡ event.Flush id → step w e ≡ unless_refused (flush_refusal w id) (flushed_to w id)
 unfolding step flush_step
 step_flush w e id is = ap (step w) is
 
@@ -97,7 +97,7 @@ pub flush_accepted : {C : Type 0} (old new : World) (e : Event) (id : NodeId) �
 flush_accepted old new e id at (Err r) none made is = tt
 flush_accepted old new e id at (Ok r) none made is =
     step_flush old e id at
-    ∙ ap (λ (o : Option Refusal). answered o (flushed_to old id)) none
+    ∙ ap (λ (o : Option Refusal). unless_refused o (flushed_to old id)) none
     ∙ ap (λ (w : World). accepted w (flushed_to old id).outcome) (sym made)
     ∙ ap (λ (a : Outcome). accepted new a) (sym is)
 

@@ -4,19 +4,18 @@ use Rattle.std.proofs.Common.{◌∙◌, ap, sym, subst, inl}
 use Rattle.pfl_base.specs.declared.refusal.Refusal.{Refusal}
 use Rattle.pfl_base.specs.declared.refusal.Refusal.TheVariants.{NoMemory}
 use Rattle.pfl_base.specs.declared.node_id.NodeId.{NodeId}
-use Rattle.pfl_parts.specs.Nodes.{Node, IsRefusal}
-use Rattle.pfl_node.specs.declared.event.NodeEvent.{NodeEvent}
-use Rattle.pfl_node.specs.Stepping as stepping
+use Rattle.pfl_language.specs.declared.node_event.NodeEvent.{NodeEvent}
+use Rattle.pfl_language.specs.declared.event.Event.{Event}
+use Rattle.pfl_language.specs.declared.event.Event.TheVariants as event
+use Rattle.pfl_language.specs.declared.event.FrameEvent.{FrameEvent}
+use Rattle.pfl_language.specs.declared.event.FrameEvent.TheVariants as frame
+use Rattle.pfl_language.specs.declared.outcome.Outcome.{Outcome}
+use Rattle.pfl_language.specs.declared.outcome.Outcome.TheVariants as outcome
+use Rattle.pfl_parts.specs.Nodes.{Node, IsRefusal, unless_refused}
 use Rattle.pfl_node.specs.Stepping.{NodeStepped, node_refusal, node_after, node_step}
-use Rattle.pfl_world.specs.declared.event.Event.{Event}
-use Rattle.pfl_world.specs.declared.event.Event.TheVariants as event
-use Rattle.pfl_world.specs.declared.event.FrameEvent.{FrameEvent}
-use Rattle.pfl_world.specs.declared.event.FrameEvent.TheVariants as frame
-use Rattle.pfl_world.specs.declared.outcome.Outcome.{Outcome}
-use Rattle.pfl_world.specs.declared.outcome.Outcome.TheVariants as outcome
-use Rattle.pfl_world.specs.Events.{step, IsRefusalOf, IsEventRefusal}
-use Rattle.pfl_world.specs.Outcomes.{Stepped}
-use Rattle.pfl_world.specs.Steps.{answered, stepped_at, from_node, node_event, frame_event}
+use Rattle.pfl_world.specs.Events.{step, IsRefusalOf, IsEventRefusal, frame_event}
+use Rattle.pfl_world.specs.Meanings.{Stepped}
+use Rattle.pfl_world.specs.AtNodes.{from_node, node_event}
 use Rattle.pfl_world.specs.Worlds.{World, node_at, with_node}
 
 -- what is accepted
@@ -24,11 +23,11 @@ abbrev pub accepted : World → Outcome → Result Stepped Refusal
 accepted w o = Ok (record { world = w; outcome = o })
 
 -- a refusal that is told is that of the step
-pub refusal_of : (o : Option Refusal) (s : Stepped) (r : Refusal) → IsRefusal o r → IsRefusalOf (answered o s) r
+pub refusal_of : (o : Option Refusal) (s : Stepped) (r : Refusal) → IsRefusal o r → IsRefusalOf (unless_refused o s) r
 refusal_of (Some first) s r is = is
 refusal_of None s r is = is
 
-pub refused_as : {X : Type 0} (o : Option Refusal) (s : Stepped) (at : Result Stepped Refusal) → at ≡ answered o s → (result : Result X Refusal) → IfErr result (IsRefusal o) → IfErr result (IsRefusalOf at)
+pub refused_as : {X : Type 0} (o : Option Refusal) (s : Stepped) (at : Result Stepped Refusal) → at ≡ unless_refused o s → (result : Result X Refusal) → IfErr result (IsRefusal o) → IfErr result (IsRefusalOf at)
 refused_as o s at is (Ok x) r = tt
 refused_as o s at is (Err given) r = subst (λ (v : Result Stepped Refusal). IsRefusalOf v given) (sym is) (refusal_of o s given r)
 
@@ -65,7 +64,7 @@ frame_refused_then w ticket e (Err r) is = frame_refusal w ticket e r is
 
 -- ---- what a node answers, at the pair
 
-pub refused_at : (w : World) (id : NodeId) (o : Option Refusal) (s : NodeStepped) (r : Refusal) → IsRefusal o r → IsRefusalOf (from_node w id (stepping.answered o s)) r
+pub refused_at : (w : World) (id : NodeId) (o : Option Refusal) (s : NodeStepped) (r : Refusal) → IsRefusal o r → IsRefusalOf (from_node w id (unless_refused o s)) r
 refused_at w id (Some first) s r is = is
 refused_at w id None s r is = is
 

@@ -5,17 +5,15 @@ use Rattle.std.proofs.Common.{◌∙◌, ap, sym, subst}
 use Rattle.pfl_base.specs.declared.refusal.Refusal.{Refusal}
 use Rattle.pfl_base.specs.declared.refusal.Refusal.TheVariants as refusal
 use Rattle.pfl_edits.specs.Maps as maps
+use Rattle.pfl_language.specs.declared.outcome.Outcome.TheVariants as outcome
 use Rattle.pfl_link.specs.declared.fault.LinkFault.{LinkFault}
 use Rattle.pfl_link.specs.declared.fault.LinkFault.TheVariants.{NoSuchFrame, LinkFull, CountFull}
 use Rattle.pfl_link.specs.Faults.{room_fault, missing_fault, copy_fault, or_no_memory, refusal_of}
 use Rattle.pfl_link.specs.Links.{InFlight, is_full, is_counted_out, sent, with_frame, cut_to}
-use Rattle.pfl_parts.specs.Nodes.{refused_by}
-use Rattle.pfl_world.specs.declared.event.Event.{Event}
-use Rattle.pfl_world.specs.declared.event.Event.TheVariants as event
-use Rattle.pfl_world.specs.Events.{step, IsRefusalOf}
-use Rattle.pfl_world.specs.declared.outcome.Outcome.TheVariants as outcome
-use Rattle.pfl_world.specs.Outcomes.{Stepped}
-use Rattle.pfl_world.specs.Steps.{answered, without, with_ticket, lose_step, repeat_step, cut_step}
+use Rattle.pfl_parts.specs.Nodes.{refused_by, unless_refused}
+use Rattle.pfl_world.specs.Events.{IsRefusalOf}
+use Rattle.pfl_world.specs.Meanings.{Stepped}
+use Rattle.pfl_world.specs.Tickets.{without_ticket, with_ticket, lose_step, repeat_step, cut_step}
 use Rattle.pfl_world.specs.Worlds.{World, with_link}
 
 -- ---- the frame is there
@@ -25,7 +23,7 @@ found : (w : World) (ticket : ℕ) (f : InFlight) (done : InFlight → Result St
 found w ticket f done at = ap (λ (o : Option InFlight). option_map_or done o (Err refusal.NoSuchFrame)) at
 
 abbrev lost_to : World → ℕ → Stepped
-lost_to w ticket = record { world = without w ticket; outcome = outcome.Lost }
+lost_to w ticket = record { world = without_ticket w ticket; outcome = outcome.Lost }
 
 pub lose_step-found : (w : World) (ticket : ℕ) (f : InFlight) → maps.get w.link.frames ticket ≡ Some f → lose_step w ticket ≡ Ok (lost_to w ticket)
 unfolding lose_step
@@ -49,8 +47,8 @@ there_is_room false false none = refl
 pub repeat_step-found : (w : World) (ticket : ℕ) (f : InFlight) → maps.get w.link.frames ticket ≡ Some f → room_fault w.link ≡ None → repeat_step w ticket ≡ Ok (repeated_to w f)
 unfolding repeat_step
 repeat_step-found w ticket f at none =
-    found w ticket f (λ f. answered (room_refusal (is_full w.link) (is_counted_out w.link)) (repeated_to w f)) at
-    ∙ ap (λ (o : Option Refusal). answered o (repeated_to w f)) (there_is_room (is_full w.link) (is_counted_out w.link) none)
+    found w ticket f (λ f. unless_refused (room_refusal (is_full w.link) (is_counted_out w.link)) (repeated_to w f)) at
+    ∙ ap (λ (o : Option Refusal). unless_refused o (repeated_to w f)) (there_is_room (is_full w.link) (is_counted_out w.link) none)
 
 abbrev cut_step_to : World → ℕ → ℕ → InFlight → Stepped
 cut_step_to w ticket len f = record { world = with_link w (with_frame w.link ticket (cut_to f len)); outcome = outcome.CutTo (length (cut_to f len).bytes) }
@@ -78,7 +76,7 @@ unfolding cut_step
 cut_refused w ticket len fault e = missing_or_memory (maps.get w.link.frames ticket) (cut_step_to w ticket len) fault e
 
 no_copy : (o : Option InFlight) (full counted : Bool) (done : InFlight → Stepped) (fault : LinkFault) → fault ≡ or_no_memory (cond (is_some o) (room full counted) (Some NoSuchFrame))
-    → IsRefusalOf (option_map_or (λ f. answered (room_refusal full counted) (done f)) o (Err refusal.NoSuchFrame)) (refusal_of fault)
+    → IsRefusalOf (option_map_or (λ f. unless_refused (room_refusal full counted) (done f)) o (Err refusal.NoSuchFrame)) (refusal_of fault)
 no_copy None full counted done fault e = ap refusal_of e
 no_copy (Some f) true counted done fault e = ap refusal_of e
 no_copy (Some f) false true done fault e = ap refusal_of e

@@ -1,9 +1,9 @@
 -- Laws of the pair, in their own words (this project's profile).
 use Rattle.std.specs.Prelude.{◌≤◌, ℕ}
+use Rattle.pfl_base.specs.Numbers.{greatest}
 use Rattle.pfl_rules.specs.Rules.{Rules, AreRules}
-use Rattle.pfl_parts.specs.declared.limits.Limits.{Limits}
-use Rattle.pfl_parts.specs.Limits.{AreLimits}
-use Rattle.pfl_parts.specs.Nodes.{greatest}
+use Rattle.pfl_language.specs.declared.limits.Limits.{Limits}
+use Rattle.pfl_language.specs.Limits.{AreLimits}
 use Rattle.pfl_world.specs.Worlds.{IsWorld, new_world, new_world_at}
 
 -- the pair before any event is a world, if its limits and rules are

@@ -4,8 +4,12 @@ pub mod Codes
 pub mod Restarts
 pub mod WorldEdits
 pub mod Values
-pub mod Outcomes
-pub mod Steps
+pub mod Meanings
+pub mod AtNodes
+pub mod Flushing
+pub mod Tickets
+pub mod Delivering
+pub mod Restarting
 pub mod Events
 pub mod Runs
 pub mod Weights

@@ -13,6 +13,8 @@ use Rattle.pfl_defer.specs.declared.Held.{Held}
 use Rattle.pfl_defer.specs.Edits as deferrals
 use Rattle.pfl_bulk.specs.declared.BulkClient.{BulkClient}
 use Rattle.pfl_bulk.specs.declared.BulkServer.{BulkServer}
+use Rattle.pfl_language.specs.declared.event.Event.{Event}
+use Rattle.pfl_language.specs.declared.event.Event.TheVariants as event
 use Rattle.pfl_parts.specs.declared.edit.NodeEdit.{NodeEdit}
 use Rattle.pfl_parts.specs.declared.edit.NodeEdit.TheVariants.{OfState, OfQueue, OfHeld, Server, Client, Clock, NextId, Push, Count}
 use Rattle.pfl_parts.specs.Nodes.{Node}
@@ -23,8 +25,6 @@ use Rattle.pfl_link.specs.LinkEdits.{frame_before, frame_after}
 use Rattle.pfl_link.specs.Links.{InFlight}
 use Rattle.pfl_world.specs.declared.edit.WorldEdit.{WorldEdit}
 use Rattle.pfl_world.specs.declared.edit.WorldEdit.TheVariants.{OfNode, OfLink, OfRestart}
-use Rattle.pfl_world.specs.declared.event.Event.{Event}
-use Rattle.pfl_world.specs.declared.event.Event.TheVariants as event
 use Rattle.pfl_world.specs.Restarts.{RestartEdit}
 
 -- a thing that values are made of; a mark, a request, a status and a clear are entries of the queues
@@ -91,10 +91,10 @@ abbrev pub restart_values : RestartEdit → Values
 restart_values e = record { former = ANode e.former ∷ ANumber e.boot ∷ []; present = ANode (restarted e.former e.boot) ∷ ANumber (e.boot + 1) ∷ [] }
 
 -- of an edit of the pair
-abbrev pub values : {M : Type 0} → WorldEdit M → Values
-values (OfNode id e) = node_values e
-values (OfLink e) = link_values e.change e.ticket e.frame
-values (OfRestart e) = restart_values e
+abbrev pub edit_values : {M : Type 0} → WorldEdit M → Values
+edit_values (OfNode id e) = node_values e
+edit_values (OfLink e) = link_values e.change e.ticket e.frame
+edit_values (OfRestart e) = restart_values e
 
 -- an entry or a frame, and the next number beside it
 abbrev pub is_numbered : Thing → List Thing → Bool
@@ -120,13 +120,13 @@ is_whole _ = false
 
 -- both values of the edit are small
 pub record HoldsLittle {M : Type 0} (e : WorldEdit M) : Type 0 where
-  pub former : is_small (values e).former ≡ true
-  pub present : is_small (values e).present ≡ true
+  pub former : is_small (edit_values e).former ≡ true
+  pub present : is_small (edit_values e).present ≡ true
 
 -- both values of the edit are a node with the next boot
 pub record HoldsNode {M : Type 0} (e : WorldEdit M) : Type 0 where
-  pub former : is_whole (values e).former ≡ true
-  pub present : is_whole (values e).present ≡ true
+  pub former : is_whole (edit_values e).former ≡ true
+  pub present : is_whole (edit_values e).present ≡ true
 
 -- what an edit of an event holds: a restart's a whole node, that of every other event little
 abbrev pub MayHold : {M : Type 0} → Event → WorldEdit M → Type 0

@@ -1,11 +1,13 @@
 -- The pair of nodes and the link between them (this project's profile).
-use Rattle.std.specs.Prelude.{◌≡◌, ◌≤◌, ℕ, nat_lt, Option, Some, None, if◌then◌else◌}
-use Rattle.std.specs.List.{list_any}
+use Rattle.std.specs.Prelude.{◌≡◌, ◌≤◌, ℕ, Option, Some, None}
+use Rattle.std.specs.Option.{option_map}
 use Rattle.pfl_base.specs.declared.node_id.NodeId.{NodeId}
 use Rattle.pfl_base.specs.declared.node_id.NodeId.TheVariants.{A, B}
 use Rattle.pfl_rules.specs.Rules.{Rules}
-use Rattle.pfl_parts.specs.declared.limits.Limits.{Limits}
-use Rattle.pfl_parts.specs.Limits.{ranges}
+use Rattle.pfl_language.specs.declared.limits.Limits.{Limits}
+use Rattle.pfl_language.specs.declared.limits.LimitFault.{LimitFault}
+use Rattle.pfl_language.specs.declared.limits.LimitFault.TheVariants as limit
+use Rattle.pfl_language.specs.Limits.{limit_fault}
 use Rattle.pfl_parts.specs.Nodes.{Node, IsNode, new_node}
 use Rattle.pfl_link.specs.Links.{Link, IsLink, empty_link}
 use Rattle.pfl_world.specs.declared.fault.WorldFault.{WorldFault}
@@ -75,11 +77,14 @@ new_world_at limits rules_a rules_b start = record {
   next_boot = start;
 }
 
--- why these limits are none: the first reason that holds of any of them
+-- the fault of a pair with limits that have this one
+abbrev pub from_limits : LimitFault → WorldFault
+from_limits limit.TooSmall = TooSmall
+from_limits limit.TooLarge = TooLarge
+
+-- why there is no pair with these limits, if there is a reason in them
 abbrev pub world_fault : Limits → Option WorldFault
-world_fault l =
-    if list_any (λ r. nat_lt r.0 r.1) (ranges l) then Some TooSmall else
-    if list_any (λ r. nat_lt r.2 r.0) (ranges l) then Some TooLarge else None
+world_fault l = option_map from_limits (limit_fault l)
 
 -- a fault that is told: the one of the limits; where they have none, want of memory
 abbrev pub IsFault : Option WorldFault → WorldFault → Type 0

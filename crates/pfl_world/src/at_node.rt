@@ -4,16 +4,15 @@ ghost use Rattle.std.specs.Prelude.{◌≡◌, ◌≤◌, Ok, IfOk, IfErr, OnErr
 ghost use Rattle.std.specs.List.{AllByRecursion};
 ghost use Rattle.pfl_node.specs.Stepping.{node_weight};
 ghost use Rattle.pfl_world.specs.Events.{IsRefusalOf};
-ghost use Rattle.pfl_world.specs.Steps.{node_event};
+ghost use Rattle.pfl_world.specs.AtNodes.{node_event};
 ghost use Rattle.pfl_world.specs.Values.{HoldsLittle};
 ghost use Rattle.pfl_world.specs.WorldEdits.{WorldLeadsBack};
 ghost use Rattle.pfl_world.specs.Worlds.{node_at};
 
 use crate::edit::WorldChange;
-use crate::outcome::Outcome;
 use crate::world::World;
 use pfl_base::{NodeId, Refusal};
-use pfl_node::NodeEvent;
+use pfl_language::{NodeEvent, Outcome};
 use std::alloc::Allocator;
 
 impl<A: Allocator + Copy> World<A> {

@@ -4,7 +4,7 @@ ghost use Rattle.std.specs.Prelude.{◌≡◌};
 ghost use Rattle.pfl_world.specs.Worlds.{world_fault};
 
 use pfl_edits::NoMemory;
-use pfl_parts::{LimitFault, Limits};
+use pfl_language::{LimitFault, Limits};
 use std::error::Error;
 use std::fmt;
 

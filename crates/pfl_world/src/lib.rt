@@ -1,28 +1,24 @@
 //! The pair of nodes, the link between them, and the events that happen to them.
 #![tactic(auto)]
 
-mod applying;
+mod apply;
 mod at_node;
-mod carrying;
-mod delivering;
+mod deliver;
 mod edit;
-mod event;
 mod fault;
-mod flushing;
+mod flush;
+mod in_flight;
 mod laws;
-mod lifting;
+mod lift;
 mod nodes;
-mod outcome;
+mod restart;
 mod restart_edit;
-mod restarting;
-mod taping;
-mod undoing;
+mod tape;
+mod undo;
 mod world;
 
 pub use edit::{WorldChange, WorldEdit, WorldTape};
-pub use event::{Event, FrameEvent};
 pub use fault::WorldFault;
 pub use laws::new_worlds_are_worlds;
-pub use outcome::Outcome;
 pub use restart_edit::RestartEdit;
 pub use world::World;

@@ -2,14 +2,14 @@
 
 ghost use Rattle.std.specs.Prelude.{◌≡◌, IfOk};
 ghost use Rattle.std.specs.Borrow.{sem};
-ghost use Rattle.pfl_parts.specs.Limits.{AreLimits};
+ghost use Rattle.pfl_language.specs.Limits.{AreLimits};
 ghost use Rattle.pfl_parts.specs.Nodes.{IsNode, new_node};
 ghost use Rattle.pfl_world.specs.Worlds.{of_name};
 
 use pfl_base::NodeId;
 use pfl_edits::NoMemory;
+use pfl_language::Limits;
 use pfl_node::Node;
-use pfl_parts::Limits;
 use pfl_rules::RuleSet;
 use std::alloc::Allocator;
 use std::marker::Model;

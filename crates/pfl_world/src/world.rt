@@ -1,16 +1,16 @@
 //! The pair of nodes.
 
 ghost use Rattle.std.specs.Prelude.{◌≡◌, None, IfOk, IfErr, OnOk};
-ghost use Rattle.pfl_parts.specs.Limits.{AreLimits};
+ghost use Rattle.pfl_language.specs.Limits.{AreLimits};
 ghost use Rattle.pfl_world.specs.Worlds.{IsWorld, IsFault, new_world, node_at, world_fault};
 
 use crate::fault::{WorldFault, fault_of};
 use crate::nodes::Nodes;
 use pfl_base::NodeId;
 use pfl_edits::NoMemory;
+use pfl_language::Limits;
 use pfl_link::Link;
 use pfl_node::Node;
-use pfl_parts::Limits;
 use pfl_rules::RuleSet;
 use std::alloc::Allocator;
 use std::marker::Model;

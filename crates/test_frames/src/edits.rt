@@ -3,7 +3,7 @@ ghost use Rattle.std.specs.Prelude.{◌≡◌, IfSome, ⊤};
 ghost use Rattle.std.specs.Ordering.{nat_cmp};
 ghost use Rattle.std.proofs.lemmas.Cmp.{nat_cmp_total};
 ghost use Rattle.std.proofs.lemmas.Map.Lookups.{exact_unsigned};
-ghost use Rattle.pfl_edits.proofs.Places.{value-both_ways};
+ghost use Rattle.pfl_edits.proofs.ForCallers.{value-both_ways};
 
 use linked_list_allocator::LocalHeap;
 use pfl_edits::{Change, Keyed, NoMemory, Reversible, Rows, undo_all};

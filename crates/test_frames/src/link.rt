@@ -42,7 +42,7 @@ fn counts(link: &Link<Global>) -> (usize, u32) {
 /// Sends bytes to node A: the fault, and how many bytes are given back.
 fn refused<A: Allocator + Copy>(link: &mut Link<A>, bytes: Bytes<A>) -> Option<(LinkFault, usize)> {
     let refused = link.send(NodeId::A, bytes).err()?;
-    Some((refused.fault, refused.bytes.into_vec().len()))
+    Some((refused.fault, refused.bytes.len()))
 }
 
 #[test]

@@ -103,7 +103,7 @@ fn numbers_end(rt: HostRuntime) -> Result<(), Fail> {
 fn an_event_goes_on_past_the_last_number(rt: HostRuntime) -> Result<(), Fail> {
     let mut pending = Pending::new_at(rt.alloc(), 1, 4294967295)?;
     assert!(rt; refused_on(&mut pending, 1) == None);
-    assert!(rt; pending.is_counted_out());
+    assert!(rt; pending.next() == 4294967296);
     assert!(rt; refused_on(&mut pending, 2) == Some(QueueFault::QueueFull));
     Ok(())
 }

@@ -47,9 +47,9 @@ fn listed(alloc: Global, chains: &Chains<Entry, Global>, list: usize) -> Result<
 fn links_keep_their_order(rt: HostRuntime) -> Result<(), Fail> {
     let mut chains = Chains::new(rt.alloc(), 2, 3)?;
     assert!(rt; chains.is_empty());
-    let three = chains.push_back(0, Entry { number: 3 });
+    let three = chains.insert_after(0, None, Entry { number: 3 });
     assert!(rt; 1 < chains.lists() && !chains.is_full());
-    chains.push_back(1, Entry { number: 5 });
+    chains.insert_after(1, None, Entry { number: 5 });
     assert!(rt; 0 < chains.lists() && !chains.is_full());
     let one = chains.insert_after(0, None, Entry { number: 1 });
     assert!(rt; chains.is_full());
@@ -75,7 +75,7 @@ fn put_back<V: Copy, A: Allocator>(chains: &mut Chains<V, A>, list: usize, slot:
 #[test]
 fn a_link_goes_back_to_its_place(rt: HostRuntime) -> Result<(), Fail> {
     let mut chains = Chains::new(rt.alloc(), 1, 2)?;
-    chains.push_back(0, Entry { number: 7 });
+    chains.insert_after(0, None, Entry { number: 7 });
     assert!(rt; 0 < chains.lists() && !chains.is_full());
     let four = chains.insert_after(0, None, Entry { number: 4 });
     let copied = chains.copy()?;
@@ -95,7 +95,7 @@ fn is_made<A: Allocator + Copy>(alloc: A) -> bool {
 fn copied(alloc: Global, bytes: usize) -> Option<(bool, usize)> {
     let heap = LocalHeap::new(alloc, bytes).ok()?;
     let mut chains = Chains::new(&heap, 2, 8).ok()?;
-    chains.push_back(0, Entry { number: 3 });
+    chains.insert_after(0, None, Entry { number: 3 });
     let is_copied = chains.copy().is_ok();
     Some((is_copied, chains.len()))
 }

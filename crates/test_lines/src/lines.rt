@@ -1,12 +1,9 @@
 //! Worked lines: what they say, and what is wrong with them.
 
 use pfl_base::{Addr, BadPacket, Class, Dir, End, NodeId, Packet, PacketFields, Proto, TcpFlags};
+use pfl_language::{Command, Event, FrameEvent, Limit, NodeEvent};
 use pfl_lines::{LineFault, SetupLine, parse_line, parse_setup};
-use pfl_node::NodeEvent;
-use pfl_parts::Limit;
 use pfl_rules::{Action, Rule, RuleDir};
-use pfl_timeline::Command;
-use pfl_world::{Event, FrameEvent};
 use std::test::Fail;
 
 fn v4(a: u8, b: u8, c: u8, d: u8) -> Addr {

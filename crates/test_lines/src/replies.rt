@@ -1,9 +1,9 @@
 //! The lines of replies and of frames in flight.
 
 use pfl_base::{NodeId, Refusal, Std};
+use pfl_language::{Outcome, Refused};
 use pfl_script::{FrameLine, LinkLine, write_reply};
-use pfl_timeline::{Refused, Reply};
-use pfl_world::Outcome;
+use pfl_timeline::Reply;
 use std::alloc::Global;
 use std::test::Fail;
 

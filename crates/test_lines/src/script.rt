@@ -1,8 +1,8 @@
 //! Lines over memory, and devices that fail.
 
 use pfl_base::{Output, Std};
+use pfl_language::Limits;
 use pfl_lines::LineFault;
-use pfl_parts::Limits;
 use pfl_rules::{Action, RuleFault, RuleSet};
 use pfl_script::{EngineFault, LineReader, Setup, SetupFault, read_setup, write_text};
 use std::alloc::{Allocator, Global};

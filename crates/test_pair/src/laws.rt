@@ -2,9 +2,8 @@
 
 use super::world::{clock, opening};
 use pfl_base::{Millis, NodeId, Refusal};
+use pfl_language::{Event, NodeEvent};
 use pfl_laws::all_there_and_back;
-use pfl_node::NodeEvent;
-use pfl_world::Event;
 use std::alloc::Global;
 
 /// The clock of node A goes on.

@@ -3,9 +3,8 @@
 use super::world::{EDITS, clock, opening};
 use linked_list_allocator::LocalHeap;
 use pfl_base::{Millis, NodeId};
-use pfl_node::NodeEvent;
-use pfl_timeline::{BranchWord, Command, Timeline};
-use pfl_world::Event;
+use pfl_language::{BranchWord, Command, Event, NodeEvent};
+use pfl_timeline::Timeline;
 use std::alloc::{Allocator, Global};
 
 /// What is seen of a timeline whose commands wanted memory.

@@ -3,9 +3,7 @@ ghost use Rattle.std.specs.Prelude.{◌<◌};
 
 use super::lab::query;
 use pfl_base::{Dir, NodeId, Packet};
-use pfl_node::NodeEvent;
-use pfl_timeline::{BranchWord, Command};
-use pfl_world::{Event, FrameEvent};
+use pfl_language::{BranchWord, Command, Event, FrameEvent, NodeEvent};
 
 /// The names of the branches that come into being beside `main`.
 const NAMES: [&[u8]; 3] = [b"one", b"two", b"three"];

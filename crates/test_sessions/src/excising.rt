@@ -7,10 +7,8 @@ use super::lab::{FIRST_HOST, goes_out, limits, on_main, opened, query_from, step
 use super::rows::{Answer, Row, is_wanted};
 use super::same::replays;
 use pfl_base::{Addr, End, NodeId, Refusal};
-use pfl_node::NodeEvent;
+use pfl_language::{BranchWord, Command, Event, FrameEvent, NodeEvent, Refused};
 use pfl_session::{Closed, Lab, Opened, Pass, Which};
-use pfl_timeline::{BranchWord, Command, Refused};
-use pfl_world::{Event, FrameEvent};
 use std::alloc::Global;
 use std::collections::VecDeque;
 use std::marker::Brand;

@@ -6,10 +6,9 @@ ghost use Rattle.pfl_session.specs.Passes.{IsPassOf};
 
 use super::lab::{FIRST_HOST, SECOND_HOST, limits, opened, put, sees, step, take};
 use pfl_base::StateName;
-use pfl_node::{Fate, NodeOutcome};
+use pfl_language::{Command, Fate, NodeOutcome, Outcome};
 use pfl_session::{Closed, Entry, Lab, Opened, Pass, Which};
-use pfl_timeline::{Command, Reply};
-use pfl_world::Outcome;
+use pfl_timeline::Reply;
 use std::alloc::Global;
 use std::marker::Brand;
 use std::sync::Wait;

@@ -9,10 +9,8 @@ use super::lab::{
 use super::rows::{Answer, Row, is_wanted};
 use super::same::{replays, same_command};
 use pfl_base::{Dir, NodeId};
-use pfl_node::NodeEvent;
+use pfl_language::{BranchWord, Command, Event, FrameEvent, NodeEvent, Refused};
 use pfl_session::{AskFault, Closed, Entry, Lab, LabFault, Opened, Pass, Which};
-use pfl_timeline::{BranchWord, Command, Refused};
-use pfl_world::{Event, FrameEvent};
 use std::alloc::Allocator;
 use std::marker::Brand;
 use std::sync::Wait;

@@ -1,7 +1,8 @@
 //! Commands, and the answers that are wanted of a lab.
 
 use pfl_base::{NodeId, StateName};
-use pfl_timeline::{Command, Refused, Reply};
+use pfl_language::{Command, Refused};
+use pfl_timeline::Reply;
 use pfl_world::World;
 use std::alloc::Allocator;
 

@@ -2,10 +2,10 @@
 
 use super::lab::opening;
 use pfl_base::NodeId;
+use pfl_language::{BranchWord, Command, Limits};
 use pfl_node::Node;
-use pfl_parts::Limits;
 use pfl_session::{Closed, Entry};
-use pfl_timeline::{Branch, BranchWord, Command, Reply, Timeline};
+use pfl_timeline::{Branch, Reply, Timeline};
 use pfl_world::World;
 use std::alloc::Allocator;
 

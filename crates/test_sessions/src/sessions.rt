@@ -5,10 +5,9 @@ ghost use Rattle.pfl_session.specs.Passes.{IsPassOf};
 
 use super::lab::{FIRST_HOST, SECOND_HOST, limits, opened, put, sees, step, take};
 use pfl_base::StateName;
-use pfl_node::{Fate, NodeOutcome};
+use pfl_language::{BranchWord, Command, Fate, NodeOutcome, Outcome};
 use pfl_session::{AskFault, Closed, Lab, Opened, Pass, Which};
-use pfl_timeline::{BranchWord, Command, Reply};
-use pfl_world::Outcome;
+use pfl_timeline::Reply;
 use std::alloc::Global;
 use std::marker::Brand;
 use std::sync::Wait;

@@ -2,7 +2,7 @@
 use Rattle.std.specs.Prelude.{refl}
 use Rattle.pfl_edits.specs.Changes.{LeadsBothWays}
 use Rattle.pfl_edits.specs.Places.{StandsAt, with_position}
-use Rattle.pfl_edits.proofs.Places.{position-both_ways, part-both_ways}
+use Rattle.pfl_edits.proofs.ForCallers.{position-both_ways, part-both_ways}
 use Rattle.pfl_defer.specs.declared.edits.DeferEdit.{DeferEdit}
 use Rattle.pfl_defer.specs.Deferring.{Deferrals}
 use Rattle.pfl_defer.specs.Edits.{place_of, former, present, Finds, FindsFormer, put_back, redone}

@@ -4,7 +4,7 @@ use Rattle.std.proofs.Common.{sym}
 use Rattle.std.proofs.lemmas.Cmp.{nat_cmp_total}
 use Rattle.std.proofs.lemmas.Map.Lookups.{exact_unsigned}
 use Rattle.pfl_edits.specs.Changes.{LeadsBothWays}
-use Rattle.pfl_edits.proofs.Places.{set_at-back, get-set_at_same}
+use Rattle.pfl_edits.proofs.ForCallers.{set_at-back, get-set_at_same}
 use Rattle.pfl_link.specs.declared.change.LinkChange.{LinkChange}
 use Rattle.pfl_link.specs.declared.change.LinkChange.TheVariants.{Sent, Taken, Cut}
 use Rattle.pfl_link.specs.Links.{Link, InFlight, cut_to}

@@ -1,7 +1,7 @@
 -- The room that a node keeps for the edits of an event (this project's profile).
 use Rattle.std.specs.Prelude.{ℕ, ◌+◌, ◌*◌, max, ◌≡◌, []}
 use Rattle.pfl_edits.specs.Changes.{Edits}
-use Rattle.pfl_parts.specs.declared.limits.Limits.{Limits}
+use Rattle.pfl_language.specs.declared.limits.Limits.{Limits}
 use Rattle.pfl_parts.specs.declared.edit.NodeEdit.{NodeEdit}
 
 -- How many edits an event records at most: five for each state, two for each entry that is pending, and those of a packet; or three

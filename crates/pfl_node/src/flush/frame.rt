@@ -89,7 +89,7 @@ fn message_of<A: Allocator>(parts: &Parts<A>, entry: &Entry) -> Message
 /// What is told of a name on a queue.
 fn told_of<A: Allocator>(parts: &Parts<A>, kind: Kind, name: StateName) -> Message
     requires told { sending.HasState parts.now kind name }
-    ensures message { flushing.told parts.now kind name ≡ result ∷ [] }
+    ensures message { flushing.mark_messages parts.now kind name ≡ result ∷ [] }
 {
     match kind {
         Kind::Insert => Message::Insert(state_record(parts, standing(parts, name))),

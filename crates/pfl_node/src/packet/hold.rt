@@ -9,9 +9,9 @@ ghost use Rattle.pfl_parts.specs.Nodes.{Node as Whole, AreParts};
 ghost use Rattle.pfl_node.specs.Starting as starting;
 ghost use Rattle.pfl_queue.specs.Queues.{most_numbers};
 
-use crate::fate::Fate;
 use pfl_base::{Dir, Packet};
 use pfl_edits::Change;
+use pfl_language::Fate;
 use pfl_parts::{NodeEdit, Parts};
 use pfl_track::State;
 use std::alloc::Allocator;

@@ -13,10 +13,10 @@ ghost use Rattle.pfl_queue.specs.Queues.{most_numbers};
 ghost use Rattle.pfl_table.specs.Tables.{key_in_use as is_in_use};
 ghost use Rattle.pfl_track.specs.Keys.{AreKeys, fits_family};
 
-use crate::fate::{Fate, Reason};
 use crate::packet::hold::{hold_back, is_deferred};
 use pfl_base::{Dir, Packet, StateName};
 use pfl_edits::Change;
+use pfl_language::{Fate, Reason};
 use pfl_parts::{Counter, NodeEdit, Overfull, Parts};
 use pfl_queue::Kind;
 use pfl_rules::Rule;

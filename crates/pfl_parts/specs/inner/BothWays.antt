@@ -1,8 +1,8 @@
 -- An edit of a node knows both values of its place.
 use Rattle.std.specs.Prelude.{◌≡◌, ℕ, refl}
-use Rattle.pfl_base.proofs.Names.{names_total, names_exact}
+use Rattle.pfl_base.proofs.ForCallers.{names_total, names_exact}
 use Rattle.pfl_edits.specs.Changes.{LeadsBothWays}
-use Rattle.pfl_edits.proofs.Places.{value-both_ways, part-both_ways, key-both_ways}
+use Rattle.pfl_edits.proofs.ForCallers.{value-both_ways, part-both_ways, key-both_ways}
 use Rattle.pfl_queue.specs.inner.BothWays as queues
 use Rattle.pfl_defer.specs.inner.BothWays as deferrals
 use Rattle.pfl_parts.specs.declared.counters.Counters.{Counters}

@@ -15,7 +15,7 @@ use Rattle.pfl_queue.specs.Queues.{Queue}
 use Rattle.pfl_defer.specs.Deferring.{Deferrals}
 use Rattle.pfl_bulk.specs.declared.BulkServer.{BulkServer}
 use Rattle.pfl_bulk.specs.declared.BulkClient.{BulkClient}
-use Rattle.pfl_parts.specs.declared.limits.Limits.{Limits}
+use Rattle.pfl_language.specs.declared.limits.Limits.{Limits}
 use Rattle.pfl_parts.specs.declared.counters.Counters.{Counters}
 use Rattle.pfl_parts.specs.declared.edit.StateEdit.{StateEdit}
 use Rattle.pfl_parts.specs.Nodes.{Node, IsNodeState, IsPast, IsGiven, MarksRightly}

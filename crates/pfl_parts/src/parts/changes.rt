@@ -33,7 +33,7 @@ impl<A: Allocator> Parts<A> {
     }
 
     /// Drops the packet of a name, if one is held, and counts it.
-    pub fn lose(&mut self, name: StateName, change: &mut Change<NodeEdit, A>)
+    pub fn drop_held(&mut self, name: StateName, change: &mut Change<NodeEdit, A>)
         requires room { freed_edits ≤ change.old.spare }
         requires countable { total self.old + change.old.spare ≤ most_numbers }
         ensures node { self.new ≡ to.lost self.old name }
@@ -160,7 +160,7 @@ impl<A: Allocator> Parts<A> {
         ensures node { OnOk result (self.new ≡ to.deleted self.old state.now) }
         ensures extends { NodeExtends deleted_edits change.old change.new self.old self.new }
     {
-        self.lose(state.name(), change);
+        self.drop_held(state.name(), change);
         self.tell_deletion(state, change)
     }
 
@@ -203,7 +203,7 @@ impl<A: Allocator> Parts<A> {
         ensures node { self.new ≡ to.forgotten self.old name }
         ensures extends { NodeExtends forgotten_edits change.old change.new self.old self.new }
     {
-        self.lose(name, change);
+        self.drop_held(name, change);
         self.take_out(name, change);
     }
 

@@ -8,11 +8,11 @@ ghost use Rattle.pfl_table.specs.Tables.{states_of};
 ghost use Rattle.pfl_table.specs.declared.row.Row.{Row};
 
 use crate::counters::Counters;
-use crate::limits::Limits;
 use crate::parts::Parts;
 use pfl_base::Millis;
 use pfl_bulk::{BulkClient, BulkServer};
 use pfl_defer::Deferrals;
+use pfl_language::Limits;
 use pfl_queue::Pending;
 use pfl_rules::RuleSet;
 use pfl_table::StateTable;

@@ -2,10 +2,10 @@
 use Rattle.std.specs.Prelude.{◌≡◌, ℕ, Option, refl}
 use Rattle.std.proofs.Common.{ap, sym, ◌∙◌}
 use Rattle.pfl_base.specs.declared.state_name.StateName.{StateName}
-use Rattle.pfl_base.proofs.Names.{names_total, names_exact}
+use Rattle.pfl_base.proofs.ForCallers.{names_total, names_exact}
 use Rattle.pfl_edits.specs.Changes.{LeadsBothWays}
 use Rattle.pfl_edits.specs.Maps as maps
-use Rattle.pfl_edits.proofs.Places.{set_at-back, position-both_ways, part-both_ways, key-both_ways, get-set_at_same}
+use Rattle.pfl_edits.proofs.ForCallers.{set_at-back, position-both_ways, part-both_ways, key-both_ways, get-set_at_same}
 use Rattle.pfl_queue.specs.declared.Mark.{Mark}
 use Rattle.pfl_queue.specs.declared.edits.QueueEdit.{QueueEdit}
 use Rattle.pfl_queue.specs.declared.edits.QueueEdit.TheVariants.{OfMark, OfName, OfRequest, OfStatus, OfClear}

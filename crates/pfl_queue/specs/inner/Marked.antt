@@ -10,11 +10,11 @@ use Rattle.std.proofs.lemmas.Cmp.{on_total, then_total}
 use Rattle.std.proofs.lemmas.Map.Lookups.{exact_pairs, exact_unsigned}
 use Rattle.pfl_base.specs.declared.state_name.StateName.{StateName}
 use Rattle.pfl_base.specs.Names.{name_cmp}
-use Rattle.pfl_base.proofs.Names.{names_total, names_exact}
+use Rattle.pfl_base.proofs.ForCallers.{names_total, names_exact}
 use Rattle.pfl_edits.specs.Maps as maps
 use Rattle.pfl_edits.specs.Maps.{Map}
 use Rattle.pfl_edits.specs.Rows.{map_of}
-use Rattle.pfl_edits.proofs.RowMaps.{Distinct}
+use Rattle.pfl_edits.proofs.ForCallers.{Distinct}
 use Rattle.pfl_chains.specs.Lists.{Link, Lists, links_of}
 use Rattle.pfl_hash.specs.Entries.{EntryList}
 use Rattle.pfl_hash.specs.Hashes.{mixed}

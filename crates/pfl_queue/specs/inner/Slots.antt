@@ -3,7 +3,7 @@ use Rattle.std.specs.Prelude.{◌≡◌, ℕ, List, None}
 use Rattle.std.specs.declared.cmp.Ordering.{Ordering}
 use Rattle.pfl_edits.specs.Maps.{Map}
 use Rattle.pfl_edits.specs.Rows.{map_of}
-use Rattle.pfl_edits.proofs.RowMaps.{row_at, Distinct}
+use Rattle.pfl_edits.proofs.ForCallers.{row_at, Distinct}
 use Rattle.pfl_chains.specs.Lists.{Link}
 use Rattle.pfl_queue.specs.inner.Mapped.{map_values}
 

@@ -1,10 +1,10 @@
 -- An edit of a table knows both values of its place.
 use Rattle.std.specs.Prelude.{◌≡◌, refl}
-use Rattle.pfl_base.proofs.Names.{names_total, names_exact}
+use Rattle.pfl_base.proofs.ForCallers.{names_total, names_exact}
 use Rattle.pfl_edits.specs.Changes.{LeadsBothWays}
 use Rattle.pfl_edits.specs.Maps.{set_at}
 use Rattle.pfl_edits.specs.Maps as maps
-use Rattle.pfl_edits.proofs.Places.{part-both_ways, key-both_ways}
+use Rattle.pfl_edits.proofs.ForCallers.{part-both_ways, key-both_ways}
 use Rattle.pfl_table.specs.declared.edit.TableEdit.{TableEdit}
 use Rattle.pfl_table.specs.Tables.{Table, Finds, FindsFormer, put_back, redone}
 

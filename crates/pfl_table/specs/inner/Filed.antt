@@ -9,9 +9,9 @@ use Rattle.pfl_edits.specs.Maps.{Map}
 use Rattle.pfl_edits.specs.Ordered.{IsRising, IsBelow}
 use Rattle.pfl_edits.specs.inner.Ordered.{IsAbove}
 use Rattle.pfl_edits.specs.Rows.{map_of}
-use Rattle.pfl_edits.proofs.RowMaps.{row_at, Distinct}
+use Rattle.pfl_edits.proofs.ForCallers.{row_at, Distinct}
 use Rattle.pfl_chains.specs.Lists.{Link, link, Lists, Gap, links_of}
-use Rattle.pfl_chains.proofs.Places.{Stands}
+use Rattle.pfl_chains.proofs.ForCallers.{Stands}
 use Rattle.pfl_track.specs.States.{IsState}
 use Rattle.pfl_table.specs.declared.row.Row.{Row}
 use Rattle.pfl_table.specs.declared.keys.Flow.{Flow}

@@ -14,7 +14,7 @@ use Rattle.pfl_base.specs.declared.flow.Key.{Key}
 use Rattle.pfl_base.specs.declared.state_name.StateName.{StateName}
 use Rattle.pfl_base.specs.Ends.{is_v4, proto_number}
 use Rattle.pfl_base.specs.Names.{name_cmp}
-use Rattle.pfl_base.proofs.Names.{names_total, names_exact}
+use Rattle.pfl_base.proofs.ForCallers.{names_total, names_exact}
 use Rattle.pfl_hash.specs.Hashes.{mixed}
 use Rattle.pfl_table.specs.declared.keys.ByName.{ByName}
 use Rattle.pfl_table.specs.declared.keys.Flow.{Flow}

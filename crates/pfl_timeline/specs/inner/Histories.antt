@@ -1,9 +1,9 @@
 -- A history while another one is made of it.
 use Rattle.std.specs.Prelude.{◌≡◌, ℕ, Bool, true, false, length, map, take, Some, Result, Ok, Err}
 use Rattle.pfl_base.specs.declared.refusal.Refusal.{Refusal}
-use Rattle.pfl_world.specs.declared.event.Event.{Event}
+use Rattle.pfl_language.specs.declared.event.Event.{Event}
 use Rattle.pfl_world.specs.Events.{step}
-use Rattle.pfl_world.specs.Outcomes.{Stepped}
+use Rattle.pfl_world.specs.Meanings.{Stepped}
 use Rattle.pfl_world.specs.Worlds.{World}
 use Rattle.pfl_timeline.specs.Excisions.{Sieved}
 use Rattle.pfl_timeline.specs.Histories.{History, reached, continued}

@@ -1,7 +1,7 @@
 -- What a way to another cursor, an excision and a restoration answer.
 use Rattle.std.specs.Prelude.{ℕ, List, Option, Some, None}
-use Rattle.pfl_timeline.specs.declared.refused.Refused.{Refused as Refusal}
-use Rattle.pfl_timeline.specs.declared.refused.Refused.TheVariants.{NoEvent, NothingExcised}
+use Rattle.pfl_language.specs.declared.refused.Refused.{Refused as Refusal}
+use Rattle.pfl_language.specs.declared.refused.Refused.TheVariants.{NoEvent, NothingExcised}
 use Rattle.pfl_timeline.specs.Replies.{Reply, At, Excised, Restored, Refused}
 
 -- so many events stand after a way to another cursor, unless there is none

@@ -4,7 +4,7 @@ use Rattle.std.proofs.Common.{sym}
 use Rattle.pfl_base.specs.declared.node_id.NodeId.{NodeId}
 use Rattle.pfl_base.specs.declared.node_id.NodeId.TheVariants.{A, B}
 use Rattle.pfl_edits.specs.Changes.{LeadsBothWays}
-use Rattle.pfl_edits.proofs.Places.{part-both_ways}
+use Rattle.pfl_edits.proofs.ForCallers.{part-both_ways}
 use Rattle.pfl_parts.specs.Nodes.{Node}
 use Rattle.pfl_parts.specs.inner.BothWays as nodes
 use Rattle.pfl_node.specs.Events.{restarted}

@@ -9,7 +9,7 @@ use Rattle.pfl_wire.specs.declared.fault.BadFrame.TheVariants as bad
 use Rattle.pfl_wire.specs.declared.fault.FrameFault.TheVariants as fault
 use Rattle.pfl_wire.specs.Frames.{Frame}
 use Rattle.pfl_world.specs.Events.{IsRefusalOf}
-use Rattle.pfl_world.specs.Steps.{read_taken}
+use Rattle.pfl_world.specs.Delivering.{read_taken}
 use Rattle.pfl_world.specs.Worlds.{World, node_at}
 
 -- the fault of the bytes, where they have one

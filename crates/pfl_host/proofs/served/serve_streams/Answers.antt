@@ -1,6 +1,6 @@
 use Rattle.std.proofs.Common.{arith, ◌≡◌, length, ap, sym, ◌∙◌}
 use Rattle.std.proofs.lemmas.List.{length-map}
-use Rattle.pfl_session.proofs.Seatings.{passes-many}
+use Rattle.pfl_session.proofs.ForCallers.{passes-many}
 use Rattle.pfl_session.specs.Passes.{IsPassOf}
 use Rattle.pfl_host.proofs.Settled.{all-mapped}
 use Rattle.pfl_host.proofs.served.serve_streams.Goals as goal

@@ -4,7 +4,7 @@ use Rattle.pfl_edits.specs.Maps as maps
 use Rattle.pfl_table.specs.Tables.{States}
 use Rattle.pfl_node.specs.Clearing.{cleared}
 use Rattle.pfl_parts.specs.Nodes.{is_overfull}
-use Rattle.pfl_parts.proofs.Recording.{extends-then}
+use Rattle.pfl_parts.proofs.ForCallers.{extends-then}
 use Rattle.pfl_node.proofs.Cleared.{cleared-is}
 use Rattle.pfl_node.proofs.OnePoint.{stops-there, ends-there}
 use Rattle.pfl_node.proofs.clear.clear.Goals as goal

@@ -1,5 +1,5 @@
 use Rattle.std.proofs.Common.{length}
-use Rattle.pfl_parts.proofs.Recording.{extends-then}
+use Rattle.pfl_parts.proofs.ForCallers.{extends-then}
 use Rattle.pfl_node.proofs.flush.clear_told.Goals as goal
 
 pub returns-clause-extends : goal.returns-clause-extends

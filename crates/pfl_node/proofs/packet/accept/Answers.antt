@@ -3,8 +3,7 @@ use Rattle.std.proofs.lemmas.Result.{err_from_is_err_and}
 use Rattle.pfl_parts.specs.Changes as to
 use Rattle.pfl_parts.specs.Nodes.{is_overfull}
 use Rattle.pfl_node.specs.Starting.{pass}
-use Rattle.pfl_parts.proofs.Deferred.{freed-may, wanted-may}
-use Rattle.pfl_parts.proofs.Recording.{extends-then, extends-more}
+use Rattle.pfl_parts.proofs.ForCallers.{freed-may, wanted-may, extends-then, extends-more}
 use Rattle.pfl_node.proofs.packet.accept.Goals as goal
 
 pub change_state-requires-clause-known : goal.change_state-requires-clause-known

@@ -5,7 +5,7 @@ use Rattle.pfl_parts.specs.Changes.{deleted}
 use Rattle.pfl_parts.specs.Nodes.{Node, is_overfull, is_overcounted}
 use Rattle.pfl_node.specs.Starting.{judged}
 use Rattle.pfl_node.proofs.Points.{stops-first, stops-last, ends-after}
-use Rattle.pfl_parts.proofs.Recording.{extends-then}
+use Rattle.pfl_parts.proofs.ForCallers.{extends-then}
 use Rattle.pfl_node.proofs.packet.reuse.Goals as goal
 
 pub returns-in_err-delete : goal.returns-in_err-delete

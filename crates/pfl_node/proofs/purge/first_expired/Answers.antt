@@ -4,7 +4,7 @@ use Rattle.std.proofs.lemmas.Bool.Decides.{nat_tests}
 use Rattle.std.specs.List.{slice_get}
 use Rattle.std.specs.Option.{option_and_then}
 use Rattle.pfl_table.specs.declared.row.Row.{Row}
-use Rattle.pfl_table.proofs.Expiries.{ExpireBy}
+use Rattle.pfl_table.proofs.ForCallers.{ExpireBy}
 use Rattle.pfl_node.specs.Purging.{expired_states}
 use Rattle.pfl_parts.specs.inner.Kept.{expires_by}
 use Rattle.pfl_table.specs.Tables.{States}

@@ -1,7 +1,7 @@
 use Rattle.std.proofs.Common.{ℕ, ◌∙◌, ap, refl, arith}
 use Rattle.pfl_edits.specs.Maps as maps
 use Rattle.pfl_table.specs.Tables.{States}
-use Rattle.pfl_parts.specs.declared.limits.Limits.{Limits}
+use Rattle.pfl_language.specs.declared.limits.Limits.{Limits}
 use Rattle.pfl_receive.specs.inner.Delivering.{most_taken}
 use Rattle.pfl_node.specs.inner.Room.{most_edits}
 use Rattle.pfl_node.proofs.Ready.{begins}

@@ -2,10 +2,10 @@ use Rattle.std.proofs.Common.{◌≡◌, true, false, ◌∙◌, ap, sym, arith}
 use Rattle.std.proofs.lemmas.Result.{err_from_is_err_and}
 use Rattle.pfl_bulk.specs.Bulk.{asks_again, tries_of}
 use Rattle.pfl_bulk.specs.declared.BulkClient.{BulkClient}
-use Rattle.pfl_node.specs.declared.retried.Retried.{Retried}
-use Rattle.pfl_node.specs.declared.retried.Retried.TheVariants.{Asked, Served}
+use Rattle.pfl_language.specs.declared.retried.Retried.{Retried}
+use Rattle.pfl_language.specs.declared.retried.Retried.TheVariants.{Asked, Served}
 use Rattle.pfl_node.specs.Retrying.{retried_client}
-use Rattle.pfl_parts.proofs.Recording.{extends-then, extends-more}
+use Rattle.pfl_parts.proofs.ForCallers.{extends-then, extends-more}
 use Rattle.pfl_node.proofs.Asking.{from_not, asked-is, asked-full, served-is, answer-served, answer-asked}
 use Rattle.pfl_node.proofs.OnePoint.{stops-there, ends-there}
 use Rattle.pfl_node.proofs.retry.ask_again.Goals as goal

@@ -1,6 +1,6 @@
 use Rattle.std.proofs.Common.{length, true}
 use Rattle.std.specs.Prelude.{filter}
-use Rattle.pfl_bulk.specs.Bulk.{after}
+use Rattle.pfl_bulk.specs.Bulk.{names_after}
 use Rattle.pfl_edits.specs.Maps as maps
 use Rattle.pfl_track.specs.declared.state.State.{State}
 use Rattle.pfl_node.specs.Turning.{is_eligible}
@@ -13,4 +13,4 @@ invariant-loop-count g l = IsGathered (names (filter (is_eligible l.parts l.sinc
 
 -- how many states are behind the cursor
 abbrev pub decreases-loop-count : goal.decreases-loop-count
-decreases-loop-count g l = length (after l.at (names (filter (λ (s : State). true) (maps.values l.parts.states))))
+decreases-loop-count g l = length (names_after l.at (names (filter (λ (s : State). true) (maps.values l.parts.states))))

@@ -3,10 +3,10 @@ use Rattle.std.proofs.lemmas.Result.{err_from_is_err_and}
 use Rattle.std.specs.List.{AllByRecursion}
 use Rattle.pfl_base.specs.declared.state_name.StateName.{StateName}
 use Rattle.pfl_bulk.specs.Bulk.{first_names}
-use Rattle.pfl_parts.specs.declared.limits.Limits.{Limits}
 use Rattle.pfl_queue.specs.declared.Kind.TheVariants.{Update}
+use Rattle.pfl_language.specs.declared.limits.Limits.{Limits}
 use Rattle.pfl_parts.specs.inner.Kept.{MayMark}
-use Rattle.pfl_parts.proofs.Recording.{extends-then, extends-more}
+use Rattle.pfl_parts.proofs.ForCallers.{extends-then, extends-more}
 use Rattle.pfl_node.specs.Turning.{turn_of, turned}
 use Rattle.pfl_node.proofs.OnePoint.{stops-there, ends-there}
 use Rattle.pfl_node.proofs.Turned.{all_eligible, first-rising, turn-by, turn-may, turned-full, ended-full, turned-is, turned-past}

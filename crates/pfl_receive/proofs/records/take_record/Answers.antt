@@ -1,7 +1,7 @@
 use Rattle.std.proofs.Common.{◌+◌, ◌*◌, length, ◌∙◌, sym, arith}
 use Rattle.pfl_receive.proofs.ByKind.{cleared-clear, taken-clear, taken-insert, taken-ack, taken-update, taken-short, taken-request, taken-delete, taken-gone, taken-status}
 use Rattle.pfl_receive.proofs.Paying.{paid-as, paid-on, few-insert, few-update, few-short, few-ack, few-delete}
-use Rattle.pfl_parts.proofs.Recording.{extends-more}
+use Rattle.pfl_parts.proofs.ForCallers.{extends-more}
 use Rattle.pfl_receive.specs.Delivering.{cleared_by}
 use Rattle.pfl_receive.specs.Receiving.{cleared_names, of_state, of_update}
 use Rattle.pfl_receive.proofs.records.take_record.Goals as goal

@@ -1,7 +1,6 @@
 use Rattle.std.proofs.Common.{◌∙◌, sym}
 use Rattle.pfl_queue.specs.declared.Kind.TheVariants.{Update}
-use Rattle.pfl_parts.proofs.Putting.{told-may}
-use Rattle.pfl_parts.proofs.Recording.{extends-then}
+use Rattle.pfl_parts.proofs.ForCallers.{told-may, extends-then}
 use Rattle.pfl_receive.proofs.Serving.{is-synced}
 use Rattle.pfl_receive.proofs.request.answer.Goals as goal
 

@@ -1,9 +1,9 @@
 use Rattle.std.proofs.Common.{◌≡◌, ◌∙◌, ap, sym, length, List}
 use Rattle.std.specs.Prelude.{Option}
 use Rattle.std.specs.Option.{option_map_or}
-use Rattle.pfl_world.specs.declared.event.Event.{Event}
+use Rattle.pfl_language.specs.declared.event.Event.{Event}
+use Rattle.pfl_language.specs.BranchWords.{same_name}
 use Rattle.pfl_timeline.specs.Rooted.{Rooted}
-use Rattle.pfl_timeline.specs.Timelines.{same_name}
 use Rattle.pfl_session.proofs.Telling.{found-here, found-later, found-never}
 use Rattle.pfl_session.proofs.room.events_of.Goals as goal
 

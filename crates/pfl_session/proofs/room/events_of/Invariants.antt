@@ -1,5 +1,5 @@
 use Rattle.std.proofs.Common.{◌≡◌, find, drop}
-use Rattle.pfl_timeline.specs.Timelines.{same_name}
+use Rattle.pfl_language.specs.BranchWords.{same_name}
 use Rattle.pfl_session.proofs.room.events_of.Given as goal
 
 -- the branch of the name is among those that are left, if it is among all

@@ -1,4 +1,4 @@
-use Rattle.pfl_wire.proofs.Laws.{frame_sent}
+use Rattle.pfl_wire.proofs.ForCallers.{frame_sent}
 use Rattle.test_frames.proofs.wire.spelling_fault.Goals as goal
 
 pub encode-requires : goal.encode-requires

@@ -1,19 +1,19 @@
 use Rattle.std.proofs.Common.{◌≡◌, [], ◌∷◌, refl, sym, subst, arith}
 use Rattle.pfl_chains.specs.Lists.{Lists, Place, link, links_of, with_links}
-use Rattle.pfl_chains.proofs.Places.{Place-new, length-with_links, links_of-same}
+use Rattle.pfl_chains.proofs.ForCallers.{Place-new, length-with_links, links_of-same}
 use Rattle.test_indexes.specs.declared.chains.Entry.{Entry}
 use Rattle.test_indexes.proofs.chains.a_link_goes_back_to_its_place.Goals as goal
 
 pub value-requires : goal.value-requires
 value-requires g c =
-    let was = c.push_back.new.self in
+    let was = c.insert_after.new.self in
     let slot = c.insert_after-four.result in
     let put = c.insert_after-four.ensures.inserted (record { front = []; back = links_of was 0; split = refl; ends = refl }) in
     record { stands = subst (λ (d : Lists Entry). Place d slot) (sym put) (Place-new was 0 [] (links_of was 0) slot (record { number = 4 }) (omega arith)) }
 
 pub put_back-requires : goal.put_back-requires
 put_back-requires g c =
-    let was = c.push_back.new.self in
+    let was = c.insert_after.new.self in
     let slot = c.insert_after-four.result in
     let put = c.insert_after-four.ensures.inserted (record { front = []; back = links_of was 0; split = refl; ends = refl }) in
     let links = link slot (record { number = 4 }) ∷ links_of was 0 in

@@ -1,5 +1,5 @@
 use Rattle.std.proofs.Common.{◌==◌, ◌∙◌, ap}
-use Rattle.pfl_edits.proofs.Maps.{len-entries}
+use Rattle.pfl_edits.proofs.ForCallers.{len-entries}
 use Rattle.pfl_hash.proofs.hash_index.HashIndex.is_full.Goals as goal
 
 pub returns : goal.returns

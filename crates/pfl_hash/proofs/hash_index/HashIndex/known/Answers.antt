@@ -1,6 +1,6 @@
 use Rattle.std.proofs.Common.{arith}
 use Rattle.pfl_edits.specs.Maps.{entries_sorted}
-use Rattle.pfl_edits.proofs.Maps.{len-entries}
+use Rattle.pfl_edits.proofs.ForCallers.{len-entries}
 use Rattle.pfl_hash.specs.inner.Slots.{slot_map}
 use Rattle.pfl_hash.proofs.hash_index.HashIndex.known.Goals as goal
 

@@ -1,6 +1,6 @@
 use Rattle.std.proofs.Common.{sym, ◌∙◌, ap}
 use Rattle.pfl_edits.specs.Maps as maps
-use Rattle.pfl_edits.proofs.Maps.{len-entries}
+use Rattle.pfl_edits.proofs.ForCallers.{len-entries}
 use Rattle.pfl_hash.proofs.Entries.{entry_map-entries}
 use Rattle.pfl_hash.proofs.hash_index.HashIndex.len.Goals as goal
 

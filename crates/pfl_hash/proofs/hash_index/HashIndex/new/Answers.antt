@@ -1,6 +1,6 @@
 use Rattle.std.proofs.Common.{◌<◌, ◌^◌, ◌+◌, ◌*◌, ◌∙◌, ap, arith}
 use Rattle.pfl_edits.specs.Maps.{entries}
-use Rattle.pfl_edits.proofs.Maps.{entries-empty}
+use Rattle.pfl_edits.proofs.ForCallers.{entries-empty}
 use Rattle.pfl_hash.proofs.Free.{fields-free, slot_map-free, resized}
 use Rattle.pfl_hash.proofs.hash_index.HashIndex.new.Goals as goal
 

@@ -2,9 +2,9 @@ use Rattle.std.proofs.Common.{◌≡◌, ◌∷◌, [], None, Some, Option, ◌�
 use Rattle.std.proofs.lemmas.Result.{err_from_is_err_and}
 use Rattle.pfl_base.specs.declared.refusal.Refusal.{Refusal}
 use Rattle.pfl_bulk.specs.Bulk as bulk
+use Rattle.pfl_language.specs.declared.limits.Limits.{Limits}
 use Rattle.pfl_node.specs.Retrying.{retried_client, retry_answer}
 use Rattle.pfl_parts.specs.Nodes.{Node, IsRefusal}
-use Rattle.pfl_parts.specs.declared.limits.Limits.{Limits}
 use Rattle.pfl_node.proofs.Ready.{begins, settled, settled-answer, recorded-fits}
 use Rattle.pfl_node.proofs.Asking.{retry-early, retry-late}
 use Rattle.pfl_node.proofs.OnePoint.{point-ends, refused-as, not_refused-as}
@@ -15,8 +15,8 @@ returns-in_err-retry g c =
     let p = err_from_is_err_and c.from_residual.result c.from_residual.ensures.1 in
     let n = c.args.self.now in
     let wait : c.from-wait.result ≡ n.limits.bulk_ms = c.from-wait.ensures ∙ ap (λ (l : Limits). l.bulk_ms) c.limits.ensures.limits in
-    let early : bulk.retry_refusal n.client n.limits.bulk_ms n.clock ≡ Some c.in_err-retry.field-0.0 =
-    sym (λ i. bulk.retry_refusal (c.client.ensures.client i) (wait i) (c.clock.ensures.clock i)) ∙ c.in_err-retry.ensures.refused in
+    let early : bulk.ask_refusal n.client n.limits.bulk_ms n.clock ≡ Some c.in_err-retry.field-0.0 =
+    sym (λ i. bulk.ask_refusal (c.client.ensures.client i) (wait i) (c.clock.ensures.clock i)) ∙ c.in_err-retry.ensures.refused in
     let why = retry-early n c.in_err-retry.field-0.0 early in
     rw (p.1, p.2) (record {
       refused = subst (λ (o : Option Refusal). IsRefusal o c.in_err-retry.field-0.0) (sym why) refl;
@@ -58,9 +58,9 @@ returns g c =
     let e = c.settle.ensures in
     let s = settled 3 n c.ask_again-tried.new.parts c.settle.new.parts c.self.inside.edits c.ask_again-tried.new.change c.settle.new.change c.ask_again-tried.result (retried_client n ∷ []) c.self.invariant.0 c.self.invariant.1 d.extends d.went (point-ends c.ask_again-tried.new.parts (retried_client n) c.ask_again-tried.result d.node) e.none e.room c.settle.result e.refused e.undone e.stands e.kept e.parts e.edits in
     let wait : c.from-wait.result ≡ c.args.self.now.limits.bulk_ms = c.from-wait.ensures ∙ ap (λ (l : Limits). l.bulk_ms) c.limits.ensures.limits in
-    let free : bulk.retry_refusal n.client n.limits.bulk_ms n.clock ≡ None =
-    ap (λ (m : Node). bulk.retry_refusal m.client m.limits.bulk_ms m.clock) c.self.view_is
-    ∙ (sym (λ i. bulk.retry_refusal (c.client.ensures.client i) (wait i) (c.clock.ensures.clock i)) ∙ c.in_ok-retry.ensures.not_refused) in
+    let free : bulk.ask_refusal n.client n.limits.bulk_ms n.clock ≡ None =
+    ap (λ (m : Node). bulk.ask_refusal m.client m.limits.bulk_ms m.clock) c.self.view_is
+    ∙ (sym (λ i. bulk.ask_refusal (c.client.ensures.client i) (wait i) (c.clock.ensures.clock i)) ∙ c.in_ok-retry.ensures.not_refused) in
     let why = retry-late n free c.self.invariant.0.counted in
     let node = settled-answer c.ask_again-tried.new.parts c.settle.new.parts c.ask_again-tried.result (λ _ m. m ≡ retried_client n) d.node c.settle.result e.stands e.kept in
     let answer = settled-answer c.ask_again-tried.new.parts c.settle.new.parts c.ask_again-tried.result (λ k m. k ≡ retry_answer n) d.answer c.settle.result e.stands e.kept in

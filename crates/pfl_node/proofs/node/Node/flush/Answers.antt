@@ -2,9 +2,9 @@ use Rattle.std.proofs.Common.{◌≡◌, ◌+◌, ◌*◌, length, None, Option,
 use Rattle.std.specs.Prelude.{Ok, IfErr}
 use Rattle.pfl_base.specs.declared.refusal.Refusal.{Refusal}
 use Rattle.pfl_wire.specs.Spelling.{spelling}
-use Rattle.pfl_node.specs.Flushing.{flush_refusal, frame_of}
+use Rattle.pfl_node.specs.Flushing.{send_refusal, frame_of}
 use Rattle.pfl_parts.specs.Nodes.{IsRefusal}
-use Rattle.pfl_parts.proofs.Taking.{frame_entries}
+use Rattle.pfl_parts.proofs.ForCallers.{frame_entries}
 use Rattle.pfl_node.proofs.Sent.{frame-few, sent-carries, flushed-ends, wants-memory, sent-answer, sent-node, where_ok}
 use Rattle.pfl_node.proofs.Ready.{begins, concluded}
 use Rattle.pfl_node.proofs.node.Node.flush.Goals as goal
@@ -28,7 +28,7 @@ returns g c =
     let n = c.self.inside.parts in
     let e = c.conclude.ensures in
     let s = concluded (1 + 2 * length (frame_entries n)) n c.send-sent.new.parts c.conclude.new.parts c.self.inside.edits c.send-sent.new.change c.conclude.new.change (λ bytes. c.send-sent.result ≡ Ok bytes) c.self.invariant.0 c.self.invariant.1 c.send-sent.ensures.extends (flushed-ends n c.send-sent.new.parts c.send-sent.result c.self.invariant.0.counted c.send-sent.ensures.node) e.none e.room c.conclude.result e.undone e.stands e.kept e.parts e.edits in
-    let none : flush_refusal n ≡ None = rw c.self.view_is (sym c.flush_refusal.ensures.refusal ∙ c.in_default.is) in
+    let none : send_refusal n ≡ None = rw c.self.view_is (sym c.send_refusal.ensures.refusal ∙ c.in_default.is) in
     let refused = subst (λ (o : Option Refusal). IfErr c.conclude.result (IsRefusal o)) (sym none) (wants-memory c.send-sent.result c.send-sent.ensures.memory c.conclude.result e.refused) in
     let node = sent-node n c.send-sent.new.parts c.conclude.new.parts c.send-sent.result c.send-sent.ensures.node c.conclude.result e.stands e.kept in
     let bytes = sent-answer c.send-sent.result (λ v. v.items ≡ spelling (frame_of n)) c.send-sent.ensures.bytes c.conclude.result e.stands in

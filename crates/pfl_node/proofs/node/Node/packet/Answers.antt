@@ -2,8 +2,8 @@ use Rattle.std.proofs.Common.{◌≡◌, ◌≤◌, Result, length, arith}
 use Rattle.std.specs.Prelude.{Ok, Err, IfOk}
 use Rattle.pfl_base.specs.declared.refusal.Refusal.{Refusal}
 use Rattle.pfl_edits.specs.Changes.{Edits}
+use Rattle.pfl_language.specs.declared.fate.Fate.{Fate}
 use Rattle.pfl_parts.specs.declared.edit.NodeEdit.{NodeEdit}
-use Rattle.pfl_node.specs.declared.fate.Fate.{Fate}
 use Rattle.pfl_node.specs.Packets.{handled, packet_points}
 use Rattle.pfl_node.proofs.Points.{packet-ends}
 use Rattle.pfl_node.proofs.Ready.{begins, settled-answer, settled}

@@ -17,7 +17,7 @@ pub returns-then-is_empty : goal.returns-then-is_empty
 returns-then-is_empty g c =
     let n = c.args.self.now in
     let none : (length n.held.list == 0) ≡ true = ap (λ (d : Deferrals). length d.list == 0) (sym c.held.ensures.held) ∙ (sym c.is_empty.ensures.none ∙ c.if-is_empty.true) in
-    let why : release_refusal n ≡ Some NothingPending = ap (λ t. refused_by ((t, NothingPending) ∷ (is_overcounted (released_due n), CountFull) ∷ (length (due_names n) == 0, TooEarly) ∷ [])) none in
+    let why : release_refusal n ≡ Some NothingPending = ap (λ t. refused_by ((t, NothingPending) ∷ (length (due_names n) == 0, TooEarly) ∷ (is_overcounted (released_due n), CountFull) ∷ [])) none in
     record {
       refused = subst (λ (o : Option Refusal). IsRefusal o NothingPending) (sym why) refl;
       unchanged = refl;
@@ -60,8 +60,8 @@ returns g c =
     let s = concluded (3 * length (due_names n)) n c.release-count.new.parts c.conclude.new.parts c.self.inside.edits c.release-count.new.change c.conclude.new.change (λ count. c.judge-judged.result ≡ Ok count) c.self.invariant.0 c.self.invariant.1 c.release-count.ensures.extends (judged-low c.release-count.new.parts c.judge-judged.result c.judge-judged.ensures.counted) e.none e.room c.conclude.result e.undone e.stands e.kept e.parts e.edits in
     let some : (length n.held.list == 0) ≡ false = ap (λ (m : Node). length m.held.list == 0) c.self.view_is ∙ (ap (λ (l : Deferrals). length l.list == 0) (sym c.held.ensures.held) ∙ (sym c.is_empty.ensures.none ∙ c.if-is_empty.false)) in
     let why : release_refusal n ≡ judged_as judged =
-    ap (λ t. refused_by ((t, NothingPending) ∷ (is_overcounted (released_due n), CountFull) ∷ (length (due_names n) == 0, TooEarly) ∷ [])) some
-    ∙ sym (c.judge-judged.ensures.refused ∙ (λ i. refused_by ((is_overcounted (d.node i), CountFull) ∷ (d.count i == 0, TooEarly) ∷ []))) in
+    ap (λ t. refused_by ((t, NothingPending) ∷ (length (due_names n) == 0, TooEarly) ∷ (is_overcounted (released_due n), CountFull) ∷ [])) some
+    ∙ sym (c.judge-judged.ensures.refused ∙ (λ i. refused_by ((d.count i == 0, TooEarly) ∷ (is_overcounted (d.node i), CountFull) ∷ []))) in
     rw (← c.self.view_is) (record {
       refused = refused-as (judged_as judged) (release_refusal n) c.conclude.result why e.refused;
       unchanged = s.unchanged;

@@ -1,7 +1,7 @@
 use Rattle.std.proofs.Common.{◌≡◌, ◌≤◌, ◌∙◌, ap, sym, subst, arith}
+use Rattle.pfl_language.specs.declared.limits.Limits.{Limits}
+use Rattle.pfl_language.specs.Limits.{AreLimits}
 use Rattle.pfl_node.specs.inner.Room.{most_edits}
-use Rattle.pfl_parts.specs.declared.limits.Limits.{Limits}
-use Rattle.pfl_parts.specs.Limits.{AreLimits}
 use Rattle.pfl_parts.specs.Nodes.{Node, is_overcounted}
 use Rattle.pfl_node.proofs.Anew.{asks-as, anew-is, anew-counts, anew-limits}
 use Rattle.pfl_node.proofs.node.Node.restarted.Goals as goal

@@ -1,7 +1,6 @@
 use Rattle.std.proofs.Common.{refl}
 use Rattle.pfl_defer.specs.Deferring.{with_held}
-use Rattle.pfl_parts.proofs.Recording.{extends-then}
-use Rattle.pfl_parts.proofs.Deferred.{held-may}
+use Rattle.pfl_parts.proofs.ForCallers.{extends-then, held-may}
 use Rattle.pfl_node.proofs.Holding.{waits-is}
 use Rattle.pfl_node.proofs.packet.hold.hold.Goals as goal
 

@@ -1,7 +1,7 @@
 use Rattle.std.proofs.Common.{◌≡◌, Some, ◌∙◌, ap, sym, arith}
 use Rattle.std.proofs.lemmas.Result.{err_from_is_err_and}
-use Rattle.pfl_base.proofs.Names.{names_total, names_exact}
-use Rattle.pfl_edits.proofs.Places.{get-set_at_same}
+use Rattle.pfl_base.proofs.ForCallers.{names_total, names_exact}
+use Rattle.pfl_edits.proofs.ForCallers.{get-set_at_same}
 use Rattle.pfl_queue.specs.declared.Kind.TheVariants.{Insert}
 use Rattle.pfl_queue.specs.Queues.{Queue, pending}
 use Rattle.std.specs.Prelude.{nat_lt}
@@ -9,8 +9,7 @@ use Rattle.pfl_parts.specs.Changes.{mark}
 use Rattle.pfl_parts.specs.Nodes.{Node, is_overfull}
 use Rattle.pfl_node.specs.Starting.{with_new, with_room, pass, hold, is_deferred}
 use Rattle.pfl_node.proofs.Holding.{announced-queue, announced-quiet, announced-held, announced-passed, fresh-held}
-use Rattle.pfl_parts.proofs.Putting.{told-may}
-use Rattle.pfl_parts.proofs.Recording.{extends-then, extends-more}
+use Rattle.pfl_parts.proofs.ForCallers.{told-may, extends-then, extends-more}
 use Rattle.pfl_node.proofs.packet.start.announce.Goals as goal
 
 pub returns-then-no_sync : goal.returns-then-no_sync

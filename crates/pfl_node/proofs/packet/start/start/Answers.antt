@@ -11,7 +11,7 @@ use Rattle.pfl_node.specs.inner.Carried.{Tried}
 use Rattle.pfl_parts.specs.inner.Kept.{MayStart}
 use Rattle.pfl_node.specs.Starting.{Handled, announced, with_new, new_state}
 use Rattle.pfl_node.proofs.Fated.{pair-is, new-starts}
-use Rattle.pfl_parts.proofs.Recording.{extends-more}
+use Rattle.pfl_parts.proofs.ForCallers.{extends-more}
 use Rattle.pfl_node.proofs.Started.{started-max, started-full, started-key, started-new}
 use Rattle.pfl_node.proofs.packet.start.start.Goals as goal
 

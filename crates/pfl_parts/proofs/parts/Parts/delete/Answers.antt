@@ -7,21 +7,21 @@ use Rattle.pfl_parts.proofs.Recording.{extends-then}
 use Rattle.pfl_parts.proofs.parts.Parts.delete.Goals as goal
 
 pub tell_deletion-requires-clause-stands : goal.tell_deletion-requires-clause-stands
-tell_deletion-requires-clause-stands g c = rw c.lose.ensures.node (rw c.name.ensures (lost-stands c.args.self.now c.args.state.now c.requires.stands))
+tell_deletion-requires-clause-stands g c = rw c.drop_held.ensures.node (rw c.name.ensures (lost-stands c.args.self.now c.args.state.now c.requires.stands))
 
 pub returns-clause-full : goal.returns-clause-full
 returns-clause-full g c =
     let s = c.args.state.now in
-    let lost = c.lose.ensures.node ∙ ap (to.lost c.args.self.now) c.name.ensures in
+    let lost = c.drop_held.ensures.node ∙ ap (to.lost c.args.self.now) c.name.ensures in
     let same = ap (λ n. to.deletion_told (to.without_state n s.name) s) lost ∙ sym (deleted-is c.args.self.now s) in
     subst (λ (m : Node). OnErr c.tell_deletion.result (is_overfull m ≡ true)) same c.tell_deletion.ensures.full
 
 pub returns-clause-node : goal.returns-clause-node
 returns-clause-node g c =
     let s = c.args.state.now in
-    let lost = c.lose.ensures.node ∙ ap (to.lost c.args.self.now) c.name.ensures in
+    let lost = c.drop_held.ensures.node ∙ ap (to.lost c.args.self.now) c.name.ensures in
     let same = ap (λ n. to.deletion_told (to.without_state n s.name) s) lost ∙ sym (deleted-is c.args.self.now s) in
     subst (λ (m : Node). OnOk c.tell_deletion.result (c.tell_deletion.new.self ≡ m)) same c.tell_deletion.ensures.node
 
 pub returns-clause-extends : goal.returns-clause-extends
-returns-clause-extends g c = extends-then 2 3 _ _ _ _ _ _ c.lose.ensures.extends c.tell_deletion.ensures.extends
+returns-clause-extends g c = extends-then 2 3 _ _ _ _ _ _ c.drop_held.ensures.extends c.tell_deletion.ensures.extends

@@ -7,7 +7,7 @@ use Rattle.pfl_parts.proofs.parts.Parts.forget.Goals as goal
 
 pub returns-clause-node : goal.returns-clause-node
 returns-clause-node g c =
-    c.take_out.ensures.node ∙ (ap (λ (n : Node). to.unmark (to.without_state n c.args.name) c.args.name) c.lose.ensures.node ∙ sym (forgotten-is c.args.self.now c.args.name))
+    c.take_out.ensures.node ∙ (ap (λ (n : Node). to.unmark (to.without_state n c.args.name) c.args.name) c.drop_held.ensures.node ∙ sym (forgotten-is c.args.self.now c.args.name))
 
 pub returns-clause-extends : goal.returns-clause-extends
-returns-clause-extends g c = extends-then 2 2 _ _ _ _ _ _ c.lose.ensures.extends c.take_out.ensures.extends
+returns-clause-extends g c = extends-then 2 2 _ _ _ _ _ _ c.drop_held.ensures.extends c.take_out.ensures.extends

@@ -1,9 +1,8 @@
 use Rattle.std.specs.Prelude.{◌≡◌, refl}
 use Rattle.std.proofs.Common.{◌∙◌, sym, subst, arith}
-use Rattle.pfl_edits.specs.Maps as maps
-use Rattle.pfl_edits.proofs.Maps.{get-empty}
-use Rattle.pfl_edits.proofs.RowMaps.{some_is_none}
 use Rattle.pfl_base.specs.Names.{name_cmp}
+use Rattle.pfl_edits.specs.Maps as maps
+use Rattle.pfl_edits.proofs.ForCallers.{get-empty, some_is_none}
 use Rattle.pfl_parts.specs.Nodes.{AreParts}
 use Rattle.pfl_parts.proofs.NewNodes.{made_new, new_node-is}
 use Rattle.pfl_parts.proofs.parts.Parts.new.Goals as goal

@@ -5,7 +5,7 @@ use Rattle.pfl_edits.specs.Maps as maps
 use Rattle.pfl_edits.specs.Maps.{set_at}
 use Rattle.pfl_table.specs.declared.row.Row.{Row}
 use Rattle.pfl_table.specs.Tables.{states_of, row_with, edit_of}
-use Rattle.pfl_table.proofs.Tables.{get-states_of}
+use Rattle.pfl_table.proofs.ForCallers.{get-states_of}
 use Rattle.pfl_parts.specs.declared.edit.NodeEdit.TheVariants.{OfState}
 use Rattle.pfl_parts.specs.Edits.{NodeExtends}
 use Rattle.pfl_parts.specs.inner.Kept.{expires_by, written}

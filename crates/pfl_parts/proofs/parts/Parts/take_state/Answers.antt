@@ -1,13 +1,13 @@
 use Rattle.std.specs.Prelude.{None, ◌≡◌}
 use Rattle.std.specs.Option.{option_map}
 use Rattle.std.proofs.Common.{◌∙◌, ap, sym, subst}
-use Rattle.pfl_base.proofs.Names.{names_total, names_exact}
+use Rattle.pfl_base.proofs.ForCallers.{names_total, names_exact}
 use Rattle.pfl_edits.specs.Maps as maps
 use Rattle.pfl_edits.specs.Maps.{set_at}
-use Rattle.pfl_edits.proofs.Places.{set_at-same}
+use Rattle.pfl_edits.proofs.ForCallers.{set_at-same}
 use Rattle.pfl_table.specs.declared.row.Row.{Row}
 use Rattle.pfl_table.specs.Tables.{states_of, edit_of}
-use Rattle.pfl_table.proofs.Tables.{get-states_of}
+use Rattle.pfl_table.proofs.ForCallers.{get-states_of}
 use Rattle.pfl_parts.specs.declared.edit.NodeEdit.TheVariants.{OfState}
 use Rattle.pfl_parts.specs.Edits.{NodeExtends}
 use Rattle.pfl_parts.specs.inner.Kept.{written}

@@ -1,7 +1,7 @@
+use Rattle.pfl_base.proofs.ForCallers.{names_total, names_exact}
 use Rattle.pfl_parts.proofs.Recording.{extends-then}
 use Rattle.std.proofs.Common.{Some, arith}
-use Rattle.pfl_base.proofs.Names.{names_total, names_exact}
-use Rattle.pfl_edits.proofs.Places.{get-set_at_same}
+use Rattle.pfl_edits.proofs.ForCallers.{get-set_at_same}
 use Rattle.pfl_queue.specs.declared.Kind.TheVariants.{UpdateShort}
 use Rattle.pfl_parts.specs.Changes as to
 use Rattle.pfl_parts.proofs.Putting.{told-may}

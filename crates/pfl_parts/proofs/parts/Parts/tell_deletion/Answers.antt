@@ -1,7 +1,7 @@
 use Rattle.std.proofs.Common.{◌≡◌, true, false, None, rules, ◌∙◌, ap, sym, subst, arith}
 use Rattle.std.specs.Prelude.{OnOk, OnErr}
-use Rattle.pfl_base.proofs.Names.{names_total, names_exact}
-use Rattle.pfl_edits.proofs.Places.{get-set_at_same}
+use Rattle.pfl_base.proofs.ForCallers.{names_total, names_exact}
+use Rattle.pfl_edits.proofs.ForCallers.{get-set_at_same}
 use Rattle.pfl_parts.proofs.Recording.{extends-then, extends-more}
 use Rattle.pfl_queue.specs.declared.Kind.TheVariants.{Delete}
 use Rattle.pfl_parts.specs.Changes as to

@@ -1,6 +1,6 @@
 use Rattle.std.proofs.Common.{sym, subst}
-use Rattle.pfl_base.proofs.Names.{names_total, names_exact}
-use Rattle.pfl_edits.proofs.Places.{set_at-keyed}
+use Rattle.pfl_base.proofs.ForCallers.{names_total, names_exact}
+use Rattle.pfl_edits.proofs.ForCallers.{set_at-keyed}
 use Rattle.pfl_queue.specs.declared.edits.QueueEdit.{QueueEdit}
 use Rattle.pfl_edits.specs.Maps.{set_at}
 use Rattle.pfl_queue.specs.inner.Marked.{AreApart}

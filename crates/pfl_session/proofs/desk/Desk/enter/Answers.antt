@@ -5,7 +5,7 @@ use Rattle.pfl_publish.specs.Seats.{Writer}
 use Rattle.pfl_timeline.specs.Replies.{reply_of}
 use Rattle.pfl_session.specs.declared.entry.Entry.{Entry}
 use Rattle.pfl_session.specs.declared.mark.Mark.{Mark}
-use Rattle.pfl_session.specs.Journals.{history, after, replay, count_of}
+use Rattle.pfl_session.specs.Journals.{revisions_of, after_entry, replay, count_of}
 use Rattle.pfl_session.specs.Passes.{Seen}
 use Rattle.pfl_session.proofs.Replays.{some_same, counts-get}
 use Rattle.pfl_session.proofs.Asked.{IsKept, kept-after, kept-few, kept-journal, kept-replay, kept-many, kept-counts, kept-below}
@@ -20,12 +20,12 @@ invariant_of-self-in_err-reply g c = rw (c.in_ok-reserve.ensures.items, c.in_err
 pub append-writer-requires-clause-list : goal.append-writer-requires-clause-list
 append-writer-requires-clause-list g c =
     let same : c.in-Some.writer ≡ c.self.invariant.0.0 = some_same _ _ (sym c.in-Some.is ∙ (c.take.ensures.value ∙ c.self.invariant.0.1)) in
-    ap (λ (w : Writer (Mark g.row.A.Denot)). w.list) same ∙ (c.self.invariant.0.3 ∙ ap (history g.J.Which.opening) (sym c.in_ok-reserve.ensures.items))
+    ap (λ (w : Writer (Mark g.row.A.Denot)). w.list) same ∙ (c.self.invariant.0.3 ∙ ap (revisions_of g.J.Which.opening) (sym c.in_ok-reserve.ensures.items))
 
 pub append-writer-requires-clause-executed : goal.append-writer-requires-clause-executed
 append-writer-requires-clause-executed g c =
     kept-after g.J.Which.opening c.self.inside.timeline c.execute.new.timeline c.self.inside.journal.items c.in_ok-reply.entry c.args.command.now (reply_of c.in_ok-reply.reply) c.pass.inside.session c.self.invariant.2.timeline_is (record { step = c.in_ok-reply.ensures.step; entry = c.in_ok-reply.ensures.entry })
-    ∙ ap (λ (js : List (Entry g.row.A.Denot)). after (replay g.J.Which.opening js) c.in_ok-reply.entry) (sym c.in_ok-reserve.ensures.items)
+    ∙ ap (λ (js : List (Entry g.row.A.Denot)). after_entry (replay g.J.Which.opening js) c.in_ok-reply.entry) (sym c.in_ok-reserve.ensures.items)
 
 pub append-writer-requires-clause-few : goal.append-writer-requires-clause-few
 append-writer-requires-clause-few g c =

@@ -3,7 +3,7 @@ use Rattle.std.specs.List.{AllByRecursion}
 use Rattle.atomic_table.specs.Seated.{TableId}
 use Rattle.pfl_timeline.specs.Timelines.{Timeline}
 use Rattle.pfl_session.specs.declared.entry.Entry.{Entry}
-use Rattle.pfl_session.specs.Journals.{IsJournal, replay, history, counts_of}
+use Rattle.pfl_session.specs.Journals.{IsJournal, replay, revisions_of, counts_of}
 use Rattle.pfl_session.specs.Labs.{Setup}
 use Rattle.pfl_session.specs.Passes.{IsPassOf}
 use Rattle.pfl_session.proofs.Growth.{more_room}
@@ -21,7 +21,7 @@ invariant_of-desk g c =
     let limit : c.self.inside.limit ≡ g.J.Which.limit = ap (λ (s : Setup). s.limit) c.self.view_is ∙ c.requires.opening.1 in
     let empty = ap (λ (l : List (Entry g.row.A.Denot)). length l) none in
     let small = is.7 in (
-      (c.self.inside.writer, refl, is.2 ∙ publisher, is.3 ∙ ap (λ (t : Timeline). history t js) opening),
+      (c.self.inside.writer, refl, is.2 ∙ publisher, is.3 ∙ ap (λ (t : Timeline). revisions_of t js) opening),
       is.4 ∙ ap (λ (ts : List TableId). counts_of 1 ts js) tallies,
       record {
         journal = subst (IsJournal g.J.Which.opening (length g.J.Which.tallies)) (sym none) (record { legal = tt; sessions = tt });

@@ -2,7 +2,7 @@ use Rattle.std.proofs.Common.{◌≡◌, List, [], ◌∷◌, refl, ap, sym, ◌
 use Rattle.atomic_table.specs.Seated.{TableId}
 use Rattle.pfl_publish.specs.Revisions.{published}
 use Rattle.pfl_session.specs.declared.mark.Mark.TheVariants.{Start}
-use Rattle.pfl_session.specs.Journals.{history, counts_of}
+use Rattle.pfl_session.specs.Journals.{revisions_of, counts_of}
 use Rattle.pfl_session.proofs.Seatings.{passes-kept}
 use Rattle.pfl_session.proofs.Growth.{more_room}
 use Rattle.pfl_session.proofs.opened.Opened.without_sessions.Goals as goal
@@ -14,8 +14,8 @@ pub invariant_of-result : goal.invariant_of-result
 invariant_of-result g c =
     let none : c.new-2.result.items ≡ [] = c.new-2.ensures.items in
     let made = c.in_ok-publisher.ensures in
-    let list : c.in_ok-publisher.writer.list ≡ history c.args.timeline c.new-2.result.items =
-    made.list ∙ ((λ z. published (c.revision_of-first.ensures.words z) (Start c.args.timeline) ∷ []) ∙ ap (history c.args.timeline) (sym none)) in (
+    let list : c.in_ok-publisher.writer.list ≡ revisions_of c.args.timeline c.new-2.result.items =
+    made.list ∙ ((λ z. published (c.revision_of-first.ensures.words z) (Start c.args.timeline) ∷ []) ∙ ap (revisions_of c.args.timeline) (sym none)) in (
       (c.in_ok-publisher.viewer, refl, made.tables.1, made.seen.0 ∙ list, made.seen.1),
       none,
       made.tables.0,

@@ -1,6 +1,6 @@
 use Rattle.std.specs.Prelude.{◌≡◌, ◌+◌, ◌-◌, ◌≤◌, ◌<◌, ℕ, true, false, min, List, [], ◌∷◌, ◌++◌, length, get_or, refl}
 use Rattle.std.proofs.Common.{◌∙◌, ap, subst, arith}
-use Rattle.pfl_world.specs.declared.event.Event.{Event}
+use Rattle.pfl_language.specs.declared.event.Event.{Event}
 use Rattle.pfl_timeline.specs.Histories.{History}
 use Rattle.pfl_timeline.specs.inner.Histories.{Sifts}
 use Rattle.pfl_timeline.proofs.Sieving.{Going, going, going-fell, going-stood, going-kept, going_as, gone-fallen, gone-few, gone-rest}

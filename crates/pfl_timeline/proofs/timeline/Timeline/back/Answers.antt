@@ -1,6 +1,6 @@
 use Rattle.std.specs.Prelude.{◌-◌, nat_lt, refl}
 use Rattle.std.proofs.Common.{◌∙◌, ap}
-use Rattle.pfl_timeline.specs.declared.refused.Refused.TheVariants as refused
+use Rattle.pfl_language.specs.declared.refused.Refused.TheVariants as refused
 use Rattle.pfl_timeline.specs.Commands.{back_reply}
 use Rattle.pfl_timeline.specs.Replies.{Refused as Refusing}
 use Rattle.pfl_timeline.proofs.Asked.{back-asks, replied_as, told-moved}

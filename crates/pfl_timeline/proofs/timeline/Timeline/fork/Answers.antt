@@ -2,10 +2,10 @@ use Rattle.std.specs.Prelude.{length, refl}
 use Rattle.std.proofs.Common.{◌∙◌, ap, sym}
 use Rattle.std.proofs.lemmas.Bool.{ltb-false}
 use Rattle.indexmap.specs.IndexMap.{insert_entry}
-use Rattle.pfl_timeline.specs.declared.refused.Refused.TheVariants as refused
+use Rattle.pfl_language.specs.declared.refused.Refused.TheVariants as refused
+use Rattle.pfl_language.specs.BranchWords.{is_branch_name, same_name}
 use Rattle.pfl_timeline.specs.Commands.{fork_reply}
 use Rattle.pfl_timeline.specs.Replies.{Refused as Refusing}
-use Rattle.pfl_timeline.specs.Timelines.{is_branch_name, same_name}
 use Rattle.pfl_timeline.proofs.Asked.{fork-asks, anyway}
 use Rattle.pfl_timeline.proofs.Forking.{told-why, told-forked, kept-forked, accepted-free}
 use Rattle.pfl_timeline.proofs.Keeping.{fork_known, is_one}

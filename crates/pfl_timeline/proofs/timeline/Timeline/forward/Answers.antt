@@ -1,6 +1,6 @@
 use Rattle.std.specs.Prelude.{◌+◌, nat_lt, refl}
 use Rattle.std.proofs.Common.{◌∙◌, ap, subst, sym}
-use Rattle.pfl_timeline.specs.declared.refused.Refused.TheVariants as refused
+use Rattle.pfl_language.specs.declared.refused.Refused.TheVariants as refused
 use Rattle.pfl_timeline.specs.Commands.{forward_reply, undone}
 use Rattle.pfl_timeline.specs.Memory.{IsAccepted}
 use Rattle.pfl_timeline.specs.Replies.{Refused as Refusing}

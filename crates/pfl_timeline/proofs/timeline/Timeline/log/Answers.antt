@@ -1,6 +1,6 @@
 use Rattle.std.specs.Prelude.{refl}
 use Rattle.std.proofs.Common.{◌∙◌, subst, sym}
-use Rattle.pfl_timeline.specs.declared.refused.Refused.TheVariants as refused
+use Rattle.pfl_language.specs.declared.refused.Refused.TheVariants as refused
 use Rattle.pfl_timeline.specs.Commands.{log_reply}
 use Rattle.pfl_timeline.specs.Memory.{IsAccepted}
 use Rattle.pfl_timeline.specs.Replies.{Refused as Refusing}

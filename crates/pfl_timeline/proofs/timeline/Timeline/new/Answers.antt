@@ -1,6 +1,6 @@
 use Rattle.std.proofs.Common.{◌∙◌, ap}
-use Rattle.pfl_timeline.specs.Timelines.{same_name}
 use Rattle.indexmap.specs.IndexMap.{insert_entry}
+use Rattle.pfl_language.specs.BranchWords.{same_name}
 use Rattle.pfl_timeline.proofs.Places.{Entries, kept-first}
 use Rattle.pfl_timeline.proofs.timeline.Timeline.new.Goals as goal
 

@@ -1,7 +1,7 @@
 use Rattle.std.specs.Prelude.{length, refl}
 use Rattle.std.proofs.Common.{◌∙◌, arith, sym}
 use Rattle.std.proofs.lemmas.Bool.{le-leb, lt-leb}
-use Rattle.pfl_timeline.specs.declared.refused.Refused.TheVariants as refused
+use Rattle.pfl_language.specs.declared.refused.Refused.TheVariants as refused
 use Rattle.pfl_timeline.specs.Commands.{drop_reply}
 use Rattle.pfl_timeline.specs.Replies.{Refused as Refusing}
 use Rattle.pfl_timeline.proofs.Asked.{drop-asks}

@@ -1,7 +1,7 @@
 use Rattle.std.specs.Prelude.{refl}
 use Rattle.std.proofs.Common.{◌∙◌, ap}
 use Rattle.std.proofs.lemmas.Result.{IfOk-weaker, on_err_weaker}
-use Rattle.pfl_timeline.specs.declared.refused.Refused.TheVariants as refused
+use Rattle.pfl_language.specs.declared.refused.Refused.TheVariants as refused
 use Rattle.pfl_timeline.specs.Commands.{step_reply}
 use Rattle.pfl_timeline.specs.Replies.{Refused as Refusing}
 use Rattle.pfl_timeline.proofs.Asked.{step-asks, told-stepped, told-refused, replied_as, if_ok, as_ok, as_err, no_err, anyway}

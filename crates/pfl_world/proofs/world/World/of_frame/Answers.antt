@@ -1,4 +1,4 @@
-use Rattle.pfl_world.proofs.Stepping.{frame_refused_then, refused_same}
+use Rattle.pfl_world.proofs.Stepping.{frame_refused_then}
 use Rattle.pfl_world.proofs.world.World.of_frame.Goals as goal
 
 pub returns-in-Lose-clause-refused : goal.returns-in-Lose-clause-refused

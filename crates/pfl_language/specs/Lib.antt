@@ -1,0 +1,3 @@
+pub mod BranchWords
+pub mod Limits
+pub mod inner

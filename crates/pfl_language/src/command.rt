@@ -1,0 +1,53 @@
+//! What is asked of a timeline.
+
+use crate::branch_word::BranchWord;
+use crate::event::Event;
+
+/// What is asked of a timeline.
+#[derive(Clone, Copy, Debug)]
+pub enum Command {
+    /// Puts an event behind those before the branch's cursor.
+    Step {
+        branch: BranchWord,
+        event: Event,
+    },
+    /// Undoes the last `n` events before the cursor; they stay in the branch.
+    Back {
+        branch: BranchWord,
+        n: u32,
+    },
+    /// Lets the next `n` events behind the cursor happen again.
+    Forward {
+        branch: BranchWord,
+        n: u32,
+    },
+    /// Makes a branch of the first `place` events of another one. All of them stand.
+    Fork {
+        from: BranchWord,
+        place: u32,
+        name: BranchWord,
+    },
+    /// Removes the branch.
+    Drop {
+        branch: BranchWord,
+    },
+    /// Asks for the branch's world.
+    Show {
+        branch: BranchWord,
+    },
+    /// Asks for the names of the branches, in the order of their making.
+    Names,
+    /// Takes an event out of the branch, and with it each later one that is refused then. Places count from 1.
+    Excise {
+        branch: BranchWord,
+        place: u32,
+    },
+    /// Brings back what the branch had before its newest excision, unless an event was accepted since.
+    Restore {
+        branch: BranchWord,
+    },
+    /// Asks for the branch's events, those behind the cursor too, and for its cursor.
+    Log {
+        branch: BranchWord,
+    },
+}

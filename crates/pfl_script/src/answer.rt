@@ -1,0 +1,70 @@
+//! The answer to one line.
+
+ghost use Rattle.std.specs.Prelude.{◌≡◌, true, IfOk, OnOk, OnErr, IfErr};
+ghost use Rattle.std.specs.Io.KnownBytes.{Appends};
+ghost use Rattle.pfl_script.specs.Answers.{answer_to, kept_answer, kept_bad, kept_command, IsAfter};
+ghost use Rattle.pfl_script.specs.inner.Answers.{Breaks};
+ghost use Rattle.pfl_script.specs.Readers.{IsWriteFault};
+
+use crate::fault::EngineFault;
+use crate::line::Line;
+use crate::output::{write_reply, write_text};
+use crate::replies::fault_line;
+use pfl_base::Output;
+use pfl_language::Command;
+use pfl_timeline::Timeline;
+use std::alloc::Allocator;
+
+/// Executes a command and writes its reply.
+fn answer_command<A: Allocator, B: Allocator + Copy, W: Output>(
+    alloc: A,
+    command: Command,
+    writer: &mut W,
+    timeline: &mut Timeline<B>,
+) -> Result<(), EngineFault>
+    ensures timeline { OnOk result (timeline.new ≡ (answer_to (Ok command) timeline.old).timeline) }
+    ensures text { OnOk result (Appends (W.written writer.old) (W.written writer.new) (answer_to (Ok command) timeline.old).text) }
+    ensures stays { OnOk result (W.has_failed writer.new ≡ W.has_failed writer.old) }
+    ensures breaks { OnErr result (Breaks (answer_to (Ok command) timeline.old) timeline.old timeline.new (W.written writer.old) (W.written writer.new)) }
+    ensures untouched { IfErr result (λ e. e ≡ EngineFault.NoMemory → writer.new ≡ writer.old) }
+    ensures after { OnErr result (IsAfter (answer_to (Ok command) timeline.old) timeline.old timeline.new) }
+    ensures fault { IfErr result (λ e. IsWriteFault e (W.has_failed writer.new)) }
+{
+    let Ok(reply) = timeline.command(command) else {
+        return Err(EngineFault::NoMemory);
+    };
+    write_reply(alloc, &reply, writer)
+}
+
+/// Executes a line, if it has a word and is no comment, writes its reply, and says whether it is faulty.
+#[tactic(auto, unfolding(crate::specs::Answers::kept_answer, crate::specs::Answers::kept_bad, crate::specs::Answers::kept_command))]
+pub fn answer_line<A: Allocator, B: Allocator + Copy, W: Output>(
+    alloc: A,
+    line: &Line,
+    writer: &mut W,
+    timeline: &mut Timeline<B>,
+) -> Result<bool, EngineFault>
+    ensures bad { IfOk result (λ bad. bad ≡ kept_bad line.now) }
+    ensures timeline { OnOk result (timeline.new ≡ (kept_answer line.now timeline.old).timeline) }
+    ensures text { OnOk result (Appends (W.written writer.old) (W.written writer.new) (kept_answer line.now timeline.old).text) }
+    ensures stays { OnOk result (W.has_failed writer.new ≡ W.has_failed writer.old) }
+    ensures breaks { OnErr result (Breaks (kept_answer line.now timeline.old) timeline.old timeline.new (W.written writer.old) (W.written writer.new)) }
+    ensures command { IfErr result (λ e. e ≡ EngineFault.NoMemory → kept_command line.now ≡ true) }
+    ensures untouched { IfErr result (λ e. e ≡ EngineFault.NoMemory → writer.new ≡ writer.old) }
+    ensures after { OnErr result (IsAfter (kept_answer line.now timeline.old) timeline.old timeline.new) }
+    ensures fault { IfErr result (λ e. IsWriteFault e (W.has_failed writer.new)) }
+{
+    if !line.has_word() {
+        return Ok(false);
+    }
+    match line.parse() {
+        Err(fault) => match write_text(writer, fault_line(fault).as_bytes()) {
+            Ok(()) => Ok(true),
+            Err(fault) => Err(fault),
+        },
+        Ok(command) => match answer_command(alloc, command, writer, timeline) {
+            Ok(()) => Ok(false),
+            Err(fault) => Err(fault),
+        },
+    }
+}

@@ -1,0 +1,6 @@
+-- What proofs of other crates may cite of this crate's proofs; the rest of proofs/ is its own.
+pub use Rattle.pfl_world.proofs.Lab.{limits, name, opening, u1, u2, u3}
+unfoldable pub use Rattle.pfl_world.proofs.Lab.{computing}
+pub use Rattle.pfl_world.proofs.Leads.{where_err}
+pub use Rattle.pfl_world.proofs.OnTapes.{no_shorter, split}
+pub use Rattle.pfl_world.proofs.Stepping.{event_wants}
