@@ -20,9 +20,9 @@ use Rattle.pfl_language.specs.declared.event.Event.TheVariants as events
 use Rattle.pfl_language.specs.declared.event.FrameEvent.TheVariants as frame
 use Rattle.pfl_lines.specs.declared.draft.EventDraft.{EventDraft}
 use Rattle.pfl_lines.specs.declared.draft.EventDraft.TheVariants as event_draft
-use Rattle.pfl_lines.specs.Commands.{packet_at, tick_at, kill_at, bare_node_event_at, flush_at, restart_at, cut_at, bare_frame_event_at, event_at, whole_event, packet_unless}
+use Rattle.pfl_lines.specs.Commands.{packet_at, tick_at, kill_at, bare_node_event_at, flush_at, restart_at, cut_event_at, bare_frame_event_at, event_at, whole_event, packet_unless}
 use Rattle.pfl_lines.specs.Laws.{IsTyped, IsStateName, IsTypedEvent}
-use Rattle.pfl_lines.specs.Numbers.{number_of, cut_at as cut_word}
+use Rattle.pfl_lines.specs.Numbers.{number_of, cut_at}
 use Rattle.pfl_lines.specs.Parts.{node_at, dir_at, name_of}
 use Rattle.pfl_lines.specs.Written.{fields_words, event_words}
 use Rattle.pfl_lines.proofs.WrittenNumbers.{and-both, number-reads, cut-reads, number_lacks}
@@ -45,7 +45,7 @@ unfolding name_of
 name-reads name is =
     let creator : name.creator ≤ greatest = is.creator in
     let id : name.id < 2 ^ 64 = is.id in
-    let cut : cut_word 46 (decimal name.creator ++ 46 ∷ decimal name.id) ≡ Ok (decimal name.creator, decimal name.id) = cut-reads 46 (decimal name.creator) (decimal name.id) (number_lacks 46 name.creator (omega arith) (omega arith)) in
+    let cut : cut_at 46 (decimal name.creator ++ 46 ∷ decimal name.id) ≡ Ok (decimal name.creator, decimal name.id) = cut-reads 46 (decimal name.creator) (decimal name.id) (number_lacks 46 name.creator (omega arith) (omega arith)) in
     ap name_of (append_assoc (decimal name.creator) (codes ".") (decimal name.id))
     ∙ rw (cut, number-reads greatest name.creator creator (omega arith), number-reads 18446744073709551615 name.id (omega arith) id) refl
 
@@ -96,7 +96,7 @@ number : (n : ℕ) → n ≤ greatest → number_of greatest (decimal n) ≡ Ok 
 number n small = number-reads greatest n small (omega arith)
 
 pub event-reads : (e : Event) → IsTypedEvent e → event_at (event_words e) ≡ Ok (draft_of e, [])
-unfolding event_at tick_at kill_at bare_node_event_at flush_at restart_at cut_at bare_frame_event_at
+unfolding event_at tick_at kill_at bare_node_event_at flush_at restart_at cut_event_at bare_frame_event_at
 event-reads (events.At node (own.Packet dir p)) is = packet_reads node dir p is
 event-reads (events.Flush node) is = rw (node-reads node []) refl
 event-reads (events.Of ticket frame.Deliver) is = rw (number ticket is.0) refl

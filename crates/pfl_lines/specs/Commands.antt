@@ -75,8 +75,8 @@ abbrev pub ticket_at : List (List ℕ) → Reading ℕ
 ticket_at ws = number_at greatest ws
 
 -- TICKET LEN
-unfoldable pub cut_at : List (List ℕ) → Reading EventDraft
-cut_at ws = do
+unfoldable pub cut_event_at : List (List ℕ) → Reading EventDraft
+cut_event_at ws = do
   ticket ← ticket_at ws
   len ← number_at greatest ticket.1
   Ok (event_draft.Whole (events.Of ticket.0 (frame.Cut len.0)), len.1)
@@ -98,7 +98,7 @@ node_event_by word ws =
 -- what belongs to the word of an event of a frame in flight, or of a node
 abbrev pub frame_event_by : List ℕ → List (List ℕ) → Reading EventDraft
 frame_event_by word ws =
-    if bytes_eq word (codes "cut") then cut_at ws else
+    if bytes_eq word (codes "cut") then cut_event_at ws else
     option_map_or (λ e. bare_frame_event_at e ws) (bare_frame_event word) (node_event_by word ws)
 
 -- what belongs to an event's word

@@ -4,7 +4,7 @@ ghost use Rattle.std.specs.Prelude.{◌≡◌};
 ghost use Rattle.std.specs.List.{list_all};
 ghost use Rattle.pfl_lines.specs.Words.{words};
 ghost use Rattle.pfl_lines.specs.inner.Readings.{Gives};
-ghost use Rattle.pfl_lines.specs.Commands.{packet_at, tick_at, kill_at, bare_node_event_at, flush_at, restart_at, ticket_at, cut_at, bare_frame_event_at, node_event_by, frame_event_by, event_by, event_at, step_at, back_at, forward_at, fork_at, drop_at, show_at, excise_at, restore_at, log_at, names_at, command_by, command_at, finished, whole_event, whole_step, whole_command, command_of, is_text, checked, parsed};
+ghost use Rattle.pfl_lines.specs.Commands.{packet_at, tick_at, kill_at, bare_node_event_at, flush_at, restart_at, ticket_at, cut_event_at, bare_frame_event_at, node_event_by, frame_event_by, event_by, event_at, step_at, back_at, forward_at, fork_at, drop_at, show_at, excise_at, restore_at, log_at, names_at, command_by, command_at, finished, whole_event, whole_step, whole_command, command_of, is_text, checked, parsed};
 
 use crate::draft::{CommandDraft, EventDraft};
 use crate::event_words::{bare_frame_event, bare_node_event};
@@ -87,9 +87,9 @@ fn ticket_at(line: &[u8]) -> Result<(u32, &[u8]), LineFault>
 }
 
 /// `TICKET LEN`.
-#[tactic(auto, unfolding(crate::specs::Commands::cut_at))]
-fn cut_at(line: &[u8]) -> Result<(EventDraft, &[u8]), LineFault>
-    ensures { Gives (λ x. (x.0, words x.1.now)) result (cut_at (words line.now)) }
+#[tactic(auto, unfolding(crate::specs::Commands::cut_event_at))]
+fn cut_event_at(line: &[u8]) -> Result<(EventDraft, &[u8]), LineFault>
+    ensures { Gives (λ x. (x.0, words x.1.now)) result (cut_event_at (words line.now)) }
 {
     let (ticket, rest) = ticket_at(line)?;
     let (len, rest) = number_at(rest, GREATEST_NUMBER)?;
@@ -130,7 +130,7 @@ fn frame_event_by<'a>(word: &[u8], line: &'a [u8]) -> Result<(EventDraft, &'a [u
     ensures { Gives (λ x. (x.0, words x.1.now)) result (frame_event_by word.now (words line.now)) }
 {
     if is_word(word, "cut") {
-        return cut_at(line);
+        return cut_event_at(line);
     }
     match bare_frame_event(word) {
         Some(event) => bare_frame_event_at(event, line),

@@ -1,10 +1,11 @@
 -- A client of a bulk update that asks again, or gives up.
-use Rattle.std.specs.Prelude.{◌≡◌, ◌+◌, Bool, true, false, not, ◌||◌, [], ◌∷◌, ◌++◌, Some, None, if◌then◌else◌, refl}
+use Rattle.std.specs.Prelude.{◌≡◌, ◌+◌, Bool, true, false, not, ◌||◌, [], ◌∷◌, ◌++◌, Option, Some, None, if◌then◌else◌, refl}
+use Rattle.std.specs.Option.{option_or}
 use Rattle.std.proofs.Common.{◌∙◌, ap, sym}
 use Rattle.pfl_base.specs.declared.refusal.Refusal.{Refusal}
-use Rattle.pfl_base.specs.declared.refusal.Refusal.TheVariants.{NotSyncing, TooEarly, QueueFull, CountFull}
+use Rattle.pfl_base.specs.declared.refusal.Refusal.TheVariants.{QueueFull, CountFull}
 use Rattle.pfl_bulk.specs.Bulk as bulk
-use Rattle.pfl_bulk.specs.Bulk.{no_name, is_waiting, is_due, asks_again, retried, tries_of}
+use Rattle.pfl_bulk.specs.Bulk.{no_name, asks_again, retried, tries_of}
 use Rattle.pfl_bulk.specs.declared.BulkClient.{BulkClient}
 use Rattle.pfl_bulk.specs.declared.BulkClient.TheVariants as client
 use Rattle.pfl_queue.specs.Queues.{is_requested}
@@ -57,23 +58,17 @@ retried-counted n = by (asks_again n.client) (is_requested n.queue no_name)
 
 -- ---- why it is refused
 
-early : (a b c : Bool) (r : Refusal) → (if not a then Some NotSyncing else if not b then Some TooEarly else None) ≡ Some r → refused_by ((not a, NotSyncing) ∷ (not b, TooEarly) ∷ (c, QueueFull) ∷ []) ≡ Some r
-early false b c r e = e
-early true false c r e = e
-early true true c r e = absurd (cc)
-
 -- it does not wait, or has not waited long enough
 pub retry-early : (n : Node) (r : Refusal) → bulk.ask_refusal n.client n.limits.bulk_ms n.clock ≡ Some r → retry_refusal n ≡ Some r
-retry-early n r e = early (is_waiting n.client) (is_due n.client n.limits.bulk_ms n.clock) (is_overfull (retried_client n)) r e
+retry-early n r e = ap (λ (o : Option Refusal). option_or o (refused_by ((is_overfull (retried_client n), QueueFull) ∷ []))) e
 
-late : (a b c : Bool) → (if not a then Some NotSyncing else if not b then Some TooEarly else None) ≡ None → refused_by ((not a, NotSyncing) ∷ (not b, TooEarly) ∷ (c, QueueFull) ∷ []) ≡ refused_by ((c || false, QueueFull) ∷ (false || false, CountFull) ∷ [])
-late false b c e = absurd (cc)
-late true false c e = absurd (cc)
-late true true true e = refl
-late true true false e = refl
+full_alone : (b : Bool) → refused_by ((b, QueueFull) ∷ []) ≡ refused_by ((b || false, QueueFull) ∷ (false || false, CountFull) ∷ [])
+full_alone true = refl
+full_alone false = refl
 
 -- else its end is judged
 pub retry-late : (n : Node) → bulk.ask_refusal n.client n.limits.bulk_ms n.clock ≡ None → is_overcounted n ≡ false → retry_refusal n ≡ points_refusal (retried_client n ∷ [])
 retry-late n e low =
-    late (is_waiting n.client) (is_due n.client n.limits.bulk_ms n.clock) (is_overfull (retried_client n)) e
-    ∙ ap (λ b. refused_by ((is_overfull (retried_client n) || false, QueueFull) ∷ (b || false, CountFull) ∷ [])) (sym (retried-counted n ∙ low))
+    ap (λ (o : Option Refusal). option_or o (refused_by ((is_overfull (retried_client n), QueueFull) ∷ []))) e
+    ∙ (full_alone (is_overfull (retried_client n))
+    ∙ ap (λ b. refused_by ((is_overfull (retried_client n) || false, QueueFull) ∷ (b || false, CountFull) ∷ [])) (sym (retried-counted n ∙ low)))

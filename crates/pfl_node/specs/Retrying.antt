@@ -1,8 +1,9 @@
 -- A client of a bulk update that waited long enough (if_pfsync.c; tries are this project's profile).
-use Rattle.std.specs.Prelude.{◌+◌, not, [], ◌∷◌, Option, if◌then◌else◌}
+use Rattle.std.specs.Prelude.{◌+◌, [], ◌∷◌, Option, if◌then◌else◌}
+use Rattle.std.specs.Option.{option_or}
 use Rattle.pfl_base.specs.declared.refusal.Refusal.{Refusal}
-use Rattle.pfl_base.specs.declared.refusal.Refusal.TheVariants.{NotSyncing, TooEarly, QueueFull}
-use Rattle.pfl_bulk.specs.Bulk.{no_name, is_waiting, is_due, asks_again, retried, tries_of}
+use Rattle.pfl_base.specs.declared.refusal.Refusal.TheVariants.{QueueFull}
+use Rattle.pfl_bulk.specs.Bulk.{no_name, ask_refusal, asks_again, retried, tries_of}
 use Rattle.pfl_language.specs.declared.retried.Retried.{Retried}
 use Rattle.pfl_language.specs.declared.retried.Retried.TheVariants.{Asked, Served}
 use Rattle.pfl_language.specs.declared.node_event.NodeOutcome.TheVariants.{Tried}
@@ -18,10 +19,9 @@ retried_client n = record (if asks_again n.client then ask n no_name else n) { c
 abbrev pub retry_answer : Node → Retried
 retry_answer n = if asks_again n.client then Asked (tries_of n.client + 1) else Served
 
--- a node that waits for none or waited too short asks for nothing
+-- why a retry is refused: the client can't ask again, or there is no room for its request
 abbrev pub retry_refusal : Node → Option Refusal
-retry_refusal n = refused_by
-    ((not (is_waiting n.client), NotSyncing) ∷ (not (is_due n.client n.limits.bulk_ms n.clock), TooEarly) ∷ (is_overfull (retried_client n), QueueFull) ∷ [])
+retry_refusal n = option_or (ask_refusal n.client n.limits.bulk_ms n.clock) (refused_by ((is_overfull (retried_client n), QueueFull) ∷ []))
 
 -- what a retry means
 abbrev pub retry_meaning : Node → NodeMeaning

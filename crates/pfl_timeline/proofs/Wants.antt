@@ -1,7 +1,7 @@
 -- Where memory is wanted, what is asked is not refused.
 use Rattle.std.specs.Prelude.{◌≡◌, ◌⊎◌, ℕ, ◌+◌, ◌-◌, Bool, true, false, not, nat_lt, nat_le, ◌==◌, List, [], ◌∷◌, ◌++◌, length, filter, if◌then◌else◌, Option, Some, None, is_some, is_none, IsSomeAnd, Result, Ok, Err, refl}
 use Rattle.std.specs.List.{AllByRecursion}
-use Rattle.std.specs.Option.{option_map_or}
+use Rattle.std.specs.Option.{option_map_or, option_or}
 use Rattle.std.specs.Map.{values_of, lookup}
 use Rattle.std.proofs.Common.{sym, ◌∙◌, ap, subst, inl, inr}
 use Rattle.pfl_base.specs.declared.node_id.NodeId.{NodeId}
@@ -89,6 +89,13 @@ clock_is_other : (b : Bool) → (if b then Some ClockFull else None) ≡ Some No
 clock_is_other true is = cc
 clock_is_other false is = cc
 
+retry_is_other : (idle early full : Bool)
+    → option_or (if idle then Some NotSyncing else if early then Some TooEarly else None) (refused_by ((full, QueueFull) ∷ [])) ≡ Some NoMemory → ⊥
+retry_is_other true early full is = cc
+retry_is_other false true full is = cc
+retry_is_other false false true is = cc
+retry_is_other false false false is = cc
+
 -- what a node refuses by itself
 node_is_other : (n : Node) (e : NodeEvent) → node_refusal n e ≡ Some NoMemory → ⊥
 node_is_other n (own.Packet dir p) is = first_is_other (full_tests (packet_points n dir p)) ((λ e. cc), ((λ e. cc), tt)) is
@@ -102,9 +109,7 @@ node_is_other n (own.Kill name) is =
 node_is_other n own.Clear is = first_is_other (full_tests (cleared n ∷ [])) ((λ e. cc), ((λ e. cc), tt)) is
 node_is_other n own.BulkTurn is =
     first_is_other ((not (is_serving n.server), NotSyncing) ∷ full_tests (turned n ∷ [])) ((λ e. cc), ((λ e. cc), ((λ e. cc), tt))) is
-node_is_other n own.BulkRetry is =
-    first_is_other ((not (is_waiting n.client), NotSyncing) ∷ (not (is_due n.client n.limits.bulk_ms n.clock), TooEarly) ∷ (is_overfull (retried_client n), QueueFull) ∷ [])
-    ((λ e. cc), ((λ e. cc), ((λ e. cc), tt))) is
+node_is_other n own.BulkRetry is = retry_is_other (not (is_waiting n.client)) (not (is_due n.client n.limits.bulk_ms n.clock)) (is_overfull (retried_client n)) is
 
 own_is_other : (w : World) (id : NodeId) (o : Option Refusal) (s : NodeStepped) → (o ≡ Some NoMemory → ⊥) → from_node w id (unless_refused o s) ≡ Err NoMemory → ⊥
 own_is_other w id None s other is = cc
