@@ -1,5 +1,5 @@
 -- Words that are read.
-use Rattle.std.proofs.Common.{◌≡◌, ℕ, List, [], ◌∷◌, Bool, true, false, Option, Some, None, IfSome, cond, refl, ap, subst, sym, bytes_eq, find}
+use Rattle.std.proofs.Common.{◌≡◌, ℕ, List, [], ◌∷◌, true, false, Option, Some, None, IfSome, cond, refl, ap, subst, sym, bytes_eq, find}
 use Rattle.std.specs.Option.{option_map_or}
 use Rattle.std.proofs.lemmas.Slice.Eq.{bytes_eq-Decides}
 use Rattle.pfl_base.specs.declared.proto.Proto.{Proto}

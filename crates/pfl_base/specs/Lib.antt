@@ -13,3 +13,4 @@ pub mod Texts
 pub mod Words
 pub mod Devices
 pub mod Counts
+pub mod inner

@@ -3,6 +3,7 @@
 #![tactic(auto)]
 
 mod addr;
+mod addr_bytes;
 mod addr_text;
 mod class;
 mod direction;
@@ -13,6 +14,7 @@ mod input;
 mod keys;
 mod node_id;
 mod output;
+mod packed;
 mod packet;
 mod proto;
 mod refusal;
@@ -30,6 +32,7 @@ pub use input::Input;
 pub use keys::key;
 pub use node_id::NodeId;
 pub use output::Output;
+pub use packed::{PackedEnd, PackedKey};
 pub use packet::Packet;
 pub use proto::{OtherProto, Proto};
 pub use refusal::Refusal;

@@ -5,14 +5,29 @@ ghost use Rattle.std.specs.Prelude.{◌≡◌, ◌≤◌, None, Some, IfSome, Ma
 use crate::addr::End;
 use crate::fields::{BadPacket, PacketFields};
 use crate::flags::TcpFlags;
+use crate::packed::PackedEnd;
 use crate::proto::Proto;
 use std::marker::Model;
+
+/// A packet as it is kept: the same fields, the ends in few bytes.
+#[derive(Clone, Copy, Debug, PartialEq, Eq)]
+struct Kept {
+    seq: u32,
+    ack: u32,
+    window: u16,
+    len: u16,
+    proto: Proto,
+    src: PackedEnd,
+    dst: PackedEnd,
+    flags: TcpFlags,
+    scale: Option<u8>,
+}
 
 /// A packet as a filter sees it: fields without a fault. One of another protocol than TCP has no flags, zeros for the
 /// three numbers, and no scale.
 #[derive(Clone, Copy, Debug, PartialEq, Eq)]
 pub struct Packet {
-    fields: PacketFields,
+    kept: Kept,
 }
 
 impl Model for Packet {
@@ -21,12 +36,13 @@ impl Model for Packet {
     ghost Value = { PacketFields };
 
     ghost use Rattle.pfl_base.specs.Packets.{IsPacket};
+    ghost use Rattle.pfl_base.specs.inner.Packets.{fields_of, kept_of};
 
-    ghost view = { λ p. p.fields };
+    ghost view = { λ p. fields_of p.kept };
 
-    ghost invariant = { λ p. IsPacket p.fields };
+    ghost invariant = { λ p. IsPacket (fields_of p.kept) };
 
-    ghost inverse = { λ fields. record { fields = fields } };
+    ghost inverse = { λ fields. record { kept = kept_of fields } };
 }
 
 impl Packet {
@@ -70,9 +86,28 @@ impl Packet {
         // Its contract says that the protocol is written one way, which a packet keeps.
         let _number = fields.proto.number();
         match fields.fault() {
-            None => Ok(Packet { fields }),
+            None => Ok(Packet::with(fields)),
             Some(fault) => Err(fault),
         }
+    }
+
+    /// The packet with fields that are known to be one's.
+    fn with(fields: PacketFields) -> Packet
+        requires { IsPacket fields }
+        ensures { result ≡ fields }
+    {
+        let kept = Kept {
+            seq: fields.seq,
+            ack: fields.ack,
+            window: fields.window,
+            len: fields.len,
+            proto: fields.proto,
+            src: PackedEnd::of(fields.src),
+            dst: PackedEnd::of(fields.dst),
+            flags: fields.flags,
+            scale: fields.scale,
+        };
+        Packet { kept }
     }
 
     /// The packet on its way back: its ends are exchanged. A node that it goes through in the other direction finds the
@@ -81,12 +116,12 @@ impl Packet {
         ensures packet { result ≡ exchanged self.now }
         ensures flow { (dir : Dir) → key_of result (other_dir dir) ≡ key_of self.now dir }
     {
-        let PacketFields { src, dst, .. } = self.fields;
+        let Kept { src, dst, .. } = self.kept;
         Packet {
-            fields: PacketFields {
+            kept: Kept {
                 src: dst,
                 dst: src,
-                ..self.fields
+                ..self.kept
             },
         }
     }
@@ -104,64 +139,84 @@ impl Packet {
         ensures fields { result ≡ self.now }
         ensures packet { IsPacket result }
     {
-        let Packet { fields } = *self;
-        fields
+        let Kept {
+            seq,
+            ack,
+            window,
+            len,
+            proto,
+            src,
+            dst,
+            flags,
+            scale,
+        } = self.kept;
+        PacketFields {
+            seq,
+            ack,
+            window,
+            len,
+            proto,
+            src: src.end(),
+            dst: dst.end(),
+            flags,
+            scale,
+        }
     }
 
     /// The protocol.
     pub fn proto(&self) -> Proto
         ensures { result ≡ self.now.proto }
     {
-        self.fields.proto
+        self.kept.proto
     }
 
     /// The end that sent the packet.
     pub fn src(&self) -> End
         ensures { result ≡ self.now.src }
     {
-        self.fields.src
+        self.kept.src.end()
     }
 
     /// The end that the packet goes to.
     pub fn dst(&self) -> End
         ensures { result ≡ self.now.dst }
     {
-        self.fields.dst
+        self.kept.dst.end()
     }
 
     /// The flags of TCP.
     pub fn flags(&self) -> TcpFlags
         ensures { result ≡ self.now.flags }
     {
-        self.fields.flags
+        self.kept.flags
     }
 
     /// The sequence number of TCP.
     pub fn seq(&self) -> u32
         ensures { result ≡ self.now.seq }
     {
-        self.fields.seq
+        self.kept.seq
     }
 
     /// The acknowledgment number of TCP.
     pub fn ack(&self) -> u32
         ensures { result ≡ self.now.ack }
     {
-        self.fields.ack
+        self.kept.ack
     }
 
     /// The window as it stands in the header, before scaling.
     pub fn window(&self) -> u16
         ensures { result ≡ self.now.window }
     {
-        self.fields.window
+        self.kept.window
     }
 
     /// Bytes behind the TCP header, or behind the IP header.
     pub fn len(&self) -> u16
         ensures { result ≡ self.now.len }
     {
-        self.fields.len
+        self.kept.len
     }
 
     /// The window scale option (RFC 7323), at most 14.
@@ -169,6 +224,6 @@ impl Packet {
         ensures scale { result ≡ self.now.scale }
         ensures range { IfSome result (λ s. s ≤ 14) }
     {
-        self.fields.scale
+        self.kept.scale
     }
 }

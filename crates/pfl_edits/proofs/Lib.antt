@@ -2,6 +2,8 @@ pub mod Setting
 pub mod Sorted
 pub mod Undone
 pub mod Taped
+pub mod Turns
+pub mod Levels
 pub mod Leading
 pub mod Linking
 pub mod Maps

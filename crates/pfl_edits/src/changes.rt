@@ -2,7 +2,6 @@
 ghost use Rattle.std.specs.Prelude.{◌≡◌, ℕ, ◌+◌, ◌<◌, ◌≤◌, List, [], ◌∷◌, ◌++◌, length, OnOk, OnErr, IfOk, IsOk, IsTrue, ◌↔◌, MatchOption};
 ghost use Rattle.pfl_edits.specs.Changes.{Edits};
 
-use crate::in_order::InOrder;
 use crate::no_memory::NoMemory;
 use std::alloc::Allocator;
 use std::marker::Model;
@@ -75,18 +74,6 @@ impl<E, A: Allocator> Change<E, A> {
         self.edits.push(edit).unwrap();
     }
 
-    /// Appends the edits of another change, in room that was made.
-    pub(crate) fn append(&mut self, later: Self)
-        requires room { length later.list ≤ self.old.spare }
-        ensures list { self.new.list ≡ self.old.list ++ later.list }
-        ensures spare { self.new.spare + length later.list ≡ self.old.spare }
-    {
-        let mut edits = later.into_edits();
-        self.spare -= edits.len();
-        self.edits.append(&mut edits).unwrap();
-        edits.destroy_empty();
-    }
-
     /// How many edits there are.
     pub fn len(&self) -> usize
         ensures length { result ≡ length self.now.list }
@@ -99,13 +86,6 @@ impl<E, A: Allocator> Change<E, A> {
         ensures none { IsTrue result ↔ (self.now.list ≡ []) }
     {
         self.edits.is_empty()
-    }
-
-    /// The edits, the oldest first.
-    pub fn edits(&self) -> InOrder<'_, E>
-        ensures edits { result ≡ self.now.list }
-    {
-        InOrder::of(&self.edits)
     }
 
     /// Takes the newest edit out, if there is one. The room that it had is given back.

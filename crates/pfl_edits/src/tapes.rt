@@ -4,51 +4,68 @@ ghost use Rattle.pfl_edits.specs.Changes.{back, Fits};
 ghost use Rattle.pfl_edits.specs.Tapes.{above, below};
 
 use crate::changes::Change;
-use crate::in_order::InOrder;
 use crate::no_memory::NoMemory;
+use crate::packed::{Copied, Packed, Packing};
 use crate::reversible::Reversible;
 use std::alloc::Allocator;
 use std::marker::Model;
 
 /// The edits of one value over many events, the oldest first, and room for `spare` more.
 ///
-/// A mark is the length that the tape had before an event: `undo_to` takes back what was recorded since.
+/// A mark is the length that the tape had before an event: `undo_to` takes back what was recorded since. Small edits are kept
+/// in few bytes and those of middle size in some more, so that a long tape of them takes little memory.
 #[derive(Drop)]
-pub struct Tape<E, A: Allocator> {
-    edits: Change<E, A>,
+pub struct Tape<E: Packed, A: Allocator> {
+    /// Of each edit, whether it is small.
+    turns: Vec<bool, A>,
+    small: Vec<E::Small, A>,
+    /// Of each edit that is not small, whether it is of middle size.
+    larger_turns: Vec<bool, A>,
+    middle: Vec<E::Middle, A>,
+    large: Vec<E, A>,
+    spare: usize,
 }
 
-impl<E, A: Allocator> Model for Tape<E, A> {
+impl<E: Packed, A: Allocator> Model for Tape<E, A> {
+    ghost use Rattle.std.specs.Prelude.{◌+◌, ◌≤◌, vec_len, vec_capacity};
     ghost use Rattle.pfl_edits.specs.Tapes.{Taped};
+    ghost use Rattle.pfl_edits.specs.inner.Tapes.{all_edits, HaveTurns};
 
     ghost Value = { Taped E };
 
-    ghost view = { λ t. record { list = t.edits.list; spare = t.edits.spare } };
+    ghost view = { λ t.
+        let larger = all_edits E.whole_middle t.larger_turns.items t.middle.items t.large.items in
+        record { list = all_edits E.whole_small t.turns.items t.small.items larger; spare = t.spare } };
+
+    ghost invariant = { λ t. HaveTurns t.turns.items t.small.items (all_edits E.whole_middle t.larger_turns.items t.middle.items t.large.items)
+        × HaveTurns t.larger_turns.items t.middle.items t.large.items
+        × (vec_len t.turns + t.spare ≤ vec_capacity t.turns)
+        × (vec_len t.small + t.spare ≤ vec_capacity t.small)
+        × (vec_len t.larger_turns + t.spare ≤ vec_capacity t.larger_turns)
+        × (vec_len t.middle + t.spare ≤ vec_capacity t.middle)
+        × (vec_len t.large + t.spare ≤ vec_capacity t.large) };
 }
 
-impl<E, A: Allocator> Tape<E, A> {
+impl<E: Packed, A: Allocator + Copy> Tape<E, A> {
     /// A tape without edits, which takes no memory yet.
     pub fn new(alloc: A) -> Self
         ensures list { result.list ≡ [] }
         ensures spare { result.spare ≡ 0 }
     {
         Tape {
-            edits: Change::new(alloc),
+            turns: Vec::new(alloc),
+            small: Vec::new(alloc),
+            larger_turns: Vec::new(alloc),
+            middle: Vec::new(alloc),
+            large: Vec::new(alloc),
+            spare: 0,
         }
     }
+}
 
-    /// A tape without edits, with room for `n`.
-    pub fn with_room(alloc: A, n: usize) -> Result<Self, NoMemory>
-        ensures list { IfOk result (λ t. t.list ≡ []) }
-        ensures spare { IfOk result (λ t. t.spare ≡ n) }
-    {
-        Ok(Tape {
-            edits: Change::with_room(alloc, n)?,
-        })
-    }
-
-    /// Makes room for `n` more edits. Where the memory has to grow it grows by a share of what it is, so that a long tape is
-    /// not moved at every event.
+impl<E: Packed, A: Allocator> Tape<E, A> {
+    /// Makes room for `n` more edits, whether they are small or not. Where the memory has to grow it grows by a share of what
+    /// it is, so that a long tape is not moved at every event.
     pub fn reserve(&mut self, n: usize) -> Result<(), NoMemory>
         ensures list { self.new.list ≡ self.old.list }
         ensures room { OnOk result (n ≤ self.new.spare) }
@@ -56,7 +73,15 @@ impl<E, A: Allocator> Tape<E, A> {
         ensures enough { n ≤ self.old.spare → IsOk result }
         ensures unchanged { OnErr result (self.new ≡ self.old) }
     {
-        self.edits.reserve(n)
+        self.turns.reserve(n)?;
+        self.small.reserve(n)?;
+        self.larger_turns.reserve(n)?;
+        self.middle.reserve(n)?;
+        self.large.reserve(n)?;
+        if self.spare < n {
+            self.spare = n;
+        }
+        Ok(())
     }
 
     /// Appends an edit, in room that was made.
@@ -65,7 +90,23 @@ impl<E, A: Allocator> Tape<E, A> {
         ensures list { self.new.list ≡ self.old.list ++ edit ∷ [] }
         ensures spare { self.new.spare + 1 ≡ self.old.spare }
     {
-        self.edits.push(edit);
+        self.spare -= 1;
+        match edit.pack() {
+            Packing::Small(small) => {
+                self.turns.push(true).unwrap();
+                self.small.push(small).unwrap();
+            }
+            Packing::Middle(middle) => {
+                self.turns.push(false).unwrap();
+                self.larger_turns.push(true).unwrap();
+                self.middle.push(middle).unwrap();
+            }
+            Packing::Large(large) => {
+                self.turns.push(false).unwrap();
+                self.larger_turns.push(false).unwrap();
+                self.large.push(large).unwrap();
+            }
+        }
     }
 
     /// Appends the edits of a change, in room that was made.
@@ -74,40 +115,79 @@ impl<E, A: Allocator> Tape<E, A> {
         ensures list { self.new.list ≡ self.old.list ++ change.list }
         ensures spare { self.new.spare + length change.list ≡ self.old.spare }
     {
-        self.edits.append(change);
+        let mut edits = change.into_edits().into_iter();
+        while let Some(edit) = edits.next() {
+            self.push(edit);
+        }
+        edits.destroy_empty();
     }
 
     /// How many edits there are.
     pub fn len(&self) -> usize
         ensures length { result ≡ length self.now.list }
     {
-        self.edits.len()
+        self.turns.len()
     }
 
-    /// The edits, the oldest first.
-    pub fn edits(&self) -> InOrder<'_, E>
-        ensures edits { result ≡ self.now.list }
-    {
-        self.edits.edits()
-    }
-
-    /// Takes the newest edit out, if there is one. The room that it had is given back.
+    /// Takes the newest edit out, if there is one. No room is lost.
     fn pop(&mut self) -> Option<E>
         ensures edit { MatchOption result ((self.old.list ≡ []) × (self.new ≡ self.old)) (λ edit. self.old.list ≡ self.new.list ++ edit ∷ []) }
-        ensures room { self.new.spare + length self.new.list ≡ self.old.spare + length self.old.list }
+        ensures room { self.new.spare ≡ self.old.spare }
     {
-        self.edits.pop()
+        let is_small = self.turns.pop()?;
+        if is_small {
+            Some(E::unpack_small(self.small.pop().unwrap()))
+        } else if self.larger_turns.pop().unwrap() {
+            Some(E::unpack_middle(self.middle.pop().unwrap()))
+        } else {
+            Some(self.large.pop().unwrap())
+        }
     }
 }
 
-/// Takes the edits above the mark back, the newest first, and shortens the tape to the mark, without memory. The room that
-/// they had is given back.
-pub fn undo_to<T: Reversible, A: Allocator>(value: &mut T, tape: &mut Tape<T::Edit, A>, mark: usize)
+impl<E: Packed + Copied + Drop, A: Allocator + Copy> Tape<E, A> {
+    /// A tape of equal edits, in memory of its own.
+    pub fn copy(&self, alloc: A) -> Result<Self, NoMemory>
+        ensures same { IfOk result (λ copied. copied.list ≡ self.now.list) }
+    {
+        let turns = Vec::from_slice(alloc, &self.turns)?;
+        let small = Vec::from_slice(alloc, &self.small)?;
+        let larger_turns = Vec::from_slice(alloc, &self.larger_turns)?;
+        let middle = Vec::from_slice(alloc, &self.middle)?;
+        let large = copy_all(alloc, &self.large)?;
+        Ok(Tape {
+            turns,
+            small,
+            larger_turns,
+            middle,
+            large,
+            spare: 0,
+        })
+    }
+}
+
+/// Equal values, in memory of their own.
+fn copy_all<X: Copied + Drop, A: Allocator>(alloc: A, values: &[X]) -> Result<Vec<X, A>, NoMemory>
+    ensures same { IfOk result (λ copied. copied.items ≡ values.now) }
+{
+    let mut copied = Vec::with_capacity(alloc, values.len())?;
+    for value in values {
+        copied.push(value.copied()?).unwrap();
+    }
+    Ok(copied)
+}
+
+/// Takes the edits above the mark back, the newest first, and shortens the tape to the mark, without memory. No room is lost.
+pub fn undo_to<T: Reversible<Edit: Packed>, A: Allocator>(
+    value: &mut T,
+    tape: &mut Tape<T::Edit, A>,
+    mark: usize,
+)
     requires within { mark ≤ length tape.old.list }
     requires fits { Fits T.finds T.allows T.put_back (above mark tape.old.list) value.old }
     ensures value { value.new ≡ back T.put_back (above mark tape.old.list) value.old }
     ensures list { tape.new.list ≡ below mark tape.old.list }
-    ensures room { tape.new.spare + length tape.new.list ≡ tape.old.spare + length tape.old.list }
+    ensures room { tape.new.spare ≡ tape.old.spare }
 {
     while tape.len() > mark {
         if let Some(edit) = tape.pop() {

@@ -4,8 +4,8 @@ ghost use Rattle.std.specs.Prelude.{◌≡◌, ◌⊎◌, length, map, IfOk, IfE
 ghost use Rattle.pfl_run.specs.declared.fault.LabFault.TheVariants as fault;
 
 use pfl_base::Std;
+use pfl_reader::LineReader;
 use pfl_run::LabFault;
-use pfl_script::LineReader;
 use pfl_serve::Seat;
 use pfl_session::Pass;
 use std::alloc::Allocator;

@@ -11,8 +11,9 @@ ghost use Rattle.pfl_host.specs.Serves.{closed_text, listening_text, ClosesTold,
 use crate::network::{accept_all, listen};
 use crate::served::serve_streams;
 use pfl_base::{Input, Output};
+use pfl_reader::LineReader;
 use pfl_run::{LabFault, set_up, tell};
-use pfl_script::{EngineFault, LineReader, ShortLine, plain_line, push_number, write_text};
+use pfl_script::{EngineFault, ShortLine, plain_line, push_number, write_text};
 use pfl_serve::Gate;
 use pfl_session::Opened;
 use pfl_timeline::Timeline;

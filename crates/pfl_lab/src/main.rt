@@ -6,8 +6,8 @@ ghost use Rattle.std.specs.Prelude.{◌≡◌};
 
 use pfl_base::Std;
 use pfl_host::obey;
+use pfl_reader::LineReader;
 use pfl_run::{LabFault, tell};
-use pfl_script::LineReader;
 use pfl_serve::Open;
 use std::env;
 use std::io::{self, ErrorKind};

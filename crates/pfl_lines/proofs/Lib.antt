@@ -1,3 +1,4 @@
+pub mod Commanded
 pub mod Values
 pub mod Fronts
 pub mod Timeouts

@@ -9,7 +9,7 @@ use Rattle.pfl_edits.proofs.ForCallers.{LeadsBack-none}
 use Rattle.pfl_queue.specs.Queues.{most_numbers}
 use Rattle.pfl_language.specs.declared.limits.Limits.{Limits}
 use Rattle.pfl_parts.specs.declared.edit.NodeEdit.{NodeEdit}
-use Rattle.pfl_parts.specs.declared.edit.NodeEdit.TheVariants.{OfState, OfQueue, OfHeld, Server, Client, Clock, NextId, Push, Count}
+use Rattle.pfl_parts.specs.declared.edit.NodeEdit.TheVariants.{OfState, Moved, OfQueue, OfHeld, Server, Client, Clock, NextId, Push, Count}
 use Rattle.pfl_parts.specs.declared.parts.judge.Overfull.{Overfull}
 use Rattle.pfl_parts.specs.Edits.{Finds, put_back, NodeExtends, NodeLeadsBack, total}
 use Rattle.pfl_parts.specs.inner.Judging.{Went, judgement}
@@ -63,6 +63,7 @@ recorded-fits k l a b x y ready extends = (recorded-back k l a b x y ready exten
 
 put_back-limits : (e : NodeEdit) (n : Node) → (put_back e n).limits ≡ n.limits
 put_back-limits (OfState e) n = refl
+put_back-limits (Moved e) n = refl
 put_back-limits (OfQueue e) n = refl
 put_back-limits (OfHeld e) n = refl
 put_back-limits (Server before after) n = refl

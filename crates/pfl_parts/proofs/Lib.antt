@@ -6,6 +6,7 @@ pub mod NewNodes
 pub mod Telling
 pub mod Putting
 pub mod Recording
+pub mod Replacing
 pub mod Deletions
 pub mod Settling
 pub mod Taking

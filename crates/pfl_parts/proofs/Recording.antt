@@ -21,7 +21,7 @@ use Rattle.pfl_defer.proofs.ForCallers.{let_go-keeps, kept_stood}
 use Rattle.pfl_parts.specs.declared.edit.Counter.{Counter}
 use Rattle.pfl_parts.specs.declared.edit.Counter.TheVariants.{Passed, Blocked, Freed, Lost, Bad, Stale, Broken}
 use Rattle.pfl_parts.specs.declared.edit.NodeEdit.{NodeEdit}
-use Rattle.pfl_parts.specs.declared.edit.NodeEdit.TheVariants.{OfState, OfQueue, OfHeld, Server, Client, Clock, NextId, Push, Count}
+use Rattle.pfl_parts.specs.declared.edit.NodeEdit.TheVariants.{OfState, Moved, OfQueue, OfHeld, Server, Client, Clock, NextId, Push, Count}
 use Rattle.pfl_parts.specs.Changes.{without_held, mark}
 use Rattle.pfl_parts.specs.Edits.{Finds, FindsFormer, put_back, redone, NodeExtends, total, count_of}
 use Rattle.pfl_parts.specs.inner.BothWays.{edit-both_ways}
@@ -68,6 +68,7 @@ CountsOne _ = Unit {0}
 total-redone : (n : Node) (e : NodeEdit) → FindsFormer e n → CountsOne e → total (redone e n) ≤ total n + 1
 unfolding total
 total-redone n (OfState e) f h = omega arith
+total-redone n (Moved e) f h = omega arith
 total-redone n (OfQueue (OfMark name before after next_before next_after)) f h = let now = f.0.1 in omega arith
 total-redone n (OfQueue (OfName name before after)) f h = omega arith
 total-redone n (OfQueue (OfRequest position before after)) f h = omega arith

@@ -9,7 +9,7 @@ use Rattle.pfl_edits.specs.Changes.{Edits, Fits, LeadsBack, back}
 use Rattle.pfl_queue.specs.declared.edits.QueueEdit.TheVariants.{OfMark, OfName, OfRequest, OfStatus, OfClear}
 use Rattle.pfl_parts.specs.declared.edit.Counter.TheVariants.{Passed, Blocked, Freed, Lost, Bad, Stale, Broken}
 use Rattle.pfl_parts.specs.declared.edit.NodeEdit.{NodeEdit}
-use Rattle.pfl_parts.specs.declared.edit.NodeEdit.TheVariants.{OfState, OfQueue, OfHeld, Server, Client, Clock, NextId, Push, Count}
+use Rattle.pfl_parts.specs.declared.edit.NodeEdit.TheVariants.{OfState, Moved, OfQueue, OfHeld, Server, Client, Clock, NextId, Push, Count}
 use Rattle.pfl_parts.specs.declared.parts.judge.Overfull.{Overfull}
 use Rattle.pfl_parts.specs.Edits.{Finds, put_back, NodeLeadsBack}
 use Rattle.pfl_parts.specs.inner.Judging.{Went, judgement}
@@ -21,6 +21,7 @@ use Rattle.pfl_parts.proofs.Keeps.{counted_all, all_counted}
 -- what is put back is not past the greatest, where nothing was
 stays : (e : NodeEdit) (n : Node) → Finds e n → is_overcounted n ≡ false → is_overcounted (put_back e n) ≡ false
 stays (OfState e) n f c = c
+stays (Moved e) n f c = c
 stays (OfQueue (OfMark name before after next_before next_after)) n f c =
     let k = counted_all n c in
     all_counted (put_back (OfQueue (OfMark name before after next_before next_after)) n) (record { next_id = k.next_id; next = f.1 (subst (λ i. i ≤ greatest) f.0.1 k.next); passed = k.passed; blocked = k.blocked; freed = k.freed; lost = k.lost; bad = k.bad; stale = k.stale; broken = k.broken })

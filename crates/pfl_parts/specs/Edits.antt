@@ -1,9 +1,14 @@
 -- The edits of a node: each names one place, its former value and its new one (this project's profile).
-use Rattle.std.specs.Prelude.{◌≡◌, ◌≤◌, ℕ, ◌+◌, List, length}
+use Rattle.std.specs.Prelude.{◌≡◌, ◌≤◌, ℕ, ◌+◌, List, length, Some}
+use Rattle.std.specs.Option.{option_map}
+use Rattle.pfl_base.specs.declared.state_name.StateName.{StateName}
 use Rattle.pfl_base.specs.Numbers.{greatest}
 use Rattle.pfl_edits.specs.Changes.{Edits, LeadsBack}
 use Rattle.pfl_edits.specs.Maps as maps
 use Rattle.pfl_edits.specs.Maps.{set_at}
+use Rattle.pfl_track.specs.declared.motion.Motion.{Motion}
+use Rattle.pfl_track.specs.Motions.{motion, with_motion}
+use Rattle.pfl_table.specs.Tables.{States}
 use Rattle.pfl_queue.specs.Edits as queues
 use Rattle.pfl_queue.specs.declared.edits.QueueEdit.{QueueEdit}
 use Rattle.pfl_queue.specs.declared.edits.QueueEdit.TheVariants.{OfMark}
@@ -12,7 +17,7 @@ use Rattle.pfl_parts.specs.declared.counters.Counters.{Counters}
 use Rattle.pfl_parts.specs.declared.edit.Counter.{Counter}
 use Rattle.pfl_parts.specs.declared.edit.Counter.TheVariants.{Passed, Blocked, Freed, Lost, Bad, Stale, Broken}
 use Rattle.pfl_parts.specs.declared.edit.NodeEdit.{NodeEdit}
-use Rattle.pfl_parts.specs.declared.edit.NodeEdit.TheVariants.{OfState, OfQueue, OfHeld, Server, Client, Clock, NextId, Push, Count}
+use Rattle.pfl_parts.specs.declared.edit.NodeEdit.TheVariants.{OfState, Moved, OfQueue, OfHeld, Server, Client, Clock, NextId, Push, Count}
 use Rattle.pfl_parts.specs.Nodes.{Node, AreParts, IsNode}
 
 -- a number of the counters
@@ -35,6 +40,10 @@ with_count Bad c n = record c { bad = n }
 with_count Stale c n = record c { stale = n }
 with_count Broken c n = record c { broken = n }
 
+-- the states with the one of this name moved so, if there is one
+abbrev pub moved_at : States → StateName → Motion → States
+moved_at m name to = set_at m name (option_map (with_motion to) (maps.get m name))
+
 -- A number that is put back is past the greatest only where the one in its place is: so what an event counted that was not refused
 -- is undone through nodes alone.
 abbrev pub Stays : ℕ → ℕ → Type 0
@@ -48,6 +57,7 @@ NextStays _ = Unit {0}
 -- the edit's new value is in its place
 abbrev pub Finds : NodeEdit → Node → Type 0
 Finds (OfState e) n = maps.get n.states e.name ≡ e.after
+Finds (Moved e) n = option_map motion (maps.get n.states e.name) ≡ Some e.after
 Finds (OfQueue e) n = queues.Finds e n.queue × NextStays e
 Finds (OfHeld e) n = deferrals.Finds e n.held
 Finds (Server before after) n = n.server ≡ after
@@ -60,6 +70,7 @@ Finds (Count counter before after) n = (count_of counter n.counters ≡ after) �
 -- its former value is
 abbrev pub FindsFormer : NodeEdit → Node → Type 0
 FindsFormer (OfState e) n = maps.get n.states e.name ≡ e.before
+FindsFormer (Moved e) n = option_map motion (maps.get n.states e.name) ≡ Some e.before
 FindsFormer (OfQueue e) n = queues.FindsFormer e n.queue × NextStays e
 FindsFormer (OfHeld e) n = deferrals.FindsFormer e n.held
 FindsFormer (Server before after) n = n.server ≡ before
@@ -72,6 +83,7 @@ FindsFormer (Count counter before after) n = (count_of counter n.counters ≡ be
 -- the node with the former value in the place
 abbrev pub put_back : NodeEdit → Node → Node
 put_back (OfState e) n = record n { states = set_at n.states e.name e.before }
+put_back (Moved e) n = record n { states = moved_at n.states e.name e.before }
 put_back (OfQueue e) n = record n { queue = queues.put_back e n.queue }
 put_back (OfHeld e) n = record n { held = deferrals.put_back e n.held }
 put_back (Server before after) n = record n { server = before }
@@ -84,6 +96,7 @@ put_back (Count counter before after) n = record n { counters = with_count count
 -- the node with the new value in the place
 abbrev pub redone : NodeEdit → Node → Node
 redone (OfState e) n = record n { states = set_at n.states e.name e.after }
+redone (Moved e) n = record n { states = moved_at n.states e.name e.after }
 redone (OfQueue e) n = record n { queue = queues.redone e n.queue }
 redone (OfHeld e) n = record n { held = deferrals.redone e n.held }
 redone (Server before after) n = record n { server = after }

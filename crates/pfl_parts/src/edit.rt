@@ -4,7 +4,7 @@ use pfl_base::{Millis, StateName};
 use pfl_bulk::{BulkClient, BulkServer};
 use pfl_defer::DeferEdit;
 use pfl_queue::QueueEdit;
-use pfl_track::State;
+use pfl_track::{Motion, State};
 
 /// What stands under a name among the states of a node. When a state expires follows from the rules.
 #[derive(Clone, Copy, Debug)]
@@ -12,6 +12,14 @@ pub struct StateEdit {
     pub name: StateName,
     pub before: Option<State>,
     pub after: Option<State>,
+}
+
+/// What packets move of the state of a name, which stays.
+#[derive(Clone, Copy, Debug)]
+pub struct MotionEdit {
+    pub name: StateName,
+    pub before: Motion,
+    pub after: Motion,
 }
 
 /// Which number of a node's counters.
@@ -30,6 +38,7 @@ pub enum Counter {
 #[derive(Clone, Copy, Debug)]
 pub enum NodeEdit {
     OfState(StateEdit),
+    Moved(MotionEdit),
     OfQueue(QueueEdit),
     OfHeld(DeferEdit),
     Server {

@@ -7,7 +7,7 @@ mod laws;
 mod parts;
 
 pub use counters::Counters;
-pub use edit::{Counter, NodeEdit, StateEdit};
+pub use edit::{Counter, MotionEdit, NodeEdit, StateEdit};
 pub use laws::new_nodes_are_nodes;
 pub use parts::Parts;
 pub use parts::judge::{Overfull, any, conclude, settle};

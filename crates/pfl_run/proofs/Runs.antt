@@ -7,7 +7,8 @@ use Rattle.pfl_timeline.specs.Timelines.{Timeline}
 use Rattle.pfl_script.specs.declared.fault.EngineFault.{EngineFault}
 use Rattle.pfl_script.specs.declared.fault.EngineFault.TheVariants as engine
 use Rattle.pfl_script.specs.Answers.{RunsPart}
-use Rattle.pfl_script.specs.Readers.{Source, IsRunFault}
+use Rattle.pfl_reader.specs.Readers.{Source}
+use Rattle.pfl_script.specs.Readers.{IsRunFault}
 use Rattle.pfl_run.specs.Faults.{of_engine}
 use Rattle.pfl_run.specs.Runs.{IsDeviceFault, IsStop, IsTold, SetsUp}
 

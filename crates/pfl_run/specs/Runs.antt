@@ -7,7 +7,7 @@ use Rattle.pfl_language.specs.declared.limits.Limits.{Limits}
 use Rattle.pfl_world.specs.declared.fault.WorldFault.{WorldFault}
 use Rattle.pfl_world.specs.Worlds.{new_world, world_fault}
 use Rattle.pfl_timeline.specs.Timelines.{Timeline, new_timeline}
-use Rattle.pfl_script.specs.Readers.{Source}
+use Rattle.pfl_reader.specs.Readers.{Source}
 use Rattle.pfl_script.specs.Answers.{RunsWhole, RunsPart}
 use Rattle.pfl_script.specs.Setups.{IsFaultyAt, IsUnopened, HasRuleFault, ReadsSetupTo}
 use Rattle.pfl_run.specs.declared.fault.LabFault.{LabFault}

@@ -8,7 +8,8 @@ ghost use Rattle.pfl_run.specs.inner.Runs.{IsLimitsStop};
 use crate::fault::LabFault;
 use pfl_base::Input;
 use pfl_language::{LimitFault, Limits};
-use pfl_script::{LineReader, Setup, read_setup};
+use pfl_reader::LineReader;
+use pfl_script::{Setup, read_setup};
 use pfl_world::WorldFault;
 use std::alloc::Allocator;
 
@@ -32,7 +33,7 @@ pub fn read_opening<A: Allocator + Copy, R: Input>(
 ) -> Result<Setup<A>, LabFault>
     requires fresh { reader.old.lines ≡ 0 }
     ensures setup { IfOk result (λ s. IsSetup reader.old.left reader.new.left reader.new.lines s.limits s.rules_a s.rules_b) }
-    ensures few_lines { OnOk result (reader.new.lines ≤ 2 ^ 40) }
+    ensures few_lines { OnOk result (reader.new.lines ≤ 2 ^ 41) }
     ensures stop { IfErr result (λ fault. IsSetupStop fault reader.old.left) }
     ensures device { IfErr result (λ fault. IsDeviceFault fault reader.new false) }
 {

@@ -3,12 +3,10 @@ use Rattle.std.proofs.Common.{◌≡◌, ℕ, ◌+◌, ◌≤◌, Bool, true, fa
 use Rattle.std.specs.Prelude.{not, ◌&&◌, is_err}
 use Rattle.std.specs.Io.KnownBytes.{Appends}
 use Rattle.std.proofs.lemmas.List.{append-nil}
-use Rattle.pfl_script.specs.Scans.{Kept, Keeps, ReadsLine, TakesLines, IsOver, has_word}
-use Rattle.pfl_script.specs.Answers.{is_command, kept_bad, kept_command, kept_said, bad_lines, one_if}
-use Rattle.pfl_script.specs.Checks.{line_told, kept_told, lines_told, good_lines, good_text, ChecksWhole, ChecksPart, ChecksUncounted, ChecksUntil}
-use Rattle.pfl_script.specs.declared.fault.EngineFault.{EngineFault}
-use Rattle.pfl_script.specs.declared.fault.EngineFault.TheVariants as engine
-use Rattle.pfl_script.specs.Readers.{Source, IsReadFault}
+use Rattle.pfl_reader.specs.Scans.{Kept, Keeps, ReadsLine, TakesLines, IsOver, has_word}
+use Rattle.pfl_reader.specs.Saids.{kept_said}
+use Rattle.pfl_script.specs.Answers.{is_command, kept_bad, kept_command, bad_lines, one_if}
+use Rattle.pfl_script.specs.Checks.{line_told, kept_told, lines_told, good_lines, good_text, ChecksWhole, ChecksPart, ChecksUncounted}
 use Rattle.pfl_script.proofs.Pieces.{appends_none, appends_then}
 use Rattle.pfl_script.proofs.Running.{said-kept, bad-kept, command-kept, bad_lines-push, taken-none, taken-line, taken-first, taken-all, taken-drained}
 
@@ -110,16 +108,6 @@ Went-cut old mid new m n w v x good bad part k went reads appends =
       part = part;
       written = appends_then w v x (lines_told m lines) _ went.written (subst (λ (s : List ℕ). Appends v x (take part s)) told appends);
     }
-
--- no further line came, for this reason
-pub checks-read : (e : EngineFault) (r : Source) (old mid new : Option (List ℕ)) (m n : ℕ) (w v : Option (List ℕ)) (good bad : ℕ) →
-    Went old mid m n w v good bad → IsReadFault e r → ChecksUntil e old new m w v
-checks-read engine.Read r old mid new m n w v good bad went why =
-    record { lines = went.lines; first = taken-first old mid went.lines went.left; written = went.written }
-checks-read engine.TooManyTurns r old mid new m n w v good bad went why =
-    record { lines = went.lines; first = taken-first old mid went.lines went.left; written = went.written }
-checks-read engine.Write r old mid new m n w v good bad went why = absurd why
-checks-read engine.NoMemory r old mid new m n w v good bad went why = absurd why
 
 -- a line is a command or a faulty one, or neither
 kinds : (word faulty : Bool) → one_if (word && not faulty) + one_if (word && faulty) ≤ 1

@@ -1,11 +1,8 @@
-pub mod Keeping
-pub mod Taking
 pub mod Pieces
 pub mod Running
 pub mod CheckedLines
 pub mod Lists
 pub mod Logging
 pub mod Setting
-pub mod Turns
-pub mod Scans
 pub mod ForCallers
+pub mod Showing

@@ -5,13 +5,17 @@ use Rattle.std.proofs.lemmas.Bool.{lt-ltb, le-ltb, cases_lt}
 use Rattle.std.proofs.lemmas.List.{append-nil, take_all}
 use Rattle.pfl_lines.specs.Commands.{parsed}
 use Rattle.pfl_timeline.specs.Timelines.{Timeline}
-use Rattle.pfl_script.specs.Lines.{lines_of}
-use Rattle.pfl_script.specs.Scans.{Kept, Keeps, ReadsLine, TakesLine, TakesLines, IsOver}
-use Rattle.pfl_script.specs.Answers.{Answer, line_answer, is_bad, is_command, kept_answer, kept_bad, kept_command, kept_said, text, timeline_after, bad_lines, one_if, IsAfter, AreLines, AreFirst, Drains, RunsWhole, RunsPart, RunsLines, RunsUnanswered, RunsUntil}
+use Rattle.pfl_reader.specs.Lines.{lines_of}
+use Rattle.pfl_reader.specs.Scans.{Kept, Keeps, ReadsLine, TakesLine, TakesLines, IsOver}
+use Rattle.pfl_reader.specs.Saids.{kept_said}
+use Rattle.pfl_script.specs.Answers.{Answer, line_answer, is_bad, is_command, kept_answer, kept_bad, kept_command, text, timeline_after, bad_lines, one_if, IsAfter, AreLines, AreFirst, Drains, RunsWhole, RunsPart, RunsLines, RunsUnanswered, RunsUntil}
 use Rattle.pfl_script.specs.inner.Answers.{Breaks}
 use Rattle.pfl_script.specs.declared.fault.EngineFault.{EngineFault}
 use Rattle.pfl_script.specs.declared.fault.EngineFault.TheVariants as engine
-use Rattle.pfl_script.specs.Readers.{Source, IsReadFault, IsWriteFault}
+use Rattle.pfl_reader.specs.Readers.{Source, IsReadFault}
+use Rattle.pfl_reader.specs.declared.fault.ReadFault.{ReadFault}
+use Rattle.pfl_reader.specs.declared.fault.ReadFault.TheVariants as read
+use Rattle.pfl_script.specs.Readers.{IsRunFault, IsWriteFault, of_read}
 use Rattle.pfl_script.proofs.Pieces.{appends_none, appends_then}
 
 -- lines were executed so far
@@ -226,12 +230,15 @@ Ran-unanswered old mid new t u s w v x n bad k ran reads command same moved = re
 }
 
 -- no further line came, for this reason
-pub until-read : (e : EngineFault) (r : Source) (old mid new : Option (List ℕ)) (t u : Timeline) (w v : Option (List ℕ)) (n bad : ℕ) →
-    Ran old mid t u w v n bad → IsReadFault e r → RunsUntil e old new t u w v
-until-read engine.Read r old mid new t u w v n bad ran why = Ran-lines old mid t u w v n bad ran
-until-read engine.TooManyTurns r old mid new t u w v n bad ran why = Ran-lines old mid t u w v n bad ran
-until-read engine.Write r old mid new t u w v n bad ran why = absurd why
-until-read engine.NoMemory r old mid new t u w v n bad ran why = absurd why
+pub until-read : (e : ReadFault) (old mid new : Option (List ℕ)) (t u : Timeline) (w v : Option (List ℕ)) (n bad : ℕ) →
+    Ran old mid t u w v n bad → RunsUntil (of_read e) old new t u w v
+until-read read.Read old mid new t u w v n bad ran = Ran-lines old mid t u w v n bad ran
+until-read read.TooManyTurns old mid new t u w v n bad ran = Ran-lines old mid t u w v n bad ran
+
+-- the run stops by what the reader tells
+pub run-read : (e : ReadFault) (new : Source) (failed : Bool) → IsReadFault e new → IsRunFault (of_read e) new failed
+run-read read.Read new failed why = why
+run-read read.TooManyTurns new failed why = why
 
 -- the last line's answer failed, for this reason
 pub until-answer : (e : EngineFault) (failed : Bool) (old mid new : Option (List ℕ)) (t u s : Timeline) (w v x : Option (List ℕ)) (n bad : ℕ) (k : Kept) →

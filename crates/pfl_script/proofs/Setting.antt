@@ -13,13 +13,16 @@ use Rattle.std.proofs.lemmas.List.Sums.{fold-append}
 use Rattle.pfl_lines.specs.declared.fault.LineFault.{LineFault}
 use Rattle.pfl_lines.specs.Setup.{parsed_setup}
 use Rattle.pfl_lines.specs.declared.setup.SetupLine.{SetupLine}
-use Rattle.pfl_script.specs.Scans.{Kept, Keeps, ReadsLine, TakesLines, IsOver, has_word}
-use Rattle.pfl_script.specs.Answers.{kept_setup}
+use Rattle.pfl_reader.specs.Scans.{Kept, Keeps, ReadsLine, TakesLines, IsOver, has_word}
+use Rattle.pfl_reader.specs.Saids.{kept_setup}
 use Rattle.pfl_script.specs.declared.setup_fault.SetupFault.{SetupFault}
 use Rattle.pfl_script.specs.declared.setup_fault.SetupFault.TheVariants as fault
-use Rattle.pfl_script.specs.Readers.{Source}
+use Rattle.pfl_reader.specs.Readers.{Source, IsReadFault}
+use Rattle.pfl_reader.specs.declared.fault.ReadFault.{ReadFault}
+use Rattle.pfl_reader.specs.declared.fault.ReadFault.TheVariants as read
+use Rattle.pfl_script.specs.Readers.{setup_of_read}
 use Rattle.pfl_script.specs.Setups.{is_rule, says_rule, IsSetupFault, Draft, nothing_set, said, kept_words, set_by_said, goes_on, drafted, all_go_on, Opens, IsFaultyAt, IsUnopened, WantsRule, GoOn, StopsAt}
-use Rattle.pfl_script.specs.inner.Setups.{IsTakeFault, IsRuleStop, IsFinishStop, IsReadStop, Takes}
+use Rattle.pfl_script.specs.inner.Setups.{IsTakeFault, IsRuleStop, IsFinishStop, Takes}
 use Rattle.pfl_script.proofs.Running.{taken-none, taken-line, taken-first, taken-all}
 
 -- lines were taken so far that set this
@@ -153,14 +156,15 @@ stops-finished old new n d fault.Read h stop = absurd stop
 stops-finished old new n d fault.TooManyTurns h stop = absurd stop
 stops-finished old new n d fault.NoMemory h stop = (n, inr (record { draft = d; opens = h; faultless = stop }))
 
+-- no line came
+pub stops-read : (e : ReadFault) (old : Option (List ℕ)) (new : Source) → IsReadFault e new → IsSetupFault (setup_of_read e) old new
+stops-read read.Read old new why = why
+stops-read read.TooManyTurns old new why = why
+
 -- so many lines were read where no line came
-pub counts-read : (e : SetupFault) (s : Source) (old mid new : Option (List ℕ)) (n : ℕ) (d : Draft) → Going old mid n d → IsReadStop e s → StopsAt e old new n
-counts-read fault.Read s old mid new n d h stop = Going-first old mid n d h
-counts-read fault.TooManyTurns s old mid new n d h stop = Going-first old mid n d h
-counts-read (fault.Line m why) s old mid new n d h stop = absurd stop
-counts-read (fault.Rule m why) s old mid new n d h stop = absurd stop
-counts-read (fault.NoOpen m) s old mid new n d h stop = absurd stop
-counts-read fault.NoMemory s old mid new n d h stop = absurd stop
+pub counts-read : (e : ReadFault) (old mid new : Option (List ℕ)) (n : ℕ) (d : Draft) → Going old mid n d → StopsAt (setup_of_read e) old new n
+counts-read read.Read old mid new n d h = Going-first old mid n d h
+counts-read read.TooManyTurns old mid new n d h = Going-first old mid n d h
 
 -- so many lines were read where a line was not taken
 pub counts-taken : (e : SetupFault) (old mid new : Option (List ℕ)) (n : ℕ) (d : Draft) (k : Kept) →

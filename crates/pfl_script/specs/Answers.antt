@@ -3,15 +3,11 @@ use Rattle.std.specs.Prelude.{◌≡◌, ◌≤◌, ℕ, ◌+◌, Bool, true, fa
 use Rattle.std.specs.Io.KnownBytes.{Appends}
 use Rattle.pfl_language.specs.declared.command.Command.{Command}
 use Rattle.pfl_lines.specs.declared.fault.LineFault.{LineFault}
-use Rattle.pfl_lines.specs.declared.fault.LineFault.TheVariants.{Long}
 use Rattle.pfl_lines.specs.Commands.{parsed}
-use Rattle.pfl_lines.specs.declared.setup.SetupLine.{SetupLine}
-use Rattle.pfl_lines.specs.Setup.{parsed_setup}
-use Rattle.pfl_lines.specs.declared.session.SessionLine.{SessionLine}
-use Rattle.pfl_lines.specs.Session.{parsed_session}
 use Rattle.pfl_timeline.specs.Timelines.{Timeline}
-use Rattle.pfl_script.specs.Lines.{lines_of}
-use Rattle.pfl_script.specs.Scans.{Kept, head_of, has_word, TakesLines}
+use Rattle.pfl_reader.specs.Lines.{lines_of}
+use Rattle.pfl_reader.specs.Saids.{kept_said}
+use Rattle.pfl_reader.specs.Scans.{Kept, head_of, has_word, TakesLines}
 use Rattle.pfl_script.specs.declared.fault.EngineFault.{EngineFault}
 use Rattle.pfl_script.specs.declared.fault.EngineFault.TheVariants as engine
 use Rattle.pfl_timeline.specs.Commands.{command_step}
@@ -59,18 +55,6 @@ one_if false = 0
 abbrev pub bad_lines : List (List ℕ) → ℕ
 bad_lines [] = 0
 bad_lines (line ∷ lines) = one_if (is_bad line) + bad_lines lines
-
--- what is kept of a line says
-abbrev pub kept_said : Kept → Result Command LineFault
-kept_said k = if k.long then Err Long else parsed k.bytes
-
--- what is kept of a line says as one of a setup
-abbrev pub kept_setup : Kept → Result SetupLine LineFault
-kept_setup k = if k.long then Err Long else parsed_setup k.bytes
-
--- what is kept of a line says to a session
-abbrev pub kept_session : Kept → Result SessionLine LineFault
-kept_session k = if k.long then Err Long else parsed_session k.bytes
 
 -- the answer to a line of which this is kept
 unfoldable pub kept_answer : Kept → Timeline → Answer

@@ -5,9 +5,10 @@ use Rattle.std.specs.Io.KnownBytes.{Appends}
 use Rattle.pfl_language.specs.declared.command.Command.{Command}
 use Rattle.pfl_lines.specs.declared.fault.LineFault.{LineFault}
 use Rattle.pfl_lines.specs.Commands.{parsed}
-use Rattle.pfl_script.specs.Scans.{Kept, head_of, has_word}
+use Rattle.pfl_reader.specs.Saids.{kept_said}
+use Rattle.pfl_reader.specs.Scans.{Kept, head_of, has_word}
 use Rattle.pfl_script.specs.Texts.{bad_text}
-use Rattle.pfl_script.specs.Answers.{is_command, kept_said, one_if, bad_lines, AreLines, AreFirst, Drains}
+use Rattle.pfl_script.specs.Answers.{is_command, one_if, bad_lines, AreLines, AreFirst, Drains}
 use Rattle.pfl_script.specs.declared.fault.EngineFault.{EngineFault}
 use Rattle.pfl_script.specs.declared.fault.EngineFault.TheVariants as engine
 

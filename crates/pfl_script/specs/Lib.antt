@@ -1,5 +1,3 @@
-pub mod Lines
-pub mod Scans
 pub mod Readers
 pub mod Texts
 pub mod Shows

@@ -15,9 +15,11 @@ use Rattle.pfl_lines.specs.declared.setup.SetupLine.TheVariants as setup
 use Rattle.pfl_lines.specs.Setup.{parsed_setup}
 use Rattle.pfl_script.specs.declared.setup_fault.SetupFault.{SetupFault}
 use Rattle.pfl_script.specs.declared.setup_fault.SetupFault.TheVariants as fault
-use Rattle.pfl_script.specs.Scans.{Kept, head_of, has_word, TakesLines}
-use Rattle.pfl_script.specs.Readers.{Source, counted_on}
-use Rattle.pfl_script.specs.Answers.{AreLines, AreFirst, kept_setup}
+use Rattle.pfl_reader.specs.Saids.{kept_setup}
+use Rattle.pfl_reader.specs.Scans.{Kept, head_of, has_word, TakesLines}
+use Rattle.pfl_reader.specs.Readers.{Source}
+use Rattle.pfl_script.specs.Readers.{counted_on}
+use Rattle.pfl_script.specs.Answers.{AreLines, AreFirst}
 
 -- what lines have set: limits, and the rules of either node
 pub record Draft : Type 0 where

@@ -1,19 +1,44 @@
 //! The answer to one line.
 
-ghost use Rattle.std.specs.Prelude.{◌≡◌, true, IfOk, OnOk, OnErr, IfErr};
+ghost use Rattle.std.specs.Prelude.{◌≡◌, ℕ, true, take, IfOk, OnOk, OnErr, IfErr};
 ghost use Rattle.std.specs.Io.KnownBytes.{Appends};
 ghost use Rattle.pfl_script.specs.Answers.{answer_to, kept_answer, kept_bad, kept_command, IsAfter};
 ghost use Rattle.pfl_script.specs.inner.Answers.{Breaks};
 ghost use Rattle.pfl_script.specs.Readers.{IsWriteFault};
+ghost use Rattle.pfl_script.specs.Replies.{reply_text};
+ghost use Rattle.pfl_timeline.specs.Commands.{show_command};
 
 use crate::fault::EngineFault;
-use crate::line::Line;
-use crate::output::{write_reply, write_text};
+use crate::output::{write_reply, write_shown, write_text};
 use crate::replies::fault_line;
 use pfl_base::Output;
-use pfl_language::Command;
-use pfl_timeline::Timeline;
+use pfl_language::{BranchWord, Command};
+use pfl_reader::Line;
+use pfl_timeline::{Reply, Timeline};
 use std::alloc::Allocator;
+
+/// Writes what `show` tells of a branch, from where it stands: no pair is copied.
+fn answer_show<A: Allocator, B: Allocator + Copy, W: Output>(
+    alloc: A,
+    name: &BranchWord,
+    writer: &mut W,
+    timeline: &Timeline<B>,
+) -> Result<(), EngineFault>
+    ensures whole { OnOk result (Appends (W.written writer.old) (W.written writer.new) (reply_text (show_command timeline.now name.now).reply)) }
+    ensures still { (show_command timeline.now name.now).timeline ≡ timeline.now }
+    ensures stays { OnOk result (W.has_failed writer.new ≡ W.has_failed writer.old) }
+    ensures untouched { IfErr result (λ e. e ≡ EngineFault.NoMemory → writer.new ≡ writer.old) }
+    ensures part { OnErr result ((n : ℕ) × Appends (W.written writer.old) (W.written writer.new) (take n (reply_text (show_command timeline.now name.now).reply))) }
+    ensures fault { IfErr result (λ e. IsWriteFault e (W.has_failed writer.new)) }
+{
+    match timeline.shown(name) {
+        Ok(branch) => write_shown(alloc, branch, writer),
+        Err(why) => {
+            let reply: Reply<B> = Reply::Refused(why);
+            write_reply(alloc, &reply, writer)
+        }
+    }
+}
 
 /// Executes a command and writes its reply.
 fn answer_command<A: Allocator, B: Allocator + Copy, W: Output>(
@@ -30,6 +55,9 @@ fn answer_command<A: Allocator, B: Allocator + Copy, W: Output>(
     ensures after { OnErr result (IsAfter (answer_to (Ok command) timeline.old) timeline.old timeline.new) }
     ensures fault { IfErr result (λ e. IsWriteFault e (W.has_failed writer.new)) }
 {
+    if let Command::Show { branch } = command {
+        return answer_show(alloc, &branch, writer, timeline);
+    }
     let Ok(reply) = timeline.command(command) else {
         return Err(EngineFault::NoMemory);
     };

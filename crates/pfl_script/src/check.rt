@@ -8,13 +8,12 @@ ghost use Rattle.pfl_script.specs.Checks.{ChecksUntil, ChecksWhole, faulty_text,
 ghost use Rattle.pfl_script.specs.Readers.{IsRunFault};
 
 use crate::fault::EngineFault;
-use crate::line::Line;
-use crate::line_reader::LineReader;
 use crate::output::write_text;
 use crate::replies::fault_line;
 use crate::short_line::{ShortLine, plain_line, push_number};
 use pfl_base::{Input, Output};
 use pfl_lines::LineFault;
+use pfl_reader::{Line, LineReader};
 
 /// How many lines of a check are commands, and how many are faulty.
 #[derive(Clone, Copy, Debug, PartialEq, Eq)]
@@ -110,8 +109,8 @@ pub fn check_lines<R: Input, W: Output>(
 {
     reader.begin();
     let mut checked = Checked::NONE;
-    while let Some(line) = reader.next_line()? {
-        let counted = check_line(&line, reader.lines(), writer)?;
+    while reader.advance()? {
+        let counted = check_line(&reader.line(), reader.lines(), writer)?;
         checked = checked.plus(counted);
     }
     let last = good_line(checked.good);

@@ -7,8 +7,8 @@ ghost use Rattle.pfl_script.specs.Readers.{IsRunFault, counted_on};
 
 use crate::answer::answer_line;
 use crate::fault::EngineFault;
-use crate::line_reader::LineReader;
 use pfl_base::{Input, Output};
+use pfl_reader::LineReader;
 use pfl_timeline::Timeline;
 use std::alloc::Allocator;
 
@@ -54,8 +54,8 @@ pub fn run_lines<A: Allocator + Copy, B: Allocator + Copy, R: Input, W: Output>(
 {
     reader.begin();
     let mut ended = Ended { lines: 0, bad: 0 };
-    while let Some(line) = reader.next_line()? {
-        let bad = answer_line(alloc, &line, writer, timeline)?;
+    while reader.advance()? {
+        let bad = answer_line(alloc, &reader.line(), writer, timeline)?;
         ended = ended.more(bad);
     }
     Ok(ended)

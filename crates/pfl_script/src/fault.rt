@@ -1,5 +1,6 @@
 //! Why a run of lines stopped.
 
+use pfl_reader::ReadFault;
 use thiserror::Error;
 
 /// Why a run of lines stopped before their end.
@@ -17,4 +18,18 @@ pub enum EngineFault {
     /// There was no memory for a reply.
     #[error("no memory")]
     NoMemory,
+}
+
+impl From<ReadFault> for EngineFault {
+    ghost use Rattle.std.specs.Prelude.{◌≡◌};
+    ghost use Rattle.pfl_script.specs.Readers.{of_read};
+
+    ghost from_gives = { λ read fault. fault ≡ of_read read };
+
+    fn from(fault: ReadFault) -> EngineFault {
+        match fault {
+            ReadFault::Read => EngineFault::Read,
+            ReadFault::TooManyTurns => EngineFault::TooManyTurns,
+        }
+    }
 }

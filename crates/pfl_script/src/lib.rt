@@ -5,9 +5,6 @@ mod answer;
 mod check;
 mod engine;
 mod fault;
-mod head;
-mod line;
-mod line_reader;
 mod link_lines;
 mod listed;
 mod logged;
@@ -26,9 +23,6 @@ mod state_lines;
 pub use check::{Checked, check_lines};
 pub use engine::{Ended, run_lines};
 pub use fault::EngineFault;
-pub use head::Head;
-pub use line::Line;
-pub use line_reader::LineReader;
 pub use link_lines::{FrameLine, LinkLine};
 pub use node_lines::{
     AskLine, BulkWords, BusLine, ClearLine, CountLine, HeldLine, NodeLine, NumbersWords, QueueLine,

@@ -1,15 +1,18 @@
 //! Writing of a whole text.
 
-ghost use Rattle.std.specs.Prelude.{◌≡◌, ◌≤◌, ℕ, true, length, take, OnOk, OnErr, IfErr};
+ghost use Rattle.std.specs.Prelude.{◌≡◌, ◌≤◌, ℕ, true, length, take, OnOk, OnErr, IfErr, IfSome};
 ghost use Rattle.std.specs.Io.KnownBytes.{Appends};
 ghost use Rattle.pfl_timeline.specs.Replies.{reply_of};
 ghost use Rattle.pfl_script.specs.Readers.{IsWriteFault};
 ghost use Rattle.pfl_script.specs.Replies.{reply_text};
+ghost use Rattle.pfl_script.specs.inner.Answers.{branch_text};
+ghost use Rattle.pfl_timeline.specs.Rooted.{shown};
 
 use crate::fault::EngineFault;
 use crate::replies::reply_text;
+use crate::shown::shown_text;
 use pfl_base::Output;
-use pfl_timeline::Reply;
+use pfl_timeline::{Branch, Reply};
 use std::alloc::Allocator;
 
 /// Writes the whole text, or the first part of it.
@@ -46,4 +49,24 @@ pub fn write_reply<A: Allocator, B: Allocator + Copy, W: Output>(
         Ok(text) => write_text(writer, text.as_slice()),
         Err(_) => Err(EngineFault::NoMemory),
     }
+}
+
+/// Writes the lines that show a branch, or the first part of them. Without memory for them nothing is written.
+pub(crate) fn write_shown<A: Allocator, B: Allocator + Copy, W: Output>(
+    alloc: A,
+    branch: &Branch<B>,
+    writer: &mut W,
+) -> Result<(), EngineFault>
+    ensures whole { OnOk result (IfSome (shown branch.now) (λ world. Appends (W.written writer.old) (W.written writer.new) (branch_text branch.now.branch world))) }
+    ensures stays { OnOk result (W.has_failed writer.new ≡ W.has_failed writer.old) }
+    ensures untouched { IfErr result (λ e. e ≡ EngineFault.NoMemory → writer.new ≡ writer.old) }
+    ensures part { OnErr result (IfSome (shown branch.now) (λ world. (n : ℕ) × Appends (W.written writer.old) (W.written writer.new) (take n (branch_text branch.now.branch world)))) }
+    ensures fault { IfErr result (λ e. IsWriteFault e (W.has_failed writer.new)) }
+{
+    let (events, cursor) = (branch.events().len(), branch.cursor());
+    let shown = shown_text(alloc, branch.name().bytes(), events, cursor, branch.world());
+    let Ok(text) = shown else {
+        return Err(EngineFault::NoMemory);
+    };
+    write_text(writer, text.as_slice())
 }

@@ -1,20 +1,16 @@
 //! Setups of pairs.
 
-ghost use Rattle.std.specs.Prelude.{◌≡◌, ◌+◌, ◌<◌, ◌≤◌, ◌^◌, [], true, IfOk, IfErr, IfSome, OnOk, OnErr, Ok, None, Some};
+ghost use Rattle.std.specs.Prelude.{◌≡◌, ◌+◌, ◌≤◌, ◌^◌, [], true, IfOk, IfErr, OnOk, OnErr, Ok, None, Some};
 ghost use Rattle.pfl_base.specs.Counts.{Counts};
 ghost use Rattle.pfl_rules.specs.Rules.{rule_fault, rule_set};
-ghost use Rattle.pfl_script.specs.Readers.{lines_after, room, CountsTurns};
-ghost use Rattle.pfl_script.specs.Scans.{Gives};
 ghost use Rattle.pfl_script.specs.Setups.{kept_words, nothing_set, with_rule, is_rule, CountsLines, Finishes, IsSetupFault, ReadsSetup, ReadsSetupTo};
-ghost use Rattle.pfl_script.specs.inner.Setups.{IsFinishStop, IsReadStop, IsRuleStop, IsTakeFault, Takes};
+ghost use Rattle.pfl_script.specs.inner.Setups.{IsFinishStop, IsRuleStop, IsTakeFault, Takes};
 
-use crate::fault::EngineFault;
-use crate::line::Line;
-use crate::line_reader::LineReader;
 use crate::setup_fault::SetupFault;
 use pfl_base::{Input, NodeId};
 use pfl_language::Limits;
 use pfl_lines::SetupLine;
+use pfl_reader::{Line, LineReader};
 use pfl_rules::{Rule, RuleFault, RuleSet};
 use std::alloc::{AllocError, Allocator};
 use std::marker::Model;
@@ -139,25 +135,6 @@ fn finish<A: Allocator + Copy>(
     })
 }
 
-/// The next line.
-fn next_of<R: Input>(reader: &mut LineReader<R>) -> Result<Option<Line>, SetupFault>
-    ensures line { IfOk result (λ o. Gives reader.old.left reader.new.left o) }
-    ensures room { IfOk result (λ o. IfSome o (λ _. room reader.new < room reader.old)) }
-    ensures lines { IfOk result (λ o. reader.new.lines ≡ lines_after o reader.old.lines) }
-    ensures uncounted { OnErr result (reader.new.lines ≡ reader.old.lines) }
-    ensures turns { CountsTurns reader.old reader.new }
-    ensures few { reader.old.turns ≤ 16777216 → reader.new.turns ≤ 16777216 }
-    ensures stays { OnOk result (reader.new.failed ≡ reader.old.failed) }
-    ensures fault { IfErr result (λ e. IsReadStop e reader.new) }
-{
-    match reader.next_line() {
-        Ok(line) => Ok(line),
-        Err(EngineFault::Read) => Err(SetupFault::Read),
-        Err(EngineFault::TooManyTurns) => Err(SetupFault::TooManyTurns),
-        Err(EngineFault::Write | EngineFault::NoMemory) => unreachable!(),
-    }
-}
-
 /// Reads the lines of a setup up to `open`. Nothing that stands behind that line is taken.
 pub fn read_setup<A: Allocator + Copy, R: Input>(
     alloc: A,
@@ -165,7 +142,7 @@ pub fn read_setup<A: Allocator + Copy, R: Input>(
 ) -> Result<Setup<A>, SetupFault>
     ensures setup { IfOk result (λ s. ReadsSetup reader.old.left reader.new.left s.limits s.rules_a s.rules_b) }
     ensures counted { IfOk result (λ s. reader.old.lines ≡ 0 → ReadsSetupTo reader.old.left reader.new.left reader.new.lines s.limits s.rules_a s.rules_b) }
-    ensures few_lines { OnOk result (reader.new.lines ≤ reader.old.lines + 2 ^ 40) }
+    ensures few_lines { OnOk result (reader.new.lines ≤ reader.old.lines + 2 ^ 41) }
     ensures fault { IfErr result (λ e. IsSetupFault e reader.old.left reader.new) }
     ensures lines { IfErr result (λ e. CountsLines e reader.old reader.new) }
     ensures reads { Counts reader.old.reads reader.new.reads reader.new.turns }
@@ -175,9 +152,9 @@ pub fn read_setup<A: Allocator + Copy, R: Input>(
     reader.begin();
     let mut draft = SetupDraft::new(Vec::new(alloc), Vec::new(alloc));
     let mut number: u64 = 0;
-    while let Some(line) = next_of(reader)? {
+    while reader.advance()? {
         number += 1;
-        if draft.take_line(&line, number)? {
+        if draft.take_line(&reader.line(), number)? {
             return finish(alloc, draft, number);
         }
     }

@@ -1,6 +1,7 @@
 //! Why no setup was read.
 
 use pfl_lines::LineFault;
+use pfl_reader::ReadFault;
 use pfl_rules::RuleFault;
 
 /// Why no setup was read. Lines count from 1, those that are passed over too.
@@ -18,4 +19,18 @@ pub enum SetupFault {
     TooManyTurns,
     /// There was no memory for the rules.
     NoMemory,
+}
+
+impl From<ReadFault> for SetupFault {
+    ghost use Rattle.std.specs.Prelude.{◌≡◌};
+    ghost use Rattle.pfl_script.specs.Readers.{setup_of_read};
+
+    ghost from_gives = { λ read fault. fault ≡ setup_of_read read };
+
+    fn from(fault: ReadFault) -> SetupFault {
+        match fault {
+            ReadFault::Read => SetupFault::Read,
+            ReadFault::TooManyTurns => SetupFault::TooManyTurns,
+        }
+    }
 }

@@ -10,9 +10,9 @@ use Rattle.pfl_session.specs.Journals.{count_of}
 use Rattle.pfl_session.specs.Passes.{Seen, seen_in, GoesOn, HasSeenJournal, AddsCall}
 use Rattle.pfl_lines.specs.declared.fault.LineFault.{LineFault}
 use Rattle.pfl_lines.specs.declared.session.SessionLine.{SessionLine}
-use Rattle.pfl_script.specs.Answers.{kept_session}
+use Rattle.pfl_reader.specs.Saids.{kept_session}
 use Rattle.pfl_script.specs.Replies.{reply_text}
-use Rattle.pfl_script.specs.Scans.{Kept, has_word}
+use Rattle.pfl_reader.specs.Scans.{Kept, has_word}
 use Rattle.pfl_script.specs.declared.fault.EngineFault.{EngineFault}
 use Rattle.pfl_script.specs.declared.fault.EngineFault.TheVariants as engine
 use Rattle.pfl_script.specs.Readers.{IsWriteFault}

@@ -11,11 +11,14 @@ use Rattle.pfl_lines.specs.declared.fault.LineFault.{LineFault}
 use Rattle.pfl_lines.specs.declared.session.SessionLine.{SessionLine}
 use Rattle.pfl_lines.specs.declared.session.SessionLine.TheVariants.{View, Ask}
 use Rattle.pfl_lines.specs.Session.{parsed_session}
-use Rattle.pfl_script.specs.Answers.{kept_session, one_if}
-use Rattle.pfl_script.specs.Scans.{Kept, Keeps, ReadsLine, TakesLines, IsOver}
+use Rattle.pfl_reader.specs.Saids.{kept_session}
+use Rattle.pfl_script.specs.Answers.{one_if}
+use Rattle.pfl_reader.specs.Scans.{Kept, Keeps, ReadsLine, TakesLines, IsOver}
 use Rattle.pfl_script.specs.declared.fault.EngineFault.{EngineFault}
 use Rattle.pfl_script.specs.declared.fault.EngineFault.TheVariants as engine
-use Rattle.pfl_script.specs.Readers.{Source, IsReadFault}
+use Rattle.pfl_reader.specs.declared.fault.ReadFault.{ReadFault}
+use Rattle.pfl_reader.specs.declared.fault.ReadFault.TheVariants as read
+use Rattle.pfl_script.specs.Readers.{of_read}
 use Rattle.pfl_script.proofs.ForCallers.{appends_none, appends_then, taken-none, taken-line, taken-first, taken-all, taken-drained, appends-keeps}
 use Rattle.pfl_serve.specs.Services.{said, is_fault, bad_lines, IsAnswer, Serves, ServesWhole, ServesFirst, ServesPart, ServesUnanswered, ServesUntil}
 use Rattle.pfl_serve.specs.inner.Answers.{kept_said, Writes, Breaks, Lacks}
@@ -167,8 +170,6 @@ module _ {M : Type 0} where
       }
 
       -- no further line came, for this reason
-      pub until-read : (e : EngineFault) (r : Source) (rest : Option (List ℕ)) → IsReadFault e r → ServesUntil opening n limit e left rest old new w v
-      until-read engine.Read r rest why = served-first
-      until-read engine.TooManyTurns r rest why = served-first
-      until-read engine.Write r rest why = absurd why
-      until-read engine.NoMemory r rest why = absurd why
+      pub until-read : (e : ReadFault) (rest : Option (List ℕ)) → ServesUntil opening n limit (of_read e) left rest old new w v
+      until-read read.Read rest = served-first
+      until-read read.TooManyTurns rest = served-first

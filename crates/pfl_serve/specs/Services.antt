@@ -14,7 +14,7 @@ use Rattle.pfl_lines.specs.declared.session.SessionLine.TheVariants.{View, Ask}
 use Rattle.pfl_lines.specs.Session.{parsed_session}
 use Rattle.pfl_script.specs.Answers.{AreLines, AreFirst, Drains, one_if}
 use Rattle.pfl_script.specs.Replies.{reply_text}
-use Rattle.pfl_script.specs.Scans.{head_of, has_word, TakesLines}
+use Rattle.pfl_reader.specs.Scans.{head_of, has_word, TakesLines}
 use Rattle.pfl_script.specs.Texts.{bad_text}
 use Rattle.pfl_script.specs.declared.fault.EngineFault.{EngineFault}
 use Rattle.pfl_script.specs.declared.fault.EngineFault.TheVariants as engine

@@ -216,6 +216,7 @@ fn serve_in_threads<
             requires lab { AllByRecursion (λ s. IsPassOf J.publisher J.tallies s.pass) seats.items }
             requires none { (handles.items ≡ []) × (all.items ≡ []) }
             requires room { (vec_len seats ≤ vec_capacity handles) × (vec_len seats ≤ vec_capacity all) }
+            ensures served { IfOk result (λ all. AreServed J.Which O.Output seats.items all.items) }
         { serve_within(scope, rt, alloc, lab, seats, gate, handles, all) },
     )
 }

@@ -9,7 +9,8 @@ ghost use Rattle.pfl_serve.specs.Services.{ServesUntil, ServesWhole};
 use crate::answer::{Turn, answer_line};
 use crate::gate::Gate;
 use pfl_base::{Input, Output};
-use pfl_script::{Ended, EngineFault, LineReader};
+use pfl_reader::LineReader;
+use pfl_script::{Ended, EngineFault};
 use pfl_session::{Lab, Pass, Which};
 use std::alloc::Allocator;
 use std::sync::Wait;
@@ -55,8 +56,9 @@ pub fn serve_session<
     reader.begin();
     let mut ended = Ended { lines: 0, bad: 0 };
     let mut nth: u64 = 1;
-    while let Some(line) = reader.next_line()? {
-        let answered = answer_line(rt, alloc, lab, pass, writer, Turn { gate, nth }, &line)?;
+    while reader.advance()? {
+        let turn = Turn { gate, nth };
+        let answered = answer_line(rt, alloc, lab, pass, writer, turn, &reader.line())?;
         ended = ended.more(answered.bad);
         nth = next_call(nth, answered.asked);
     }

@@ -9,7 +9,7 @@ use crate::entry::Entry;
 use crate::room::{filled, most_places};
 use pfl_edits::NoMemory;
 use pfl_language::Command;
-use pfl_timeline::{Reply, Timeline};
+use pfl_timeline::{Reply, Timeline, boxed_copy};
 use std::alloc::Allocator;
 
 /// An equal reply, whose places are in the room that was made for them. It wants memory only for what shows a branch or tells its
@@ -40,7 +40,7 @@ fn copy_reply<A: Allocator + Copy>(
             name: *name,
             events: *events,
             cursor: *cursor,
-            world: world.copy()?,
+            world: boxed_copy(*room.allocator(), world)?,
         },
         Reply::Names(names) => Reply::Names(Vec::from_slice(*names.allocator(), names)?),
         Reply::Excised(places) => Reply::Excised(filled(room, places)),

@@ -1,5 +1,5 @@
 -- What a branch answers, and which command asks for it.
-use Rattle.std.specs.Prelude.{◌≡◌, ◌≢◌, ℕ, Bool, true, false, not, List, [], ◌∷◌, length, map, Option, Some, None, Result, Ok, Err, IfOk, OnErr, refl, if◌then◌else◌}
+use Rattle.std.specs.Prelude.{◌≡◌, ◌≢◌, ℕ, Bool, true, false, not, List, [], ◌∷◌, length, map, Option, Some, None, Result, Ok, Err, IfOk, IsSomeAnd, OnErr, refl, if◌then◌else◌}
 use Rattle.std.specs.Option.{option_map, option_map_or}
 use Rattle.std.proofs.Common.{sym, ◌∙◌, ap, subst}
 use Rattle.pfl_base.specs.declared.refusal.Refusal.{Refusal}
@@ -162,6 +162,10 @@ told-shown r w here = record {
       asked_of (λ v. replied t (Shown r.branch.name (length r.branch.events) r.branch.cursor v)) r w t here stands
       ∙ same_branch r t (Shown r.branch.name (length r.branch.events) r.branch.cursor w) stands;
 }
+
+-- a world is shown, of which this is true
+pub some-shown : {o : Option World} (P : World → Type 0) (w : World) → o ≡ Some w → P w → IsSomeAnd o P
+some-shown P w here is = subst (λ (x : Option World). IsSomeAnd x P) (sym here) is
 
 pub shown_as : (name name' : List ℕ) (events events' cursor cursor' : ℕ) (w w' : World) → name ≡ name' → events ≡ events' → cursor ≡ cursor' → w ≡ w' → Shown name events cursor w ≡ Shown name' events' cursor' w'
 shown_as name name' events events' cursor cursor' w w' a b c d =

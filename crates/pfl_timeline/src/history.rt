@@ -7,7 +7,6 @@ ghost use Rattle.pfl_timeline.specs.Excisions.{placed, without, sieve};
 ghost use Rattle.pfl_timeline.specs.Histories.{IsHistory, reached, continued};
 ghost use Rattle.pfl_timeline.specs.inner.Histories.{standing_at, first_of, Sifts, so_far};
 
-use crate::copies::copy_tape;
 use pfl_base::Refusal;
 use pfl_edits::{NoMemory, Tape, undo_to};
 use pfl_language::{Event, Outcome};
@@ -226,7 +225,7 @@ impl<A: Allocator + Copy> History<A> {
         let alloc = *self.events.allocator();
         let events = Vec::from_slice(alloc, &self.events)?;
         let marks = Vec::from_slice(alloc, &self.marks)?;
-        let tape = copy_tape(alloc, &self.tape)?;
+        let tape = self.tape.copy(alloc)?;
         let world = self.world.copy()?;
         Ok(History {
             world,

@@ -2,7 +2,6 @@
 #![tactic(auto)]
 
 mod branch;
-mod copies;
 mod history;
 mod laws;
 mod reply;
@@ -14,5 +13,5 @@ pub use laws::{
     excisions_are_runs_without_the_event, new_timelines_are_timelines,
     no_reply_tells_want_of_memory, steps_are_runs,
 };
-pub use reply::Reply;
+pub use reply::{Reply, boxed_copy};
 pub use timeline::Timeline;

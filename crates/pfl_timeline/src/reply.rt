@@ -1,10 +1,14 @@
 //! Replies.
 
+ghost use Rattle.std.specs.Prelude.{◌≡◌, IfOk};
+
+use pfl_edits::NoMemory;
 use pfl_language::{BranchWord, Event, Outcome, Refused};
 use pfl_world::World;
-use std::alloc::Allocator;
+use std::alloc::{AllocError, Allocator};
 
-/// The reply to a command. Clauses say by `reply_of` what it tells.
+/// The reply to a command. Clauses say by `reply_of` what it tells. The world that one shows is in a box, so that the others
+/// are small.
 #[derive(Drop)]
 pub enum Reply<A: Allocator> {
     /// The event happened, and so many events that had been undone were cut.
@@ -23,7 +27,7 @@ pub enum Reply<A: Allocator> {
         name: BranchWord,
         events: usize,
         cursor: usize,
-        world: World<A>,
+        world: Box<World<A>, A>,
     },
     /// The names of the branches, in the order of their making.
     Names(Vec<BranchWord, A>),
@@ -39,4 +43,15 @@ pub enum Reply<A: Allocator> {
     },
     /// The command is refused.
     Refused(Refused),
+}
+
+/// An equal world in a box, in memory of its own.
+pub fn boxed_copy<A: Allocator + Copy>(
+    alloc: A,
+    world: &World<A>,
+) -> Result<Box<World<A>, A>, NoMemory>
+    ensures same { IfOk result (λ boxed. boxed.value ≡ world.now) }
+{
+    let copied = world.copy()?;
+    Ok(Box::new(alloc, copied).map_err(AllocError::from)?)
 }

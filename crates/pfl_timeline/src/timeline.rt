@@ -1,16 +1,17 @@
 //! Timelines.
 
-ghost use Rattle.std.specs.Prelude.{◌≡◌, ◌≢◌, map, IfOk, OnErr};
+ghost use Rattle.std.specs.Prelude.{◌≡◌, ◌≢◌, length, map, IfOk, IfErr, IsSomeAnd, OnErr};
 ghost use Rattle.std.specs.List.{AllByRecursion};
 ghost use Rattle.std.specs.Option.{option_map};
 ghost use Rattle.pfl_timeline.specs.Commands.{replied, step_command, back_command, forward_command, fork_refusal, fork_command, drop_command, show_command, names_command, excise_command, restore_command, log_command, command_step};
 ghost use Rattle.pfl_timeline.specs.Memory.{IsAccepted, MayWantMemory, StepMayWant};
-ghost use Rattle.pfl_timeline.specs.Replies.{reply_of, Refused as Refusing};
+ghost use Rattle.pfl_timeline.specs.Replies.{reply_of, Refused as Refusing, Shown};
+ghost use Rattle.pfl_timeline.specs.Rooted.{shown};
 ghost use Rattle.pfl_timeline.specs.inner.Replies.{moved, fell_out, brought_back};
 ghost use Rattle.pfl_timeline.specs.Timelines.{IsTimeline, new_timeline};
 
 use crate::branch::Branch;
-use crate::reply::Reply;
+use crate::reply::{Reply, boxed_copy};
 use indexmap::IndexMap;
 use pfl_base::Refusal;
 use pfl_edits::NoMemory;
@@ -102,6 +103,21 @@ impl<A: Allocator> Timeline<A> {
         ensures openings { AllByRecursion (λ r. r.opening ≡ self.now.opening) result.now }
     {
         self.branches.values().as_slice()
+    }
+
+    /// The branch that `show` shows, where it stands, or why it shows none.
+    pub fn shown(&self, name: &BranchWord) -> Result<&Branch<A>, Refused>
+        ensures branch { IfOk result (λ r. IsSomeAnd (shown r.now) (λ world. show_command self.now name.now ≡ replied self.now (Shown r.now.branch.name (length r.now.branch.events) r.now.branch.cursor world))) }
+        ensures refused { IfErr result (λ why. show_command self.now name.now ≡ replied self.now (Refusing why)) }
+    {
+        match self.branches.get(name) {
+            Some(branch) => {
+                // What it ensures says that the branch shows a world.
+                let _world = branch.world();
+                Ok(branch)
+            }
+            None => Err(Refused::NoBranch),
+        }
     }
 
     /// Tells a proof what is true of each timeline. It does nothing.
@@ -267,10 +283,11 @@ impl<A: Allocator + Copy> Timeline<A> {
         ensures step { IfOk result (λ reply. show_command self.now name.now ≡ replied self.now (reply_of reply)) }
         ensures memory { OnErr result (IsAccepted (show_command self.now name.now)) }
     {
-        let Some(branch) = self.branches.get(name) else {
-            return Ok(Reply::Refused(Refused::NoBranch));
+        let branch = match self.shown(name) {
+            Ok(branch) => branch,
+            Err(why) => return Ok(Reply::Refused(why)),
         };
-        let world = branch.world().copy()?;
+        let world = boxed_copy(*self.branches.allocator(), branch.world())?;
         Ok(Reply::Shown {
             name: *branch.name(),
             events: branch.events().len(),

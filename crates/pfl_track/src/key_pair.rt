@@ -3,7 +3,7 @@
 ghost use Rattle.std.specs.Prelude.{◌≡◌, Some, None, if◌then◌else◌};
 
 use crate::keys::{are_keys, wire_key};
-use pfl_base::{Dir, End, Key, Packet, key};
+use pfl_base::{Dir, End, Key, PackedKey, Packet, key};
 use std::marker::Model;
 
 /// What the keys of a state are made from.
@@ -18,7 +18,8 @@ pub struct KeyFields {
 /// The two keys of a state: of one protocol, and all four ends of one family.
 #[derive(Clone, Copy, Debug, PartialEq, Eq)]
 pub struct KeyPair {
-    fields: KeyFields,
+    wire: PackedKey,
+    stack: PackedKey,
 }
 
 impl Model for KeyPair {
@@ -28,11 +29,11 @@ impl Model for KeyPair {
 
     ghost use Rattle.pfl_track.specs.Keys.{AreKeys};
 
-    ghost view = { λ k. k.fields };
+    ghost view = { λ k. record { wire = k.wire; stack = k.stack } };
 
-    ghost invariant = { λ k. AreKeys k.fields.wire k.fields.stack };
+    ghost invariant = { λ k. AreKeys k.wire k.stack };
 
-    ghost inverse = { λ fields. record { fields = fields } };
+    ghost inverse = { λ fields. record { wire = fields.wire; stack = fields.stack } };
 }
 
 impl KeyPair {
@@ -45,9 +46,7 @@ impl KeyPair {
         ensures { let fields : KeyFields = record { wire = wire; stack = stack } in result ≡ (if may_be_keys wire stack then Some fields else None) }
     {
         if are_keys(&wire, &stack) {
-            Some(KeyPair {
-                fields: KeyFields { wire, stack },
-            })
+            Some(KeyPair::with(KeyFields { wire, stack }))
         } else {
             None
         }
@@ -68,7 +67,19 @@ impl KeyPair {
         requires { AreKeys fields.wire fields.stack }
         ensures { result ≡ fields }
     {
-        KeyPair { fields }
+        KeyPair {
+            wire: PackedKey::of(fields.wire),
+            stack: PackedKey::of(fields.stack),
+        }
+    }
+
+    /// The pair of two kept keys that are known to be a state's.
+    pub(crate) fn packed(wire: PackedKey, stack: PackedKey) -> KeyPair
+        requires { AreKeys wire stack }
+        ensures wire { result.wire ≡ wire }
+        ensures stack { result.stack ≡ stack }
+    {
+        KeyPair { wire, stack }
     }
 
     /// The flow as it is on the wire.
@@ -76,13 +87,13 @@ impl KeyPair {
         ensures wire { result ≡ self.now.wire }
         ensures keys { AreKeys self.now.wire self.now.stack }
     {
-        self.fields.wire
+        self.wire.key()
     }
 
     /// The flow before translation.
     pub fn stack(&self) -> Key
         ensures { result ≡ self.now.stack }
     {
-        self.fields.stack
+        self.stack.key()
     }
 }

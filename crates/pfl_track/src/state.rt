@@ -2,10 +2,11 @@
 
 ghost use Rattle.std.specs.Prelude.{◌≡◌, Some, None, IfSome, if◌then◌else◌};
 
-use crate::key_pair::{KeyFields, KeyPair};
+use crate::key_pair::KeyPair;
 use crate::keys::are_keys;
+use crate::motion::Motion;
 use crate::peer::Peer;
-use pfl_base::{Class, Dir, Key, Millis, StateName};
+use pfl_base::{Class, Dir, Key, Millis, PackedKey, StateName};
 use std::marker::Model;
 
 /// What a state is made from. Times are in milliseconds.
@@ -39,10 +40,28 @@ pub struct StateFields {
     pub peer_change: Option<Millis>,
 }
 
+/// A state as it is kept: the same fields, the flows in few bytes.
+#[derive(Clone, Copy, Debug, PartialEq, Eq)]
+struct Kept {
+    name: StateName,
+    wire: PackedKey,
+    stack: PackedKey,
+    direction: Dir,
+    src: Peer,
+    dst: Peer,
+    class: Class,
+    last: Millis,
+    rule: Option<u16>,
+    no_sync: bool,
+    ack_wanted: bool,
+    updates: u8,
+    peer_change: Option<Millis>,
+}
+
 /// A flow that is tracked: its keys are of one protocol, and all four of their ends of one family.
 #[derive(Clone, Copy, Debug, PartialEq, Eq)]
 pub struct State {
-    fields: StateFields,
+    kept: Kept,
 }
 
 impl Model for State {
@@ -50,18 +69,20 @@ impl Model for State {
 
     ghost Value = { StateFields };
 
-    ghost use Rattle.pfl_track.specs.States.{IsState};
+    ghost use Rattle.pfl_track.specs.Keys.{AreKeys};
+    ghost use Rattle.pfl_track.specs.inner.Kept.{fields_of, kept_of};
 
-    ghost view = { λ s. s.fields };
+    ghost view = { λ s. fields_of s.kept };
 
-    ghost invariant = { λ s. IsState s.fields };
+    ghost invariant = { λ s. AreKeys s.kept.wire s.kept.stack };
 
-    ghost inverse = { λ fields. record { fields = fields } };
+    ghost inverse = { λ fields. record { kept = kept_of fields } };
 }
 
 impl State {
     ghost use Rattle.std.specs.Prelude.{◌≤◌, ◌^◌};
-    ghost use Rattle.pfl_track.specs.Keys.{are_keys as may_be_keys};
+    ghost use Rattle.pfl_track.specs.Keys.{are_keys as may_be_keys, AreKeys};
+    ghost use Rattle.pfl_track.specs.Motions.{motion as motion_of, with_motion as moved_to};
     ghost use Rattle.pfl_track.specs.States.{IsState};
     ghost use Rattle.pfl_track.specs.Tracking.{expired as has_expired, expiry as time_of_expiry};
 
@@ -71,7 +92,7 @@ impl State {
         ensures state { IfSome result IsState }
     {
         if are_keys(&fields.wire, &fields.stack) {
-            Some(State { fields })
+            Some(State::of_keys(fields))
         } else {
             None
         }
@@ -82,43 +103,96 @@ impl State {
         requires { IsState fields }
         ensures { result ≡ fields }
     {
-        State { fields }
+        State::of_keys(fields)
+    }
+
+    /// The state with fields whose keys are known to be one's.
+    fn of_keys(fields: StateFields) -> State
+        requires { AreKeys fields.wire fields.stack }
+        ensures { result ≡ fields }
+    {
+        let kept = Kept {
+            name: fields.name,
+            wire: PackedKey::of(fields.wire),
+            stack: PackedKey::of(fields.stack),
+            direction: fields.direction,
+            src: fields.src,
+            dst: fields.dst,
+            class: fields.class,
+            last: fields.last,
+            rule: fields.rule,
+            no_sync: fields.no_sync,
+            ack_wanted: fields.ack_wanted,
+            updates: fields.updates,
+            peer_change: fields.peer_change,
+        };
+        State { kept }
     }
 
     /// Tells a proof what each state keeps. It does nothing.
     pub fn known(&self)
         ensures { IsState self.now }
     {
-        let _fields = &self.fields;
+        let _keys = self.keys();
+        let Kept { src, dst, .. } = self.kept;
+        let _ends = (src.fields(), dst.fields());
     }
 
     /// What the state was made from.
     pub fn fields(&self) -> StateFields
         ensures { result ≡ self.now }
     {
-        let State { fields } = *self;
-        fields
+        let Kept {
+            name,
+            wire,
+            stack,
+            direction,
+            src,
+            dst,
+            class,
+            last,
+            rule,
+            no_sync,
+            ack_wanted,
+            updates,
+            peer_change,
+        } = self.kept;
+        StateFields {
+            name,
+            wire: wire.key(),
+            stack: stack.key(),
+            direction,
+            src,
+            dst,
+            class,
+            last,
+            rule,
+            no_sync,
+            ack_wanted,
+            updates,
+            peer_change,
+        }
     }
 
     /// The name that the node gave it that made it.
     pub fn name(&self) -> StateName
         ensures { result ≡ self.now.name }
     {
-        self.fields.name
+        self.kept.name
     }
 
     /// The flow as it is on the wire.
     pub fn wire(&self) -> Key
         ensures { result ≡ self.now.wire }
     {
-        self.fields.wire
+        self.kept.wire.key()
     }
 
     /// The flow before translation.
     pub fn stack(&self) -> Key
         ensures { result ≡ self.now.stack }
     {
-        self.fields.stack
+        self.kept.stack.key()
     }
 
     /// The two keys.
@@ -126,88 +200,87 @@ impl State {
         ensures wire { result.wire ≡ self.now.wire }
         ensures stack { result.stack ≡ self.now.stack }
     {
-        let StateFields { wire, stack, .. } = self.fields;
-        KeyPair::with(KeyFields { wire, stack })
+        KeyPair::packed(self.kept.wire, self.kept.stack)
     }
 
     /// Which way its first packet went.
     pub fn direction(&self) -> Dir
         ensures { result ≡ self.now.direction }
     {
-        self.fields.direction
+        self.kept.direction
     }
 
     /// The end that sent the first packet.
     pub fn src(&self) -> Peer
         ensures { result ≡ self.now.src }
     {
-        self.fields.src
+        self.kept.src
     }
 
     /// The other end.
     pub fn dst(&self) -> Peer
         ensures { result ≡ self.now.dst }
     {
-        self.fields.dst
+        self.kept.dst
     }
 
     /// What its timeout goes by.
     pub fn class(&self) -> Class
         ensures { result ≡ self.now.class }
     {
-        self.fields.class
+        self.kept.class
     }
 
     /// When it was last used, in milliseconds.
     pub fn last(&self) -> Millis
         ensures { result ≡ self.now.last }
     {
-        self.fields.last
+        self.kept.last
     }
 
     /// The number of the rule that made it, where this node has that rule.
     pub fn rule(&self) -> Option<u16>
         ensures { result ≡ self.now.rule }
     {
-        self.fields.rule
+        self.kept.rule
     }
 
     /// Whether the peer is never told of it.
     pub fn no_sync(&self) -> bool
         ensures { result ≡ self.now.no_sync }
     {
-        self.fields.no_sync
+        self.kept.no_sync
     }
 
     /// Whether a packet is held until the peer acknowledges it.
     pub fn ack_wanted(&self) -> bool
         ensures { result ≡ self.now.ack_wanted }
     {
-        self.fields.ack_wanted
+        self.kept.ack_wanted
     }
 
     /// How often a TCP state changed while it was queued, at most 255.
     pub fn updates(&self) -> u8
         ensures { result ≡ self.now.updates }
     {
-        self.fields.updates
+        self.kept.updates
     }
 
     /// When the peer last changed it, in milliseconds.
     pub fn peer_change(&self) -> Option<Millis>
         ensures { result ≡ self.now.peer_change }
     {
-        self.fields.peer_change
+        self.kept.peer_change
     }
 
     /// The state that waits for an acknowledgement, or not.
-    pub fn with_ack_wanted(&self, ack_wanted: bool) -> State
-        ensures { result ≡ record self.now { ack_wanted = ack_wanted } }
+    pub fn with_ack_wanted(&self, wanted: bool) -> State
+        ensures { result ≡ record self.now { ack_wanted = wanted } }
     {
         State {
-            fields: StateFields {
-                ack_wanted,
-                ..self.fields
+            kept: Kept {
+                ack_wanted: wanted,
+                ..self.kept
             },
         }
     }
@@ -217,9 +290,9 @@ impl State {
         ensures { result ≡ record self.now { updates = updates } }
     {
         State {
-            fields: StateFields {
+            kept: Kept {
                 updates,
-                ..self.fields
+                ..self.kept
             },
         }
     }
@@ -229,10 +302,11 @@ impl State {
         ensures changed { result ≡ record self.now { peer_change = peer_change } }
         ensures state { IsState result }
     {
+        self.known();
         State {
-            fields: StateFields {
+            kept: Kept {
                 peer_change,
-                ..self.fields
+                ..self.kept
             },
         }
     }
@@ -242,10 +316,10 @@ impl State {
         ensures { result ≡ record self.now { src = src; dst = dst } }
     {
         State {
-            fields: StateFields {
+            kept: Kept {
                 src,
                 dst,
-                ..self.fields
+                ..self.kept
             },
         }
     }
@@ -255,11 +329,49 @@ impl State {
         ensures refreshed { result ≡ record self.now { class = class; last = last } }
         ensures state { IsState result }
     {
+        self.known();
         State {
-            fields: StateFields {
+            kept: Kept {
                 class,
                 last,
-                ..self.fields
+                ..self.kept
+            },
+        }
+    }
+
+    /// What packets move of it.
+    pub fn motion(&self) -> Motion
+        ensures { result ≡ motion_of self.now }
+    {
+        let Kept {
+            src,
+            dst,
+            class,
+            last,
+            updates,
+            ..
+        } = self.kept;
+        Motion {
+            src,
+            dst,
+            class,
+            last,
+            updates,
+        }
+    }
+
+    /// The state moved so.
+    pub fn with_motion(&self, motion: Motion) -> State
+        ensures { result ≡ moved_to motion self.now }
+    {
+        State {
+            kept: Kept {
+                src: motion.src,
+                dst: motion.dst,
+                class: motion.class,
+                last: motion.last,
+                updates: motion.updates,
+                ..self.kept
             },
         }
     }
@@ -269,14 +381,14 @@ impl State {
         requires { self.now.last ≤ 2 ^ 63 }
         ensures { result ≡ time_of_expiry self.now timeout }
     {
-        self.fields.last + u64::from(timeout) * 1000
+        self.kept.last + u64::from(timeout) * 1000
     }
 
     /// Whether the state has expired at a time, under a timeout in seconds (pf.conf(5)).
     pub fn expired(&self, timeout: u32, now: Millis) -> bool
         ensures { result ≡ has_expired self.now timeout now }
     {
-        let age = now.checked_sub(self.fields.last);
+        let age = now.checked_sub(self.kept.last);
         age.is_some_and(|age| age >= u64::from(timeout) * 1000)
     }
 }

@@ -8,7 +8,7 @@ use Rattle.pfl_edits.specs.Changes.{back, Fits}
 use Rattle.pfl_edits.proofs.ForCallers.{LeadsBack-embedded}
 use Rattle.pfl_language.specs.declared.limits.Limits.{Limits}
 use Rattle.pfl_parts.specs.declared.edit.NodeEdit.{NodeEdit}
-use Rattle.pfl_parts.specs.declared.edit.NodeEdit.TheVariants.{OfState, OfQueue, OfHeld, Server, Client, Clock, NextId, Push, Count}
+use Rattle.pfl_parts.specs.declared.edit.NodeEdit.TheVariants.{OfState, Moved, OfQueue, OfHeld, Server, Client, Clock, NextId, Push, Count}
 use Rattle.pfl_parts.specs.Edits as nodes
 use Rattle.pfl_parts.specs.Edits.{NodeLeadsBack}
 use Rattle.pfl_parts.specs.Nodes.{Node, IsNode}
@@ -21,6 +21,7 @@ use Rattle.pfl_world.specs.Worlds.{World, IsWorld, PartsAgree, node_at, with_nod
 -- no edit changes limits
 limits_kept : (e : NodeEdit) (n : Node) → (nodes.put_back e n).limits ≡ n.limits
 limits_kept (OfState e) n = refl
+limits_kept (Moved e) n = refl
 limits_kept (OfQueue e) n = refl
 limits_kept (OfHeld e) n = refl
 limits_kept (Server before after) n = refl

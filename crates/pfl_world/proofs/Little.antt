@@ -7,7 +7,7 @@ use Rattle.pfl_queue.specs.declared.Mark.{Mark}
 use Rattle.pfl_queue.specs.declared.edits.QueueEdit.TheVariants.{OfMark, OfName, OfRequest, OfStatus, OfClear}
 use Rattle.pfl_defer.specs.Edits as deferrals
 use Rattle.pfl_language.specs.declared.event.Event.{Event}
-use Rattle.pfl_parts.specs.declared.edit.NodeEdit.TheVariants.{OfState, OfQueue, OfHeld, Server, Client, Clock, NextId, Push, Count}
+use Rattle.pfl_parts.specs.declared.edit.NodeEdit.TheVariants.{OfState, Moved, OfQueue, OfHeld, Server, Client, Clock, NextId, Push, Count}
 use Rattle.pfl_edits.specs.Changes.{Edits}
 use Rattle.pfl_parts.specs.declared.edit.NodeEdit.{NodeEdit}
 use Rattle.pfl_link.specs.LinkEdits.{LinkEdit}
@@ -38,6 +38,7 @@ of_link (Cut n) ticket f = (refl, refl)
 
 pub of_node-little : {M : Type 0} (id : NodeId) (e : NodeEdit) → HoldsLittle {M = M} (OfNode id e)
 of_node-little id (OfState e) = record { former = few AState (λ x. refl) e.before; present = few AState (λ x. refl) e.after }
+of_node-little id (Moved e) = record { former = refl; present = refl }
 of_node-little id (OfQueue (OfMark name before after next_before next_after)) = record { former = numbered before next_before; present = numbered after next_after }
 of_node-little id (OfQueue (OfName name before after)) = record { former = few AMark (λ x. refl) before; present = few AMark (λ x. refl) after }
 of_node-little id (OfQueue (OfRequest position before after)) = record { former = few ARequest (λ x. refl) before; present = few ARequest (λ x. refl) after }

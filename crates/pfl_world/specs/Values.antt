@@ -3,6 +3,7 @@
 use Rattle.std.specs.Prelude.{◌≡◌, ℕ, ◌+◌, Bool, true, false, List, [], ◌∷◌, ◌++◌, map, Option}
 use Rattle.std.specs.Option.{option_to_list}
 use Rattle.pfl_base.specs.declared.state_name.StateName.{StateName}
+use Rattle.pfl_track.specs.declared.motion.Motion.{Motion}
 use Rattle.pfl_track.specs.declared.state.State.{State}
 use Rattle.pfl_wire.specs.declared.message.BulkStatus.{BulkStatus}
 use Rattle.pfl_queue.specs.declared.Cleared.{Cleared}
@@ -16,7 +17,7 @@ use Rattle.pfl_bulk.specs.declared.BulkServer.{BulkServer}
 use Rattle.pfl_language.specs.declared.event.Event.{Event}
 use Rattle.pfl_language.specs.declared.event.Event.TheVariants as event
 use Rattle.pfl_parts.specs.declared.edit.NodeEdit.{NodeEdit}
-use Rattle.pfl_parts.specs.declared.edit.NodeEdit.TheVariants.{OfState, OfQueue, OfHeld, Server, Client, Clock, NextId, Push, Count}
+use Rattle.pfl_parts.specs.declared.edit.NodeEdit.TheVariants.{OfState, Moved, OfQueue, OfHeld, Server, Client, Clock, NextId, Push, Count}
 use Rattle.pfl_parts.specs.Nodes.{Node}
 use Rattle.pfl_node.specs.Events.{restarted}
 use Rattle.pfl_link.specs.declared.change.LinkChange.{LinkChange}
@@ -30,6 +31,7 @@ use Rattle.pfl_world.specs.Restarts.{RestartEdit}
 -- a thing that values are made of; a mark, a request, a status and a clear are entries of the queues
 pub data Thing : Type 0 where
   AState : State → Thing
+  AMotion : Motion → Thing
   AMark : Mark → Thing
   ARequest : StateName → Thing
   AStatus : BulkStatus → Thing
@@ -71,6 +73,7 @@ queue_values (OfClear position before after) = either AClear before after
 -- of an edit of a node
 abbrev pub node_values : NodeEdit → Values
 node_values (OfState e) = either AState e.before e.after
+node_values (Moved e) = both AMotion e.before e.after
 node_values (OfQueue e) = queue_values e
 node_values (OfHeld e) = either APacket (deferrals.former e) (deferrals.present e)
 node_values (Server before after) = both AServer before after

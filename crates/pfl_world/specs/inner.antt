@@ -4,3 +4,4 @@ pub mod Delivering
 pub mod Lending
 pub mod WorldEdits
 pub mod BothWays
+pub mod SmallEdits

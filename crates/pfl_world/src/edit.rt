@@ -1,8 +1,10 @@
 //! Changes of the pair, each of one place.
 
+ghost use Rattle.std.specs.Prelude.{◌≡◌, IfOk};
+
 use crate::restart_edit::RestartEdit;
 use pfl_base::NodeId;
-use pfl_edits::{Change, Tape};
+use pfl_edits::{Change, Copied, NoMemory, Tape};
 use pfl_link::LinkEdit;
 use pfl_parts::NodeEdit;
 use std::alloc::Allocator;
@@ -16,6 +18,16 @@ pub enum WorldEdit<A: Allocator> {
     OfLink(LinkEdit<A>),
     /// Of a node that began anew, and the next boot.
     OfRestart(RestartEdit<A>),
+}
+
+impl<A: Allocator + Copy> Copied for WorldEdit<A> {
+    fn copied(&self) -> Result<WorldEdit<A>, NoMemory> {
+        match self {
+            WorldEdit::OfNode(node, edit) => Ok(WorldEdit::OfNode(*node, *edit)),
+            WorldEdit::OfLink(edit) => Ok(WorldEdit::OfLink(edit.copy()?)),
+            WorldEdit::OfRestart(edit) => Ok(WorldEdit::OfRestart(edit.copy()?)),
+        }
+    }
 }
 
 /// What an event changed, by which it can be taken back.

@@ -1,8 +1,8 @@
 //! A run or a check of a script over memory.
 
 use pfl_base::Std;
+use pfl_reader::LineReader;
 use pfl_run::{check_lab, run_lab};
-use pfl_script::LineReader;
 use std::alloc::{AllocError, Global};
 use std::cell::Cell;
 use std::io;

@@ -143,6 +143,6 @@ fn uncopied(alloc: Global, bytes: usize) -> Result<(Option<NoMemory>, usize), Fa
 #[test]
 fn a_copy_without_memory_changes_nothing(rt: HostRuntime) -> Result<(), Fail> {
     // Room for one list of two packets.
-    assert!(rt; uncopied(rt.alloc(), 480)? == (Some(NoMemory), 1));
+    assert!(rt; uncopied(rt.alloc(), 280)? == (Some(NoMemory), 1));
     Ok(())
 }

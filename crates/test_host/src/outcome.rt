@@ -2,7 +2,7 @@
 
 use pfl_base::Std;
 use pfl_host::obey;
-use pfl_script::LineReader;
+use pfl_reader::LineReader;
 use pfl_serve::Gate;
 use std::alloc::Global;
 use std::net::{Net, TcpListener, TcpStream};

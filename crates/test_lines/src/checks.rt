@@ -1,8 +1,8 @@
 //! Checks of scripts over memory, over devices that fail, and without memory.
 
 use pfl_base::Std;
+use pfl_reader::LineReader;
 use pfl_run::check_lab;
-use pfl_script::LineReader;
 use std::alloc::Global;
 use test_devices::{Bytewise, Narrow, Refusing};
 

@@ -1,8 +1,8 @@
 //! Runs over devices that fail and without memory, and a script that is empty.
 
 use pfl_base::Std;
+use pfl_reader::LineReader;
 use pfl_run::run_lab;
-use pfl_script::LineReader;
 use test_devices::{Bytewise, Narrow, Refusing};
 
 /// Nothing is read, so not even a setup.

@@ -3,8 +3,9 @@
 use pfl_base::{Output, Std};
 use pfl_language::Limits;
 use pfl_lines::LineFault;
+use pfl_reader::LineReader;
 use pfl_rules::{Action, RuleFault, RuleSet};
-use pfl_script::{EngineFault, LineReader, Setup, SetupFault, read_setup, write_text};
+use pfl_script::{EngineFault, Setup, SetupFault, read_setup, write_text};
 use std::alloc::{Allocator, Global};
 use std::test::Fail;
 use test_devices::{Bytewise, Endless, Narrow, Refusing};
@@ -18,29 +19,6 @@ fn a_writer_fails_in_mid_line(rt: HostRuntime) {
     let Narrow { taken, len, .. } = writer.into_inner();
     assert!(rt; len == 20);
     assert!(rt; &taken[..20] == b"bad 3 Unknown\nbad 3 ".as_slice());
-}
-
-#[test]
-fn long_lines(rt: HostRuntime) -> Result<(), Fail> {
-    let mut bytes = [b'0'; 1100];
-    bytes[..10].copy_from_slice(b"back main ");
-    bytes[512] = b'\r';
-    bytes[513] = b'\n';
-    bytes[514] = b'x';
-    let mut reader = LineReader::new(Std::new(&bytes[..]));
-    let Some(first) = reader.next_line()? else {
-        return Err("a line of 512 bytes".into());
-    };
-    assert!(rt; matches!(first.parse(), Ok(_)));
-    let Some(second) = reader.next_line()? else {
-        return Err("a longer line".into());
-    };
-    assert!(rt; matches!(second.parse(), Err(LineFault::Long)));
-    assert!(rt; second.has_word());
-    assert!(rt; reader.next_line()?.is_none());
-    assert!(rt; reader.next_line()?.is_none());
-    assert!(rt; reader.lines() == 2);
-    Ok(())
 }
 
 /// What the rule with the number does.
@@ -82,10 +60,8 @@ fn setup_of_both_nodes(rt: HostRuntime) -> Result<(), Fail> {
     assert!(rt; action_of(&rules_b, 0) == Some(Action::Block));
     assert!(rt; action_of(&rules_b, 1) == Some(Action::Pass));
     assert!(rt; reader.lines() == 7);
-    let Some(next) = reader.next_line()? else {
-        return Err("the line behind the setup".into());
-    };
-    assert!(rt; matches!(next.parse(), Ok(_)));
+    assert!(rt; reader.advance()?);
+    assert!(rt; matches!(reader.line().parse(), Ok(_)));
     Ok(())
 }
 

@@ -116,13 +116,13 @@ fn over(
     shown(&timeline, wanting)
 }
 
-/// Room for the pair and for four ticks: with the fifth the tape of the branch has to grow.
-const FOUR_TICKS: usize = EDITS + 21_248;
+/// Room for the pair and for eight ticks: with the ninth the tape of the branch has to grow.
+const EIGHT_TICKS: usize = EDITS + 13_350;
 
 /// Room for the pair and for a node more, and bytes that leave no room for that node.
-const ONE_NODE: usize = 2 * EDITS;
+const ONE_NODE: usize = 2 * EDITS + 4_000;
 
-const LESS_THAN_A_NODE: usize = 20_000;
+const LESS_THAN_A_NODE: usize = 11_000;
 
 /// Room for the pair, for a copy of it, and for a node more. Once those bytes are taken there is room for the copy, and none for
 /// the node.
@@ -130,11 +130,11 @@ const A_COPY_AND_A_NODE: usize = 3 * EDITS + 9_600;
 
 #[test]
 fn want_of_memory_changes_nothing(rt: HostRuntime) {
-    let ticks = [tick(), tick(), tick(), tick(), tick()];
-    let ticked = over(rt.alloc(), FOUR_TICKS, &[], 0, &ticks);
-    assert!(rt; ticked == one_branch(1, 4, 4, 20));
-    let undone = over(rt.alloc(), FOUR_TICKS, &ticks, 0, &[back(4)]);
-    assert!(rt; undone == one_branch(0, 4, 0, 0));
+    let ticks = [tick(); 9];
+    let ticked = over(rt.alloc(), EIGHT_TICKS, &[], 0, &ticks);
+    assert!(rt; ticked == one_branch(1, 8, 8, 40));
+    let undone = over(rt.alloc(), EIGHT_TICKS, &ticks, 0, &[back(8)]);
+    assert!(rt; undone == one_branch(0, 8, 0, 0));
 }
 
 #[test]
@@ -148,7 +148,7 @@ fn a_branch_wants_memory(rt: HostRuntime) {
         event: NodeEvent::Purge,
     });
     let commands = [purge, Command::Show { branch }];
-    let seen = over(rt.alloc(), EDITS + 7904, &[], 0, &commands);
+    let seen = over(rt.alloc(), EDITS + 7488, &[], 0, &commands);
     assert!(rt; seen == one_branch(2, 0, 0, 0));
 }
 
@@ -183,7 +183,7 @@ fn fork() -> Option<Command> {
 #[test]
 fn want_of_memory_makes_no_branch(rt: HostRuntime) {
     let fork = fork().unwrap_or(tick());
-    let seen = over(rt.alloc(), FOUR_TICKS, &[tick()], 0, &[fork]);
+    let seen = over(rt.alloc(), EIGHT_TICKS, &[tick()], 0, &[fork]);
     assert!(rt; seen == one_branch(1, 1, 1, 5));
 }
 
@@ -191,7 +191,7 @@ fn want_of_memory_makes_no_branch(rt: HostRuntime) {
 fn want_of_memory_takes_no_event_out(rt: HostRuntime) {
     // There is no room for a copy of the pair, so nothing is taken out, and nothing can be brought back.
     let commands = [excise(1), restore()];
-    let seen = over(rt.alloc(), FOUR_TICKS, &[tick(), tick()], 0, &commands);
+    let seen = over(rt.alloc(), EIGHT_TICKS, &[tick(), tick()], 0, &commands);
     assert!(rt; seen == one_branch(1, 2, 2, 10));
     // There is room for the copy, and none for the node that begins anew where the restart happens again.
     let restart = step(Event::Restart { node: NodeId::A });

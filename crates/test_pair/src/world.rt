@@ -9,7 +9,7 @@ use pfl_world::{World, WorldFault};
 use std::alloc::{Allocator, Global};
 
 /// The bytes that the nodes of a pair keep for the edits of an event, where each holds one state.
-pub(super) const EDITS: usize = 43_648;
+pub(super) const EDITS: usize = 24_304;
 
 /// Limits within their ranges, most of them the least.
 fn limits() -> Limits {
@@ -103,8 +103,8 @@ fn want_of_memory_makes_no_pair(rt: HostRuntime) {
 fn want_of_memory_changes_nothing(rt: HostRuntime) {
     let refused = Ok((Err(Refusal::NoMemory), Some(NoMemory), 0));
     // Room for the pair alone, then for a node's edit too, then for the pair's edit too.
-    assert!(rt; over(rt.alloc(), EDITS + 4608) == refused);
-    assert!(rt; over(rt.alloc(), EDITS + 6656) == refused);
+    assert!(rt; over(rt.alloc(), EDITS + 3600) == refused);
+    assert!(rt; over(rt.alloc(), EDITS + 5200) == refused);
     let told = Ok((Ok(Outcome::At(NodeOutcome::Clock(5))), Some(NoMemory), 5));
     assert!(rt; over(rt.alloc(), EDITS + 10752) == told);
 }

@@ -5,8 +5,9 @@ ghost use Rattle.pfl_session.specs.Passes.{IsPassOf};
 ghost use Rattle.pfl_session.specs.Totals.{HasFewEvents};
 
 use pfl_base::Std;
+use pfl_reader::LineReader;
 use pfl_run::set_up;
-use pfl_script::{Ended, EngineFault, LineReader, write_reply};
+use pfl_script::{Ended, EngineFault, write_reply};
 use pfl_serve::{Gate, serve_session};
 use pfl_session::{Entry, Lab, LabFault, Opened, Pass, Which};
 use pfl_timeline::Timeline;

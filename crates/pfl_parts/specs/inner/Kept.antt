@@ -5,6 +5,7 @@ use Rattle.pfl_base.specs.declared.state_name.StateName.{StateName}
 use Rattle.pfl_edits.specs.Maps as maps
 use Rattle.pfl_rules.specs.Rules.{Rules, timeout}
 use Rattle.pfl_track.specs.declared.state.State.{State}
+use Rattle.pfl_track.specs.Motions.{motion, with_motion}
 use Rattle.pfl_track.specs.Tracking.{expiry}
 use Rattle.pfl_track.specs.States.{IsState}
 use Rattle.pfl_table.specs.declared.row.Row.{Row}
@@ -17,6 +18,8 @@ use Rattle.pfl_bulk.specs.declared.BulkServer.{BulkServer}
 use Rattle.pfl_bulk.specs.declared.BulkClient.{BulkClient}
 use Rattle.pfl_language.specs.declared.limits.Limits.{Limits}
 use Rattle.pfl_parts.specs.declared.counters.Counters.{Counters}
+use Rattle.pfl_parts.specs.declared.edit.NodeEdit.{NodeEdit}
+use Rattle.pfl_parts.specs.declared.edit.NodeEdit.TheVariants.{OfState, Moved}
 use Rattle.pfl_parts.specs.declared.edit.StateEdit.{StateEdit}
 use Rattle.pfl_parts.specs.Nodes.{Node, IsNodeState, IsPast, IsGiven, MarksRightly}
 
@@ -77,6 +80,12 @@ pub record MayStart (n : Node) (s : State) : Type 0 where
 pub record MayMark (n : Node) (name : StateName) (kind : Kind) : Type 0 where
   pub given : IsGiven n name
   pub rightly : MarksRightly n name (record { name = name; kind = kind; number = n.queue.next })
+
+-- the edit puts the state in the place of the former one: it holds what moved where nothing else changed
+abbrev pub Replaces : State → State → NodeEdit → Type 0
+Replaces former s (OfState e) = e ≡ record { name = s.name; before = Some former; after = Some s }
+Replaces former s (Moved e) = (e ≡ record { name = s.name; before = motion former; after = motion s }) × (s ≡ with_motion (motion s) former)
+Replaces former s _ = ⊥
 
 -- the edit of the states that an edit of the table makes
 abbrev pub written : TableEdit → StateEdit

@@ -1,16 +1,16 @@
 //! The places of a node, each changed with its edit recorded.
 
 ghost use Rattle.std.specs.Option.{option_map};
-ghost use Rattle.std.specs.Prelude.{◌≡◌, ◌≤◌, ◌<◌, ◌+◌, true, false, None, OnOk, OnErr, length, Some, ◌^◌, IfSome};
+ghost use Rattle.std.specs.Prelude.{◌≡◌, ◌≤◌, ◌<◌, ◌+◌, true, false, None, OnOk, OnErr, length, Some, ◌^◌, IfSome, MatchOption};
 ghost use Rattle.pfl_defer.specs.Deferring.{held_of, with_held};
 ghost use Rattle.pfl_edits.specs.Maps.{set_at};
 ghost use Rattle.pfl_parts.specs.Changes as to;
-ghost use Rattle.pfl_parts.specs.Edits.{NodeExtends, count_of, total, with_count};
-ghost use Rattle.pfl_parts.specs.inner.Kept.{MayAdd, MayMark, MayReplace, expires_by, written};
+ghost use Rattle.pfl_parts.specs.Edits.{NodeExtends, count_of, moved_at, total, with_count};
+ghost use Rattle.pfl_parts.specs.inner.Kept.{MayAdd, MayMark, MayReplace, Replaces, expires_by, written};
 ghost use Rattle.pfl_parts.specs.Nodes.{Node as Whole, IsGiven, AreParts, AskedAt, ServesSince, is_overfull, last_millisecond};
 ghost use Rattle.pfl_queue.specs.Queues.{most_numbers};
 
-use crate::edit::{Counter, NodeEdit, StateEdit};
+use crate::edit::{Counter, MotionEdit, NodeEdit, StateEdit};
 use crate::parts::Parts;
 use crate::parts::judge::Overfull;
 use pfl_base::{Millis, Packet, StateName};
@@ -18,7 +18,7 @@ use pfl_bulk::{BulkClient, BulkServer};
 use pfl_edits::Change;
 use pfl_queue::Kind;
 use pfl_table::{Row, TableEdit};
-use pfl_track::State;
+use pfl_track::{Motion, State};
 use std::alloc::Allocator;
 
 impl<A: Allocator> Parts<A> {
@@ -37,18 +37,22 @@ impl<A: Allocator> Parts<A> {
         change.push(NodeEdit::OfState(state_edit(&edit)));
     }
 
-    /// Puts a state in the place of one of its name and keys.
+    /// Puts a state in the place of one of its name and keys. Nothing is recorded where it is the same one.
     pub fn replace_state(&mut self, state: State, change: &mut Change<NodeEdit, A>)
         requires room { 0 < change.old.spare }
         requires may { MayReplace self.old state }
         ensures node { self.new ≡ to.put_state self.old state }
         ensures extends { NodeExtends 1 change.old change.new self.old self.new }
     {
-        let expires = self.expiry(&state);
-        let Some(edit) = self.table.change(state, expires) else {
+        let name = state.name();
+        let Some(former) = self.table.by_name(name).copied() else {
             unreachable!();
         };
-        change.push(NodeEdit::OfState(state_edit(&edit)));
+        let Some(edit) = replacement(&former, &state) else {
+            return;
+        };
+        self.set_state(name, Some(state));
+        change.push(edit);
     }
 
     /// Takes the state of a name out. Nothing is recorded where there is none.
@@ -71,6 +75,17 @@ impl<A: Allocator> Parts<A> {
     {
         let expires = self.expiry_of(&at);
         self.table.set(name, at, expires);
+    }
+
+    /// Moves the state of a name so, if there is one.
+    pub fn set_motion(&mut self, name: StateName, motion: Motion)
+        requires node { AreParts (record self.old { states = moved_at self.old.states name motion }) }
+        ensures node { self.new ≡ record self.old { states = moved_at self.old.states name motion } }
+    {
+        let Some(state) = self.table.by_name(name).copied() else {
+            return;
+        };
+        self.set_state(name, Some(state.with_motion(motion)));
     }
 
     /// When the state expires under the node's rules, if it is one.
@@ -266,6 +281,33 @@ impl<A: Allocator> Parts<A> {
             after: clock,
         });
     }
+}
+
+/// What is recorded where a state takes the place of one of its name and keys: nothing where it is the same one, and what moved where
+/// nothing else changed.
+fn replacement(former: &State, state: &State) -> Option<NodeEdit>
+    requires name { state.now.name ≡ former.now.name }
+    requires wire { state.now.wire ≡ former.now.wire }
+    requires stack { state.now.stack ≡ former.now.stack }
+    ensures { MatchOption result (state.now ≡ former.now) (Replaces former.now state.now) }
+{
+    let name = state.name();
+    if !state.only_moved(former) {
+        return Some(NodeEdit::OfState(StateEdit {
+            name,
+            before: Some(*former),
+            after: Some(*state),
+        }));
+    }
+    let (before, after) = (former.motion(), state.motion());
+    if after.same(&before) {
+        return None;
+    }
+    Some(NodeEdit::Moved(MotionEdit {
+        name,
+        before,
+        after,
+    }))
 }
 
 /// The edit of the states that an edit of the table makes.

@@ -8,7 +8,6 @@ use Rattle.pfl_lines.specs.declared.setup.SetupLine.TheVariants as setup
 use Rattle.pfl_script.specs.declared.setup_fault.SetupFault.{SetupFault}
 use Rattle.pfl_script.specs.declared.setup_fault.SetupFault.TheVariants as fault
 use Rattle.pfl_script.specs.Setups.{Draft, set_by_said, goes_on, says_rule, first_rule_fault}
-use Rattle.pfl_script.specs.Readers.{Source}
 
 -- what a line was taken for: `opened` says that it is `open`
 abbrev pub Takes : Bool → Option (Result SetupLine LineFault) → Draft → Draft → Type 0
@@ -32,9 +31,3 @@ abbrev pub IsFinishStop : SetupFault → ℕ → Draft → Type 0
 IsFinishStop (fault.Rule m why) n d = (m ≡ n) × (first_rule_fault d ≡ Some why)
 IsFinishStop fault.NoMemory n d = rule_fault d.a ≡ None
 IsFinishStop _ n d = ⊥
-
--- why no line came
-abbrev pub IsReadStop : SetupFault → Source → Type 0
-IsReadStop fault.Read s = s.failed ≡ true
-IsReadStop fault.TooManyTurns s = s.turns ≡ 16777216
-IsReadStop _ s = ⊥

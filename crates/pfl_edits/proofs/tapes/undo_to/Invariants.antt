@@ -1,4 +1,4 @@
-use Rattle.std.proofs.Common.{◌≡◌, ◌+◌, ◌≤◌, length}
+use Rattle.std.proofs.Common.{◌≡◌, ◌≤◌, length}
 use Rattle.pfl_edits.specs.Changes.{back, Fits}
 use Rattle.pfl_edits.specs.Tapes.{above, below}
 use Rattle.pfl_edits.proofs.tapes.undo_to.Given as goal
@@ -10,7 +10,7 @@ invariant-loop-tape g l =
     record {
       within : l.mark ≤ length l.tape.list;
       kept : below l.mark l.tape.list ≡ below l.mark l.fn.tape.list;
-      room : l.tape.spare + length l.tape.list ≡ l.fn.tape.spare + length l.fn.tape.list;
+      room : l.tape.spare ≡ l.fn.tape.spare;
       fits : Fits r.finds r.allows r.put_back (above l.mark l.tape.list) l.value;
       rest : back r.put_back (above l.mark l.tape.list) l.value ≡ back r.put_back (above l.mark l.fn.tape.list) l.fn.value;
     }

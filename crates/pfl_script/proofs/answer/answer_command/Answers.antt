@@ -1,8 +1,14 @@
-use Rattle.std.proofs.Common.{take, ap, sym, subst, inl}
+use Rattle.std.proofs.Common.{◌≡◌, ◌∙◌, ℕ, List, take, ap, sym, subst, inl}
+use Rattle.std.proofs.lemmas.Result.{on_ok_weaker, on_err_weaker}
+use Rattle.pfl_language.specs.declared.command.Command.{Command}
+use Rattle.pfl_language.specs.declared.command.Command.TheVariants.{Show}
+use Rattle.pfl_timeline.specs.Commands.{command_step, show_command}
+use Rattle.pfl_timeline.specs.Timelines.{Timeline}
+use Rattle.pfl_script.proofs.Showing.{show-step}
 use Rattle.std.specs.Io.KnownBytes.{Appends}
 use Rattle.std.proofs.lemmas.Result.{IfErr-weaker}
 use Rattle.pfl_script.proofs.Pieces.{any-err, any-ok}
-use Rattle.pfl_timeline.specs.Replies.{Reply}
+use Rattle.pfl_timeline.specs.Replies.{Replied, Reply}
 use Rattle.pfl_script.specs.Replies.{reply_text}
 use Rattle.pfl_script.proofs.answer.answer_command.Goals as goal
 
@@ -19,3 +25,25 @@ returns-clause-breaks g c = IfErr-weaker c.write_reply.result _ _ (λ _ part.
 
 pub returns-clause-after : goal.returns-clause-after
 returns-clause-after g c = any-err c.write_reply.result _ (inl (sym (ap (λ r. r.timeline) c.in-Ok.ensures.step)))
+
+-- the command is the one that shows a branch
+same : (t : Timeline) (command : Command) (name : List ℕ) → command ≡ Show name → command_step t command ≡ show_command t name
+same t command name is = ap (command_step t) is ∙ show-step t name
+
+pub returns-in-Show-clause-timeline : goal.returns-in-Show-clause-timeline
+returns-in-Show-clause-timeline g c =
+    any-ok c.answer_show.result _ (sym (ap (λ (r : Replied). r.timeline) (same _ _ _ c.in-Show.is) ∙ c.answer_show.ensures.still))
+
+pub returns-in-Show-clause-text : goal.returns-in-Show-clause-text
+returns-in-Show-clause-text g c =
+    on_ok_weaker c.answer_show.result
+    (subst (λ (r : Replied). Appends (g.W.Output.written c.args.writer.now) (g.W.Output.written c.answer_show.new.writer) (reply_text r.reply)) (sym (same _ _ _ c.in-Show.is)))
+    c.answer_show.ensures.whole
+
+pub returns-in-Show-clause-breaks : goal.returns-in-Show-clause-breaks
+returns-in-Show-clause-breaks g c =
+    on_err_weaker c.answer_show.result (λ part.
+    inl (
+      sym (ap (λ (r : Replied). r.timeline) (same _ _ _ c.in-Show.is) ∙ c.answer_show.ensures.still),
+      (part.0, subst (λ (r : Replied). Appends (g.W.Output.written c.args.writer.now) (g.W.Output.written c.answer_show.new.writer) (take part.0 (reply_text r.reply))) (sym (same _ _ _ c.in-Show.is)) part.1),
+    )) c.answer_show.ensures.part

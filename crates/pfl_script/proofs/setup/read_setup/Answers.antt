@@ -1,11 +1,9 @@
-use Rattle.std.proofs.Common.{arith, refl, ◌≡◌, ◌<◌, ◌+◌, Bool, Option, subst, ◌∙◌, IfSome}
+use Rattle.std.proofs.Common.{arith, refl, ◌≡◌, ◌+◌, Bool, subst, ◌∙◌}
 use Rattle.std.proofs.lemmas.Result.{err_from_is_err_and}
-use Rattle.pfl_script.specs.Scans.{Kept, Gives}
-use Rattle.pfl_script.specs.Readers.{lines_after, room}
 use Rattle.pfl_script.specs.inner.Setups.{Takes}
 use Rattle.pfl_script.specs.Setups.{kept_words}
-use Rattle.pfl_script.proofs.Setting.{Going-none, Going-more, Going-open, stops-taken, stops-finished, counts-read, counts-taken, counts-finished, on-ok, on-err}
-use Rattle.pfl_script.proofs.Turns.{Counts-begun, Counts-more}
+use Rattle.pfl_script.proofs.Setting.{Going-none, Going-more, Going-open, stops-read, stops-taken, stops-finished, counts-read, counts-taken, counts-finished, on-ok, on-err}
+use Rattle.pfl_reader.proofs.ForCallers.{Counts-begun, Counts-more, counted-line, counted-none, gave-line}
 use Rattle.pfl_script.proofs.setup.read_setup.Goals as goal
 
 pub loop-draft-init : goal.loop-draft-init
@@ -20,107 +18,110 @@ loop-draft-init g c = record {
 }
 
 -- no line came
-pub returns-in_err-line-clause-lines : goal.returns-in_err-line-clause-lines
-returns-in_err-line-clause-lines g c =
+pub returns-in_err-advance-clause-fault : goal.returns-in_err-advance-clause-fault
+returns-in_err-advance-clause-fault g c =
     let p = err_from_is_err_and c.from_residual.result c.from_residual.ensures.1 in
-    rw (p.1, p.2) (c.loop-draft.number, counts-read _ c.next_of.new.reader _ _ _ _ _ c.loop-draft.invariant.going c.in_err-line.ensures.fault, c.in_err-line.ensures.uncounted ∙ c.loop-draft.invariant.lines)
+    rw (p.1, p.2) (stops-read _ _ c.advance.new.self c.in_err-advance.ensures.fault)
 
-pub returns-in_err-line-clause-reads : goal.returns-in_err-line-clause-reads
-returns-in_err-line-clause-reads g c = Counts-more c.args.reader.now c.loop-draft.reader c.next_of.new.reader c.loop-draft.invariant.reads c.next_of.ensures.turns
+pub returns-in_err-advance-clause-lines : goal.returns-in_err-advance-clause-lines
+returns-in_err-advance-clause-lines g c =
+    let p = err_from_is_err_and c.from_residual.result c.from_residual.ensures.1 in
+    rw (p.1, p.2) (c.loop-draft.number, counts-read _ _ _ _ _ _ c.loop-draft.invariant.going, c.in_err-advance.ensures.uncounted ∙ c.loop-draft.invariant.lines)
 
-pub returns-in_err-line-clause-few : goal.returns-in_err-line-clause-few
-returns-in_err-line-clause-few g c = c.next_of.ensures.few c.loop-draft.invariant.most
+pub returns-in_err-advance-clause-reads : goal.returns-in_err-advance-clause-reads
+returns-in_err-advance-clause-reads g c = Counts-more c.args.reader.now c.loop-draft.reader c.advance.new.self c.loop-draft.invariant.reads c.advance.ensures.turns
+
+pub returns-in_err-advance-clause-few : goal.returns-in_err-advance-clause-few
+returns-in_err-advance-clause-few g c = c.advance.ensures.few c.loop-draft.invariant.most
 
 -- a line was not taken
 pub returns-in_err-take_line-clause-fault : goal.returns-in_err-take_line-clause-fault
 returns-in_err-take_line-clause-fault g c =
-    let reads = subst (Gives c.loop-draft.reader.left c.next_of.new.reader.left) c.in-Some.is c.in_ok-line.ensures.line in
+    let reads = gave-line _ _ _ _ _ c.in_ok-advance.ensures.line c.if-branch.true c.line.ensures in
     let p = err_from_is_err_and c.from_residual-in_err-take_line.result c.from_residual-in_err-take_line.ensures.1 in
-    rw (p.1, p.2) (stops-taken _ _ c.next_of.new.reader c.loop-draft.number c.loop-draft.draft c.in-Some.line _ c.loop-draft.invariant.going reads c.in_err-take_line.ensures.fault)
+    rw (p.1, p.2) (stops-taken _ _ c.advance.new.self c.loop-draft.number c.loop-draft.draft c.line.result _ c.loop-draft.invariant.going reads c.in_err-take_line.ensures.fault)
 
 pub returns-in_err-take_line-clause-lines : goal.returns-in_err-take_line-clause-lines
 returns-in_err-take_line-clause-lines g c =
-    let reads = subst (Gives c.loop-draft.reader.left c.next_of.new.reader.left) c.in-Some.is c.in_ok-line.ensures.line in
-    let lines = subst (λ (o : Option Kept). c.next_of.new.reader.lines ≡ lines_after o c.loop-draft.reader.lines) c.in-Some.is c.in_ok-line.ensures.lines in
+    let reads = gave-line _ _ _ _ _ c.in_ok-advance.ensures.line c.if-branch.true c.line.ensures in
+    let lines = counted-line _ _ _ c.in_ok-advance.ensures.lines c.if-branch.true in
     let p = err_from_is_err_and c.from_residual-in_err-take_line.result c.from_residual-in_err-take_line.ensures.1 in
-    rw (p.1, p.2) (c.loop-draft.number + 1, counts-taken _ _ _ _ c.loop-draft.number c.loop-draft.draft c.in-Some.line c.loop-draft.invariant.going reads c.in_err-take_line.ensures.fault, omega (arith, lines, c.loop-draft.invariant.lines))
+    rw (p.1, p.2) (c.loop-draft.number + 1, counts-taken _ _ _ _ c.loop-draft.number c.loop-draft.draft c.line.result c.loop-draft.invariant.going reads c.in_err-take_line.ensures.fault, omega (arith, lines, c.loop-draft.invariant.lines))
 
 pub returns-in_err-take_line-clause-reads : goal.returns-in_err-take_line-clause-reads
-returns-in_err-take_line-clause-reads g c = Counts-more c.args.reader.now c.loop-draft.reader c.next_of.new.reader c.loop-draft.invariant.reads c.next_of.ensures.turns
+returns-in_err-take_line-clause-reads g c = Counts-more c.args.reader.now c.loop-draft.reader c.advance.new.self c.loop-draft.invariant.reads c.advance.ensures.turns
 
 pub returns-in_err-take_line-clause-few : goal.returns-in_err-take_line-clause-few
-returns-in_err-take_line-clause-few g c = c.next_of.ensures.few c.loop-draft.invariant.most
+returns-in_err-take_line-clause-few g c = c.advance.ensures.few c.loop-draft.invariant.most
 
 -- the setup ends
-pub returns-then-branch-clause-setup : goal.returns-then-branch-clause-setup
-returns-then-branch-clause-setup g c =
-    let reads = subst (Gives c.loop-draft.reader.left c.next_of.new.reader.left) c.in-Some.is c.in_ok-line.ensures.line in
-    let takes = subst (λ (b : Bool). Takes b (kept_words c.in-Some.line) c.loop-draft.draft c.take_line.new.self) c.if-branch.true c.in_ok-take_line.ensures.taken in
-    let opens = Going-open _ _ _ _ _ _ c.in-Some.line c.loop-draft.invariant.going reads takes in
+pub returns-then-branch-2-clause-setup : goal.returns-then-branch-2-clause-setup
+returns-then-branch-2-clause-setup g c =
+    let reads = gave-line _ _ _ _ _ c.in_ok-advance.ensures.line c.if-branch.true c.line.ensures in
+    let takes = subst (λ (b : Bool). Takes b (kept_words c.line.result) c.loop-draft.draft c.take_line.new.self) c.if-branch-2.true c.in_ok-take_line.ensures.taken in
+    let opens = Going-open _ _ _ _ _ _ c.line.result c.loop-draft.invariant.going reads takes in
     on-ok c.finish.result (λ s finishes. record { draft = c.take_line.new.self; number = c.loop-draft.number + 1; opens = opens; finishes = finishes }) c.finish.ensures.setup
 
 -- it ends at the line that was read last
-pub returns-then-branch-clause-counted : goal.returns-then-branch-clause-counted
-returns-then-branch-clause-counted g c =
-    let reads = subst (Gives c.loop-draft.reader.left c.next_of.new.reader.left) c.in-Some.is c.in_ok-line.ensures.line in
-    let takes = subst (λ (b : Bool). Takes b (kept_words c.in-Some.line) c.loop-draft.draft c.take_line.new.self) c.if-branch.true c.in_ok-take_line.ensures.taken in
-    let opens = Going-open _ _ _ _ _ _ c.in-Some.line c.loop-draft.invariant.going reads takes in
-    let lines = subst (λ (o : Option Kept). c.next_of.new.reader.lines ≡ lines_after o c.loop-draft.reader.lines) c.in-Some.is c.in_ok-line.ensures.lines in
-    let less : room c.next_of.new.reader < room c.loop-draft.reader =
-    subst (λ (o : Option Kept). IfSome o (λ _. room c.next_of.new.reader < room c.loop-draft.reader)) c.in-Some.is c.in_ok-line.ensures.room in
+pub returns-then-branch-2-clause-counted : goal.returns-then-branch-2-clause-counted
+returns-then-branch-2-clause-counted g c =
+    let reads = gave-line _ _ _ _ _ c.in_ok-advance.ensures.line c.if-branch.true c.line.ensures in
+    let takes = subst (λ (b : Bool). Takes b (kept_words c.line.result) c.loop-draft.draft c.take_line.new.self) c.if-branch-2.true c.in_ok-take_line.ensures.taken in
+    let opens = Going-open _ _ _ _ _ _ c.line.result c.loop-draft.invariant.going reads takes in
+    let lines = counted-line _ _ _ c.in_ok-advance.ensures.lines c.if-branch.true in
+    let less = c.in_ok-advance.ensures.room c.if-branch.true in
     on-ok c.finish.result (λ s finishes fresh.
     let was = c.loop-draft.invariant.counted fresh in
-    let number : c.next_of.new.reader.lines ≡ c.loop-draft.number + 1 = omega (arith, lines, was, less, c.loop-draft.invariant.few) in
+    let number : c.advance.new.self.lines ≡ c.loop-draft.number + 1 = omega (arith, lines, was, less, c.loop-draft.invariant.few) in
     record { draft = c.take_line.new.self; opens = rw number opens; finishes = finishes }) c.finish.ensures.setup
 
 -- the rules have a fault
-pub returns-then-branch-clause-fault : goal.returns-then-branch-clause-fault
-returns-then-branch-clause-fault g c =
-    let reads = subst (Gives c.loop-draft.reader.left c.next_of.new.reader.left) c.in-Some.is c.in_ok-line.ensures.line in
-    let takes = subst (λ (b : Bool). Takes b (kept_words c.in-Some.line) c.loop-draft.draft c.take_line.new.self) c.if-branch.true c.in_ok-take_line.ensures.taken in
-    let opens = Going-open _ _ _ _ _ _ c.in-Some.line c.loop-draft.invariant.going reads takes in
-    on-err c.finish.result (λ e stop. stops-finished _ c.next_of.new.reader (c.loop-draft.number + 1) c.take_line.new.self e opens stop) c.finish.ensures.fault
+pub returns-then-branch-2-clause-fault : goal.returns-then-branch-2-clause-fault
+returns-then-branch-2-clause-fault g c =
+    let reads = gave-line _ _ _ _ _ c.in_ok-advance.ensures.line c.if-branch.true c.line.ensures in
+    let takes = subst (λ (b : Bool). Takes b (kept_words c.line.result) c.loop-draft.draft c.take_line.new.self) c.if-branch-2.true c.in_ok-take_line.ensures.taken in
+    let opens = Going-open _ _ _ _ _ _ c.line.result c.loop-draft.invariant.going reads takes in
+    on-err c.finish.result (λ e stop. stops-finished _ c.advance.new.self (c.loop-draft.number + 1) c.take_line.new.self e opens stop) c.finish.ensures.fault
 
-pub returns-then-branch-clause-lines : goal.returns-then-branch-clause-lines
-returns-then-branch-clause-lines g c =
-    let reads = subst (Gives c.loop-draft.reader.left c.next_of.new.reader.left) c.in-Some.is c.in_ok-line.ensures.line in
-    let takes = subst (λ (b : Bool). Takes b (kept_words c.in-Some.line) c.loop-draft.draft c.take_line.new.self) c.if-branch.true c.in_ok-take_line.ensures.taken in
-    let opens = Going-open _ _ _ _ _ _ c.in-Some.line c.loop-draft.invariant.going reads takes in
-    let lines = subst (λ (o : Option Kept). c.next_of.new.reader.lines ≡ lines_after o c.loop-draft.reader.lines) c.in-Some.is c.in_ok-line.ensures.lines in
+pub returns-then-branch-2-clause-lines : goal.returns-then-branch-2-clause-lines
+returns-then-branch-2-clause-lines g c =
+    let reads = gave-line _ _ _ _ _ c.in_ok-advance.ensures.line c.if-branch.true c.line.ensures in
+    let takes = subst (λ (b : Bool). Takes b (kept_words c.line.result) c.loop-draft.draft c.take_line.new.self) c.if-branch-2.true c.in_ok-take_line.ensures.taken in
+    let opens = Going-open _ _ _ _ _ _ c.line.result c.loop-draft.invariant.going reads takes in
+    let lines = counted-line _ _ _ c.in_ok-advance.ensures.lines c.if-branch.true in
     on-err c.finish.result (λ e stop. (c.loop-draft.number + 1, counts-finished e _ _ (c.loop-draft.number + 1) c.take_line.new.self opens stop, omega (arith, lines, c.loop-draft.invariant.lines))) c.finish.ensures.fault
 
-pub returns-then-branch-clause-reads : goal.returns-then-branch-clause-reads
-returns-then-branch-clause-reads g c = Counts-more c.args.reader.now c.loop-draft.reader c.next_of.new.reader c.loop-draft.invariant.reads c.next_of.ensures.turns
+pub returns-then-branch-2-clause-reads : goal.returns-then-branch-2-clause-reads
+returns-then-branch-2-clause-reads g c = Counts-more c.args.reader.now c.loop-draft.reader c.advance.new.self c.loop-draft.invariant.reads c.advance.ensures.turns
 
-pub returns-then-branch-clause-few : goal.returns-then-branch-clause-few
-returns-then-branch-clause-few g c = c.next_of.ensures.few c.loop-draft.invariant.most
+pub returns-then-branch-2-clause-few : goal.returns-then-branch-2-clause-few
+returns-then-branch-2-clause-few g c = c.advance.ensures.few c.loop-draft.invariant.most
 
 -- no line is left
 pub returns-clause-lines : goal.returns-clause-lines
 returns-clause-lines g c =
-    let lines = subst (λ (o : Option Kept). c.next_of.new.reader.lines ≡ lines_after o c.loop-draft.reader.lines) c.in_default.is c.in_ok-line.ensures.lines in
+    let lines = counted-none _ _ _ c.in_ok-advance.ensures.lines c.if-branch.false in
     (c.loop-draft.number, refl, lines ∙ c.loop-draft.invariant.lines)
 
 pub returns-clause-reads : goal.returns-clause-reads
-returns-clause-reads g c = Counts-more c.args.reader.now c.loop-draft.reader c.next_of.new.reader c.loop-draft.invariant.reads c.next_of.ensures.turns
+returns-clause-reads g c = Counts-more c.args.reader.now c.loop-draft.reader c.advance.new.self c.loop-draft.invariant.reads c.advance.ensures.turns
 
 pub returns-clause-few : goal.returns-clause-few
-returns-clause-few g c = c.next_of.ensures.few c.loop-draft.invariant.most
+returns-clause-few g c = c.advance.ensures.few c.loop-draft.invariant.most
 
 -- one line more
 pub loop-draft-preserved : goal.loop-draft-preserved
 loop-draft-preserved g c =
-    let reads = subst (Gives c.loop-draft.reader.left c.next_of.new.reader.left) c.in-Some.is c.in_ok-line.ensures.line in
-    let takes = subst (λ (b : Bool). Takes b (kept_words c.in-Some.line) c.loop-draft.draft c.take_line.new.self) c.if-branch.false c.in_ok-take_line.ensures.taken in
-    let less : room c.next_of.new.reader < room c.loop-draft.reader =
-    subst (λ (o : Option Kept). IfSome o (λ _. room c.next_of.new.reader < room c.loop-draft.reader)) c.in-Some.is c.in_ok-line.ensures.room in
-    let lines = subst (λ (o : Option Kept). c.next_of.new.reader.lines ≡ lines_after o c.loop-draft.reader.lines) c.in-Some.is c.in_ok-line.ensures.lines in
+    let reads = gave-line _ _ _ _ _ c.in_ok-advance.ensures.line c.if-branch.true c.line.ensures in
+    let takes = subst (λ (b : Bool). Takes b (kept_words c.line.result) c.loop-draft.draft c.take_line.new.self) c.if-branch-2.false c.in_ok-take_line.ensures.taken in
+    let less = c.in_ok-advance.ensures.room c.if-branch.true in
+    let lines = counted-line _ _ _ c.in_ok-advance.ensures.lines c.if-branch.true in
     record {
       counted = λ fresh. let was = c.loop-draft.invariant.counted fresh in omega (arith, lines, was, less, c.loop-draft.invariant.few);
-      going = Going-more _ _ _ _ _ _ c.in-Some.line c.loop-draft.invariant.going reads takes;
+      going = Going-more _ _ _ _ _ _ c.line.result c.loop-draft.invariant.going reads takes;
       lines = omega (arith, lines, c.loop-draft.invariant.lines);
       few = omega (arith, less, c.loop-draft.invariant.few);
-      reads = Counts-more c.args.reader.now c.loop-draft.reader c.next_of.new.reader c.loop-draft.invariant.reads c.next_of.ensures.turns;
-      most = c.next_of.ensures.few c.loop-draft.invariant.most;
-      stays = c.in_ok-line.ensures.stays ∙ c.loop-draft.invariant.stays;
+      reads = Counts-more c.args.reader.now c.loop-draft.reader c.advance.new.self c.loop-draft.invariant.reads c.advance.ensures.turns;
+      most = c.advance.ensures.few c.loop-draft.invariant.most;
+      stays = c.in_ok-advance.ensures.stays ∙ c.loop-draft.invariant.stays;
     }

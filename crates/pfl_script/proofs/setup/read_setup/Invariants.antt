@@ -1,6 +1,7 @@
 use Rattle.std.proofs.Common.{◌≡◌, ◌+◌, ◌≤◌, ◌^◌}
 use Rattle.pfl_base.specs.Counts.{Counts}
-use Rattle.pfl_script.specs.Readers.{room, counted_on}
+use Rattle.pfl_reader.specs.Readers.{room}
+use Rattle.pfl_script.specs.Readers.{counted_on}
 use Rattle.pfl_script.proofs.Setting.{Going}
 use Rattle.pfl_script.proofs.setup.read_setup.Given as goal
 
@@ -9,7 +10,7 @@ invariant-loop-draft g l = record {
   going : Going l.fn.reader.left l.reader.left l.number l.draft;
   counted : l.fn.reader.lines ≡ 0 → l.reader.lines ≡ l.number;
   lines : l.reader.lines ≡ counted_on l.fn.reader.lines l.number;
-  few : l.number + room l.reader ≤ 2 ^ 40;
+  few : l.number + room l.reader ≤ 2 ^ 41;
   reads : Counts l.fn.reader.reads l.reader.reads l.reader.turns;
   most : l.reader.turns ≤ 16777216;
   stays : l.reader.failed ≡ l.fn.reader.failed;

@@ -1,19 +1,20 @@
 use Rattle.std.proofs.Common.{◌≡◌, ◌+◌, ◌≤◌, ◌^◌, length}
 use Rattle.pfl_base.specs.Counts.{Counts}
-use Rattle.pfl_script.specs.Readers.{room, counted_on}
+use Rattle.pfl_reader.specs.Readers.{room}
+use Rattle.pfl_script.specs.Readers.{counted_on}
 use Rattle.pfl_session.specs.Passes.{GoesOn, IsPassOf}
 use Rattle.pfl_serve.proofs.ServedLines.{Served}
 use Rattle.pfl_serve.proofs.service.serve_session.Given as goal
 
-abbrev pub invariant-loop-line : goal.invariant-loop-line
-invariant-loop-line g l =
+abbrev pub invariant-loop-turn : goal.invariant-loop-turn
+invariant-loop-turn g l =
     let j = g.J.Which in
     record {
       served : Served j.opening (length j.tallies) j.limit l.fn.reader.left l.reader.left l.fn.pass l.pass
           (g.O.Output.written l.fn.writer) (g.O.Output.written l.writer) l.ended.lines l.ended.bad;
       lab : IsPassOf j.publisher j.tallies l.pass;
       goes_on : GoesOn l.fn.pass l.pass;
-      few : l.ended.lines + room l.reader ≤ 2 ^ 40;
+      few : l.ended.lines + room l.reader ≤ 2 ^ 41;
       fewer : l.ended.bad ≤ l.ended.lines;
       lines : l.reader.lines ≡ counted_on l.fn.reader.lines l.ended.lines;
       reads : Counts l.fn.reader.reads l.reader.reads l.reader.turns;
@@ -22,5 +23,5 @@ invariant-loop-line g l =
       writer_stays : g.O.Output.has_failed l.writer ≡ g.O.Output.has_failed l.fn.writer;
     }
 
-abbrev pub decreases-loop-line : goal.decreases-loop-line
-decreases-loop-line g l = room l.reader
+abbrev pub decreases-loop-turn : goal.decreases-loop-turn
+decreases-loop-turn g l = room l.reader

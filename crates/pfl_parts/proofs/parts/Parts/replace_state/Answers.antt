@@ -1,46 +1,47 @@
 use Rattle.std.specs.Prelude.{Some, ◌≡◌}
-use Rattle.std.specs.Option.{option_map}
 use Rattle.std.proofs.Common.{◌∙◌, ap, sym, subst}
+use Rattle.pfl_base.specs.declared.state_name.StateName.{StateName}
 use Rattle.pfl_edits.specs.Maps as maps
-use Rattle.pfl_edits.specs.Maps.{set_at}
-use Rattle.pfl_table.specs.declared.row.Row.{Row}
-use Rattle.pfl_table.specs.Tables.{states_of, row_with, edit_of}
-use Rattle.pfl_table.proofs.ForCallers.{get-states_of}
-use Rattle.pfl_parts.specs.declared.edit.NodeEdit.TheVariants.{OfState}
+use Rattle.pfl_table.specs.Tables.{states_of}
+use Rattle.pfl_track.specs.declared.state.State.{State}
+use Rattle.pfl_parts.specs.Changes.{put_state}
 use Rattle.pfl_parts.specs.Edits.{NodeExtends}
-use Rattle.pfl_parts.specs.inner.Kept.{expires_by, written}
 use Rattle.pfl_parts.specs.Nodes.{Node, AreParts}
 use Rattle.pfl_parts.proofs.Putting.{replaced-node}
-use Rattle.pfl_parts.proofs.Recording.{recorded_as}
-use Rattle.pfl_parts.proofs.Stating.{written-states, written-timely, whole-with}
+use Rattle.pfl_parts.proofs.Replacing.{put_again, replaced-extends}
 use Rattle.pfl_parts.proofs.parts.Parts.replace_state.Goals as goal
 
-pub invariant_of-self : goal.invariant_of-self
-invariant_of-self g c =
+pub replacement-requires-clause-name : goal.replacement-requires-clause-name
+replacement-requires-clause-name g c =
     let n = c.args.self.now in
     let s = c.args.state in
-    let t = c.self.inside.table in
-    let now = written-states t c.change.new.self s.name (Some s) c.expiry-expires.result c.in-Some.ensures.changed ∙ ap (λ (m : Node). set_at m.states s.name (Some s)) c.self.view_is in (
-      written-timely c.self.inside.limits c.self.inside.rules t c.change.new.self s.name (Some s) c.expiry-expires.result c.self.invariant.0
-          (c.expiry-expires.ensures.expiry ∙ ap (λ (m : Node). expires_by m.rules s) (sym c.self.view_is)) c.in-Some.ensures.changed,
-      subst AreParts (sym (whole-with _ n (states_of c.change.new.self) (set_at n.states s.name (Some s)) c.self.view_is now)) (replaced-node n s (subst AreParts c.self.view_is c.self.invariant.1) c.requires.may),
-    )
+    let there : maps.get n.states s.name ≡ Some c.in-Some.former =
+    ap (λ (m : Node). maps.get m.states s.name) (sym c.self.view_is)
+    ∙ (ap (maps.get (states_of c.self.inside.table)) (sym c.name-name.ensures) ∙ (sym c.by_name.ensures.state ∙ (sym c.copied.ensures ∙ c.in-Some.is))) in
+    sym ((subst AreParts c.self.view_is c.self.invariant.1).states.filed s.name c.in-Some.former there)
 
-pub returns-clause-node : goal.returns-clause-node
-returns-clause-node g c =
+pub returns-in_default-replacement-clause-node : goal.returns-in_default-replacement-clause-node
+returns-in_default-replacement-clause-node g c =
     let n = c.args.self.now in
     let s = c.args.state in
-    let now = written-states c.self.inside.table c.change.new.self s.name (Some s) c.expiry-expires.result c.in-Some.ensures.changed ∙ ap (λ (m : Node). set_at m.states s.name (Some s)) c.self.view_is in
-    whole-with _ n (states_of c.change.new.self) (set_at n.states s.name (Some s)) c.self.view_is now
+    let there : maps.get n.states s.name ≡ Some c.in-Some.former =
+    ap (λ (m : Node). maps.get m.states s.name) (sym c.self.view_is)
+    ∙ (ap (maps.get (states_of c.self.inside.table)) (sym c.name-name.ensures) ∙ (sym c.by_name.ensures.state ∙ (sym c.copied.ensures ∙ c.in-Some.is))) in
+    put_again n s (there ∙ ap (λ (t : State). Some t) (sym c.in_default-replacement.ensures))
+
+pub set_state-requires : goal.set_state-requires
+set_state-requires g c =
+    let n = c.args.self.now in
+    let s = c.args.state in
+    record { node = rw c.name-name.ensures (replaced-node n s (subst AreParts c.self.view_is c.self.invariant.1) c.requires.may) }
 
 pub returns-clause-extends : goal.returns-clause-extends
 returns-clause-extends g c =
     let n = c.args.self.now in
     let s = c.args.state in
-    let t = c.self.inside.table in
-    let now = written-states t c.change.new.self s.name (Some s) c.expiry-expires.result c.in-Some.ensures.changed ∙ ap (λ (m : Node). set_at m.states s.name (Some s)) c.self.view_is in
-    let whole = whole-with _ n (states_of c.change.new.self) (set_at n.states s.name (Some s)) c.self.view_is now in
-    let former : maps.get n.states s.name ≡ option_map (λ (r : Row). r.state) (maps.get t.rows s.name) = ap (λ (m : Node). maps.get m.states s.name) (sym c.self.view_is) ∙ get-states_of t s.name in
-    let wrote = OfState (written (edit_of t s.name (row_with (Some s) c.expiry-expires.result))) in
-    subst (λ (m : Node). NodeExtends 1 c.args.change.now c.push.new.self n m) (sym whole)
-    (recorded_as _ _ n (OfState c.state_edit.result) wrote (ap OfState (c.state_edit.ensures ∙ ap written c.in-Some.ensures.edit)) (subst AreParts c.self.view_is c.self.invariant.1) former tt c.push.ensures.list c.push.ensures.spare)
+    let there : maps.get n.states s.name ≡ Some c.in-Some.former =
+    ap (λ (m : Node). maps.get m.states s.name) (sym c.self.view_is)
+    ∙ (ap (maps.get (states_of c.self.inside.table)) (sym c.name-name.ensures) ∙ (sym c.by_name.ensures.state ∙ (sym c.copied.ensures ∙ c.in-Some.is))) in
+    let now : c.set_state.new.self ≡ put_state n s = c.set_state.ensures.node ∙ ap (λ (name : StateName). record n { states = maps.insert n.states name s }) c.name-name.ensures in
+    subst (λ (m : Node). NodeExtends 1 c.args.change.now c.push.new.self n m) (sym now)
+    (replaced-extends _ _ n c.in-Some.former s c.in-Some-replacement.edit c.in-Some-replacement.ensures (subst AreParts c.self.view_is c.self.invariant.1) there c.push.ensures.list c.push.ensures.spare)

@@ -1,0 +1,2 @@
+-- What the models of this crate cite of its insides.
+pub mod Kept
