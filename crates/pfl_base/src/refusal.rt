@@ -5,8 +5,7 @@ ghost use Rattle.std.specs.Prelude.{◌≡◌, Some};
 use std::error::Error;
 use std::fmt;
 
-/// Why an event is refused. The first of these that applies is answered, want of memory last; but a frame that can't be
-/// decoded for want of memory answers that before `QueueFull` and `CountFull` are looked at.
+/// Why an event is refused. The first of these that applies is answered, want of memory last.
 #[derive(Clone, Copy, Debug, PartialEq, Eq)]
 pub enum Refusal {
     /// No frame with this number is on the link.

@@ -19,7 +19,7 @@ use Rattle.pfl_wire.specs.declared.fault.BadFrame.{BadFrame}
 use Rattle.pfl_wire.specs.declared.message.Message.{Message}
 use Rattle.pfl_wire.specs.declared.message.Message.TheVariants as message
 use Rattle.pfl_wire.specs.declared.message.StateRecord.{StateRecord}
-use Rattle.pfl_wire.specs.Frames.{Frame}
+use Rattle.pfl_wire.specs.Frames.{Frame, records_of}
 use Rattle.pfl_wire.specs.Reading.{reading}
 use Rattle.pfl_merge.specs.declared.received.Received.{Received}
 use Rattle.pfl_merge.specs.declared.merged.Merged.{Merged}
@@ -32,7 +32,7 @@ use Rattle.pfl_parts.specs.Nodes.{Node}
 use Rattle.pfl_parts.specs.Changes.{put_state, mark, push_if, count_bad, count_broken, count_stale, count_freed, count_lost, without_held, is_held, is_untold, freed, lost, released, changed, forgotten, ask}
 use Rattle.pfl_receive.specs.Receiving.{taken, insert_taken, can_import, merge_taken, merged_into, bulk_taken, state_answered, is_partly_told, ack_taken, delete_taken, is_known, cleared_names, of_state, of_update}
 use Rattle.pfl_node.proofs.ForCallers.{taken-apart}
-use Rattle.pfl_receive.specs.Delivering.{records_of, same_rules}
+use Rattle.pfl_receive.specs.Delivering.{same_rules}
 use Rattle.pfl_laws.specs.Laws.{HasRisen, HasState, IsTied, Holds, LetsOut, OneLetsOut, RecordsLetGoOnlySo}
 use Rattle.pfl_world.specs.Delivering.{frame_points}
 use Rattle.pfl_laws.proofs.Following.{inner}

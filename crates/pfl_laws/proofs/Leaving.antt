@@ -22,7 +22,7 @@ use Rattle.pfl_track.specs.Tracking.{tracked}
 use Rattle.pfl_table.specs.Tables.{found, key_in_use}
 use Rattle.pfl_table.proofs.ForCallers.{found-stands}
 use Rattle.pfl_wire.specs.declared.fault.BadFrame.{BadFrame}
-use Rattle.pfl_wire.specs.Frames.{Frame}
+use Rattle.pfl_wire.specs.Frames.{Frame, records_of}
 use Rattle.pfl_wire.specs.Reading.{reading}
 use Rattle.pfl_language.specs.declared.fate.Fate.TheVariants as fate
 use Rattle.pfl_language.specs.declared.node_event.NodeEvent.{NodeEvent}
@@ -46,7 +46,6 @@ use Rattle.pfl_node.specs.Retrying.{retried_client}
 use Rattle.pfl_node.specs.Flushing.{flushed, update_count_cleared}
 use Rattle.pfl_node.specs.Packets.{handled, handled_by, followed, accepted, before_rules, on_the_way}
 use Rattle.pfl_node.specs.Starting.{Handled, pass, hold, started, judged, by_rule, announced, with_room, with_new, new_state, is_at_max, is_deferred}
-use Rattle.pfl_receive.specs.Delivering.{records_of}
 use Rattle.pfl_world.specs.Worlds.{World, node_at, with_node}
 use Rattle.pfl_laws.specs.Laws.{FrameLetsOut, HeldPacketsLeaveOnlySo, Holds, LetsGo, NodeLetsGo, LetsOldestGo, OneLetsOut, asked_at}
 use Rattle.pfl_laws.proofs.Following.{Alike, Filed}

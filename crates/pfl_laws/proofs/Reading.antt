@@ -1,7 +1,6 @@
 -- What is read of a frame are records of states and ends, whatever the numbers are that it is read from.
-use Rattle.std.specs.Prelude.{◌≡◌, ◌==◌, ℕ, zero, suc, Bool, true, false, nat_le, List, [], ◌∷◌, ◌++◌, length, Ok, Err, refl}
+use Rattle.std.specs.Prelude.{◌≡◌, ℕ, zero, suc, Bool, true, false, nat_le, List, [], ◌∷◌, ◌++◌, length, Ok, Err, refl}
 use Rattle.std.specs.List.{AllByRecursion, flat_map}
-use Rattle.std.specs.Option.{ok_or}
 use Rattle.std.proofs.Common.{ap, subst}
 use Rattle.pfl_base.specs.declared.addr.Addr.{Addr}
 use Rattle.pfl_base.specs.declared.addr.Addr.TheVariants.{V4, V6}
@@ -18,13 +17,11 @@ use Rattle.pfl_wire.specs.declared.message.Message.{Message}
 use Rattle.pfl_wire.specs.declared.message.Message.TheVariants as message
 use Rattle.pfl_wire.specs.declared.message.StateRecord.{StateRecord}
 use Rattle.pfl_wire.specs.declared.message.UpdateRecord.{UpdateRecord}
-use Rattle.pfl_wire.specs.Actions.{action_with}
-use Rattle.pfl_wire.specs.Frames.{Frame}
+use Rattle.pfl_wire.specs.Frames.{Frame, records_of}
 use Rattle.pfl_wire.specs.Fields.{Read, wanted, byte_at, number_at, pads_at, name_at, scale_of, peer_at, address_at, end_at, ends_at, class_at, is_v4_of, dir_of, ack_wanted_of, status_of, rule_of}
 use Rattle.pfl_wire.specs.Records.{key_with, keys_at, state_at, update_at, clear_at, bulk_at, read_as, record_at}
-use Rattle.pfl_wire.specs.Reading.{records_at, is_counted, group_at, groups_at, header_at, reading}
+use Rattle.pfl_wire.specs.Reading.{records_at, subheader_at, group_at, groups_at, header_at, reading}
 use Rattle.pfl_wire.proofs.ForCallers.{bind_then, wanted_ok, ok_is, le_from, scale_back, proto_back, one_family}
-use Rattle.pfl_receive.specs.Delivering.{records_of}
 
 -- a whole state's record
 pub record IsWhole (r : StateRecord) : Type 0 where
@@ -201,15 +198,7 @@ records-are a (suc n) bytes x e =
 
 group-is : (bytes : List ℕ) (x : List Message × List ℕ) → group_at bytes ≡ Ok x → AreRecords x.0
 unfolding group_at
-group-is bytes x e =
-    bind_then (wanted (nat_le 4 (length bytes)) bad.Length) _ x e (λ long long_is e0.
-    bind_then (byte_at bytes) _ x e0 (λ number number_is e1.
-    bind_then (ok_or (action_with number.0) bad.Action) _ x e1 (λ a a_is e2.
-    bind_then (byte_at number.1) _ x e2 (λ pad pad_is e3.
-    bind_then (number_at 2 pad.1) _ x e3 (λ count count_is e4.
-    bind_then (wanted (is_counted a count.0 count.1) bad.Count) _ x e4 (λ counted counted_is e5.
-    bind_then (wanted (pad.0 == 0) bad.Value) _ x e5 (λ zero zero_is e6.
-    records-are a count.0 count.1 x e6)))))))
+group-is bytes x e = bind_then (subheader_at bytes) _ x e (λ group group_is e1. records-are group.0.action group.0.count group.1 x e1)
 
 groups-are : (fuel : ℕ) (bytes : List ℕ) (x : List (List Message) × List ℕ) → groups_at fuel bytes ≡ Ok x → AllByRecursion AreRecords x.0
 unfolding groups_at

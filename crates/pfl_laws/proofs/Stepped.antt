@@ -11,7 +11,7 @@ use Rattle.pfl_base.specs.Numbers.{greatest}
 use Rattle.pfl_edits.specs.Maps as maps
 use Rattle.pfl_edits.proofs.ForCallers.{some_is_none}
 use Rattle.pfl_wire.specs.declared.fault.BadFrame.{BadFrame}
-use Rattle.pfl_wire.specs.Frames.{Frame}
+use Rattle.pfl_wire.specs.Frames.{Frame, records_of}
 use Rattle.pfl_wire.specs.Reading.{reading}
 use Rattle.pfl_language.specs.declared.event.Event.{Event}
 use Rattle.pfl_language.specs.declared.event.Event.TheVariants as event
@@ -27,7 +27,7 @@ use Rattle.pfl_node.specs.Events.{restarted}
 use Rattle.pfl_node.specs.Stepping.{node_refusal, node_after}
 use Rattle.pfl_world.specs.Events.{step}
 use Rattle.pfl_world.specs.Runs.{world_after}
-use Rattle.pfl_receive.specs.Delivering.{records_of, same_rules}
+use Rattle.pfl_receive.specs.Delivering.{same_rules}
 use Rattle.pfl_world.specs.Flushing.{flush_refusal, sent_frame, flush_step}
 use Rattle.pfl_world.specs.Delivering.{read_taken, deliver_step}
 use Rattle.pfl_world.specs.Tickets.{lose_step, repeat_step, cut_step, without_ticket}

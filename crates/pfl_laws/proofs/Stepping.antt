@@ -13,7 +13,7 @@ use Rattle.pfl_base.specs.Numbers.{greatest}
 use Rattle.pfl_edits.specs.Maps as maps
 use Rattle.pfl_edits.proofs.ForCallers.{some_is_none}
 use Rattle.pfl_wire.specs.declared.fault.BadFrame.{BadFrame}
-use Rattle.pfl_wire.specs.Frames.{Frame}
+use Rattle.pfl_wire.specs.Frames.{Frame, records_of}
 use Rattle.pfl_wire.specs.Reading.{reading}
 use Rattle.pfl_language.specs.declared.node_event.NodeEvent.{NodeEvent}
 use Rattle.pfl_language.specs.declared.node_event.NodeEvent.TheVariants as own
@@ -41,7 +41,7 @@ use Rattle.pfl_receive.specs.Receiving.{taken}
 use Rattle.pfl_world.specs.Events.{step}
 use Rattle.pfl_world.specs.Meanings.{Stepped}
 use Rattle.pfl_world.specs.Runs.{world_after}
-use Rattle.pfl_receive.specs.Delivering.{records_of, same_rules}
+use Rattle.pfl_receive.specs.Delivering.{same_rules}
 use Rattle.pfl_world.specs.AtNodes.{from_node}
 use Rattle.pfl_world.specs.Flushing.{flush_refusal, sent_frame, flush_step}
 use Rattle.pfl_world.specs.Delivering.{read_taken, deliver_step}

@@ -14,6 +14,7 @@ use Rattle.pfl_table.specs.Tables.{AreStates, found}
 use Rattle.pfl_track.specs.declared.state.State.{State}
 use Rattle.pfl_wire.specs.declared.message.Message.{Message}
 use Rattle.pfl_wire.specs.declared.message.Message.TheVariants as message
+use Rattle.pfl_wire.specs.Frames.{records_of}
 use Rattle.pfl_wire.specs.Reading.{reading}
 use Rattle.pfl_language.specs.declared.fate.Fate.{Fate}
 use Rattle.pfl_language.specs.declared.fate.Fate.TheVariants as fate
@@ -32,7 +33,6 @@ use Rattle.pfl_node.specs.Packets.{handled, before_rules}
 use Rattle.pfl_receive.specs.Receiving.{taken}
 use Rattle.pfl_world.specs.Events.{points_at, step}
 use Rattle.pfl_world.specs.Runs.{world_after, run}
-use Rattle.pfl_receive.specs.Delivering.{records_of, same_rules}
 use Rattle.pfl_world.specs.Flushing.{sent_frame}
 use Rattle.pfl_world.specs.Worlds.{World, IsWorld, node_at, new_world, new_world_at}
 

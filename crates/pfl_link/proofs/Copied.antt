@@ -48,9 +48,9 @@ module _ (rows : RowList Ticketed) (are : AreRows nat_cmp ticket_of rows) (i : �
   room_more = rw (← row_more, len-map_of nat_cmp_total exact_unsigned ticket_of (take (i + 1) rows.list) (front_apart (i + 1)), length-take) (omega (arith, are.few))
 
 -- links of the same map are one
-module _ (limit next : ℕ) (rows new : RowList Ticketed) (same : by_ticket new.list ≡ by_ticket rows.list) where
-  pub same_link : link_of limit next new ≡ link_of limit next rows
-  same_link = ap (λ (m : Map nat_cmp Ticketed). record { limit = limit; next = next; frames = map_values (λ r. r.frame) m }) same
+module _ (limit mtu next : ℕ) (rows new : RowList Ticketed) (same : by_ticket new.list ≡ by_ticket rows.list) where
+  pub same_link : link_of limit mtu next new ≡ link_of limit mtu next rows
+  same_link = ap (λ (m : Map nat_cmp Ticketed). record { limit = limit; mtu = mtu; next = next; frames = map_values (λ r. r.frame) m }) same
 
-  pub same_kept : new.limit ≡ limit → IsKept limit next rows → IsKept limit next new
+  pub same_kept : new.limit ≡ limit → IsKept limit mtu next rows → IsKept limit mtu next new
   same_kept room kept = record { link = subst IsLink (sym same_link) kept.link; room = room }

@@ -1,5 +1,5 @@
 -- What each operation keeps of a link.
-use Rattle.std.proofs.Common.{◌≡◌, ◌≤◌, ◌<◌, ◌+◌, ◌-◌, ℕ, Bool, true, false, cond, Option, Some, None, is_some, inl, inr, sym, ◌∙◌, ap, refl, arith, nat_le}
+use Rattle.std.proofs.Common.{◌≡◌, ◌≤◌, ◌<◌, ◌+◌, ◌-◌, ℕ, Bool, true, false, cond, Option, Some, None, is_some, inl, inr, sym, ◌∙◌, ap, subst, refl, arith, nat_le, length, length-take}
 use Rattle.std.proofs.lemmas.Bool.Decides.{nat_tests}
 use Rattle.std.proofs.lemmas.Cmp.{nat_cmp_total}
 use Rattle.std.proofs.lemmas.Map.Lookups.{exact_unsigned}
@@ -7,7 +7,7 @@ use Rattle.pfl_edits.specs.Maps as maps
 use Rattle.pfl_edits.specs.Maps.{set_at}
 use Rattle.pfl_edits.proofs.ForCallers.{len-insert, len-remove, get-set_at_cases, set_at-same, some_is_none}
 use Rattle.pfl_link.specs.declared.fault.LinkFault.TheVariants.{LinkFull, CountFull}
-use Rattle.pfl_link.specs.Links.{Link, InFlight, IsLink}
+use Rattle.pfl_link.specs.Links.{Link, InFlight, IsLink, cut_to}
 use Rattle.pfl_link.specs.LinkEdits.{with_place}
 use Rattle.pfl_link.specs.Faults.{room_fault}
 
@@ -35,14 +35,22 @@ next_free l is = through (maps.get l.frames l.next) refl
     through None e = e
     through (Some f) e = let low = is.below l.next f e in absurd (omega arith)
 
+-- the frame that is found is the one that was set
+as_short : {n : ℕ} (f g : InFlight) → Some f ≡ Some g → length f.bytes ≤ n → length g.bytes ≤ n
+as_short {n = n} f g is short = let same : f ≡ g = cc in subst (λ (h : InFlight). length h.bytes ≤ n) same short
+
 module _ (l : Link) (is : IsLink l) where
   -- a frame that is sent
-  pub sent_kept : (f : InFlight) → room_fault l ≡ None → IsLink (with_place l.next (Some f) (l.next + 1) l)
-  sent_kept f free = record {
+  pub sent_kept : (f : InFlight) → room_fault l ≡ None → length f.bytes ≤ l.mtu → IsLink (with_place l.next (Some f) (l.next + 1) l)
+  sent_kept f free short = record {
     few = rw (len-insert nat_cmp_total l.frames l.next f) (at_most (is_some (maps.get l.frames l.next)) (has_room l free));
     below = λ q g found. elim (get-set_at_cases nat_cmp_total exact_unsigned l.frames l.next (Some f) q g found) [
       | inl here ↦ let same = here.0 in omega (arith, same)
       | inr there ↦ let low = is.below q g there.1 in omega (arith, low)
+    ];
+    short = λ q g found. elim (get-set_at_cases nat_cmp_total exact_unsigned l.frames l.next (Some f) q g found) [
+      | inl here ↦ as_short f g here.1 short
+      | inr there ↦ is.short q g there.1
     ];
     countable = let low = has_ticket l free in omega (arith, low);
   }
@@ -59,6 +67,10 @@ module _ (l : Link) (is : IsLink l) where
       | inl here ↦ absurd (some_is_none g (sym here.1))
       | inr there ↦ is.below q g there.1
     ];
+    short = λ q g found. elim (get-set_at_cases nat_cmp_total exact_unsigned l.frames ticket None q g found) [
+      | inl here ↦ absurd (some_is_none g (sym here.1))
+      | inr there ↦ is.short q g there.1
+    ];
     countable = is.countable;
   }
     where
@@ -66,17 +78,21 @@ module _ (l : Link) (is : IsLink l) where
       at_most true h = omega arith
       at_most false h = h
 
-  -- a frame that is cut
-  pub cut_kept : (ticket : ℕ) (f g : InFlight) → maps.get l.frames ticket ≡ Some f → IsLink (with_place ticket (Some g) l.next l)
-  cut_kept ticket f g stood = record {
-    few = rw (len-insert nat_cmp_total l.frames ticket g ∙ ap (λ (o : Option InFlight). cond (is_some o) (maps.len l.frames) (maps.len l.frames + 1)) stood) is.few;
-    below = λ q h found. elim (get-set_at_cases nat_cmp_total exact_unsigned l.frames ticket (Some g) q h found) [
+  -- a frame that is cut is no longer than it was
+  pub cut_kept : (ticket : ℕ) (f : InFlight) (n : ℕ) → maps.get l.frames ticket ≡ Some f → IsLink (with_place ticket (Some (cut_to f n)) l.next l)
+  cut_kept ticket f n stood = record {
+    few = rw (len-insert nat_cmp_total l.frames ticket (cut_to f n) ∙ ap (λ (o : Option InFlight). cond (is_some o) (maps.len l.frames) (maps.len l.frames + 1)) stood) is.few;
+    below = λ q h found. elim (get-set_at_cases nat_cmp_total exact_unsigned l.frames ticket (Some (cut_to f n)) q h found) [
       | inl here ↦ is.below q f (ap (maps.get l.frames) here.0 ∙ stood)
       | inr there ↦ is.below q h there.1
+    ];
+    short = λ q h found. elim (get-set_at_cases nat_cmp_total exact_unsigned l.frames ticket (Some (cut_to f n)) q h found) [
+      | inl here ↦ as_short (cut_to f n) h here.1 (let was = is.short ticket f stood in omega (arith, was, length-take n f.bytes))
+      | inr there ↦ is.short q h there.1
     ];
     countable = is.countable;
   }
 
 -- to take what does not stand there changes nothing
 pub nothing_taken : (l : Link) (ticket next : ℕ) → next ≡ l.next → None ≡ maps.get l.frames ticket → with_place ticket None next l ≡ l
-nothing_taken l ticket next same none = λ i. record { limit = l.limit; next = same i; frames = set_at-same nat_cmp_total exact_unsigned l.frames ticket None (sym none) i }
+nothing_taken l ticket next same none = λ i. record { limit = l.limit; mtu = l.mtu; next = same i; frames = set_at-same nat_cmp_total exact_unsigned l.frames ticket None (sym none) i }

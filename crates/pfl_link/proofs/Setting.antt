@@ -26,25 +26,26 @@ pub get_frame : (rows : List Ticketed) (ticket : ℕ) (row : Option Ticketed) �
 get_frame rows ticket row is = ap (option_map (λ r. r.frame)) is ∙ sym (get-map_values (λ r. r.frame) (by_ticket rows) ticket)
 
 -- a link without rows is the empty one,
-pub empty_is : (limit next : ℕ) (rows : RowList Ticketed) → rows.list ≡ [] → link_of limit next rows ≡ empty_link limit next
-empty_is limit next rows is = ap (λ (f : Map nat_cmp InFlight). record { limit = limit; next = next; frames = f }) (ap frames_of is ∙ frames_of-none)
+pub empty_is : (limit mtu next : ℕ) (rows : RowList Ticketed) → rows.list ≡ [] → link_of limit mtu next rows ≡ empty_link limit mtu next
+empty_is limit mtu next rows is = ap (λ (f : Map nat_cmp InFlight). record { limit = limit; mtu = mtu; next = next; frames = f }) (ap frames_of is ∙ frames_of-none)
 
-empty_link_is : (limit next : ℕ) → next ≤ 4294967295 → IsLink (empty_link limit next)
-empty_link_is limit next h = record {
+empty_link_is : (limit mtu next : ℕ) → next ≤ 4294967295 → IsLink (empty_link limit mtu next)
+empty_link_is limit mtu next h = record {
   few = rw (len-empty nat_cmp InFlight) (omega arith);
   below = λ ticket f is. absurd (some_is_none f (sym is ∙ get-empty nat_cmp ticket));
+  short = λ ticket f is. absurd (some_is_none f (sym is ∙ get-empty nat_cmp ticket));
   countable = h;
 }
 
 -- and it is kept
-pub empty_kept : (limit next : ℕ) (rows : RowList Ticketed) → rows.list ≡ [] → rows.limit ≡ limit → next ≤ 4294967295 → IsKept limit next rows
-empty_kept limit next rows none room h = record { link = subst IsLink (sym (empty_is limit next rows none)) (empty_link_is limit next h); room = room }
+pub empty_kept : (limit mtu next : ℕ) (rows : RowList Ticketed) → rows.list ≡ [] → rows.limit ≡ limit → next ≤ 4294967295 → IsKept limit mtu next rows
+empty_kept limit mtu next rows none room h = record { link = subst IsLink (sym (empty_is limit mtu next rows none)) (empty_link_is limit mtu next h); room = room }
 
 -- The row goes under the ticket, and the frame is the row's. `whole` is the link whose fields are the others.
-module _ (limit next : ℕ) (rows : RowList Ticketed) (kept : IsKept limit next rows) (whole : Link) (fields : link_of limit next rows ≡ whole)
+module _ (limit mtu next : ℕ) (rows : RowList Ticketed) (kept : IsKept limit mtu next rows) (whole : Link) (fields : link_of limit mtu next rows ≡ whole)
     (ticket : ℕ) (row : Option Ticketed) (at : Option InFlight) (framed : option_map (λ r. r.frame) row ≡ at) (after : ℕ)
     (asked : IsLink (with_place ticket at after whole)) where
-  here : IsLink (with_place ticket at after (link_of limit next rows))
+  here : IsLink (with_place ticket at after (link_of limit mtu next rows))
   here = subst (λ (l : Link). IsLink (with_place ticket at after l)) (sym fields) asked
 
   set_frames : map_values (λ r. r.frame) (set_at (by_ticket rows.list) ticket row) ≡ set_at (frames_of rows.list) ticket at
@@ -61,13 +62,13 @@ module _ (limit next : ℕ) (rows : RowList Ticketed) (kept : IsKept limit next 
     new_frames : frames_of new.list ≡ set_at (frames_of rows.list) ticket at
     new_frames = ap (map_values (λ r. r.frame)) map ∙ set_frames
 
-    new_link : link_of limit after new ≡ with_place ticket at after (link_of limit next rows)
-    new_link = ap (λ (f : Map nat_cmp InFlight). record { limit = limit; next = after; frames = f }) new_frames
+    new_link : link_of limit mtu after new ≡ with_place ticket at after (link_of limit mtu next rows)
+    new_link = ap (λ (f : Map nat_cmp InFlight). record { limit = limit; mtu = mtu; next = after; frames = f }) new_frames
 
     -- the link is kept,
-    pub set_kept : IsKept limit after new
+    pub set_kept : IsKept limit mtu after new
     set_kept = record { link = subst IsLink (sym new_link) here; room = room ∙ kept.room }
 
     -- and it is the one with this in the place
-    pub set_link : link_of limit after new ≡ with_place ticket at after whole
+    pub set_link : link_of limit mtu after new ≡ with_place ticket at after whole
     set_link = new_link ∙ ap (with_place ticket at after) fields

@@ -42,12 +42,12 @@ abbrev pub entry_of : Ticketed → ℕ × InFlight
 entry_of r = (r.ticket, r.frame)
 
 -- the frames of a list in order of tickets, as a link
-abbrev pub link_of : ℕ → ℕ → RowList Ticketed → Link
-link_of limit next rows = record { limit = limit; next = next; frames = frames_of rows.list }
+abbrev pub link_of : ℕ → ℕ → ℕ → RowList Ticketed → Link
+link_of limit mtu next rows = record { limit = limit; mtu = mtu; next = next; frames = frames_of rows.list }
 
 -- what a link keeps: it is one, and there is room for as many frames as its limit says
-pub record IsKept (limit next : ℕ) (rows : RowList Ticketed) : Type 0 where
-  pub link : IsLink (link_of limit next rows)
+pub record IsKept (limit mtu next : ℕ) (rows : RowList Ticketed) : Type 0 where
+  pub link : IsLink (link_of limit mtu next rows)
   pub room : rows.limit ≡ limit
 
 -- a frame with its ticket is stored as the pair of them

@@ -1,5 +1,5 @@
 -- The link: frames in flight by ticket (this project's profile).
-use Rattle.std.specs.Prelude.{◌≡◌, ◌≤◌, ◌<◌, ℕ, ◌+◌, Bool, nat_le, List, take, Some, refl}
+use Rattle.std.specs.Prelude.{◌≡◌, ◌≤◌, ◌<◌, ℕ, ◌+◌, Bool, nat_le, List, length, take, Some, refl}
 use Rattle.std.specs.Ordering.{nat_cmp}
 use Rattle.std.specs.Coded.{Coded, code_by, coded×, coded_ℕ, coded_list}
 use Rattle.pfl_base.specs.declared.node_id.NodeId.{NodeId}
@@ -15,18 +15,20 @@ pub record InFlight : Type 0 where
 -- what contracts see of the link
 pub record Link : Type 0 where
   pub limit : ℕ
+  pub mtu : ℕ
   pub next : ℕ
   pub frames : Map nat_cmp InFlight
 
--- a link: at most so many frames, with tickets below the next one
+-- a link: at most so many frames, each of at most mtu bytes (ifconfig(8), `mtu`), with tickets below the next one
 pub record IsLink (l : Link) : Type 0 where
   pub few : maps.len l.frames ≤ l.limit
   pub below : (ticket : ℕ) (f : InFlight) → maps.get l.frames ticket ≡ Some f → ticket < l.next
+  pub short : (ticket : ℕ) (f : InFlight) → maps.get l.frames ticket ≡ Some f → length f.bytes ≤ l.mtu
   pub countable : l.next ≤ 4294967295
 
 -- no frame is in flight
-abbrev pub empty_link : ℕ → ℕ → Link
-empty_link limit next = record { limit = limit; next = next; frames = maps.empty }
+abbrev pub empty_link : ℕ → ℕ → ℕ → Link
+empty_link limit mtu next = record { limit = limit; mtu = mtu; next = next; frames = maps.empty }
 
 -- the link holds its limit of frames
 abbrev pub is_full : Link → Bool
@@ -58,4 +60,6 @@ coded_in_flight = code_by (NodeId × List ℕ) (coded× node_id.the_row.coded (c
 
 -- a link is stored as the tuple of its fields
 abbrev pub coded_link : Coded Link
-coded_link = code_by (ℕ × (ℕ × Map nat_cmp InFlight)) (coded× coded_ℕ (coded× coded_ℕ (maps.code coded_ℕ coded_in_flight))) (λ l. (l.limit, (l.next, l.frames))) (λ p. record { limit = p.0; next = p.1.0; frames = p.1.1 }) (λ _. refl)
+coded_link =
+    code_by (ℕ × (ℕ × (ℕ × Map nat_cmp InFlight))) (coded× coded_ℕ (coded× coded_ℕ (coded× coded_ℕ (maps.code coded_ℕ coded_in_flight)))) (λ l. (l.limit, (l.mtu, (l.next, l.frames))))
+    (λ p. record { limit = p.0; mtu = p.1.0; next = p.1.1.0; frames = p.1.1.1 }) (λ _. refl)

@@ -1,5 +1,5 @@
 //! The link.
-ghost use Rattle.std.specs.Prelude.{◌≡◌, ◌∷◌, [], Some, None, IfErr, IfOk, IfSome, OnErr, OnOk, length, map};
+ghost use Rattle.std.specs.Prelude.{◌≡◌, ◌≤◌, ◌∷◌, [], Some, None, IfErr, IfOk, IfSome, OnErr, OnOk, length, map};
 ghost use Rattle.std.specs.Option.{option_copied, option_map};
 ghost use Rattle.pfl_edits.specs.Maps as maps;
 ghost use Rattle.pfl_link.specs.Links.{IsLink, empty_link, sent, without_frame, with_frame, cut_to};
@@ -22,6 +22,7 @@ use std::marker::Model;
 pub struct Link<A: Allocator> {
     alloc: A,
     limit: usize,
+    mtu: usize,
     next: u32,
     rows: Rows<Ticketed<A>, A>,
 }
@@ -32,6 +33,7 @@ impl<A: Allocator> Drop for Link<A> {
         let Link {
             alloc: _,
             limit: _,
+            mtu: _,
             next: _,
             rows: _,
         } = self;
@@ -46,9 +48,9 @@ impl<A: Allocator> Model for Link<A> {
 
     ghost coded = { coded_link };
 
-    ghost view = { λ l. link_of l.limit l.next l.rows };
+    ghost view = { λ l. link_of l.limit l.mtu l.next l.rows };
 
-    ghost invariant = { λ l. IsKept l.limit l.next l.rows };
+    ghost invariant = { λ l. IsKept l.limit l.mtu l.next l.rows };
 }
 
 impl<A: Allocator> Reversible for Link<A> {
@@ -77,25 +79,26 @@ impl<A: Allocator> Reversible for Link<A> {
 }
 
 impl<A: Allocator> Link<A> {
-    /// A link with nothing in flight, room for `limit` frames, and 1 as the next ticket.
-    pub fn new(alloc: A, limit: usize) -> Result<Link<A>, NoMemory>
+    /// A link with nothing in flight, room for `limit` frames of at most `mtu` bytes each, and 1 as the next ticket.
+    pub fn new(alloc: A, limit: usize, mtu: usize) -> Result<Link<A>, NoMemory>
     where
         A: Copy,
-        ensures empty { IfOk result (λ l. l ≡ empty_link limit 1) }
+        ensures empty { IfOk result (λ l. l ≡ empty_link limit mtu 1) }
     {
-        Link::new_at(alloc, limit, 1)
+        Link::new_at(alloc, limit, mtu, 1)
     }
 
-    /// A link with nothing in flight, room for `limit` frames, and this next ticket.
-    pub fn new_at(alloc: A, limit: usize, next: u32) -> Result<Link<A>, NoMemory>
+    /// A link with nothing in flight, room for `limit` frames of at most `mtu` bytes each, and this next ticket.
+    pub fn new_at(alloc: A, limit: usize, mtu: usize, next: u32) -> Result<Link<A>, NoMemory>
     where
         A: Copy,
-        ensures empty { IfOk result (λ l. l ≡ empty_link limit next) }
+        ensures empty { IfOk result (λ l. l ≡ empty_link limit mtu next) }
     {
         let rows = Rows::new(alloc, limit)?;
         Ok(Link {
             alloc,
             limit,
+            mtu,
             next,
             rows,
         })
@@ -130,6 +133,13 @@ impl<A: Allocator> Link<A> {
         ensures limit { result ≡ self.now.limit }
     {
         self.limit
+    }
+
+    /// How many bytes a frame may have.
+    pub fn mtu(&self) -> usize
+        ensures mtu { result ≡ self.now.mtu }
+    {
+        self.mtu
     }
 
     /// The next ticket.
@@ -178,6 +188,7 @@ impl<A: Allocator> Link<A> {
     /// Puts a frame under the next ticket. `kept` is the same frame, for the edit.
     fn add(&mut self, frame: InFlight<A>, kept: InFlight<A>) -> (u32, LinkEdit<A>)
         requires free { room_fault self.old ≡ None }
+        requires short { length frame.bytes ≤ self.old.mtu }
         requires same { kept ≡ frame }
         ensures ticket { result.0 ≡ self.old.next }
         ensures edit_ticket { result.1.ticket ≡ self.old.next }
@@ -202,8 +213,9 @@ impl<A: Allocator> Link<A> {
 }
 
 impl<A: Allocator + Copy> Link<A> {
-    /// Sends a frame to a node under the next ticket. A refusal brings the bytes back.
+    /// Sends a frame of at most `mtu` bytes to a node under the next ticket. A refusal brings the bytes back.
     pub fn send(&mut self, to: NodeId, bytes: Bytes<A>) -> Result<(u32, LinkEdit<A>), Refused<A>>
+        requires short { length bytes ≤ self.old.mtu }
         ensures refused { IfErr result (λ r. r.fault ≡ or_no_memory (room_fault self.old)) }
         ensures bytes { IfErr result (λ r. r.bytes ≡ bytes) }
         ensures unchanged { OnErr result (self.new ≡ self.old) }
@@ -245,6 +257,7 @@ impl<A: Allocator + Copy> Link<A> {
         }
         let copied = frame.copy()?;
         let kept = frame.copy()?;
+        self.known();
         Ok(self.add(copied, kept))
     }
 
@@ -280,6 +293,7 @@ impl<A: Allocator + Copy> Link<A> {
         Ok(Link {
             alloc: self.alloc,
             limit: self.limit,
+            mtu: self.mtu,
             next: self.next,
             rows,
         })

@@ -1,6 +1,6 @@
 -- The groups of a frame: how they are made one after another, and that the frame has a spelling.
 use Rattle.std.proofs.Common.{◌≡◌, ℕ, zero, suc, ◌+◌, ◌-◌, ◌^◌, ◌<◌, ◌≤◌, Bool, true, false, cond, List, [], ◌∷◌, ◌++◌, map, take, drop, length, get_or, append_assoc, add-one, Option, Some, None, refl, sym, ◌∙◌, ap, subst, arith}
-use Rattle.std.specs.Prelude.{◌==◌, Vec, IfSome, IsSome, if◌then◌else◌}
+use Rattle.std.specs.Prelude.{◌==◌, Vec, IfSome, IfOk, IsSome, Result, Ok, Err, if◌then◌else◌}
 use Rattle.std.specs.List.{AllByRecursion, flat_map, slice_get, sum_by}
 use Rattle.std.specs.Option.{option_map_or}
 use Rattle.std.proofs.Math.Seq.{take-suc}
@@ -13,6 +13,8 @@ use Rattle.pfl_edits.specs.Maps as maps
 use Rattle.pfl_edits.proofs.ForCallers.{some_is_none}
 use Rattle.pfl_rules.proofs.ForCallers.{few}
 use Rattle.pfl_track.specs.declared.state.State.{State}
+use Rattle.pfl_wire.specs.Spelling.{Spells}
+use Rattle.pfl_wire.proofs.ForCallers.{spelled_len}
 use Rattle.pfl_wire.specs.Actions.{action_number, action_with, record_len}
 use Rattle.pfl_wire.specs.Frames.{Frame, action_of, RuleFits, IsGroupOf, IsSendable, group_len, frame_len, lists}
 use Rattle.pfl_wire.specs.declared.action.Action.{Action}
@@ -272,6 +274,12 @@ can-be-sent n is es told short f groups =
       groups = subst (AllByRecursion (IsGroupOf RuleFits)) (sym groups) (short-groups RuleFits (neighbours like ms) (omega (arith, here, short)) (neighbours-alike RuleFits ms (fits-told n is es told)));
       short = omega (arith, bytes, short);
     }
+
+-- what spells them has as many bytes
+pub spelled-len : {A E : Type 0} (n : Node) → AreParts n → (es : List Entry) → AllByRecursion (IsTold n) es → (f : Frame) → f.groups ≡ groups_of n es
+    → (r : Result (Vec ℕ A) E) → IfOk r (λ v. Spells v.items f) → IfOk r (λ v. length v.items ≡ entry_bytes es)
+spelled-len n is es told f groups (Ok v) spells = spelled_len v.items f spells ∙ (ap frame_len groups ∙ frame-bytes n is es told)
+spelled-len n is es told f groups (Err e) spells = tt
 
 -- ---- message by message, and group by group
 

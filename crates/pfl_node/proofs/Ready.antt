@@ -16,13 +16,16 @@ use Rattle.pfl_parts.specs.inner.Judging.{Went, judgement}
 use Rattle.pfl_parts.specs.Nodes.{Node, AreParts, IsNode, IsRefusal, is_overcounted, points_refusal}
 use Rattle.pfl_parts.proofs.ForCallers.{counted_all, leads_through, went-refusal, went-counted}
 pub use Rattle.pfl_parts.proofs.ForCallers.{settled-answer}
+use Rattle.pfl_receive.specs.inner.Delivering.{frame_room}
+use Rattle.pfl_node.specs.Weights.{packet_edits}
 use Rattle.pfl_node.specs.inner.Room.{IsReady, most_edits}
 
 -- ---- where an event begins
 
 -- there is room for its edits, and it can count
 pub record Begins (n : Node) (x : Edits NodeEdit) : Type 0 where
-  pub room : 5 * n.limits.states + 2 * n.limits.queue + 24 ≤ x.spare
+  pub room : 5 * n.limits.states + 2 * n.limits.queue + packet_edits ≤ x.spare
+  pub frame : frame_room n.limits.states n.limits.mtu ≤ x.spare
   pub held : 3 * n.limits.held ≤ x.spare
   pub countable : total n + x.spare ≤ most_numbers
 
@@ -34,9 +37,15 @@ pub begins : (n : Node) (x : Edits NodeEdit) → IsNode n → IsReady n.limits x
 begins n x is ready =
     let states = is.parts.limits.0.1 in
     let queue = is.parts.limits.1.0.1 in
+    let mtu = is.parts.limits.1.1.1.0.1 in
     let held = is.parts.limits.1.1.1.1.0.1 in
     let room = ready.room in
-    record { room = omega (arith, room); held = omega (arith, room); countable = omega (arith, small n is.counted, states, queue, held, room) }
+    record {
+      room = omega (arith, room);
+      frame = omega (arith, room);
+      held = omega (arith, room);
+      countable = omega (arith, small n is.counted, states, queue, mtu, held, room);
+    }
 
 -- ---- what it recorded
 

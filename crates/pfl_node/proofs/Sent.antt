@@ -63,6 +63,12 @@ frame-short n is =
     let fits = frame_fits n.queue n.limits.mtu (omega arith) in
     omega (arith, fits, high)
 
+-- and within the mtu
+pub sent-fits : (n : Node) (es : List Entry) → AreParts n → es ≡ frame_entries n → entry_bytes es ≤ n.limits.mtu
+sent-fits n es is same =
+    let low = is.limits.1.1.1.0.0 in
+    subst (λ (xs : List Entry). entry_bytes xs ≤ n.limits.mtu) (sym same) (frame_fits n.queue n.limits.mtu (omega (arith, low)))
+
 -- ---- the frame, and the node after it
 
 pub frame-is : (n m : Node) (es : List Entry) → m ≡ taken_from n → es ≡ frame_entries n → frame_with m es ≡ frame_of n

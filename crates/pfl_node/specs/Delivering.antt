@@ -1,20 +1,14 @@
 -- A frame comes to a node (if_pfsync.c; what refuses it is this project's profile). What its records do stands in pfl_receive.
-use Rattle.std.specs.Prelude.{◌≡◌, ◌⊎◌, [], ◌∷◌, Option}
+use Rattle.std.specs.Prelude.{[], ◌∷◌, Option}
 use Rattle.pfl_base.specs.declared.refusal.Refusal.{Refusal}
-use Rattle.pfl_base.specs.declared.refusal.Refusal.TheVariants.{NoMemory}
 use Rattle.pfl_wire.specs.Frames.{Frame}
 use Rattle.pfl_parts.specs.Changes.{count_broken}
-use Rattle.pfl_parts.specs.Nodes.{Node, IsRefusal, points_refusal}
+use Rattle.pfl_parts.specs.Nodes.{Node, points_refusal}
 use Rattle.pfl_receive.specs.Delivering.{receive_points}
 
 -- each record of a frame can be taken
 abbrev pub receive_refusal : Node → Frame → Option Refusal
 receive_refusal n f = points_refusal (receive_points n f)
-
--- a frame that is refused tells its first refusal; but where memory is wanted for what its records do, that comes before whatever
--- they would be refused for
-abbrev pub IsReceiveRefusal : Option Refusal → Refusal → Type 0
-IsReceiveRefusal first r = IsRefusal first r ⊎ (r ≡ NoMemory)
 
 -- a frame that cannot be read can be counted
 abbrev pub broken_refusal : Node → Option Refusal

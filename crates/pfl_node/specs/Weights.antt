@@ -6,13 +6,13 @@ use Rattle.pfl_parts.specs.Weights.{listed_edits}
 abbrev pub edits_for : ℕ → ℕ
 edits_for n = 12 + 12 * n
 
--- what becomes of a packet: no more than an event about one state may take
+-- what becomes of a packet
 abbrev pub packet_edits : ℕ
-packet_edits = 24
+packet_edits = 14
 
--- the clock goes on: no more than an event about no state may take
+-- the clock goes on
 abbrev pub ticked_edits : ℕ
-ticked_edits = 12
+ticked_edits = 1
 
 -- a record is sent: its entry is taken out, and the updates of its state are counted anew
 abbrev pub sent_edits : ℕ

@@ -3,4 +3,3 @@
 pub mod Carried
 pub mod Sending
 pub mod Room
-pub mod Delivering

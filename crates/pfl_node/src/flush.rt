@@ -33,6 +33,7 @@ impl<A: Allocator + Copy> Node<A> {
         ensures not_refused { OnOk result (flushing.send_refusal self.old ≡ None) }
         ensures node { OnOk result (self.new ≡ flushing.flushed self.old) }
         ensures bytes { IfOk result (λ r. r.0.items ≡ spelling (flushing.frame_of self.old)) }
+        ensures fits { IfOk result (λ r. length r.0.items ≤ self.old.limits.mtu) }
         ensures carries { OnOk result (0 < length (next_frame self.old.queue self.old.limits.mtu)) }
         ensures leads_back { IfOk result (λ r. NodeLeadsBack r.1.list self.old self.new) }
         ensures weight { IfOk result (λ r. length r.1.list ≤ 1 + sent_edits * length (next_frame self.old.queue self.old.limits.mtu)) }
@@ -68,6 +69,7 @@ fn send<A: Allocator + Copy>(
     ensures memory { IfErr result (λ error. error ≡ refusal.NoMemory) }
     ensures node { OnOk result (parts.new ≡ flushing.flushed parts.old) }
     ensures bytes { IfOk result (λ bytes. bytes.items ≡ spelling (flushing.frame_of parts.old)) }
+    ensures fits { IfOk result (λ bytes. length bytes.items ≤ parts.old.limits.mtu) }
     ensures extends { NodeExtends (1 + 2 * length (next_frame parts.old.queue parts.old.limits.mtu)) change.old change.new parts.old parts.new }
 {
     match frame_taken(parts, alloc, change) {
@@ -88,6 +90,7 @@ fn frame_taken<A: Allocator + Copy>(
     requires parts { AreParts parts.old }
     requires room { length (next_frame parts.old.queue parts.old.limits.mtu) ≤ change.old.spare }
     ensures bytes { IfOk result (λ r. r.0.items ≡ spelling (flushing.frame_of parts.old)) }
+    ensures fits { IfOk result (λ r. length r.0.items ≤ parts.old.limits.mtu) }
     ensures entries { IfOk result (λ r. r.1.items ≡ next_frame parts.old.queue parts.old.limits.mtu) }
     ensures node { OnOk result (parts.new ≡ taken_from parts.old) }
     ensures extends { NodeExtends (length (next_frame parts.old.queue parts.old.limits.mtu)) change.old change.new parts.old parts.new }

@@ -15,8 +15,7 @@ use std::alloc::Allocator;
 use std::marker::Model;
 
 /// One firewall of the pair: its states, what it has to tell its peer, and what it counts. Its limits and rules never
-/// change. All room is made by `new`, also that for the edits of an event while it is carried out and judged; a frame of many
-/// records may want more for itself.
+/// change. All room is made by `new`, also that for the edits of an event while it is carried out and judged.
 pub struct Node<A: Allocator> {
     pub(crate) alloc: A,
     pub(crate) parts: Parts<A>,
@@ -86,13 +85,15 @@ impl<A: Allocator> Node<A> {
     }
 }
 
-/// How many edits an event records at most, but for a frame of many records: five for each state, two for each entry that is
-/// pending, and those of a packet; or three for each held packet that goes out.
+/// How many edits an event records at most: five for each state, two for each entry that is pending, and those of a packet; or
+/// those of the longest frame, one for each four of its bytes, and eight, beside four for each state; or three for each held packet
+/// that goes out.
 pub(crate) fn most_edits(limits: &Limits) -> usize
     ensures most { result ≡ most limits.now }
 {
-    let told = 5 * limits.states as usize + 2 * limits.queue as usize + 24;
-    told.max(3 * limits.held as usize)
+    let told = 5 * limits.states as usize + 2 * limits.queue as usize + 14;
+    let taken = 4 * limits.states as usize + limits.mtu as usize / 4 + 8;
+    told.max(taken.max(3 * limits.held as usize))
 }
 
 impl<A: Allocator> Reversible for Node<A> {

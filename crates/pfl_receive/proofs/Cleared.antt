@@ -6,7 +6,7 @@ use Rattle.std.specs.declared.cmp.Ordering.TheVariants.{Less, Equal, Greater}
 use Rattle.std.specs.Ordering.{eq_by_cmp, is_lt, is_eq}
 use Rattle.std.specs.Cmp.{eq_by_cmp_equiv}
 use Rattle.std.specs.FinMap.Entries.{is_sorted, below_all}
-use Rattle.std.proofs.Common.{cond, T, ◌∙◌, ap, sym, subst, arith}
+use Rattle.std.proofs.Common.{cond, T, ◌∙◌, ap, sym, arith}
 use Rattle.pfl_base.specs.declared.state_name.StateName.{StateName}
 use Rattle.pfl_base.specs.Names.{name_cmp}
 use Rattle.pfl_base.proofs.ForCallers.{names_total}
@@ -93,14 +93,18 @@ some-entries : (q : StateName → Bool) (es : Entries) → list_any q (names es)
 some-entries q [] e = absurd (cc)
 some-entries q (f ∷ es) e = omega arith
 
+-- where a name is known, there is a state
+pub known-some : (m : States) (name : StateName) → maps.contains_key m name ≡ true → 1 ≤ maps.len m
+known-some m name known = let some = some-entries (eq_by_cmp name_cmp name) (maps.entries m) (sym (contains_key-keys m name) ∙ known) in omega (arith, some, len-entries m)
+
 -- what stands under the name is one state
 one-less : (m : States) (p : StateName → Bool) (name : StateName) (rest : List StateName) → filter p (maps.keys m) ≡ name ∷ rest → maps.len m ≡ maps.len (maps.remove m name) + 1
 one-less m p name rest e =
     let is = first-is_name p (maps.entries m) name rest e in
     let there = contains_key-keys m name ∙ is in
     let less = len-remove names_total m name ∙ ap (λ b. cond b (maps.len m - 1) (maps.len m)) there in
-    let some = some-entries (eq_by_cmp name_cmp name) (maps.entries m) is in
-    omega (arith, less, some, len-entries m)
+    let some = known-some m name there in
+    omega (arith, less, some)
 
 keys-without : (m : States) (p : StateName → Bool) (name : StateName) (rest : List StateName) → filter p (maps.keys m) ≡ name ∷ rest → filter p (maps.keys (maps.remove m name)) ≡ rest
 unfolding maps.entries maps.remove maps.retain_keys

@@ -6,6 +6,5 @@ pub mod Importing
 pub mod Merging
 pub mod Paying
 pub mod Serving
-pub mod Grouped
 pub mod Weighing
 pub mod ForCallers

@@ -1,31 +1,39 @@
--- A record is paid by twelve edits, and by four for each state that it takes out.
-use Rattle.std.specs.Prelude.{◌≡◌, ◌≤◌, ℕ, ◌+◌, ◌-◌, ◌||◌, Bool, true, false, not, Option, Some, None, Result, Ok, Err, OnOk}
+-- A record is paid by an edit for each four of its bytes, and by four for each state that it takes out.
+use Rattle.std.specs.Prelude.{◌≡◌, ◌≤◌, ℕ, ◌+◌, ◌-◌, ◌*◌, ◌&&◌, ◌||◌, Bool, true, false, not, Option, Some, None, is_some, Result, Ok, Err, OnOk, refl}
 use Rattle.std.specs.Option.{option_map_or}
 use Rattle.std.proofs.Common.{cond, ◌∙◌, ap, sym, subst, arith}
 use Rattle.pfl_base.specs.declared.state_name.StateName.{StateName}
 use Rattle.pfl_base.proofs.ForCallers.{names_total}
+use Rattle.pfl_base.specs.Names.{is_name}
 use Rattle.pfl_base.specs.Packets.{is_tcp}
 use Rattle.pfl_edits.specs.Changes.{Edits}
 use Rattle.pfl_edits.specs.Maps as maps
 use Rattle.pfl_edits.proofs.ForCallers.{len-insert, len-remove}
 use Rattle.pfl_rules.specs.Rules.{timeout}
 use Rattle.pfl_track.specs.declared.state.State.{State}
+use Rattle.pfl_table.specs.Tables.{States, AreStates}
+use Rattle.pfl_wire.specs.declared.message.Message.{Message}
 use Rattle.pfl_wire.specs.declared.message.StateRecord.{StateRecord}
 use Rattle.pfl_queue.specs.Queues.{kind_of}
 use Rattle.pfl_merge.specs.declared.received.Received.{Received}
 use Rattle.pfl_merge.specs.declared.merged.Merged.{Merged}
 use Rattle.pfl_merge.specs.Merging.{merged}
+use Rattle.pfl_bulk.specs.Bulk.{no_name}
 use Rattle.pfl_parts.specs.declared.edit.NodeEdit.{NodeEdit}
-use Rattle.pfl_parts.specs.Changes.{put_state, is_held, is_untold, freed, count_freed, lost, count_lost, without_held, released, changed, count_stale, count_bad, forgotten, ask}
+use Rattle.pfl_parts.specs.Changes.{put_state, is_held, is_untold, count_freed, lost, count_lost, without_held, released, not_waiting, changed, count_stale, count_bad, forgotten, ask}
 use Rattle.pfl_parts.specs.Edits.{NodeExtends}
 use Rattle.pfl_parts.specs.Nodes.{Node}
-use Rattle.pfl_receive.specs.inner.Delivering.{IsPaid}
-use Rattle.pfl_receive.specs.Receiving.{insert_taken, can_import, imported, merge_taken, merged_into, ack_taken, delete_taken, is_known}
-use Rattle.pfl_receive.proofs.Cleared.{forgotten-states}
+use Rattle.pfl_receive.specs.inner.Delivering.{IsPaid, paid_edits}
+use Rattle.pfl_receive.specs.Receiving.{insert_taken, can_import, imported, merge_taken, merged_into, bulk_taken, is_partly_told, request_taken, state_answered}
+use Rattle.pfl_receive.proofs.Cleared.{forgotten-states, known-some}
 
--- a record that takes no state out but its own is paid
-pub paid-by : (k : ℕ) (x y : Edits NodeEdit) (a b : Node) → k ≤ 8 → maps.len b.states ≤ maps.len a.states + 1 → NodeExtends k x y a b → IsPaid x y a b
-paid-by k x y a b few more f = let spare = f.spare in omega (arith, few, more, spare)
+-- k edits that leave l states more at most
+paid-by : (k l : ℕ) (x y : Edits NodeEdit) (a b : Node) → maps.len b.states ≤ maps.len a.states + l → NodeExtends k x y a b → IsPaid (k + 4 * l) x y a b
+paid-by k l x y a b more f = let spare = f.spare in omega (arith, more, spare)
+
+-- a payment is enough where a smaller one is
+pub paid-more : (k l : ℕ) (x y : Edits NodeEdit) (a b : Node) → k ≤ l → IsPaid k x y a b → IsPaid l x y a b
+paid-more k l x y a b more paid = omega (arith, more, paid)
 
 -- ---- how many states there are after it
 
@@ -51,9 +59,6 @@ few-put n s k h = by (maps.contains_key n.states s.name) (len-insert names_total
 
 few-lost : (n : Node) (name : StateName) → Few (maps.len n.states) (lost n name)
 few-lost n name = either (maps.len n.states) (is_held n name) (count_lost (without_held n name)) n (omega arith) (omega arith)
-
-few-freed : (n : Node) (name : StateName) → Few (maps.len n.states) (freed n name)
-few-freed n name = either (maps.len n.states) (is_held n name) (count_freed (without_held n name)) n (omega arith) (omega arith)
 
 few-changed : (n : Node) (s : State) (k : ℕ) → maps.len n.states ≤ k → Few (k + 1) (changed n s)
 unfolding changed
@@ -81,32 +86,44 @@ few-short n name t =
     let same : maps.len n.states ≤ maps.len n.states + 1 = omega arith in
     on-some _ (maps.get n.states name) (λ s. merge_taken n s t) (ask n name) (λ s. few-merge n s t) same
 
-pub few-ack : (n : Node) (name : StateName) → Few (maps.len n.states + 1) (option_map_or (ack_taken n) (maps.get n.states name) n)
-few-ack n name =
-    let same : maps.len n.states ≤ maps.len n.states + 1 = omega arith in
-    on-some _ (maps.get n.states name) (ack_taken n) n (λ s. either _ s.ack_wanted (released n s.name) n (waits s.name) same) same
+-- a state that waits no more is there already
+pub few-released : (n : Node) (name : StateName) → AreStates n.states → Few (maps.len n.states) (released n name)
+few-released n name are = by (is_held n name)
   where
-    waits : (q : StateName) → Few (maps.len n.states + 1) (released n q)
-    waits q =
-        let few = few-freed n q in
-        on-some _ (maps.get (freed n q).states q) _ (freed n q) (λ s. few-put (freed n q) (record s { ack_wanted = false }) (maps.len n.states) few) (omega (arith, few))
+    waits : (m : Node) → m.states ≡ n.states → (o : Option State) → maps.get n.states name ≡ o → Few (maps.len n.states) (option_map_or (λ s. put_state m (record s { ack_wanted = false })) o m)
+    waits m same None at = let long = ap (λ (k : States). maps.len k) same in omega (arith, long)
+    waits m same (Some s) at =
+        let there : maps.contains_key m.states s.name ≡ true = (λ i. is_some (maps.get (same i) (are.filed name s at i))) ∙ ap is_some at in
+        let put = len-insert names_total m.states s.name (record s { ack_wanted = false }) ∙ (ap (λ b. cond b (maps.len m.states) (maps.len m.states + 1)) there ∙ ap (λ (k : States). maps.len k) same) in
+        omega (arith, put)
 
-less : (b : Bool) (k l : ℕ) → k ≤ l → cond b (k - 1) k ≤ l
-less true k l h = omega arith
-less false k l h = h
+    by : (b : Bool) → Few (maps.len n.states) (not_waiting (cond b (count_freed (without_held n name)) n) name)
+    by true = waits (count_freed (without_held n name)) refl (maps.get n.states name) refl
+    by false = waits n refl (maps.get n.states name) refl
 
-pub few-delete : (n : Node) (name : StateName) → Few (maps.len n.states + 1) (delete_taken n name)
-few-delete n name =
-    either _ (is_known n name) (forgotten n name) (count_bad n)
-    (subst (λ (k : ℕ). k ≤ maps.len n.states + 1) (sym (ap maps.len (forgotten-states n name) ∙ len-remove names_total n.states name)) (less (maps.contains_key n.states name) (maps.len n.states) (maps.len n.states + 1) (omega arith)))
-    (omega arith)
+-- a request changes no state
+pub few-request : (n : Node) (name : StateName) → Few (maps.len n.states) (request_taken n name)
+few-request n name =
+    let same : maps.len n.states ≤ maps.len n.states = omega arith in
+    either _ (is_name no_name name) (bulk_taken n) _ same
+    (on-some _ (maps.get n.states name) (state_answered n) (count_bad n) (λ s. either _ (not s.no_sync && is_partly_told (kind_of n.queue s.name)) _ _ same same) same)
+
+-- a state that is forgotten pays for it
+pub paid-forgotten : (n m : Node) (name : StateName) (x y : Edits NodeEdit) → maps.contains_key n.states name ≡ true → m ≡ forgotten n name → NodeExtends 4 x y n m → IsPaid 0 x y n m
+paid-forgotten n m name x y known is more =
+    let fewer = ap (λ (k : Node). maps.len k.states) is ∙ (ap maps.len (forgotten-states n name) ∙ (len-remove names_total n.states name ∙ ap (λ b. cond b (maps.len n.states - 1) (maps.len n.states)) known)) in
+    let some = known-some n.states name known in
+    let spare = more.spare in
+    omega (arith, fewer, some, spare)
 
 -- ---- what is made known of a record
 
-pub paid-as : (k : ℕ) (x y : Edits NodeEdit) (a b c : Node) → k ≤ 8 → b ≡ c → maps.len c.states ≤ maps.len a.states + 1 → NodeExtends k x y a b → IsPaid x y a b
-paid-as k x y a b c few same more f = paid-by k x y a b few (subst (λ (n : Node). maps.len n.states ≤ maps.len a.states + 1) (sym same) more) f
+pub paid-as : (k l : ℕ) (m d : Message) (x y : Edits NodeEdit) (a b c : Node) → m ≡ d → k + 4 * l ≤ paid_edits d → b ≡ c → maps.len c.states ≤ maps.len a.states + l → NodeExtends k x y a b → IsPaid (paid_edits m) x y a b
+paid-as k l m d x y a b c is pays same more f =
+    let price = ap paid_edits is in
+    paid-more (k + 4 * l) (paid_edits m) x y a b (omega (arith, price, pays)) (paid-by k l x y a b (subst (λ (n : Node). maps.len n.states ≤ maps.len a.states + l) (sym same) more) f)
 
 -- where a record was taken to its end
-pub paid-on : {T E : Type 0} (r : Result T E) (k : ℕ) (x y : Edits NodeEdit) (a b c : Node) → k ≤ 8 → OnOk r (b ≡ c) → maps.len c.states ≤ maps.len a.states + 1 → NodeExtends k x y a b → OnOk r (IsPaid x y a b)
-paid-on (Ok t) k x y a b c few same more f = paid-as k x y a b c few same more f
-paid-on (Err e) k x y a b c few same more f = tt
+pub paid-on : {T E : Type 0} (r : Result T E) (k l : ℕ) (m d : Message) (x y : Edits NodeEdit) (a b c : Node) → m ≡ d → k + 4 * l ≤ paid_edits d → OnOk r (b ≡ c) → maps.len c.states ≤ maps.len a.states + l → NodeExtends k x y a b → OnOk r (IsPaid (paid_edits m) x y a b)
+paid-on (Ok t) k l m d x y a b c is pays same more f = paid-as k l m d x y a b c is pays same more f
+paid-on (Err e) k l m d x y a b c is pays same more f = tt

@@ -1,20 +1,23 @@
--- What records are about, one after another.
-use Rattle.std.specs.Prelude.{◌≡◌, ℕ, suc, ◌+◌, Bool, List, [], ◌∷◌, ◌++◌, length, refl}
-use Rattle.std.specs.List.{fold, zip, sum_by}
-use Rattle.std.proofs.Common.{◌∙◌, ap, arith}
-use Rattle.std.proofs.lemmas.List.Sums.{sum_by-cons}
+-- What records are about, one after another, and what they pay for.
+use Rattle.std.specs.Prelude.{◌≡◌, ◌≤◌, ℕ, suc, ◌+◌, ◌*◌, ◌/◌, Bool, List, [], ◌∷◌, length}
+use Rattle.std.specs.List.{zip, sum_by}
+use Rattle.std.proofs.Common.{◌∙◌, ap, lit≤, arith}
+use Rattle.std.proofs.lemmas.List.Sums.{sum_by-cons, sum_by-append}
+use Rattle.pfl_wire.specs.declared.action.Action.{Action}
+use Rattle.pfl_wire.specs.declared.action.Action.TheVariants as action
 use Rattle.pfl_wire.specs.declared.message.Message.{Message}
+use Rattle.pfl_wire.specs.Actions.{record_len}
+use Rattle.pfl_wire.specs.Frames.{Frame, action_of, all_of, frame_len, group_len, records_of}
 use Rattle.pfl_parts.specs.Nodes.{Node}
+use Rattle.pfl_receive.specs.inner.Delivering.{paid_by, paid_edits}
 use Rattle.pfl_receive.specs.Delivering.{cleared_by, records_work, taken_points}
 use Rattle.pfl_receive.specs.Receiving.{taken}
+
+-- ---- what they are about
 
 -- the states that a record clears at the node before it
 abbrev clears : Node × Message → ℕ
 clears at = cleared_by at.0 at.1
-
-pub work-none : (n : Node) (same_rules : Bool) → records_work n same_rules [] ≡ 0
-unfolding records_work
-work-none n same_rules = refl
 
 move : (l c s : ℕ) → suc l + (c + s) ≡ 1 + c + (l + s)
 move l c s = omega arith
@@ -26,19 +29,42 @@ work-next n same_rules d ms =
     let others = zip (taken n same_rules d ∷ taken_points (taken n same_rules d) same_rules ms) ms in
     ap (λ (k : ℕ). suc (length ms) + k) (sum_by-cons clears (n, d) others) ∙ move (length ms) (cleared_by n d) (sum_by clears others)
 
-beside_none : (w k : ℕ) → k ≡ 0 → w ≡ k + w
-beside_none w k e = omega (arith, e)
+-- ---- what they pay for
 
-regroup : (w a p q r c : ℕ) → w ≡ 1 + c + p → a ≡ 1 + c + q → p ≡ q + r → w ≡ a + r
-regroup w a p q r c e f h = omega (arith, e, f, h)
+-- a record pays for two edits at least
+pays-two : (a : Action) → 2 ≤ record_len a / 4
+pays-two action.Clear = lit≤ tt
+pays-two action.Insert = lit≤ tt
+pays-two action.InsertAck = lit≤ tt
+pays-two action.Update = lit≤ tt
+pays-two action.UpdateShort = lit≤ tt
+pays-two action.UpdateRequest = lit≤ tt
+pays-two action.Delete = lit≤ tt
+pays-two action.DeleteShort = lit≤ tt
+pays-two action.Bulk = lit≤ tt
 
--- records, and others at the node that those make
-pub work-append : (n : Node) (same_rules : Bool) (xs ys : List Message) → records_work n same_rules (xs ++ ys) ≡ records_work n same_rules xs + records_work (fold (λ m r. taken m same_rules r) n xs) same_rules ys
-work-append n same_rules [] ys = beside_none (records_work n same_rules ys) (records_work n same_rules []) (work-none n same_rules)
-work-append n same_rules (d ∷ xs) ys =
-    regroup _ _ _ _ _ (cleared_by n d) (work-next n same_rules d (xs ++ ys)) (work-next n same_rules d xs) (work-append (taken n same_rules d) same_rules xs ys)
+pub paid-next : (d : Message) (ms : List Message) → paid_by (d ∷ ms) ≡ paid_edits d + paid_by ms
+paid-next d ms = sum_by-cons paid_edits d ms
 
--- the points of records, and of others at the node that those make
-pub points-append : (n : Node) (same_rules : Bool) (xs ys : List Message) → taken_points n same_rules (xs ++ ys) ≡ taken_points n same_rules xs ++ taken_points (fold (λ m r. taken m same_rules r) n xs) same_rules ys
-points-append n same_rules [] ys = refl
-points-append n same_rules (d ∷ xs) ys = ap (λ (ps : List Node). taken n same_rules d ∷ ps) (points-append (taken n same_rules d) same_rules xs ys)
+-- so that there are not more records than edits
+pub paid-each : (ms : List Message) → 2 * length ms ≤ paid_by ms
+paid-each [] = omega arith
+paid-each (d ∷ ms) = omega (arith, pays-two (action_of d), paid-next d ms, paid-each ms)
+
+abbrev len_of : Message → ℕ
+len_of m = record_len (action_of m)
+
+-- four bytes pay for one
+paid-bytes : (ms : List Message) → 4 * paid_by ms ≤ sum_by len_of ms
+paid-bytes [] = omega arith
+paid-bytes (d ∷ ms) = omega (arith, paid-next d ms, sum_by-cons len_of d ms, paid-bytes ms)
+
+paid-groups : (gs : List (List Message)) → 4 * paid_by (all_of gs) ≤ sum_by group_len gs
+paid-groups [] = omega arith
+paid-groups (ms ∷ gs) =
+    let parts : paid_by (all_of (ms ∷ gs)) ≡ paid_by ms + paid_by (all_of gs) = sum_by-append paid_edits ms (all_of gs) in
+    omega (arith, parts, sum_by-cons group_len ms gs, paid-bytes ms, paid-groups gs)
+
+-- the bytes of a frame pay for what its records pay for
+pub paid-frame : (f : Frame) → paid_by (records_of f) ≤ frame_len f.groups / 4
+paid-frame f = omega (arith, paid-groups f.groups)

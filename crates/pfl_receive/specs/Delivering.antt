@@ -1,12 +1,12 @@
 -- What the records of a frame do to a node, one after another, and how many edits they take (if_pfsync.c; that a frame is taken
 -- whole or not at all is this project's profile).
 use Rattle.std.specs.Prelude.{ℕ, ◌+◌, ◌==◌, Bool, List, ◌∷◌, length}
-use Rattle.std.specs.List.{fold, flat_map, zip, sum_by}
+use Rattle.std.specs.List.{fold, zip, sum_by}
 use Rattle.std.specs.Cmp.Lexicographic.{pointwise}
 use Rattle.pfl_base.specs.Lists.{folds}
 use Rattle.pfl_wire.specs.declared.message.Message.{Message}
 use Rattle.pfl_wire.specs.declared.message.Message.TheVariants as message
-use Rattle.pfl_wire.specs.Frames.{Frame}
+use Rattle.pfl_wire.specs.Frames.{Frame, records_of}
 use Rattle.pfl_parts.specs.Nodes.{Node}
 use Rattle.pfl_parts.specs.Weights.{forgotten_edits}
 use Rattle.pfl_receive.specs.Receiving.{taken, cleared_names}
@@ -40,14 +40,6 @@ work_edits = record_edits + forgotten_edits
 
 -- ---- frames
 
--- the records of groups, one after another
-abbrev pub all_of : List (List Message) → List Message
-all_of groups = flat_map (λ group. group) groups
-
--- the records of a frame
-abbrev pub records_of : Frame → List Message
-records_of f = all_of f.groups
-
 -- the sender has the node's own rules
 abbrev pub same_rules : Node → Frame → Bool
 same_rules n f = pointwise ◌==◌ f.print n.rules.print
@@ -63,7 +55,3 @@ receive_points n f = taken_points n (same_rules n f) (records_of f)
 -- what a frame is about: its records, and the states that they clear
 abbrev pub frame_work : Node → Frame → ℕ
 frame_work n f = records_work n (same_rules n f) (records_of f)
-
--- so many records are counted; no frame that was read has as many, since each takes a byte at least
-abbrev pub most_records : ℕ
-most_records = 65536

@@ -21,6 +21,7 @@ pub(crate) fn take_ack<A: Allocator>(
     requires room { 3 ≤ change.old.spare }
     requires countable { total parts.old + change.old.spare ≤ most_numbers }
     ensures node { parts.new ≡ option_map_or (receiving.ack_taken parts.old) (maps.get parts.old.states name) parts.old }
+    ensures states { maps.len parts.new.states ≤ maps.len parts.old.states }
     ensures extends { NodeExtends 3 change.old change.new parts.old parts.new }
 {
     let Some(state) = parts.states().by_name(name).copied() else {

@@ -26,7 +26,7 @@ pub(crate) fn take_clear<A: Allocator>(
     requires room { 4 * maps.len parts.old.states ≤ change.old.spare }
     requires countable { total parts.old + change.old.spare ≤ most_numbers }
     ensures node { parts.new ≡ receiving.clear_taken parts.old creator bound }
-    ensures paid { IsPaid change.old change.new parts.old parts.new }
+    ensures paid { IsPaid 0 change.old change.new parts.old parts.new }
     ensures extends { NodeExtends (4 * length (receiving.cleared_names parts.old creator bound)) change.old change.new parts.old parts.new }
 {
     while let Some(name) = first_cleared(parts, creator, bound) {

@@ -3,6 +3,7 @@
 ghost use Rattle.std.specs.Prelude.{◌≡◌, ◌≤◌, ◌+◌};
 ghost use Rattle.pfl_parts.specs.Edits.{NodeExtends, total};
 ghost use Rattle.pfl_queue.specs.Queues.{most_numbers};
+ghost use Rattle.pfl_receive.specs.inner.Delivering.{IsPaid};
 ghost use Rattle.pfl_receive.specs.Receiving as receiving;
 
 use pfl_base::StateName;
@@ -19,6 +20,7 @@ pub(crate) fn take_deletion<A: Allocator>(
     requires room { 4 ≤ change.old.spare }
     requires countable { total parts.old + change.old.spare ≤ most_numbers }
     ensures node { parts.new ≡ receiving.delete_taken parts.old name }
+    ensures paid { IsPaid 1 change.old change.new parts.old parts.new }
     ensures extends { NodeExtends 4 change.old change.new parts.old parts.new }
 {
     if parts.states().by_name(name).is_some() {

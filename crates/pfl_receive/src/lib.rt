@@ -7,11 +7,9 @@ mod clear;
 mod deletion;
 mod frame;
 mod insertion;
-mod record_count;
 mod records;
 mod request;
 mod update;
 
-pub use frame::{take_all, take_frame};
-pub use record_count::count_records;
+pub use frame::take_frame;
 pub use records::take_record;

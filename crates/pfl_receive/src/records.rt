@@ -6,7 +6,7 @@ ghost use Rattle.pfl_parts.specs.Edits.{NodeExtends, total};
 ghost use Rattle.pfl_parts.specs.Nodes.{Node as Whole, is_overfull};
 ghost use Rattle.pfl_parts.specs.Weights.{forgotten_edits};
 ghost use Rattle.pfl_queue.specs.Queues.{most_numbers};
-ghost use Rattle.pfl_receive.specs.inner.Delivering.{IsPaid};
+ghost use Rattle.pfl_receive.specs.inner.Delivering.{IsPaid, paid_edits};
 ghost use Rattle.pfl_receive.specs.Delivering.{cleared_by, record_edits};
 ghost use Rattle.pfl_receive.specs.Receiving.{taken};
 
@@ -34,7 +34,7 @@ pub fn take_record<A: Allocator>(
     requires countable { total parts.old + change.old.spare ≤ most_numbers }
     ensures full { OnErr result (is_overfull (taken parts.old same_rules message.now) ≡ true) }
     ensures node { OnOk result (parts.new ≡ taken parts.old same_rules message.now) }
-    ensures paid { OnOk result (IsPaid change.old change.new parts.old parts.new) }
+    ensures paid { OnOk result (IsPaid (paid_edits message.now) change.old change.new parts.old parts.new) }
     ensures extends { NodeExtends (record_edits + forgotten_edits * cleared_by parts.old message.now) change.old change.new parts.old parts.new }
 {
     match message {

@@ -1,5 +1,5 @@
 -- A branch that a map finds by its name, and the timeline with another one in its place, with one more and with one less.
-use Rattle.std.specs.Prelude.{◌≡◌, ℕ, suc, ◌≤◌, false, nat_le, List, [], ◌∷◌, ◌++◌, length, map, Option, Some, None, is_some, IsSomeAnd, refl, if◌then◌else◌}
+use Rattle.std.specs.Prelude.{◌≡◌, ℕ, suc, ◌≤◌, false, nat_le, List, [], ◌∷◌, ◌++◌, length, map, Option, Some, None, is_some, refl, if◌then◌else◌}
 use Rattle.std.specs.List.{AllByRecursion, IsDistinct}
 use Rattle.std.specs.Map.{values_of, lookup, set_value}
 use Rattle.std.specs.Option.{option_map, option_map_or}
@@ -9,15 +9,14 @@ use Rattle.std.proofs.lemmas.List.{length-map, map-append}
 use Rattle.std.proofs.lemmas.Map.Entries.{length-values_of}
 use Rattle.pfl_language.specs.declared.refused.Refused.TheVariants as refused
 use Rattle.pfl_language.specs.BranchWords.{main_name, same_name}
-use Rattle.pfl_world.specs.Runs.{run}
 use Rattle.pfl_world.specs.Worlds.{World, IsWorld}
 use Rattle.pfl_timeline.specs.Commands.{replied, with_branch, with_changed}
 use Rattle.pfl_timeline.specs.Kept.{opening_of, timeline_of, AreKept, StandByName}
 use Rattle.pfl_timeline.specs.Memory.{is_refusal, IsAccepted}
 use Rattle.pfl_timeline.specs.Replies.{Reply, Replied, Refused as Refusing}
-use Rattle.pfl_timeline.specs.Rooted.{Rooted, shown}
+use Rattle.pfl_timeline.specs.Rooted.{Rooted}
 use Rattle.pfl_timeline.proofs.Rooted.{StandsIn, Accepts, IsReplyOf}
-use Rattle.pfl_timeline.specs.Timelines.{Branch, Timeline, IsBranch, IsTimeline, branch_of, standing, world_of}
+use Rattle.pfl_timeline.specs.Timelines.{Branch, Timeline, IsBranch, IsTimeline, branch_of}
 use Rattle.pfl_timeline.proofs.ByName.{Spot, spot, branches_of, found_by, values_are, stand_by}
 use Rattle.pfl_timeline.proofs.Distinct.{itself, differ, all_behind, others, one_goes}
 use Rattle.pfl_timeline.proofs.NewTimelines.{new_timeline-is}
@@ -173,14 +172,6 @@ module _ (name : List ℕ) (es : Entries) (old : Rooted) (t : Timeline) (view : 
   -- what it accepts is accepted
   pub accepted-at : (asked : Timeline → Branch → Replied) → Accepts asked old → IsAccepted (with_branch t name (asked t))
   accepted-at asked accepts = ap (λ (b : Option Branch). is_refusal (option_map_or (asked t) b (replied t (Refusing refused.NoBranch))).reply) found ∙ accepts t stands_in
-
-  -- what is so of the world that it shows
-  pub shows-at : (P : World → Type 0) → IsSomeAnd (shown old) P → IsSomeAnd (branch_of t name) (λ b. IsSomeAnd (world_of t b) P)
-  unfolding world_of
-  shows-at P is =
-      let s : StandsIn t old = stands_in in
-      let there : world_of t old.branch ≡ shown old = ap (λ (o : World). run o (standing old.branch)) s.opening in
-      subst (λ (b : Option Branch). IsSomeAnd b (λ k. IsSomeAnd (world_of t k) P)) (sym found) (subst (λ (w : Option World). IsSomeAnd w P) (sym there) is)
 
   -- nothing is written
   pub told-still : (asked : Timeline → Branch → Replied) (reply : Reply) → IsReplyOf asked old old reply → with_branch t name (asked t) ≡ replied t reply

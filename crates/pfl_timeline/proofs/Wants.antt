@@ -1,9 +1,8 @@
 -- Where memory is wanted, what is asked is not refused.
-use Rattle.std.specs.Prelude.{◌≡◌, ◌⊎◌, ℕ, ◌+◌, ◌-◌, Bool, true, false, not, nat_lt, nat_le, ◌==◌, List, [], ◌∷◌, ◌++◌, length, filter, if◌then◌else◌, Option, Some, None, is_some, is_none, IsSomeAnd, Result, Ok, Err, refl}
+use Rattle.std.specs.Prelude.{◌≡◌, ℕ, ◌+◌, ◌-◌, Bool, true, false, not, nat_lt, nat_le, ◌==◌, List, [], ◌∷◌, ◌++◌, length, filter, if◌then◌else◌, Option, Some, None, is_some, is_none, Result, Ok, Err, refl}
 use Rattle.std.specs.List.{AllByRecursion}
 use Rattle.std.specs.Option.{option_map_or, option_or}
-use Rattle.std.specs.Map.{values_of, lookup}
-use Rattle.std.proofs.Common.{sym, ◌∙◌, ap, subst, inl, inr}
+use Rattle.std.proofs.Common.{sym, ◌∙◌, ap, subst}
 use Rattle.pfl_base.specs.declared.node_id.NodeId.{NodeId}
 use Rattle.pfl_base.specs.declared.refusal.Refusal.{Refusal}
 use Rattle.pfl_base.specs.declared.refusal.Refusal.TheVariants.{NoSuchFrame, NothingPending, NoSuchState, LinkFull, QueueFull, ClockFull, CountFull, NotSyncing, TooEarly, NoMemory}
@@ -46,15 +45,12 @@ use Rattle.pfl_world.specs.Worlds.{World, node_at}
 use Rattle.pfl_timeline.specs.Commands.{replied, reply_unless, with_branch, with_changed, undone, at_cursor, step_answered, step_reply, back_reply, forward_reply, first_events, fork_reply, drop_reply, show_reply, step_command, back_command, forward_command, fork_command, drop_command, show_command, names_command, excise_reply, restore_reply, excise_command, restore_command, log_reply, log_command, command_step}
 use Rattle.pfl_timeline.specs.Excisions.{has_event, excised, fallen_places, restored}
 use Rattle.pfl_timeline.specs.Laws.{NoReplyTellsWantOfMemory}
-use Rattle.pfl_timeline.specs.Memory.{is_refusal, IsAccepted, makes_something, Reads, StepMayWant, IsNotRefused, MayWantMemory}
+use Rattle.pfl_timeline.specs.Memory.{is_refusal, IsAccepted, makes_something, MayWantMemory}
 use Rattle.pfl_timeline.specs.Replies.{Reply, Replied, Forked, Removed, Shown, Excised, Restored, Refused as Refusing}
 use Rattle.pfl_timeline.specs.Rooted.{Rooted, shown}
 use Rattle.pfl_timeline.proofs.Rooted.{Accepts}
 use Rattle.pfl_timeline.specs.Timelines.{Branch, Timeline, branch_of, world_of}
-use Rattle.pfl_timeline.specs.Kept.{timeline_of, StandByName}
-use Rattle.pfl_timeline.proofs.Asked.{asked_of, step-asks, is-forward, is-fork, is-show, is-names, is-excise, is-log}
-use Rattle.pfl_timeline.proofs.Places.{Entries, accepted-at, shows-at}
-use Rattle.pfl_timeline.proofs.Refusals.{told-apart}
+use Rattle.pfl_timeline.proofs.Asked.{asked_of, is-step, is-forward, is-fork, is-show, is-names, is-excise, is-log}
 
 -- ---- no event is refused for want of memory
 
@@ -140,19 +136,10 @@ answered_accepts : (t : Timeline) (b : Branch) (e : Event) (at : Result Stepped 
 answered_accepts t b e (Ok s) is other = refl
 answered_accepts t b e (Err first) is other = absurd (other (ap Err (sym is)))
 
-step_accepts : (r : Rooted) (e : Event) (w : World) (why : Refusal) → shown r ≡ Some w → IsRefusalOf (step w e) why → why ≡ NoMemory → Accepts (λ t b. step_reply t e b) r
+pub step_accepts : (r : Rooted) (e : Event) (w : World) (why : Refusal) → shown r ≡ Some w → IsEventRefusal w e why → why ≡ NoMemory → Accepts (λ t b. step_reply t e b) r
 step_accepts r e w why here is wants = λ t stands.
     ap (λ (done : Replied). is_refusal done.reply) (asked_of (λ v. step_answered t r.branch e (step v e)) r w t here stands)
     ∙ answered_accepts t r.branch e (step w e) (subst (IsRefusalOf (step w e)) wants is) (step_is_other w e)
-
--- or it delivers a frame whose records want memory before they are judged
-either_may : (r : Rooted) (e : Event) (w : World) (why : Refusal) → shown r ≡ Some w → IsRefusalOf (step w e) why ⊎ ((why ≡ NoMemory) × Reads w e) → why ≡ NoMemory
-    → Accepts (λ t b. step_reply t e b) r ⊎ IsSomeAnd (shown r) (λ v. Reads v e)
-either_may r e w why here (inl is) wants = inl (step_accepts r e w why here is wants)
-either_may r e w why here (inr reads) wants = inr (subst (λ (o : Option World). IsSomeAnd o (λ v. Reads v e)) (sym here) reads.1)
-
-pub step_may : (r : Rooted) (e : Event) (w : World) (why : Refusal) → shown r ≡ Some w → IsEventRefusal w e why → why ≡ NoMemory → Accepts (λ t b. step_reply t e b) r ⊎ IsSomeAnd (shown r) (λ v. Reads v e)
-step_may r e w why here is wants = either_may r e w why here (told-apart w e why is) wants
 
 -- a branch that is there is shown
 pub show_accepts : (r : Rooted) (w : World) → shown r ≡ Some w → Accepts (λ t b. show_reply t b) r
@@ -171,54 +158,27 @@ excise_accepts r k has = λ t stands.
 
 -- ---- a command
 
--- the branch of the name may want memory for the event
-pub may_at : (name : List ℕ) (e : Event) (es : Entries) (old : Rooted) (t : Timeline) → timeline_of (values_of es) ≡ t → StandByName es → Some old ≡ lookup (same_name name) es
-    → Accepts (λ u b. step_reply u e b) old ⊎ IsSomeAnd (shown old) (λ v. Reads v e) → StepMayWant t name e
-may_at name e es old t view stand here (inl accepts) = inl (subst IsAccepted (sym (step-asks t name e)) (accepted-at name es old t view stand here (λ u b. step_reply u e b) accepts))
-may_at name e es old t view stand here (inr reads) = inr (shows-at name es old t view stand here (λ v. Reads v e) reads)
-
-pub step_wants : (t : Timeline) (c : Command) (name : List ℕ) (e : Event) → c ≡ command.Step name e → StepMayWant t name e → MayWantMemory t c
-step_wants t c name e is may = record {
-  makes = ap makes_something is;
-  not_refused = subst (λ (k : Command). IsNotRefused t k) (sym is) may;
-}
+pub step_wants : (t : Timeline) (c : Command) (name : List ℕ) (e : Event) → c ≡ command.Step name e → IsAccepted (step_command t name e) → MayWantMemory t c
+step_wants t c name e is accepted = record { makes = ap makes_something is; not_refused = subst IsAccepted (sym (is-step t c name e is)) accepted }
 
 pub forward_wants : (t : Timeline) (c : Command) (name : List ℕ) (n : ℕ) → c ≡ command.Forward name n → IsAccepted (forward_command t name n) → MayWantMemory t c
-forward_wants t c name n is accepted = record {
-  makes = ap makes_something is;
-  not_refused = subst (λ (k : Command). IsNotRefused t k) (sym is) (subst IsAccepted (sym (is-forward t (command.Forward name n) name n refl)) accepted);
-}
+forward_wants t c name n is accepted = record { makes = ap makes_something is; not_refused = subst IsAccepted (sym (is-forward t c name n is)) accepted }
 
 pub fork_wants : (t : Timeline) (c : Command) (from : List ℕ) (k : ℕ) (name : List ℕ) → c ≡ command.Fork from k name → IsAccepted (fork_command t from k name) → MayWantMemory t c
-fork_wants t c from k name is accepted = record {
-  makes = ap makes_something is;
-  not_refused = subst (λ (d : Command). IsNotRefused t d) (sym is) (subst IsAccepted (sym (is-fork t (command.Fork from k name) from k name refl)) accepted);
-}
+fork_wants t c from k name is accepted = record { makes = ap makes_something is; not_refused = subst IsAccepted (sym (is-fork t c from k name is)) accepted }
 
 pub excise_wants : (t : Timeline) (c : Command) (name : List ℕ) (k : ℕ) → c ≡ command.Excise name k → IsAccepted (excise_command t name k) → MayWantMemory t c
-excise_wants t c name k is accepted = record {
-  makes = ap makes_something is;
-  not_refused = subst (λ (d : Command). IsNotRefused t d) (sym is) (subst IsAccepted (sym (is-excise t (command.Excise name k) name k refl)) accepted);
-}
+excise_wants t c name k is accepted = record { makes = ap makes_something is; not_refused = subst IsAccepted (sym (is-excise t c name k is)) accepted }
 
 pub names_wants : (t : Timeline) (c : Command) → c ≡ command.Names → MayWantMemory t c
 unfolding names_command
-names_wants t c is = record {
-  makes = ap makes_something is;
-  not_refused = subst (λ (k : Command). IsNotRefused t k) (sym is) (subst IsAccepted (sym (is-names t command.Names refl)) refl);
-}
+names_wants t c is = record { makes = ap makes_something is; not_refused = subst IsAccepted (sym (is-names t c is)) refl }
 
 pub show_wants : (t : Timeline) (c : Command) (name : List ℕ) → c ≡ command.Show name → IsAccepted (show_command t name) → MayWantMemory t c
-show_wants t c name is accepted = record {
-  makes = ap makes_something is;
-  not_refused = subst (λ (k : Command). IsNotRefused t k) (sym is) (subst IsAccepted (sym (is-show t (command.Show name) name refl)) accepted);
-}
+show_wants t c name is accepted = record { makes = ap makes_something is; not_refused = subst IsAccepted (sym (is-show t c name is)) accepted }
 
 pub log_wants : (t : Timeline) (c : Command) (name : List ℕ) → c ≡ command.Log name → IsAccepted (log_command t name) → MayWantMemory t c
-log_wants t c name is accepted = record {
-  makes = ap makes_something is;
-  not_refused = subst (λ (k : Command). IsNotRefused t k) (sym is) (subst IsAccepted (sym (is-log t (command.Log name) name refl)) accepted);
-}
+log_wants t c name is accepted = record { makes = ap makes_something is; not_refused = subst IsAccepted (sym (is-log t c name is)) accepted }
 
 -- ---- no reply tells want of memory
 

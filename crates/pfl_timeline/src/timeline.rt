@@ -4,7 +4,7 @@ ghost use Rattle.std.specs.Prelude.{◌≡◌, ◌≢◌, length, map, IfOk, IfE
 ghost use Rattle.std.specs.List.{AllByRecursion};
 ghost use Rattle.std.specs.Option.{option_map};
 ghost use Rattle.pfl_timeline.specs.Commands.{replied, step_command, back_command, forward_command, fork_refusal, fork_command, drop_command, show_command, names_command, excise_command, restore_command, log_command, command_step};
-ghost use Rattle.pfl_timeline.specs.Memory.{IsAccepted, MayWantMemory, StepMayWant};
+ghost use Rattle.pfl_timeline.specs.Memory.{IsAccepted, MayWantMemory};
 ghost use Rattle.pfl_timeline.specs.Replies.{reply_of, Refused as Refusing, Shown};
 ghost use Rattle.pfl_timeline.specs.Rooted.{shown};
 ghost use Rattle.pfl_timeline.specs.inner.Replies.{moved, fell_out, brought_back};
@@ -183,7 +183,7 @@ impl<A: Allocator + Copy> Timeline<A> {
     /// Puts an event behind those before the branch's cursor.
     fn step(&mut self, name: &BranchWord, event: &Event) -> Result<Reply<A>, NoMemory>
         ensures step { IfOk result (λ reply. step_command self.old name.now event.now ≡ replied self.new (reply_of reply)) }
-        ensures memory { OnErr result (StepMayWant self.old name.now event.now) }
+        ensures memory { OnErr result (IsAccepted (step_command self.old name.now event.now)) }
         ensures unchanged { OnErr result (self.new ≡ self.old) }
     {
         let Some(branch) = self.branches.get_mut(name) else {
@@ -315,8 +315,7 @@ impl<A: Allocator + Copy> Timeline<A> {
 
     /// Carries a command out: the reply and the timeline are those of its definition, so a refusal changes nothing. Where
     /// there is no memory, nothing changes either. Memory is wanted last: by no way back, no drop and no restoration, and by no
-    /// command that is refused, but for the delivery of a frame that can be read, whose records want it before they are
-    /// judged.
+    /// command that is refused.
     pub fn command(&mut self, command: Command) -> Result<Reply<A>, NoMemory>
         ensures step { IfOk result (λ reply. command_step self.old command ≡ replied self.new (reply_of reply)) }
         ensures memory { OnErr result (MayWantMemory self.old command) }

@@ -19,6 +19,7 @@ use Rattle.pfl_wire.specs.declared.action.Action.{Action}
 use Rattle.pfl_wire.specs.declared.action.Action.TheVariants as action
 use Rattle.pfl_wire.specs.declared.message.Message.{Message}
 use Rattle.pfl_wire.specs.declared.message.Message.TheVariants.{Clear, Insert, InsertAck, Update, UpdateShort, UpdateRequest, Delete, DeleteShort, Bulk}
+use Rattle.pfl_wire.specs.declared.subheader.Subheader.{Subheader}
 use Rattle.pfl_wire.specs.declared.fault.BadFrame.{BadFrame}
 use Rattle.pfl_wire.specs.declared.fault.BadFrame.TheVariants as bad
 use Rattle.pfl_wire.specs.Frames.{FitsMessage, IsGroup, action_of}
@@ -26,10 +27,10 @@ use Rattle.pfl_wire.specs.Actions.{action_number, action_with, record_len}
 use Rattle.pfl_wire.specs.Spelling.{number_bytes, name_bytes, peer_bytes, address_bytes, end_bytes, key_bytes, keys_bytes, class_bytes, state_bytes, update_bytes, status_byte, record_bytes, group_bytes}
 use Rattle.pfl_wire.specs.Fields.{Read, ◌>>=◌, wanted, byte_at, number_at, pads_at, name_at, status_of}
 use Rattle.pfl_wire.specs.Records.{state_at, update_at, clear_at, bulk_at, read_as, record_at}
-use Rattle.pfl_wire.specs.Reading.{records_at, is_counted, group_at, groups_at}
+use Rattle.pfl_wire.specs.Reading.{records_at, is_counted, subheader_at, group_at, groups_at}
 use Rattle.pfl_wire.proofs.Fields.{IsBytes, bind_then, wanted_ok, both_true, ok_is, Takes, Takes-then, byte_takes, number_takes, number_again, length-number_bytes, pads_take, pads_again}
 use Rattle.pfl_wire.proofs.Values.{ok_or_ok, status_back, status_again, action_back, action_again}
-use Rattle.pfl_wire.proofs.Records.{bind_again, wanted_again, le_test, Takes-byte, name_takes, name_again, state_takes, state_again, update_takes, update_again}
+use Rattle.pfl_wire.proofs.RecordBytes.{bind_again, wanted_again, le_test, Takes-byte, name_takes, name_again, state_takes, state_again, update_takes, update_again}
 
 -- what is read of a record
 pub record IsRead (a : Action) (bytes : List ℕ) (x : Message × List ℕ) : Type 0 where
@@ -212,9 +213,15 @@ grouped a count bytes rest (m ∷ ms) some few len are fit takes = (
 lt_from : (n m : ℕ) → nat_lt n m ≡ true → n < m
 lt_from n m e = grind (arith, nat_tests)
 
-pub group_takes : (bytes : List ℕ) (x : List Message × List ℕ) → IsBytes bytes → group_at bytes ≡ Ok x → IsGroupRead bytes x
-unfolding group_at
-group_takes bytes x fits e =
+-- what is read of a subheader
+pub record IsSubheaderRead (bytes : List ℕ) (x : Subheader × List ℕ) : Type 0 where
+  pub takes : Takes bytes ((action_number x.0.action ∷ []) ++ (0 ∷ []) ++ number_bytes 2 x.0.count) x.1
+  pub some : 0 < x.0.count
+  pub few : x.0.count < 2 ^ 16
+
+pub subheader_takes : (bytes : List ℕ) (x : Subheader × List ℕ) → IsBytes bytes → subheader_at bytes ≡ Ok x → IsSubheaderRead bytes x
+unfolding subheader_at
+subheader_takes bytes x fits e =
     bind_then (wanted (nat_le 4 (length bytes)) bad.Length) _ x e (λ long long_is e0.
     bind_then (byte_at bytes) _ x e0 (λ number number_is e1.
     bind_then (ok_or (action_with number.0) bad.Action) _ x e1 (λ a a_is e2.
@@ -225,15 +232,23 @@ group_takes bytes x fits e =
     let t0 = byte_takes bytes number fits number_is in
     let t1 = byte_takes number.1 pad t0.0.rest_fits pad_is in
     let t2 = number_takes 2 pad.1 count t1.0.rest_fits count_is in
-    let t3 = records_take a count.0 count.1 x t2.0.rest_fits e6 in
     let b0 = Takes-byte bytes number.1 number.0 (action_number a) t0.0 (action_back number.0 a (ok_or_ok _ _ _ a_is)) in
     let b1 = Takes-byte number.1 pad.1 pad.0 0 t1.0 (sym (eqb-true pad.0 0 (wanted_ok _ _ _ zero_is))) in
     let c1 = Takes-then bytes (action_number a ∷ []) number.1 (0 ∷ []) pad.1 b0 b1 in
-    let c2 = Takes-then bytes _ pad.1 (number_bytes 2 count.0) count.1 c1 t2.0 in
-    let c3 = Takes-then bytes _ count.1 (flat_map record_bytes x.0) x.1 c2 t3.takes in
     let some = both_true (nat_lt 0 count.0) (nat_le (count.0 * record_len a) (length count.1)) (wanted_ok _ _ _ counted_is) in
-    let g = grouped a count.0 bytes x.1 x.0 (lt_from 0 count.0 some.0) t2.1 t3.count t3.action t3.fit c3 in
-    record { takes = g.0; is = g.1 })))))))
+    let made : Subheader × List ℕ = (record { action = a; count = count.0 }, count.1) in
+    subst (λ (y : Subheader × List ℕ). IsSubheaderRead bytes y) (ok_is made x e6)
+    (record { takes = Takes-then bytes _ pad.1 (number_bytes 2 count.0) count.1 c1 t2.0; some = lt_from 0 count.0 some.0; few = t2.1 }))))))))
+
+pub group_takes : (bytes : List ℕ) (x : List Message × List ℕ) → IsBytes bytes → group_at bytes ≡ Ok x → IsGroupRead bytes x
+unfolding group_at
+group_takes bytes x fits e =
+    bind_then (subheader_at bytes) _ x e (λ group group_is e1.
+    let t0 = subheader_takes bytes group fits group_is in
+    let t1 = records_take group.0.action group.0.count group.1 x t0.takes.rest_fits e1 in
+    let whole = Takes-then bytes _ group.1 (flat_map record_bytes x.0) x.1 t0.takes t1.takes in
+    let g = grouped group.0.action group.0.count bytes x.1 x.0 t0.some t0.few t1.count t1.action t1.fit whole in
+    record { takes = g.0; is = g.1 })
 
 both_are : (a b : Bool) → a ≡ true → b ≡ true → a && b ≡ true
 both_are a b e f = ap (λ (c : Bool). c && b) e ∙ f
@@ -244,27 +259,31 @@ four a b c rest h = le_test 4 (length (a ∷ b ∷ (c ++ rest))) (omega (arith, 
 all_of_one : (m : Message) (ms : List Message) → AllByRecursion (λ n. action_of n ≡ action_of m) ms → AreOf (action_of m) (m ∷ ms)
 all_of_one m ms are = (refl, are)
 
+subheader_again : (a : Action) (n : ℕ) (rest : List ℕ) → 0 < n → n < 2 ^ 16 → n * record_len a ≤ length rest
+    → subheader_at (action_number a ∷ 0 ∷ (number_bytes 2 n ++ rest)) ≡ Ok (record { action = a; count = n }, rest)
+unfolding subheader_at
+subheader_again a n rest some few room =
+    bind_again _ _ _ _ (wanted_again _ bad.Length (four (action_number a) 0 (number_bytes 2 n) rest (length-number_bytes 2 n)))
+    (bind_again _ _ _ _ (ap (λ (o : Option Action). ok_or o bad.Action) (action_again a))
+    (bind_again _ _ _ _ (number_again 2 n rest few)
+    (bind_again _ _ _ _ (wanted_again (is_counted a n rest) bad.Count (both_are _ _ (lt_test 0 n some) (le_test _ _ room)))
+    refl)))
+  where
+    lt_test : (n m : ℕ) → n < m → nat_lt n m ≡ true
+    lt_test n m lt = grind (arith, nat_tests)
+
 pub group_again : (g : List Message) (rest : List ℕ) → IsGroup g → group_at (group_bytes g ++ rest) ≡ Ok (g, rest)
 unfolding group_at group_bytes
 group_again [] rest is = absurd is
 group_again (m ∷ ms) rest is =
-    let a = action_of m in
-    let n = length (m ∷ ms) in
-    let records = flat_map record_bytes (m ∷ ms) in
     let are : AreOf (action_of m) (m ∷ ms) = all_of_one m ms is.1 in
     let regrouped : group_bytes (m ∷ ms) ++ rest ≡ action_number (action_of m) ∷ 0 ∷ (number_bytes 2 (length (m ∷ ms)) ++ (flat_map record_bytes (m ∷ ms) ++ rest)) =
     ap (λ (t : List ℕ). action_number (action_of m) ∷ 0 ∷ t) (append_assoc (number_bytes 2 (length (m ∷ ms))) (flat_map record_bytes (m ∷ ms)) rest) in
-    let room : nat_le (length (m ∷ ms) * record_len (action_of m)) (length (flat_map record_bytes (m ∷ ms) ++ rest)) ≡ true =
-    le_test _ _ (omega (arith, length-append (flat_map record_bytes (m ∷ ms)) rest, length-records (action_of m) (m ∷ ms) are)) in
+    let room : length (m ∷ ms) * record_len (action_of m) ≤ length (flat_map record_bytes (m ∷ ms) ++ rest) =
+    omega (arith, length-append (flat_map record_bytes (m ∷ ms)) rest, length-records (action_of m) (m ∷ ms) are) in
     ap group_at regrouped
-    ∙ bind_again _ _ _ _ (wanted_again _ bad.Length (four (action_number (action_of m)) 0 (number_bytes 2 (length (m ∷ ms))) (flat_map record_bytes (m ∷ ms) ++ rest) (length-number_bytes 2 (length (m ∷ ms)))))
-    (bind_again _ _ _ _ (ap (λ (o : Option Action). ok_or o bad.Action) (action_again (action_of m)))
-    (bind_again _ _ _ _ (number_again 2 (length (m ∷ ms)) (flat_map record_bytes (m ∷ ms) ++ rest) is.0)
-    (bind_again _ _ _ _ (wanted_again (is_counted (action_of m) (length (m ∷ ms)) (flat_map record_bytes (m ∷ ms) ++ rest)) bad.Count (both_are _ _ (some_records m ms) room))
-    (records_again (action_of m) (m ∷ ms) rest are is.2))))
-  where
-    some_records : (m : Message) (ms : List Message) → nat_lt 0 (length (m ∷ ms)) ≡ true
-    some_records m ms = grind (arith, nat_tests)
+    ∙ bind_again _ _ _ _ (subheader_again (action_of m) (length (m ∷ ms)) (flat_map record_bytes (m ∷ ms) ++ rest) (omega arith) is.0 room)
+    (records_again (action_of m) (m ∷ ms) rest are is.2)
 
 -- a group takes four bytes at least
 group_least : (g : List Message) (rest : List ℕ) → IsGroup g → length rest + 4 ≤ length (group_bytes g ++ rest)
@@ -298,6 +317,11 @@ groups_take (suc fuel) (b ∷ bytes) x fits e =
     subst (λ (y : List (List Message) × List ℕ). AreGroupsRead (b ∷ bytes) y) (ok_is made x e2)
     (record { whole = t0.takes.parts ∙ ap (λ (t : List ℕ). group_bytes first.0 ++ t) t1.whole ∙ sym (flat_map-cons group_bytes first.0 rest.0); are = (t0.is, t1.are) })))
 
+-- steps that go on alike from what was read
+pub bind_same : {A B : Type 0} (r : Result A BadFrame) (f g : A → Result B BadFrame) → ((x : A) → r ≡ Ok x → f x ≡ g x) → (r >>= f) ≡ (r >>= g)
+bind_same (Ok x) f g h = h x refl
+bind_same (Err e) f g h = refl
+
 -- more fuel than bytes changes nothing
 pub groups_enough : (f g : ℕ) (bytes : List ℕ) → IsBytes bytes → length bytes ≤ f → length bytes ≤ g → groups_at f bytes ≡ groups_at g bytes
 unfolding groups_at
@@ -308,14 +332,10 @@ groups_enough (suc f) (suc g) [] fits p q = refl
 groups_enough zero (suc g) (b ∷ bytes) fits p q = absurd (omega arith)
 groups_enough (suc f) zero (b ∷ bytes) fits p q = absurd (omega arith)
 groups_enough (suc f) (suc g) (b ∷ bytes) fits p q =
-    under (group_at (b ∷ bytes)) (λ first. groups_at f first.1 >>= λ rest. Ok (first.0 ∷ rest.0, rest.1)) (λ first. groups_at g first.1 >>= λ rest. Ok (first.0 ∷ rest.0, rest.1))
+    bind_same (group_at (b ∷ bytes)) (λ first. groups_at f first.1 >>= λ rest. Ok (first.0 ∷ rest.0, rest.1)) (λ first. groups_at g first.1 >>= λ rest. Ok (first.0 ∷ rest.0, rest.1))
     (λ first is. let less = group_shorter (b ∷ bytes) first fits is in
     ap (λ (r : Read (List (List Message))). r >>= λ rest. Ok (first.0 ∷ rest.0, rest.1))
     (groups_enough f g first.1 (group_takes (b ∷ bytes) first fits is).takes.rest_fits (omega arith) (omega arith)))
-  where
-    under : {A B : Type 0} (r : Result A BadFrame) (f g : A → Result B BadFrame) → ((x : A) → r ≡ Ok x → f x ≡ g x) → (r >>= f) ≡ (r >>= g)
-    under (Ok x) f g h = h x refl
-    under (Err e) f g h = refl
 
 -- one group of them
 pub groups_step : (fuel : ℕ) (bytes : List ℕ) (g : List Message) (rest : List ℕ) → 0 < length bytes → group_at bytes ≡ Ok (g, rest)

@@ -22,7 +22,7 @@ use Rattle.pfl_wire.specs.Fields.{wanted, byte_at, number_at}
 use Rattle.pfl_wire.specs.Reading.{groups_at, print_at, header_at, reading}
 use Rattle.pfl_wire.specs.Answers.{Decodes}
 use Rattle.pfl_wire.proofs.Fields.{IsBytes, IsBytes-drop, IsBytes-rest, bind_then, guard_ok, wanted_ok, ok_is, Takes, Takes-then, byte_takes, number_takes, number_again, length-number_bytes}
-use Rattle.pfl_wire.proofs.Records.{bind_again, wanted_again, le_test, Takes-byte}
+use Rattle.pfl_wire.proofs.RecordBytes.{bind_again, wanted_again, le_test, Takes-byte}
 use Rattle.pfl_wire.proofs.Groups.{length-record_bytes, length-records, groups_take, groups_again}
 
 le_refl : (n : ℕ) → n ≤ n
@@ -51,6 +51,15 @@ length-groups (g ∷ gs) are =
   where
     sums : {p q r s : ℕ} → p ≡ q → r ≡ s → p + r ≡ q + s
     sums e f = omega (arith, e, f)
+
+-- how many bytes spell a frame
+pub spelled_len : (bytes : List ℕ) (f : Frame) → Spells bytes f → length bytes ≡ frame_len f.groups
+unfolding spelling
+spelled_len bytes f spells =
+    let is = spells.is_frame in
+    let body = flat_map group_bytes f.groups in
+    let size = number_bytes 2 (20 + length body) in
+    omega (arith, ap length spells.spelled, length-append (size ++ f.print) body, length-append size f.print, length-number_bytes 2 (20 + length body), length-groups f.groups is.groups, is.print)
 
 -- ---- the checksum
 

@@ -1,6 +1,6 @@
 -- Frames, and which of them have a spelling (this project's profile; the messages are those of if_pfsync.h).
 use Rattle.std.specs.Prelude.{◌≡◌, ◌<◌, ℕ, map, Vec, ◌-◌, ◌+◌, ◌^◌, List, [], ◌∷◌, length, IfSome}
-use Rattle.std.specs.List.{AllByRecursion, sum_by}
+use Rattle.std.specs.List.{AllByRecursion, flat_map, sum_by}
 use Rattle.pfl_base.specs.declared.addr.Addr.{Addr}
 use Rattle.pfl_base.specs.declared.addr.Addr.TheVariants.{V4, V6}
 use Rattle.pfl_base.specs.declared.addr.End.{End}
@@ -27,6 +27,14 @@ pub record Frame : Type 0 where
 -- the records in vectors, without where they lie
 abbrev pub lists : {A : Type 0} → List (Vec Message A) → List (List Message)
 lists {A = A} groups = map (λ (g : Vec Message A). g.items) groups
+
+-- the records of groups, one after another
+abbrev pub all_of : List (List Message) → List Message
+all_of groups = flat_map (λ group. group) groups
+
+-- the records of a frame
+abbrev pub records_of : Frame → List Message
+records_of f = all_of f.groups
 
 -- what a record is for (if_pfsync.h)
 abbrev pub action_of : Message → Action

@@ -5,6 +5,7 @@ use Rattle.pfl_wire.specs.declared.action.Action.{Action}
 use Rattle.pfl_wire.specs.declared.fault.BadFrame.{BadFrame}
 use Rattle.pfl_wire.specs.declared.fault.BadFrame.TheVariants as bad
 use Rattle.pfl_wire.specs.declared.message.Message.{Message}
+use Rattle.pfl_wire.specs.declared.subheader.Subheader.{Subheader}
 use Rattle.pfl_wire.specs.Actions.{action_with, record_len}
 use Rattle.pfl_wire.specs.Frames.{Frame}
 use Rattle.pfl_wire.specs.Fields.{◌>>=◌, Read, wanted, byte_at, number_at}
@@ -22,9 +23,9 @@ records_at a (suc n) bytes = do
 abbrev pub is_counted : Action → ℕ → List ℕ → Bool
 is_counted a n rest = nat_lt 0 n && nat_le (n * record_len a) (length rest)
 
--- a group: four bytes, the action, the count, the pad byte, and the records
-unfoldable pub group_at : List ℕ → Read (List Message)
-group_at bytes = do
+-- the four bytes in front of a group's records: the action, the pad byte, and the count of the records, which are there
+unfoldable pub subheader_at : List ℕ → Read Subheader
+subheader_at bytes = do
   _ ← wanted (nat_le 4 (length bytes)) bad.Length
   number ← byte_at bytes
   a ← ok_or (action_with number.0) bad.Action
@@ -32,7 +33,13 @@ group_at bytes = do
   count ← number_at 2 pad.1
   _ ← wanted (is_counted a count.0 count.1) bad.Count
   _ ← wanted (pad.0 == 0) bad.Value
-  records_at a count.0 count.1
+  Ok (record { action = a; count = count.0 }, count.1)
+
+-- a group: the subheader, and the records
+unfoldable pub group_at : List ℕ → Read (List Message)
+group_at bytes = do
+  group ← subheader_at bytes
+  records_at group.0.action group.0.count group.1
 
 -- groups to the end; each takes a byte at least, so that as many as there are bytes suffice
 unfoldable pub groups_at : ℕ → List ℕ → Read (List (List Message))

@@ -50,16 +50,19 @@
 //! | 120 | 4 | rule, 4294967295 for none |
 //!
 //! [`decode`] answers the frame that bytes spell or the first [`FrameFault`] in reading order, and [`encode`] spells a
-//! frame. A frame has one spelling, which is read again as that frame.
+//! frame. A frame has one spelling, which is read again as that frame. [`FrameBytes`] is a frame in its bytes, whose records
+//! are read without memory.
 #![tactic(auto)]
 
 mod action;
 mod fault;
 mod frame;
+mod frame_bytes;
 mod message;
 mod read_fields;
 mod read_frame;
 mod read_records;
+mod subheader;
 mod write_fields;
 mod write_frame;
 mod write_records;
@@ -67,6 +70,7 @@ mod write_records;
 pub use action::Action;
 pub use fault::{BadFrame, FrameFault};
 pub use frame::Frame;
+pub use frame_bytes::{FrameBytes, Records};
 pub use message::{BulkStatus, Message, StateRecord, UpdateRecord};
 pub use read_frame::decode;
 pub use write_frame::encode;

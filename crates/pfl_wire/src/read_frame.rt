@@ -3,24 +3,17 @@
 ghost use Rattle.std.specs.Prelude.{◌≡◌, List, [], length, IfOk, Ok, Some, None};
 ghost use Rattle.pfl_wire.specs.Frames.{Frame as FrameValue, lists};
 ghost use Rattle.pfl_wire.specs.Spelling.{Spells};
-ghost use Rattle.pfl_wire.specs.Reading.{is_counted, records_at, group_at, groups_at, print_at, header_at, reading};
+ghost use Rattle.pfl_wire.specs.Reading.{records_at, group_at, groups_at, print_at, header_at, reading};
 ghost use Rattle.pfl_wire.specs.inner.Answers.{Gives, GivesKept, GivesFrame, Joins, kept_items, kept_lists};
 ghost use Rattle.pfl_wire.specs.Answers.{Decodes};
 
-use crate::action::Action;
 use crate::fault::{BadFrame, FrameFault};
 use crate::frame::Frame;
 use crate::message::Message;
 use crate::read_fields::{read_byte, read_u16};
 use crate::read_records::read_record;
+use crate::subheader::{Subheader, read_subheader};
 use std::alloc::Allocator;
-
-/// Whether the count is not 0, and the bytes hold the records that it counts.
-fn has_records(action: Action, count: u16, rest: &[u8]) -> bool
-    ensures { result ≡ is_counted action count rest.now }
-{
-    0 < count && usize::from(count) * action.record_len() <= rest.len()
-}
 
 /// The list with the item at its end; nothing where either is lost, or memory is wanting.
 fn keep<T: Drop, A: Allocator>(kept: Option<Vec<T, A>>, item: Option<T>) -> Option<Vec<T, A>>
@@ -40,16 +33,15 @@ fn keep<T: Drop, A: Allocator>(kept: Option<Vec<T, A>>, item: Option<T>) -> Opti
 /// before want of memory.
 fn read_records<A: Allocator + Copy>(
     alloc: A,
-    action: Action,
-    count: u16,
+    group: Subheader,
     bytes: &[u8],
 ) -> Result<(Option<Vec<Message, A>>, &[u8]), BadFrame>
-    ensures { GivesKept (λ x. kept_items x.0) (λ x. x.1.now) result (records_at action count bytes.now) }
+    ensures { GivesKept (λ x. kept_items x.0) (λ x. x.1.now) result (records_at group.action group.count bytes.now) }
 {
-    let mut kept = Vec::with_capacity(alloc, usize::from(count)).ok();
+    let mut kept = Vec::with_capacity(alloc, usize::from(group.count)).ok();
     let mut rest = bytes;
-    for _ in 0..count {
-        let (message, after) = match read_record(action, rest) {
+    for _ in 0..group.count {
+        let (message, after) = match read_record(group.action, rest) {
             Ok(read) => read,
             Err(bad) => return Err(bad),
         };
@@ -67,20 +59,8 @@ fn read_group<A: Allocator + Copy>(
 ) -> Result<(Option<Vec<Message, A>>, &[u8]), BadFrame>
     ensures { GivesKept (λ x. kept_items x.0) (λ x. x.1.now) result (group_at bytes.now) }
 {
-    if bytes.len() < 4 {
-        return Err(BadFrame::Length);
-    }
-    let (number, rest) = read_byte(bytes)?;
-    let action = Action::of_number(number).ok_or(BadFrame::Action)?;
-    let (pad, rest) = read_byte(rest)?;
-    let (count, rest) = read_u16(rest)?;
-    if !has_records(action, count, rest) {
-        return Err(BadFrame::Count);
-    }
-    if pad != 0 {
-        return Err(BadFrame::Value);
-    }
-    read_records(alloc, action, count, rest)
+    let (group, rest) = read_subheader(bytes)?;
+    read_records(alloc, group, rest)
 }
 
 /// The groups to the end of the bytes.
@@ -116,7 +96,7 @@ fn read_print(bytes: &[u8]) -> Result<([u8; 16], &[u8]), BadFrame>
 
 /// The checksum of a frame, and its groups' bytes.
 #[tactic(auto, unfolding(crate::specs::Reading::header_at))]
-fn read_header(bytes: &[u8]) -> Result<([u8; 16], &[u8]), BadFrame>
+pub fn read_header(bytes: &[u8]) -> Result<([u8; 16], &[u8]), BadFrame>
     ensures { Gives (λ x. (x.0, x.1.now)) result (header_at bytes.now) }
 {
     if bytes.len() < 20 {

@@ -11,7 +11,7 @@ use Rattle.pfl_edits.specs.Maps as maps
 use Rattle.std.specs.List.{range_with_len, fold}
 use Rattle.pfl_wire.specs.declared.fault.BadFrame.{BadFrame}
 use Rattle.pfl_wire.specs.declared.message.Message.{Message}
-use Rattle.pfl_wire.specs.Frames.{Frame}
+use Rattle.pfl_wire.specs.Frames.{Frame, records_of}
 use Rattle.pfl_wire.specs.Spelling.{spelling}
 use Rattle.pfl_wire.specs.Reading.{reading}
 use Rattle.pfl_language.specs.declared.outcome.Outcome.TheVariants as outcome
@@ -19,7 +19,6 @@ use Rattle.pfl_language.specs.declared.node_event.NodeOutcome.TheVariants as giv
 use Rattle.pfl_parts.specs.Nodes.{Node, new_node}
 use Rattle.pfl_node.specs.Flushing.{frame_of, remaining}
 use Rattle.pfl_receive.specs.Receiving.{taken as take_record}
-use Rattle.pfl_receive.specs.Delivering.{records_of}
 use Rattle.pfl_world.specs.Weights.{weight}
 use Rattle.pfl_node.specs.Weights.{edits_for}
 use Rattle.pfl_world.specs.Delivering.{deliver_work}

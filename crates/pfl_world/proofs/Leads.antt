@@ -52,9 +52,10 @@ pub agrees_with : (w : World) → PartsAgree w → (id : NodeId) (n : Node) → 
 agrees_with w is A n same = record {
   nodes = is.nodes ∙ sym same;
   link = is.link ∙ sym (ap (λ (l : Limits). l.frames) same);
+  mtu = is.mtu ∙ sym (ap (λ (l : Limits). l.mtu) same);
   countable = is.countable;
 }
-agrees_with w is B n same = record { nodes = same ∙ is.nodes; link = is.link; countable = is.countable }
+agrees_with w is B n same = record { nodes = same ∙ is.nodes; link = is.link; mtu = is.mtu; countable = is.countable }
 
 -- a world with another node of the same limits
 world_with : (w : World) → IsWorld w → (id : NodeId) (n : Node) → IsNode n → n.limits ≡ (node_at w id).limits → IsWorld (with_node w id n)

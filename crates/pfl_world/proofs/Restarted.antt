@@ -90,7 +90,7 @@ limits-restarted n boot = refl
 pub begun-agrees : (w : World) → PartsAgree w → (id : NodeId) → w.next_boot < greatest → PartsAgree (begun w id)
 begun-agrees w is id low =
     let agree = agrees_with w is id (restarted (node_at w id) w.next_boot) (limits-restarted (node_at w id) w.next_boot) in
-    record { nodes = agree.nodes; link = agree.link; countable = omega (arith, low) }
+    record { nodes = agree.nodes; link = agree.link; mtu = agree.mtu; countable = omega (arith, low) }
 
 -- ---- the event
 

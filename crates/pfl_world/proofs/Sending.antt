@@ -12,6 +12,7 @@ use Rattle.pfl_edits.proofs.ForCallers.{LeadsBack-push}
 use Rattle.pfl_wire.specs.Spelling.{spelling}
 use Rattle.pfl_language.specs.declared.event.Event.{Event}
 use Rattle.pfl_language.specs.declared.event.Event.TheVariants as event
+use Rattle.pfl_language.specs.declared.limits.Limits.{Limits}
 use Rattle.pfl_language.specs.declared.outcome.Outcome.{Outcome}
 use Rattle.pfl_language.specs.declared.outcome.Outcome.TheVariants as outcome
 use Rattle.pfl_parts.specs.declared.edit.NodeEdit.{NodeEdit}
@@ -30,7 +31,7 @@ use Rattle.pfl_world.specs.Flushing.{flush_refusal, sent_frame, flush_step, flus
 use Rattle.pfl_world.specs.Weights.{weight}
 use Rattle.pfl_world.specs.WorldEdits.{Finds, put_back, WorldLeadsBack}
 use Rattle.pfl_world.specs.inner.WorldEdits.{of_node}
-use Rattle.pfl_world.specs.Worlds.{World, IsWorld, node_at, with_node, with_link}
+use Rattle.pfl_world.specs.Worlds.{World, IsWorld, PartsAgree, node_at, with_node, with_link}
 use Rattle.pfl_world.proofs.Stepping.{accepted, refused_as}
 
 -- ---- why no frame goes out
@@ -111,9 +112,22 @@ flush_weight w e id is (Ok r) few =
 
 -- ---- the parts
 
-link_kept : (w : World) (id : NodeId) (n : Node) → (with_node w id n).link ≡ w.link
+-- the link stays beside another node
+pub link_kept : (w : World) (id : NodeId) (n : Node) → (with_node w id n).link ≡ w.link
 link_kept w A n = refl
 link_kept w B n = refl
+
+-- the link takes what either node sends
+pub node_mtu : (w : World) → PartsAgree w → (id : NodeId) → (node_at w id).limits.mtu ≡ w.link.mtu
+node_mtu w is A = sym is.mtu
+node_mtu w is B = ap (λ (l : Limits). l.mtu) is.nodes ∙ sym is.mtu
+
+-- the node was lent, and its frame fits the link beside the node after it
+pub sent_short : (w mid : World) → PartsAgree w → (id : NodeId) (was n : Node) (bytes : List ℕ) → was ≡ node_at w id → mid ≡ with_node w id n → length bytes ≤ was.limits.mtu → length bytes ≤ mid.link.mtu
+sent_short w mid is id was n bytes at made short =
+    let node : was.limits.mtu ≡ w.link.mtu = ap (λ (m : Node). m.limits.mtu) at ∙ node_mtu w is id in
+    let link : mid.link.mtu ≡ w.link.mtu = ap (λ (v : World). v.link.mtu) made ∙ ap (λ (l : Link). l.mtu) (link_kept w id n) in
+    omega (arith, short, node, link)
 
 -- the frame on its way is the node's, to the other node
 pub sent_is : (old mid new : World) (id : NodeId) (n : Node) (to : NodeId) (bytes : List ℕ) → mid ≡ with_node old id n → to ≡ other_node id → bytes ≡ spelling (frame_of (node_at old id))

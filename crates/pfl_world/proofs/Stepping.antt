@@ -1,6 +1,6 @@
 -- The steps of the pair, and why they are refused.
 use Rattle.std.specs.Prelude.{◌≡◌, ℕ, Option, Some, None, Result, Ok, Err, IfErr, refl}
-use Rattle.std.proofs.Common.{◌∙◌, ap, sym, subst, inl}
+use Rattle.std.proofs.Common.{◌∙◌, ap, sym, subst}
 use Rattle.pfl_base.specs.declared.refusal.Refusal.{Refusal}
 use Rattle.pfl_base.specs.declared.refusal.Refusal.TheVariants.{NoMemory}
 use Rattle.pfl_base.specs.declared.node_id.NodeId.{NodeId}
@@ -8,7 +8,6 @@ use Rattle.pfl_language.specs.declared.node_event.NodeEvent.{NodeEvent}
 use Rattle.pfl_language.specs.declared.event.Event.{Event}
 use Rattle.pfl_language.specs.declared.event.Event.TheVariants as event
 use Rattle.pfl_language.specs.declared.event.FrameEvent.{FrameEvent}
-use Rattle.pfl_language.specs.declared.event.FrameEvent.TheVariants as frame
 use Rattle.pfl_language.specs.declared.outcome.Outcome.{Outcome}
 use Rattle.pfl_language.specs.declared.outcome.Outcome.TheVariants as outcome
 use Rattle.pfl_parts.specs.Nodes.{Node, IsRefusal, unless_refused}
@@ -31,36 +30,9 @@ pub refused_as : {X : Type 0} (o : Option Refusal) (s : Stepped) (at : Result St
 refused_as o s at is (Ok x) r = tt
 refused_as o s at is (Err given) r = subst (λ (v : Result Stepped Refusal). IsRefusalOf v given) (sym is) (refusal_of o s given r)
 
--- and so that of the event
-frame_refusal : (w : World) (ticket : ℕ) (e : FrameEvent) (r : Refusal) → IsRefusalOf (frame_event w ticket e) r → IsEventRefusal w (event.Of ticket e) r
-unfolding step
-frame_refusal w ticket frame.Deliver r is = inl is
-frame_refusal w ticket frame.Lose r is = is
-frame_refusal w ticket frame.Repeat r is = is
-frame_refusal w ticket (frame.Cut len) r is = is
-
-pub event_refusal : (w : World) (e : Event) (r : Refusal) → IsRefusalOf (step w e) r → IsEventRefusal w e r
-unfolding step
-event_refusal w (event.At node e) r is = is
-event_refusal w (event.Flush node) r is = is
-event_refusal w (event.Of ticket e) r is = frame_refusal w ticket e r is
-event_refusal w (event.Restart node) r is = is
-
 -- an event that is accepted may want memory
 pub event_wants : (w : World) (e : Event) (s : Stepped) → step w e ≡ Ok s → IsEventRefusal w e NoMemory
-event_wants w e s is = event_refusal w e NoMemory (subst (λ (v : Result Stepped Refusal). IsRefusalOf v NoMemory) (sym is) refl)
-
-pub refused_then : {X : Type 0} (w : World) (e : Event) (result : Result X Refusal) → IfErr result (IsRefusalOf (step w e)) → IfErr result (IsEventRefusal w e)
-refused_then w e (Ok x) is = tt
-refused_then w e (Err r) is = event_refusal w e r is
-
--- the same event by another name
-pub refused_same : {X : Type 0} (w : World) (e f : Event) → e ≡ f → (result : Result X Refusal) → IfErr result (IsEventRefusal w f) → IfErr result (IsEventRefusal w e)
-refused_same w e f is result why = subst (λ (v : Event). IfErr result (IsEventRefusal w v)) (sym is) why
-
-pub frame_refused_then : {X : Type 0} (w : World) (ticket : ℕ) (e : FrameEvent) (result : Result X Refusal) → IfErr result (IsRefusalOf (frame_event w ticket e)) → IfErr result (IsEventRefusal w (event.Of ticket e))
-frame_refused_then w ticket e (Ok x) is = tt
-frame_refused_then w ticket e (Err r) is = frame_refusal w ticket e r is
+event_wants w e s is = subst (λ (v : Result Stepped Refusal). IsRefusalOf v NoMemory) (sym is) refl
 
 -- ---- what a node answers, at the pair
 

@@ -1,17 +1,15 @@
 -- One step of the pair, and why an event is refused. What an event means is told in a file of its own.
-use Rattle.std.specs.Prelude.{◌≡◌, ◌⊎◌, ℕ, List, IsOk, IsSomeAnd, Result, Ok, Err}
+use Rattle.std.specs.Prelude.{◌≡◌, ℕ, List, Result, Ok, Err}
 use Rattle.pfl_base.specs.declared.node_id.NodeId.{NodeId}
 use Rattle.pfl_base.specs.declared.refusal.Refusal.{Refusal}
 use Rattle.pfl_base.specs.declared.refusal.Refusal.TheVariants.{NoMemory}
-use Rattle.pfl_edits.specs.Maps as maps
-use Rattle.pfl_wire.specs.Reading.{reading}
 use Rattle.pfl_language.specs.declared.event.Event.{Event}
 use Rattle.pfl_language.specs.declared.event.Event.TheVariants as event
 use Rattle.pfl_language.specs.declared.event.FrameEvent.{FrameEvent}
 use Rattle.pfl_language.specs.declared.event.FrameEvent.TheVariants as frame
 use Rattle.pfl_parts.specs.Nodes.{Node}
 use Rattle.pfl_world.specs.AtNodes.{at_node_meaning}
-use Rattle.pfl_world.specs.Delivering.{deliver_step, deliver_meaning}
+use Rattle.pfl_world.specs.Delivering.{deliver_meaning}
 use Rattle.pfl_world.specs.Flushing.{flush_meaning}
 use Rattle.pfl_world.specs.Meanings.{Meaning, Stepped}
 use Rattle.pfl_world.specs.Restarting.{restart_meaning}
@@ -53,16 +51,6 @@ abbrev pub IsRefusalOf : Result Stepped Refusal → Refusal → Type 0
 IsRefusalOf (Err first) r = r ≡ first
 IsRefusalOf (Ok s) r = r ≡ NoMemory
 
--- the frame of the ticket can be read
-abbrev pub IsReadable : World → ℕ → Type 0
-IsReadable w ticket = IsSomeAnd (maps.get w.link.frames ticket) (λ f. IsOk (reading f.bytes))
-
--- a delivery that is refused does so too; but where memory is wanted for the records of its frame, that comes before whatever
--- they would be refused for
-abbrev pub IsDeliveryRefusal : World → ℕ → Refusal → Type 0
-IsDeliveryRefusal w ticket r = IsRefusalOf (deliver_step w ticket) r ⊎ ((r ≡ NoMemory) × IsReadable w ticket)
-
--- why an event is refused: a delivery may want memory before what its records would be refused for, and no other event does
+-- why an event is refused: want of memory comes last
 abbrev pub IsEventRefusal : World → Event → Refusal → Type 0
-IsEventRefusal w (event.Of ticket frame.Deliver) r = IsDeliveryRefusal w ticket r
 IsEventRefusal w e r = IsRefusalOf (step w e) r

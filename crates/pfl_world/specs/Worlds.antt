@@ -29,6 +29,7 @@ pub record World : Type 0 where
 pub record PartsAgree (w : World) : Type 0 where
   pub nodes : w.b.limits ≡ w.a.limits
   pub link : w.link.limit ≡ w.a.limits.frames
+  pub mtu : w.link.mtu ≡ w.a.limits.mtu
   pub countable : w.next_boot ≤ 4294967295
 
 -- a world
@@ -64,7 +65,7 @@ abbrev pub new_world : Limits → Rules → Rules → World
 new_world limits rules_a rules_b = record {
   a = new_node limits rules_a 1 1 0;
   b = new_node limits rules_b 2 1 0;
-  link = empty_link limits.frames 1;
+  link = empty_link limits.frames limits.mtu 1;
   next_boot = 3;
 }
 
@@ -73,7 +74,7 @@ abbrev pub new_world_at : Limits → Rules → Rules → ℕ → World
 new_world_at limits rules_a rules_b start = record {
   a = new_node limits rules_a 1 start 0;
   b = new_node limits rules_b 2 start 0;
-  link = empty_link limits.frames start;
+  link = empty_link limits.frames limits.mtu start;
   next_boot = start;
 }
 

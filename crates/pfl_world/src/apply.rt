@@ -3,7 +3,7 @@
 ghost use Rattle.std.specs.Prelude.{◌≡◌, ◌≤◌, Ok, IfOk, IfErr, OnErr, length};
 ghost use Rattle.std.specs.List.{AllByRecursion};
 ghost use Rattle.pfl_edits.specs.Changes.{Fits, back};
-ghost use Rattle.pfl_world.specs.Events.{step, IsEventRefusal, frame_event};
+ghost use Rattle.pfl_world.specs.Events.{step, IsEventRefusal, IsRefusalOf, frame_event};
 ghost use Rattle.pfl_world.specs.Values.{HoldsLittle, MayHold};
 ghost use Rattle.pfl_world.specs.Weights.{weight};
 ghost use Rattle.pfl_world.specs.WorldEdits.{Finds, WorldLeadsBack, put_back};
@@ -40,7 +40,7 @@ impl<A: Allocator + Copy> World<A> {
         ticket: u32,
         event: &FrameEvent,
     ) -> Result<(Outcome, WorldChange<A>), Refusal>
-        ensures refused { IfErr result (IsEventRefusal self.old (Event.Of ticket event.now)) }
+        ensures refused { IfErr result (IsRefusalOf (frame_event self.old ticket event.now)) }
         ensures unchanged { OnErr result (self.new ≡ self.old) }
         ensures step { IfOk result (λ r. frame_event self.old ticket event.now ≡ Ok (record { world = self.new; outcome = r.0 })) }
         ensures leads_back { IfOk result (λ r. WorldLeadsBack r.1.list self.old self.new) }

@@ -1,103 +1,53 @@
 //! A frame comes to its receiver, which takes its records one after another (if_pfsync.c).
 
-ghost use Rattle.std.specs.Prelude.{◌≡◌, ◌≤◌, ◌+◌, ◌*◌, ◌⊎◌, IsOk, IsTrue, Ok, IfOk, IfErr, OnOk, OnErr, length, is_some};
+ghost use Rattle.std.specs.Prelude.{◌≡◌, ◌≤◌, ◌+◌, ◌*◌, IsTrue, None, Ok, IfOk, IfErr, OnOk, OnErr, length, is_some};
 ghost use Rattle.std.specs.List.{AllByRecursion};
 ghost use Rattle.pfl_edits.specs.Changes.{Fits, back};
 ghost use Rattle.pfl_edits.specs.Maps as maps;
 ghost use Rattle.pfl_wire.specs.Reading.{reading};
-ghost use Rattle.pfl_receive.specs.Delivering.{frame_work};
+ghost use Rattle.pfl_parts.specs.Edits.{NodeLeadsBack};
+ghost use Rattle.pfl_parts.specs.Nodes.{IsRefusal, points_refusal};
+ghost use Rattle.pfl_node.specs.Weights.{edits_for};
 ghost use Rattle.pfl_world.specs.inner.Delivering as delivering;
-ghost use Rattle.pfl_world.specs.Events.{IsRefusalOf, IsDeliveryRefusal};
-ghost use Rattle.pfl_world.specs.Delivering.{frame_taken, broken_taken, read_taken, deliver_step, read_work, deliver_work};
+ghost use Rattle.pfl_world.specs.Events.{IsRefusalOf};
+ghost use Rattle.pfl_world.specs.Delivering.{deliver_step, deliver_work, frame_points, read_work};
 ghost use Rattle.pfl_world.specs.Tickets.{without_ticket};
 ghost use Rattle.pfl_world.specs.Values.{HoldsLittle};
-ghost use Rattle.pfl_node.specs.Weights.{edits_for};
 ghost use Rattle.pfl_world.specs.WorldEdits.{Finds, put_back, WorldLeadsBack};
-ghost use Rattle.pfl_world.specs.Worlds.{IsWorld, node_at};
+ghost use Rattle.pfl_world.specs.Worlds.{IsWorld};
 
 use crate::edit::{WorldChange, WorldEdit};
 use crate::world::World;
-use pfl_base::{NodeId, Refusal};
-use pfl_edits::NoMemory;
+use pfl_base::Refusal;
+use pfl_edits::{Change, NoMemory};
 use pfl_language::Outcome;
-use pfl_wire::{BadFrame, Frame, FrameFault, decode};
+use pfl_node::Node;
+use pfl_parts::NodeEdit;
+use pfl_wire::FrameBytes;
 use std::alloc::Allocator;
 
 impl<A: Allocator + Copy> World<A> {
     /// A frame comes to its receiver, which takes its records, or counts it where it cannot be read. Then it has left the link.
     pub(crate) fn deliver(&mut self, ticket: u32) -> Result<(Outcome, WorldChange<A>), Refusal>
-        ensures refused { IfErr result (IsDeliveryRefusal self.old ticket) }
+        ensures refused { IfErr result (IsRefusalOf (deliver_step self.old ticket)) }
         ensures unchanged { OnErr result (self.new ≡ self.old) }
         ensures step { IfOk result (λ r. deliver_step self.old ticket ≡ Ok (record { world = self.new; outcome = r.0 })) }
         ensures leads_back { IfOk result (λ r. WorldLeadsBack r.1.list self.old self.new) }
         ensures little { IfOk result (λ r. AllByRecursion HoldsLittle r.1.list) }
         ensures weight { IfOk result (λ r. length r.1.list ≤ edits_for (deliver_work self.old ticket)) }
     {
+        self.known();
         let Some(frame) = self.link.get(ticket) else {
             return Err(Refusal::NoSuchFrame);
         };
-        let to = frame.to();
-        let read = read_frame(self.alloc, frame.bytes().as_slice())?;
-        let (outcome, edits) = self.take_read(to, read)?;
+        let (to, bytes) = (frame.to(), frame.bytes().as_slice());
+        // The receiver reads the frame where it lies: it stays on the link until its records are taken.
+        let (outcome, change) = arrive(self.nodes.at_mut(to), bytes)?;
+        let edits = self.lift(to, change)?;
         match self.take_off(ticket, edits) {
             Ok(edits) => Ok((outcome, edits)),
             Err(_) => Err(Refusal::NoMemory),
         }
-    }
-
-    /// A node takes what was read of a frame: its records, or that it cannot be read.
-    fn take_read(
-        &mut self,
-        to: NodeId,
-        read: Result<Frame<A>, BadFrame>,
-    ) -> Result<(Outcome, WorldChange<A>), Refusal>
-        ensures refused { IfErr result (delivering.IsTakingRefusal self.old to read) }
-        ensures unchanged { OnErr result (self.new ≡ self.old) }
-        ensures step { IfOk result (λ r. read_taken self.old to (node_at self.old to) read ≡ Ok (record { world = self.new; outcome = r.0 })) }
-        ensures leads_back { IfOk result (λ r. WorldLeadsBack r.1.list self.old self.new) }
-        ensures little { IfOk result (λ r. AllByRecursion HoldsLittle r.1.list) }
-        ensures weight { IfOk result (λ r. length r.1.list ≤ 11 + 12 * read_work (node_at self.old to) read) }
-    {
-        match read {
-            Ok(frame) => self.take_frame(to, &frame),
-            Err(why) => self.take_broken(to, why),
-        }
-    }
-
-    /// A node takes the records of a frame.
-    fn take_frame(
-        &mut self,
-        to: NodeId,
-        frame: &Frame<A>,
-    ) -> Result<(Outcome, WorldChange<A>), Refusal>
-        ensures refused { IfErr result (λ why. IsRefusalOf (frame_taken self.old to (node_at self.old to) frame.now) why ⊎ (why ≡ Refusal.NoMemory)) }
-        ensures unchanged { OnErr result (self.new ≡ self.old) }
-        ensures step { IfOk result (λ r. frame_taken self.old to (node_at self.old to) frame.now ≡ Ok (record { world = self.new; outcome = r.0 })) }
-        ensures leads_back { IfOk result (λ r. WorldLeadsBack r.1.list self.old self.new) }
-        ensures little { IfOk result (λ r. AllByRecursion HoldsLittle r.1.list) }
-        ensures weight { IfOk result (λ r. length r.1.list ≤ 12 * frame_work (node_at self.old to) frame.now) }
-    {
-        let (count, change) = self.nodes.at_mut(to).receive(frame)?;
-        let edits = self.lift(to, change)?;
-        Ok((Outcome::Taken(count), edits))
-    }
-
-    /// A node counts a frame that cannot be read.
-    fn take_broken(
-        &mut self,
-        to: NodeId,
-        why: BadFrame,
-    ) -> Result<(Outcome, WorldChange<A>), Refusal>
-        ensures refused { IfErr result (IsRefusalOf (broken_taken self.old to (node_at self.old to) why)) }
-        ensures unchanged { OnErr result (self.new ≡ self.old) }
-        ensures step { IfOk result (λ r. broken_taken self.old to (node_at self.old to) why ≡ Ok (record { world = self.new; outcome = r.0 })) }
-        ensures leads_back { IfOk result (λ r. WorldLeadsBack r.1.list self.old self.new) }
-        ensures little { IfOk result (λ r. AllByRecursion HoldsLittle r.1.list) }
-        ensures weight { IfOk result (λ r. length r.1.list ≤ 1) }
-    {
-        let (_, change) = self.nodes.at_mut(to).count_broken()?;
-        let edits = self.lift(to, change)?;
-        Ok((Outcome::Broken(why), edits))
     }
 
     /// A frame leaves the link, behind what was changed for it. Where there is no memory, all that is taken back.
@@ -128,35 +78,28 @@ impl<A: Allocator + Copy> World<A> {
     }
 }
 
-/// The frame that the bytes spell, or why they spell none. Memory is wanted only for a frame.
-fn read_frame<A: Allocator + Copy>(
-    alloc: A,
+/// A frame comes to a node, which takes its records, or counts it where it cannot be read.
+fn arrive<A: Allocator + Copy>(
+    node: &mut Node<A>,
     bytes: &[u8],
-) -> Result<Result<Frame<A>, BadFrame>, Refusal>
-    ensures wants { IfErr result (λ why. why ≡ Refusal.NoMemory) }
-    ensures readable { OnErr result (IsOk (reading bytes.now)) }
-    ensures read { IfOk result (λ read. read ≡ reading bytes.now) }
+) -> Result<(Outcome, Change<NodeEdit, A>), Refusal>
+    requires short { length bytes.now ≤ node.old.limits.mtu }
+    ensures refused { IfErr result (IsRefusal (points_refusal (frame_points node.old (reading bytes.now)))) }
+    ensures unchanged { OnErr result (node.new ≡ node.old) }
+    ensures not_refused { OnOk result (points_refusal (frame_points node.old (reading bytes.now)) ≡ None) }
+    ensures node { OnOk result (node.new ≡ delivering.arrived node.old (reading bytes.now)) }
+    ensures outcome { IfOk result (λ r. r.0 ≡ delivering.arrival (reading bytes.now)) }
+    ensures leads_back { IfOk result (λ r. NodeLeadsBack r.1.list node.old node.new) }
+    ensures weight { IfOk result (λ r. length r.1.list ≤ 11 + 12 * read_work node.old (reading bytes.now)) }
 {
-    match decode(alloc, bytes) {
-        Ok(frame) => Ok(Ok(frame)),
-        Err(fault) => match bad_frame(fault) {
-            Some(why) => Ok(Err(why)),
-            None => Err(Refusal::NoMemory),
-        },
-    }
-}
-
-/// The fault of the bytes, where they have one: else memory was wanting.
-fn bad_frame(fault: FrameFault) -> Option<BadFrame>
-    ensures { result ≡ delivering.bad_frame fault }
-{
-    match fault {
-        FrameFault::Short => Some(BadFrame::Short),
-        FrameFault::Version => Some(BadFrame::Version),
-        FrameFault::Length => Some(BadFrame::Length),
-        FrameFault::Action => Some(BadFrame::Action),
-        FrameFault::Count => Some(BadFrame::Count),
-        FrameFault::Value => Some(BadFrame::Value),
-        FrameFault::NoMemory => None,
+    match FrameBytes::read(bytes) {
+        Ok(frame) => {
+            let (count, change) = node.receive(&frame)?;
+            Ok((Outcome::Taken(count), change))
+        }
+        Err(why) => {
+            let (_, change) = node.count_broken()?;
+            Ok((Outcome::Broken(why), change))
+        }
     }
 }

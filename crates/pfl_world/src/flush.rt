@@ -68,6 +68,7 @@ impl<A: Allocator + Copy> World<A> {
         requires fits { Fits Finds IsWorld put_back edits.list self.old }
         requires little { AllByRecursion HoldsLittle edits.list }
         requires room { room_fault self.old.link ≡ None }
+        requires short { length bytes ≤ self.old.link.mtu }
         ensures undone { OnErr result (self.new ≡ back put_back edits.list self.old) }
         ensures world { OnOk result (self.new ≡ with_link self.old (sent self.old.link (record { to = to; bytes = bytes }))) }
         ensures outcome { IfOk result (λ r. r.0 ≡ Outcome.Sent self.old.link.next (length bytes)) }

@@ -77,7 +77,7 @@ impl<A: Allocator + Copy> World<A> {
         ensures new { IfOk result (λ w. w ≡ new_world limits rules_a rules_b) }
     {
         // The link comes first: where the nodes find no memory, it is all that has to be given back.
-        let link = Link::new(alloc, limits.frames as usize)?;
+        let link = Link::new(alloc, limits.frames as usize, limits.mtu as usize)?;
         let nodes = Nodes::new(alloc, limits, rules_a, rules_b)?;
         Ok(World {
             alloc,

@@ -15,13 +15,16 @@ fn many<A: Allocator>(alloc: A, count: usize) -> Result<Bytes<A>, AllocError> {
 /// Sends the bytes 1, 2 and 3 to node B: the ticket.
 fn sent(link: &mut Link<Global>, alloc: Global) -> Option<u32> {
     let bytes = Bytes::from(Vec::from_slice(alloc, &[1, 2, 3]).ok()?);
+    if link.mtu() < bytes.len() {
+        return None;
+    }
     let (ticket, _) = link.send(NodeId::B, bytes).ok()?;
     Some(ticket)
 }
 
 /// A link with the frame 1 of these three bytes.
 fn of_one(alloc: Global, limit: usize) -> Option<Link<Global>> {
-    let mut link = Link::new(alloc, limit).ok()?;
+    let mut link = Link::new(alloc, limit, 1500).ok()?;
     sent(&mut link, alloc)?;
     Some(link)
 }
@@ -41,6 +44,9 @@ fn counts(link: &Link<Global>) -> (usize, u32) {
 
 /// Sends bytes to node A: the fault, and how many bytes are given back.
 fn refused<A: Allocator + Copy>(link: &mut Link<A>, bytes: Bytes<A>) -> Option<(LinkFault, usize)> {
+    if link.mtu() < bytes.len() {
+        return None;
+    }
     let refused = link.send(NodeId::A, bytes).err()?;
     Some((refused.fault, refused.bytes.len()))
 }
@@ -51,7 +57,7 @@ fn a_full_link_gives_the_bytes_back(rt: HostRuntime) -> Result<(), Fail> {
     let sending = refused(&mut link, many(rt.alloc(), 9)?);
     assert!(rt; sending == Some((LinkFault::LinkFull, 9)));
     assert!(rt; link.copy(1).err() == Some(LinkFault::LinkFull));
-    assert!(rt; (counts(&link), link.limit()) == ((1, 2), 1));
+    assert!(rt; (counts(&link), link.limit(), link.mtu()) == ((1, 2), 1, 1500));
     Ok(())
 }
 
@@ -64,7 +70,7 @@ fn faults_of_missing(link: &mut Link<Global>) -> [Option<LinkFault>; 3] {
 
 #[test]
 fn a_missing_frame_is_refused(rt: HostRuntime) -> Result<(), Fail> {
-    let mut link = Link::new(rt.alloc(), 0)?;
+    let mut link = Link::new(rt.alloc(), 0, 1500)?;
     let missing = Some(LinkFault::NoSuchFrame);
     assert!(rt; faults_of_missing(&mut link) == [missing, missing, missing]);
     Ok(())
@@ -72,7 +78,7 @@ fn a_missing_frame_is_refused(rt: HostRuntime) -> Result<(), Fail> {
 
 #[test]
 fn tickets_come_to_an_end(rt: HostRuntime) -> Result<(), Fail> {
-    let mut link = Link::new_at(rt.alloc(), 2, u32::MAX - 1)?;
+    let mut link = Link::new_at(rt.alloc(), 2, 1500, u32::MAX - 1)?;
     assert!(rt; sent(&mut link, rt.alloc()) == Some(u32::MAX - 1));
     let sending = refused(&mut link, many(rt.alloc(), 1)?);
     assert!(rt; sending == Some((LinkFault::CountFull, 1)));
@@ -139,6 +145,9 @@ fn operations_are_taken_back(rt: HostRuntime) -> Result<(), Fail> {
 fn sent_and_back(link: &mut Link<Global>, bytes: Bytes<Global>) -> Option<(usize, u32)>
     ensures undone { link.new ≡ link.old }
 {
+    if link.mtu() < bytes.len() {
+        return None;
+    }
     let (_, edit) = link.send(NodeId::A, bytes).ok()?;
     let between = counts(link);
     link.undo(edit);
@@ -147,7 +156,7 @@ fn sent_and_back(link: &mut Link<Global>, bytes: Bytes<Global>) -> Option<(usize
 
 #[test]
 fn sending_is_taken_back(rt: HostRuntime) -> Result<(), Fail> {
-    let mut link = Link::new(rt.alloc(), 3)?;
+    let mut link = Link::new(rt.alloc(), 3, 1500)?;
     let between = sent_and_back(&mut link, many(rt.alloc(), 2)?);
     assert!(rt; between == Some((1, 2)));
     assert!(rt; counts(&link) == (0, 1));
@@ -167,7 +176,7 @@ fn copies_keep_receiver_and_bytes(rt: HostRuntime) -> Result<(), Fail> {
     assert!(rt; copied_and_taken(&mut link) == Some(2));
     let copied = link.copy_all()?;
     assert!(rt; has(&copied, 2, &[1, 2, 3]));
-    assert!(rt; (counts(&copied), copied.limit()) == ((1, 3), 3));
+    assert!(rt; (counts(&copied), copied.limit(), copied.mtu()) == ((1, 3), 3, 1500));
     Ok(())
 }
 
@@ -191,8 +200,12 @@ fn wanting_behind<A: Allocator + Copy>(
         usize,
     ),
 > {
-    let mut link = Link::new(alloc, 2).ok()?;
-    let _sent = link.send(NodeId::B, many(alloc, 400).ok()?).ok()?;
+    let mut link = Link::new(alloc, 2, 1500).ok()?;
+    let bytes = many(alloc, 400).ok()?;
+    if link.mtu() < bytes.len() {
+        return None;
+    }
+    let _sent = link.send(NodeId::B, bytes).ok()?;
     let wanted = wanting(&mut link);
     let sending = refused(&mut link, many(alloc, 80).ok()?);
     Some((wanted, sending, link.len()))
@@ -201,7 +214,7 @@ fn wanting_behind<A: Allocator + Copy>(
 #[test]
 fn want_of_memory_changes_nothing(rt: HostRuntime) -> Result<(), Fail> {
     let heap = LocalHeap::new(rt.alloc(), 1024)?;
-    assert!(rt; Link::new(&heap, 100).err() == Some(NoMemory));
+    assert!(rt; Link::new(&heap, 100, 1500).err() == Some(NoMemory));
     let wanting = Some(LinkFault::NoMemory);
     let refused = Some((LinkFault::NoMemory, 80));
     assert!(rt; wanting_behind(&heap) == Some(((wanting, wanting, true), refused, 1)));

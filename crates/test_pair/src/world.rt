@@ -9,7 +9,7 @@ use pfl_world::{World, WorldFault};
 use std::alloc::{Allocator, Global};
 
 /// The bytes that the nodes of a pair keep for the edits of an event, where each holds one state.
-pub(super) const EDITS: usize = 24_304;
+pub(super) const EDITS: usize = 38_416;
 
 /// Limits within their ranges, most of them the least.
 fn limits() -> Limits {

@@ -14,6 +14,7 @@ use Rattle.pfl_link.specs.LinkEdits.{Stands, with_place, frame_before, frame_aft
 pub with_place-back : (ticket : ℕ) (was new : Option InFlight) (before after : ℕ) (l : Link) → Stands ticket was before l → with_place ticket was before (with_place ticket new after l) ≡ l
 with_place-back ticket was new before after l is = λ i. record {
   limit = l.limit;
+  mtu = l.mtu;
   next = sym is.next_is i;
   frames = set_at-back nat_cmp_total exact_unsigned l.frames ticket was new is.frame i;
 }

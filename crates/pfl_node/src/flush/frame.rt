@@ -1,7 +1,7 @@
 //! The frame of what a node tells its peer (if_pfsync.c).
 
 ghost use Rattle.std.specs.List.{AllByRecursion, flat_map};
-ghost use Rattle.std.specs.Prelude.{◌≡◌, ◌<◌, ◌^◌, [], ◌∷◌, Some, IsSome, IfOk};
+ghost use Rattle.std.specs.Prelude.{◌≡◌, ◌<◌, ◌^◌, [], ◌∷◌, Some, IsSome, IfOk, length};
 ghost use Rattle.pfl_edits.specs.Maps as maps;
 ghost use Rattle.pfl_node.specs.Flushing as flushing;
 ghost use Rattle.pfl_parts.specs.Nodes.{AreParts, IsPast};
@@ -28,6 +28,7 @@ pub(crate) fn bytes_of<A: Allocator + Copy>(
     requires told { AllByRecursion (sending.IsTold parts.now) entries.now }
     requires short { entry_bytes entries.now < 2 ^ 16 }
     ensures bytes { IfOk result (λ v. v.items ≡ spelling (sending.frame_with parts.now entries.now)) }
+    ensures len { IfOk result (λ v. length v.items ≡ entry_bytes entries.now) }
 {
     let groups = groups_of(parts, alloc, entries)?;
     let frame = Frame::new(parts.rules().print(), groups);

@@ -1,26 +1,33 @@
 -- How the records of a frame are carried out.
-use Rattle.std.specs.Prelude.{◌≡◌, Bool, true, false, List, Result, Ok, Err, ◌≤◌, ◌+◌, ◌*◌, ℕ}
-use Rattle.std.specs.List.{list_any}
+use Rattle.std.specs.Prelude.{ℕ, ◌≤◌, ◌+◌, ◌*◌, ◌/◌, List}
+use Rattle.std.specs.List.{sum_by}
 use Rattle.pfl_edits.specs.Changes.{Edits}
 use Rattle.pfl_edits.specs.Maps as maps
-use Rattle.pfl_parts.specs.declared.parts.judge.Overfull.{Overfull}
+use Rattle.pfl_wire.specs.declared.message.Message.{Message}
+use Rattle.pfl_wire.specs.Actions.{record_len}
+use Rattle.pfl_wire.specs.Frames.{action_of}
 use Rattle.pfl_parts.specs.declared.edit.NodeEdit.{NodeEdit}
-use Rattle.pfl_parts.specs.Nodes.{Node, is_overfull, is_overcounted}
+use Rattle.pfl_parts.specs.Nodes.{Node}
+use Rattle.pfl_parts.specs.Weights.{forgotten_edits}
+use Rattle.pfl_receive.specs.Delivering.{record_edits}
 
--- the records were taken: it stopped where too much was pending after one, and else tells whether after one a number was too high
-abbrev pub WentAll : Result Bool Overfull → List Node → Type 0
-WentAll (Ok over) points = (list_any is_overfull points ≡ false) × (over ≡ list_any is_overcounted points)
-WentAll (Err _) points = list_any is_overfull points ≡ true
+-- a record pays for so many edits: for one by each four of its bytes
+abbrev pub paid_edits : Message → ℕ
+paid_edits m = record_len (action_of m) / 4
 
--- The edits of a record are paid by twelve, and by four for each state that it takes out: so a clear, which takes out states that
+-- records pay for so many
+abbrev pub paid_by : List Message → ℕ
+paid_by messages = sum_by paid_edits messages
+
+-- What was recorded is paid by so many edits, and by four for each state that was taken out: so a clear, which takes out states that
 -- records before it brought, is paid by those.
-abbrev pub IsPaid : Edits NodeEdit → Edits NodeEdit → Node → Node → Type 0
-IsPaid x y a b = 4 * maps.len b.states + x.spare ≤ 4 * maps.len a.states + 12 + y.spare
+abbrev pub IsPaid : ℕ → Edits NodeEdit → Edits NodeEdit → Node → Node → Type 0
+IsPaid edits x y a b = 4 * maps.len b.states + x.spare ≤ 4 * maps.len a.states + edits + y.spare
 
--- the same of so many records
-abbrev pub ArePaid : ℕ → Edits NodeEdit → Edits NodeEdit → Node → Node → Type 0
-ArePaid records x y a b = 4 * maps.len b.states + x.spare ≤ 4 * maps.len a.states + 12 * records + y.spare
+-- the room for records that pay for so many edits, at a node with so many states: that of one record is left till the last
+abbrev pub records_room : ℕ → ℕ → ℕ
+records_room states edits = forgotten_edits * states + edits + record_edits
 
--- the room for the records of a frame, at a node with so many states
-abbrev pub most_taken : ℕ → ℕ → ℕ
-most_taken states records = 4 * (states + records) + 8 * records
+-- the room for the records of a frame of so many bytes
+abbrev pub frame_room : ℕ → ℕ → ℕ
+frame_room states bytes = records_room states (bytes / 4)

@@ -1,6 +1,6 @@
-use Rattle.std.proofs.Common.{◌∙◌, ap}
+use Rattle.std.proofs.Common.{◌∙◌, ap, arith}
 use Rattle.pfl_wire.specs.Spelling.{spelling}
-use Rattle.pfl_node.proofs.Sent.{frame-is, sent-told, sent-short}
+use Rattle.pfl_node.proofs.Sent.{frame-is, sent-told, sent-short, sent-fits}
 use Rattle.pfl_node.proofs.flush.frame_taken.Goals as goal
 
 pub bytes_of-requires-clause-told : goal.bytes_of-requires-clause-told
@@ -13,3 +13,9 @@ bytes_of-requires-clause-short g c = sent-short c.args.parts.now c.deref.result.
 pub returns-clause-bytes : goal.returns-clause-bytes
 returns-clause-bytes g c =
     c.in_ok-bytes.ensures.bytes ∙ ap spelling (frame-is c.args.parts.now c.take_entries.new.self c.deref.result.now c.in_ok-entries.ensures.node (c.deref.ensures.value ∙ c.in_ok-entries.ensures.entries))
+
+pub returns-clause-fits : goal.returns-clause-fits
+returns-clause-fits g c =
+    let fits = sent-fits c.args.parts.now c.deref.result.now c.requires.parts (c.deref.ensures.value ∙ c.in_ok-entries.ensures.entries) in
+    let len = c.in_ok-bytes.ensures.len in
+    omega (arith, len, fits)

@@ -1,4 +1,4 @@
-use Rattle.std.proofs.Common.{◌≡◌, refl, sym, subst, None}
+use Rattle.std.proofs.Common.{◌≡◌, ◌≤◌, refl, sym, subst, None, length}
 use Rattle.pfl_link.specs.Links.{Link}
 use Rattle.pfl_link.specs.Faults.{room_fault}
 use Rattle.pfl_link.proofs.Leading.{edit-leads_back}
@@ -8,7 +8,8 @@ use Rattle.pfl_link.proofs.link.Link.add.Goals as goal
 pub set-requires : goal.set-requires
 set-requires g c =
     let free = subst (λ (l : Link). room_fault l ≡ None) (sym c.self.view_is) c.requires.free in
-    rw (← c.self.view_is) (record { kept = sent_kept _ c.self.invariant.link c.args.frame free })
+    let short = subst (λ (l : Link). length c.args.frame.bytes ≤ l.mtu) (sym c.self.view_is) c.requires.short in
+    rw (← c.self.view_is) (record { kept = sent_kept _ c.self.invariant.link c.args.frame free short })
 
 pub returns-clause-leads_back : goal.returns-clause-leads_back
 returns-clause-leads_back g c =

@@ -31,10 +31,10 @@ pub invariant_of-result : goal.invariant_of-result
 invariant_of-result g c =
     let rows = c.self.inside.rows in
     let all = take_all c.loop-row.row-index rows.list (omega (arith, ap length c.as_slice-row-items.ensures.rows)) in
-    same_kept _ _ rows c.loop-row.rows (c.loop-row.invariant.map ∙ ap by_ticket all) c.loop-row.invariant.limit c.self.invariant
+    same_kept _ _ _ rows c.loop-row.rows (c.loop-row.invariant.map ∙ ap by_ticket all) c.loop-row.invariant.limit c.self.invariant
 
 pub returns : goal.returns
 returns g c =
     let rows = c.self.inside.rows in
     let all = take_all c.loop-row.row-index rows.list (omega (arith, ap length c.as_slice-row-items.ensures.rows)) in
-    rw (← c.self.view_is) (record { same = same_link _ _ rows c.loop-row.rows (c.loop-row.invariant.map ∙ ap by_ticket all) })
+    rw (← c.self.view_is) (record { same = same_link _ _ _ rows c.loop-row.rows (c.loop-row.invariant.map ∙ ap by_ticket all) })

@@ -8,7 +8,7 @@ use Rattle.pfl_link.proofs.link.Link.cut.Goals as goal
 pub set-requires : goal.set-requires
 set-requires g c =
     let stood = subst (λ (l : Link). maps.get l.frames c.args.ticket ≡ Some c.in-Some.frame.now) (sym c.self.view_is) (sym c.in-Some.ensures.frame) in
-    rw (← c.self.view_is) (record { kept = cut_kept _ c.self.invariant.link c.args.ticket _ _ stood })
+    rw (← c.self.view_is, c.in_ok-short.ensures.cut) (record { kept = cut_kept _ c.self.invariant.link c.args.ticket _ c.args.count stood })
 
 pub returns-clause-leads_back : goal.returns-clause-leads_back
 returns-clause-leads_back g c =

@@ -1,4 +1,4 @@
-use Rattle.std.proofs.Common.{◌≡◌, ◌+◌, ◌*◌, length, None, Option, sym, ◌∙◌, subst, arith}
+use Rattle.std.proofs.Common.{◌≡◌, ◌≤◌, ◌+◌, ◌*◌, length, None, Option, sym, ◌∙◌, subst, arith}
 use Rattle.std.specs.Prelude.{Ok, IfErr}
 use Rattle.pfl_base.specs.declared.refusal.Refusal.{Refusal}
 use Rattle.pfl_wire.specs.Spelling.{spelling}
@@ -32,12 +32,14 @@ returns g c =
     let refused = subst (λ (o : Option Refusal). IfErr c.conclude.result (IsRefusal o)) (sym none) (wants-memory c.send-sent.result c.send-sent.ensures.memory c.conclude.result e.refused) in
     let node = sent-node n c.send-sent.new.parts c.conclude.new.parts c.send-sent.result c.send-sent.ensures.node c.conclude.result e.stands e.kept in
     let bytes = sent-answer c.send-sent.result (λ v. v.items ≡ spelling (frame_of n)) c.send-sent.ensures.bytes c.conclude.result e.stands in
+    let fits = sent-answer c.send-sent.result (λ v. length v.items ≤ n.limits.mtu) c.send-sent.ensures.fits c.conclude.result e.stands in
     rw (← c.self.view_is) (record {
       refused = refused;
       unchanged = s.unchanged;
       not_refused = where_ok c.conclude.result none;
       node = node;
       bytes = bytes;
+      fits = fits;
       carries = where_ok c.conclude.result (sent-carries n c.self.invariant.0.parts none);
       leads_back = s.leads_back;
       weight = s.weight;

@@ -1,17 +1,8 @@
-use Rattle.std.proofs.Common.{◌≡◌, ◌≤◌, Result, length, arith}
-use Rattle.std.specs.Prelude.{Ok, Err, IfOk}
-use Rattle.pfl_base.specs.declared.refusal.Refusal.{Refusal}
-use Rattle.pfl_edits.specs.Changes.{Edits}
-use Rattle.pfl_language.specs.declared.fate.Fate.{Fate}
-use Rattle.pfl_parts.specs.declared.edit.NodeEdit.{NodeEdit}
+use Rattle.std.proofs.Common.{◌≡◌, arith}
 use Rattle.pfl_node.specs.Packets.{handled, packet_points}
 use Rattle.pfl_node.proofs.Points.{packet-ends}
 use Rattle.pfl_node.proofs.Ready.{begins, settled-answer, settled}
 use Rattle.pfl_node.proofs.node.Node.packet.Goals as goal
-
-few : (result : Result (Fate × Edits NodeEdit) Refusal) → IfOk result (λ r. length r.1.list ≤ 14) → IfOk result (λ r. length r.1.list ≤ 24)
-few (Ok r) h = omega (arith, h)
-few (Err e) h = tt
 
 pub handle-tried-requires-clause-parts : goal.handle-tried-requires-clause-parts
 handle-tried-requires-clause-parts g c = c.self.invariant.0.parts
@@ -38,4 +29,4 @@ returns g c =
     let e = c.settle.ensures in
     let s = settled 14 c.self.inside.parts c.handle-tried.new.parts c.settle.new.parts c.self.inside.edits c.handle-tried.new.change c.settle.new.change c.handle-tried.result (packet_points c.self.inside.parts c.args.dir c.args.packet.now) c.self.invariant.0 c.self.invariant.1 h.extends h.went (packet-ends c.self.inside.parts c.handle-tried.new.parts c.args.dir c.args.packet.now c.handle-tried.result h.step) e.none e.room c.settle.result e.refused e.undone e.stands e.kept e.parts e.edits in
     let step = settled-answer c.handle-tried.new.parts c.settle.new.parts c.handle-tried.result (λ fate n. record { fate = fate; node = n } ≡ handled c.self.inside.parts c.args.dir c.args.packet.now) h.step c.settle.result e.stands e.kept in
-    rw (← c.self.view_is) (record { refused = s.refused; unchanged = s.unchanged; not_refused = s.not_refused; step = step; leads_back = s.leads_back; weight = few c.settle.result s.weight })
+    rw (← c.self.view_is) (record { refused = s.refused; unchanged = s.unchanged; not_refused = s.not_refused; step = step; leads_back = s.leads_back; weight = s.weight })

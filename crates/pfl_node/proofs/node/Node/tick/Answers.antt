@@ -1,5 +1,5 @@
-use Rattle.std.proofs.Common.{◌≡◌, ◌+◌, ◌≤◌, ℕ, Bool, Result, None, Option, false, [], length, ◌∙◌, ap, sym, subst, refl, arith}
-use Rattle.std.specs.Prelude.{Ok, Err, IfOk, IfErr, OnOk}
+use Rattle.std.proofs.Common.{◌≡◌, ◌+◌, ℕ, Bool, Result, None, Option, false, [], ◌∙◌, ap, sym, subst, refl}
+use Rattle.std.specs.Prelude.{Ok, Err, IfErr, OnOk}
 use Rattle.std.specs.List.{list_any}
 use Rattle.pfl_base.specs.declared.refusal.Refusal.{Refusal}
 use Rattle.pfl_edits.specs.Changes.{Edits}
@@ -13,10 +13,6 @@ use Rattle.pfl_node.proofs.node.Node.tick.Goals as goal
 -- the clock counts nothing
 after-clock : (n m : Node) (clock : ℕ) → is_overcounted n ≡ false → m ≡ record n { clock = clock } → (tried : Result (ℕ × Bool) Overfull) (t : ℕ) → tried ≡ Ok (t, false) → list_any is_overcounted [] ≡ false → is_overcounted m ≡ false
 after-clock n m clock low same tried t stands none = ap is_overcounted same ∙ low
-
-few : (result : Result (ℕ × Edits NodeEdit) Refusal) → IfOk result (λ r. length r.1.list ≤ 1) → IfOk result (λ r. length r.1.list ≤ 12)
-few (Ok r) h = omega (arith, h)
-few (Err e) h = tt
 
 where_ok : {P : Type 0} (result : Result (ℕ × Edits NodeEdit) Refusal) → P → OnOk result P
 where_ok (Ok r) p = p
@@ -44,5 +40,5 @@ returns g c =
       node = rw (← c.self.view_is) node;
       clock = clock;
       leads_back = rw (← c.self.view_is) s.leads_back;
-      weight = few c.settle.result s.weight;
+      weight = s.weight;
     }

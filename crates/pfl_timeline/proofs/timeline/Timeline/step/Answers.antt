@@ -1,14 +1,15 @@
 use Rattle.std.specs.Prelude.{refl}
-use Rattle.std.proofs.Common.{◌∙◌, ap}
+use Rattle.std.proofs.Common.{◌∙◌, ap, subst, sym}
 use Rattle.std.proofs.lemmas.Result.{IfOk-weaker, on_err_weaker}
 use Rattle.pfl_language.specs.declared.refused.Refused.TheVariants as refused
 use Rattle.pfl_timeline.specs.Commands.{step_reply}
+use Rattle.pfl_timeline.specs.Memory.{IsAccepted}
 use Rattle.pfl_timeline.specs.Replies.{Refused as Refusing}
 use Rattle.pfl_timeline.proofs.Asked.{step-asks, told-stepped, told-refused, replied_as, if_ok, as_ok, as_err, no_err, anyway}
-use Rattle.pfl_timeline.proofs.Places.{kept-at, told-none-still, told-at, same_there}
+use Rattle.pfl_timeline.proofs.Places.{kept-at, told-none-still, told-at, same_there, accepted-at}
 use Rattle.pfl_timeline.proofs.timeline.Timeline.step.Goals as goal
 use Rattle.pfl_timeline.proofs.timeline.Timeline.step.Goals.{in-Ok, in-Err}
-use Rattle.pfl_timeline.proofs.Wants.{step_may, may_at}
+use Rattle.pfl_timeline.proofs.Wants.{step_accepts}
 
 pub invariant_of-self-2 : goal.invariant_of-self-2
 invariant_of-self-2 g c =
@@ -45,8 +46,9 @@ returns-clause-memory g c =
       | in-Err w ↦
           let why = w.in-Err.ensures.refused in
           as_err _ w.refused.result _ w.result-is (on_err_weaker w.refused.result
-          (λ wants. may_at c.args.name.now c.args.event.now _ _ _ c.self.view_is c.self.invariant c.in-Some.ensures.value
-          (step_may _ c.args.event.now why.0 _ why.1 why.2 wants))
+          (λ wants. subst IsAccepted (sym (step-asks _ _ _))
+          (accepted-at c.args.name.now _ _ _ c.self.view_is c.self.invariant c.in-Some.ensures.value (λ t b. step_reply t c.args.event.now b)
+          (step_accepts _ c.args.event.now why.0 _ why.1 why.2 wants)))
           w.refused.ensures.memory)
     ]
 

@@ -1,5 +1,5 @@
 use Rattle.std.specs.Prelude.{◌==◌}
-use Rattle.std.proofs.Common.{◌∙◌, ◌≤◌, ◌+◌, ◌*◌, length, ap, sym, subst}
+use Rattle.std.proofs.Common.{◌∙◌, ◌≤◌, ◌+◌, ◌*◌, ℕ, List, length, ap, sym, subst}
 use Rattle.pfl_link.specs.Faults.{room_fault}
 use Rattle.pfl_link.specs.Links.{is_full, is_counted_out}
 use Rattle.pfl_queue.specs.Queues.{pending}
@@ -9,7 +9,7 @@ use Rattle.pfl_parts.specs.Nodes.{Node}
 use Rattle.pfl_wire.specs.Spelling.{spelling}
 use Rattle.pfl_world.specs.Worlds.{World, node_at, joined}
 use Rattle.pfl_world.proofs.Leads.{agrees_after, fits_after, back_after, leads_from, made_as, lent_from, where_err}
-use Rattle.pfl_world.proofs.Sending.{has_room, sent_is, outcome_is, sent_from, sent_few}
+use Rattle.pfl_world.proofs.Sending.{has_room, sent_short, sent_is, outcome_is, sent_from, sent_few}
 use Rattle.pfl_world.proofs.world.World.flush.Goals as goal
 
 pub invariant_of-self-2 : goal.invariant_of-self-2
@@ -41,6 +41,11 @@ send-requires-clause-room g c =
     ap (λ (w : World). room_fault w.link) c.in_ok-edits.ensures.kept
     ∙ ap (λ (w : World). room_fault w.link) c.self.view_is
     ∙ has_room (pending (node_at c.args.self.now c.args.node).queue == 0) (is_full c.args.self.now.link) (is_counted_out c.args.self.now.link) (sym c.in_default.is ∙ c.flush_refusal.ensures.refusal)
+
+pub send-requires-clause-short : goal.send-requires-clause-short
+send-requires-clause-short g c =
+    let short = subst (λ (bytes : List ℕ). length bytes ≤ c.at_mut.result.now.limits.mtu) (sym c.from.ensures) c.in_ok-bytes.ensures.fits in
+    sent_short (joined c.self.inside.nodes c.self.inside.link c.self.inside.next_boot) c.lift.new.self c.self.invariant c.args.node c.at_mut.result.now _ c.from.result c.at_mut.ensures.node c.in_ok-edits.ensures.kept short
 
 pub returns-in-Err-clause-unchanged : goal.returns-in-Err-clause-unchanged
 returns-in-Err-clause-unchanged g c =

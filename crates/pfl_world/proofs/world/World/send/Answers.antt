@@ -15,7 +15,12 @@ push-requires g c =
     record { room = omega (arith, room) }
 
 pub invariant_of-self : goal.invariant_of-self
-invariant_of-self g c = record { nodes = c.self.invariant.nodes; link = ap (λ (l : Link). l.limit) c.in-Ok.ensures.link ∙ c.self.invariant.link; countable = c.self.invariant.countable }
+invariant_of-self g c = record {
+  nodes = c.self.invariant.nodes;
+  link = ap (λ (l : Link). l.limit) c.in-Ok.ensures.link ∙ c.self.invariant.link;
+  mtu = ap (λ (l : Link). l.mtu) c.in-Ok.ensures.link ∙ c.self.invariant.mtu;
+  countable = c.self.invariant.countable;
+}
 
 pub returns-clause-leads_back : goal.returns-clause-leads_back
 returns-clause-leads_back g c =

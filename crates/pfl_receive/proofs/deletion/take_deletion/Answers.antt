@@ -1,0 +1,21 @@
+use Rattle.std.proofs.Common.{◌≡◌, ◌∙◌, true, Option, Some, None, ap, sym, refl, arith}
+use Rattle.std.specs.Prelude.{is_some}
+use Rattle.std.specs.Borrow.{Bor}
+use Rattle.std.specs.Option.{option_copied}
+use Rattle.pfl_edits.specs.Maps as maps
+use Rattle.pfl_track.specs.declared.state.State.{State}
+use Rattle.pfl_table.specs.Tables.{States}
+use Rattle.pfl_receive.proofs.Paying.{paid-forgotten, paid-more}
+use Rattle.pfl_receive.proofs.deletion.take_deletion.Goals as goal
+
+copied-some : (o : Option (Bor State)) → is_some (option_copied o) ≡ is_some o
+copied-some None = refl
+copied-some (Some s) = refl
+
+pub returns-then-is_some-clause-paid : goal.returns-then-is_some-clause-paid
+returns-then-is_some-clause-paid g c =
+    let n = c.args.parts.now in
+    let known : maps.contains_key n.states c.args.name ≡ true =
+    ap (λ (m : States). is_some (maps.get m c.args.name)) (sym c.states.ensures.states)
+    ∙ (ap is_some (sym c.by_name.ensures.state) ∙ (copied-some c.by_name.result ∙ (sym c.is_some.ensures ∙ c.if-is_some.true))) in
+    paid-more 0 1 c.args.change.now c.forget.new.change n c.forget.new.self (omega arith) (paid-forgotten n c.forget.new.self c.args.name c.args.change.now c.forget.new.change known c.forget.ensures.node c.forget.ensures.extends)
