@@ -213,7 +213,8 @@ Ran-lines old mid t u w v n bad ran = record {
 -- the timeline after a command without an answer
 after-kept : (k : Kept) (line : List ℕ) (t u s : Timeline) → Keeps k line → u ≡ t → IsAfter (kept_answer k u) u s → IsAfter (line_answer line t) t s
 after-kept k line t u s keeps e (inl h) =
-    inl (h ∙ ap (λ (a : Answer). a.timeline) (answer-kept k line u keeps ∙ ap (line_answer line) e))
+    let answer : kept_answer k u ≡ line_answer line t = answer-kept k line u keeps ∙ ap (line_answer line) e in
+    inl (h.0 ∙ ap (λ (a : Answer). a.timeline) answer, sym (ap (λ (a : Answer). a.memory) answer) ∙ h.1)
 after-kept k line t u s keeps e (inr h) = inr (h ∙ e)
 
 -- the last line, a command, has no answer
@@ -243,12 +244,12 @@ run-read read.TooManyTurns new failed why = why
 -- the last line's answer failed, for this reason
 pub until-answer : (e : EngineFault) (failed : Bool) (old mid new : Option (List ℕ)) (t u s : Timeline) (w v x : Option (List ℕ)) (n bad : ℕ) (k : Kept) →
     Ran old mid t u w v n bad → ReadsLine k mid new → IsWriteFault e failed → Breaks (kept_answer k u) u s v x →
-    (e ≡ engine.NoMemory → kept_command k ≡ true) → (e ≡ engine.NoMemory → x ≡ v) → IsAfter (kept_answer k u) u s →
+    (e ≡ engine.NoMemory → kept_command k ≡ true) → (e ≡ engine.NoMemory → x ≡ v) → (e ≡ engine.NoMemory → IsAfter (kept_answer k u) u s) →
     RunsUntil e old new t s w x
 until-answer engine.Write failed old mid new t u s w v x n bad k ran reads why breaks command same moved =
     Ran-broken old mid new t u s w v x n bad k ran reads breaks
 until-answer engine.NoMemory failed old mid new t u s w v x n bad k ran reads why breaks command same moved =
-    Ran-unanswered old mid new t u s w v x n bad k ran reads (command refl) (same refl) moved
+    Ran-unanswered old mid new t u s w v x n bad k ran reads (command refl) (same refl) (moved refl)
 until-answer engine.Read failed old mid new t u s w v x n bad k ran reads why breaks command same moved = absurd why
 until-answer engine.TooManyTurns failed old mid new t u s w v x n bad k ran reads why breaks command same moved = absurd why
 

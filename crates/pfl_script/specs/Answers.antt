@@ -12,21 +12,24 @@ use Rattle.pfl_script.specs.declared.fault.EngineFault.{EngineFault}
 use Rattle.pfl_script.specs.declared.fault.EngineFault.TheVariants as engine
 use Rattle.pfl_timeline.specs.Commands.{command_step}
 use Rattle.pfl_script.specs.Texts.{bad_text}
-use Rattle.pfl_script.specs.Replies.{reply_text}
+use Rattle.pfl_script.specs.Replies.{reply_text, takes_memory}
 
--- what a line writes, and the timeline after it
+-- what a line writes, the timeline after it, and whether the text takes memory
 pub record Answer : Type 0 where
   pub text : List ℕ
   pub timeline : Timeline
+  pub memory : Bool
 
 -- the answer to what a line says
 abbrev pub answer_to : Result Command LineFault → Timeline → Answer
-answer_to (Err fault) t = record { text = bad_text fault; timeline = t }
-answer_to (Ok command) t = record { text = reply_text (command_step t command).reply; timeline = (command_step t command).timeline }
+answer_to (Err fault) t = record { text = bad_text fault; timeline = t; memory = false }
+answer_to (Ok command) t =
+    let replied = command_step t command in
+    record { text = reply_text replied.reply; timeline = replied.timeline; memory = takes_memory replied.reply }
 
 -- the answer to a line: none to a line without a word and to a comment
 unfoldable pub line_answer : List ℕ → Timeline → Answer
-line_answer line t = if has_word (head_of line) then answer_to (parsed line) t else record { text = []; timeline = t }
+line_answer line t = if has_word (head_of line) then answer_to (parsed line) t else record { text = []; timeline = t; memory = false }
 
 -- the line is faulty
 unfoldable pub is_bad : List ℕ → Bool
@@ -58,7 +61,7 @@ bad_lines (line ∷ lines) = one_if (is_bad line) + bad_lines lines
 
 -- the answer to a line of which this is kept
 unfoldable pub kept_answer : Kept → Timeline → Answer
-kept_answer k t = if has_word k.head then answer_to (kept_said k) t else record { text = []; timeline = t }
+kept_answer k t = if has_word k.head then answer_to (kept_said k) t else record { text = []; timeline = t; memory = false }
 
 -- the line of which this is kept is faulty
 unfoldable pub kept_bad : Kept → Bool
@@ -68,9 +71,9 @@ kept_bad k = has_word k.head && is_err (kept_said k)
 unfoldable pub kept_command : Kept → Bool
 kept_command k = has_word k.head && not (is_err (kept_said k))
 
--- the timeline is that of the answer, or as it was
+-- the timeline is as it was, or that of an answer whose text takes memory
 abbrev pub IsAfter : Answer → Timeline → Timeline → Type 0
-IsAfter answer t u = (u ≡ answer.timeline) ⊎ (u ≡ t)
+IsAfter answer t u = ((u ≡ answer.timeline) × (answer.memory ≡ true)) ⊎ (u ≡ t)
 
 -- the lines of known bytes are these
 abbrev pub AreLines : Option (List ℕ) → List (List ℕ) → Type 0
@@ -115,7 +118,8 @@ pub record RunsLines (old : Option (List ℕ)) (t u : Timeline) (w v : Option (L
   pub timeline : u ≡ timeline_after lines t
   pub written : Appends w v (text lines t)
 
--- First lines were read, the last of them a command: it was executed or not, and the whole text of those before it was written.
+-- First lines were read, the last of them a command: it was not executed, but for one whose reply takes memory, and the whole text
+-- of those before it was written.
 pub record RunsUnanswered (old new : Option (List ℕ)) (t u : Timeline) (w v : Option (List ℕ)) : Type 0 where
   pub lines : List (List ℕ)
   pub last : List ℕ

@@ -1,5 +1,5 @@
 -- The text of replies (this project's profile).
-use Rattle.std.specs.Prelude.{ℕ, List, ◌∷◌, ◌++◌, codes}
+use Rattle.std.specs.Prelude.{ℕ, Bool, true, false, List, ◌∷◌, ◌++◌, codes}
 use Rattle.std.specs.List.{flat_map}
 use Rattle.std.specs.Fmt.{decimal}
 use Rattle.pfl_timeline.specs.Replies.{Reply, Stepped, At, Forked, Removed, Shown, Names, Excised, Restored, Logged, Refused}
@@ -27,3 +27,11 @@ reply_text (Excised places) = codes "excised" ++ flat_map placed places ++ codes
 reply_text (Restored cursor) = codes "restored " ++ decimal cursor ++ codes "\n"
 reply_text (Logged name events cursor) = log_text name events cursor
 reply_text (Refused why) = codes "refused " ++ refused_text why ++ codes "\n"
+
+-- the text of the reply takes memory, since no number bounds its length
+abbrev pub takes_memory : Reply → Bool
+takes_memory (Shown name events cursor world) = true
+takes_memory (Names names) = true
+takes_memory (Excised places) = true
+takes_memory (Logged name events cursor) = true
+takes_memory _ = false

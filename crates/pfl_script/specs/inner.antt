@@ -2,3 +2,4 @@
 -- pair or of a timeline says any of it.
 pub mod Answers
 pub mod Setups
+pub mod Texts

@@ -52,7 +52,7 @@ fn answer_command<A: Allocator, B: Allocator + Copy, W: Output>(
     ensures stays { OnOk result (W.has_failed writer.new ≡ W.has_failed writer.old) }
     ensures breaks { OnErr result (Breaks (answer_to (Ok command) timeline.old) timeline.old timeline.new (W.written writer.old) (W.written writer.new)) }
     ensures untouched { IfErr result (λ e. e ≡ EngineFault.NoMemory → writer.new ≡ writer.old) }
-    ensures after { OnErr result (IsAfter (answer_to (Ok command) timeline.old) timeline.old timeline.new) }
+    ensures after { IfErr result (λ e. e ≡ EngineFault.NoMemory → IsAfter (answer_to (Ok command) timeline.old) timeline.old timeline.new) }
     ensures fault { IfErr result (λ e. IsWriteFault e (W.has_failed writer.new)) }
 {
     if let Command::Show { branch } = command {
@@ -79,7 +79,7 @@ pub fn answer_line<A: Allocator, B: Allocator + Copy, W: Output>(
     ensures breaks { OnErr result (Breaks (kept_answer line.now timeline.old) timeline.old timeline.new (W.written writer.old) (W.written writer.new)) }
     ensures command { IfErr result (λ e. e ≡ EngineFault.NoMemory → kept_command line.now ≡ true) }
     ensures untouched { IfErr result (λ e. e ≡ EngineFault.NoMemory → writer.new ≡ writer.old) }
-    ensures after { OnErr result (IsAfter (kept_answer line.now timeline.old) timeline.old timeline.new) }
+    ensures after { IfErr result (λ e. e ≡ EngineFault.NoMemory → IsAfter (kept_answer line.now timeline.old) timeline.old timeline.new) }
     ensures fault { IfErr result (λ e. IsWriteFault e (W.has_failed writer.new)) }
 {
     if !line.has_word() {

@@ -14,6 +14,7 @@ mod outcomes;
 mod output;
 mod refusals;
 mod replies;
+mod reply_text;
 mod setup;
 mod setup_fault;
 mod short_line;
@@ -24,12 +25,8 @@ pub use check::{Checked, check_lines};
 pub use engine::{Ended, run_lines};
 pub use fault::EngineFault;
 pub use link_lines::{FrameLine, LinkLine};
-pub use node_lines::{
-    AskLine, BulkWords, BusLine, ClearLine, CountLine, HeldLine, NodeLine, NumbersWords, QueueLine,
-};
 pub use output::{write_reply, write_text};
 pub use replies::fault_line;
 pub use setup::{Setup, read_setup};
 pub use setup_fault::SetupFault;
 pub use short_line::{ShortLine, plain_line, push_number};
-pub use state_lines::StateLine;

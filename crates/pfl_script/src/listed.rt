@@ -5,11 +5,12 @@ ghost use Rattle.std.specs.List.{flat_map};
 ghost use Rattle.pfl_base.specs.declared.node_id.NodeId.{NodeId};
 ghost use Rattle.pfl_script.specs.Shows.{state_line, queue_line, ask_line, bus_line, clear_line, held_line};
 
-use crate::node_lines::{AskLine, BusLine, ClearLine, HeldLine, QueueLine};
-use crate::state_lines::StateLine;
+use crate::node_lines::kind_word;
+use crate::state_lines::push_state;
 use pfl_base::{NodeId, StateName};
 use pfl_defer::Held;
 use pfl_edits::{InOrder, NoMemory};
+use pfl_lines::PacketWords;
 use pfl_queue::{Cleared, Mark};
 use pfl_table::Row;
 use pfl_wire::BulkStatus;
@@ -44,8 +45,7 @@ impl Listed for Row {
     ghost line = { λ node row. state_line node row.state };
 
     fn push_line<A: Allocator>(&self, node: NodeId, text: &mut Vec<u8, A>) -> Result<(), NoMemory> {
-        let state = self.state;
-        push_shown(text, StateLine { node, state })
+        push_state(text, node, &self.state)
     }
 }
 
@@ -53,8 +53,9 @@ impl Listed for Mark {
     ghost line = { queue_line };
 
     fn push_line<A: Allocator>(&self, node: NodeId, text: &mut Vec<u8, A>) -> Result<(), NoMemory> {
-        let mark = *self;
-        push_shown(text, QueueLine { node, mark })
+        let Mark { name, kind, number } = *self;
+        let kind = kind_word(kind);
+        push_shown(text, format_args!("queue {node} {kind} {number} {name}\n"))
     }
 }
 
@@ -63,7 +64,7 @@ impl Listed for StateName {
 
     fn push_line<A: Allocator>(&self, node: NodeId, text: &mut Vec<u8, A>) -> Result<(), NoMemory> {
         let name = *self;
-        push_shown(text, AskLine { node, name })
+        push_shown(text, format_args!("ask {node} {name}\n"))
     }
 }
 
@@ -71,8 +72,8 @@ impl Listed for BulkStatus {
     ghost line = { bus_line };
 
     fn push_line<A: Allocator>(&self, node: NodeId, text: &mut Vec<u8, A>) -> Result<(), NoMemory> {
-        let status = *self;
-        push_shown(text, BusLine { node, status })
+        let status = self.number();
+        push_shown(text, format_args!("bus {node} {status}\n"))
     }
 }
 
@@ -80,8 +81,8 @@ impl Listed for Cleared {
     ghost line = { clear_line };
 
     fn push_line<A: Allocator>(&self, node: NodeId, text: &mut Vec<u8, A>) -> Result<(), NoMemory> {
-        let cleared = *self;
-        push_shown(text, ClearLine { node, cleared })
+        let Cleared { creator, bound } = *self;
+        push_shown(text, format_args!("clr {node} {creator} {bound}\n"))
     }
 }
 
@@ -89,8 +90,16 @@ impl Listed for Held {
     ghost line = { held_line };
 
     fn push_line<A: Allocator>(&self, node: NodeId, text: &mut Vec<u8, A>) -> Result<(), NoMemory> {
-        let held = *self;
-        push_shown(text, HeldLine { node, held })
+        let Held {
+            name,
+            packet,
+            held_at,
+        } = *self;
+        let packet = PacketWords(packet);
+        push_shown(
+            text,
+            format_args!("held {node} {name} {held_at} {packet}\n"),
+        )
     }
 }
 

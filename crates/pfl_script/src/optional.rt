@@ -1,11 +1,9 @@
-//! Values that may be none.
+//! Numbers that may be none.
 
 ghost use Rattle.std.specs.Prelude.{◌≡◌, Some};
 ghost use Rattle.std.specs.Fmt.{decimal};
-ghost use Rattle.pfl_base.specs.Texts.{name_text};
 ghost use Rattle.pfl_script.specs.Texts.{or_dash};
 
-use pfl_base::StateName;
 use std::fmt;
 
 /// A number, or a dash for none.
@@ -35,21 +33,6 @@ impl fmt::Display for OptionalNumber {
         match self.0 {
             None => f.write_str("-"),
             Some(n) => write!(f, "{n}"),
-        }
-    }
-}
-
-/// A state's name, or a dash for none.
-#[derive(Clone, Copy)]
-pub struct OptionalName(pub Option<StateName>);
-
-impl fmt::Display for OptionalName {
-    ghost output = { λ n. Some (or_dash name_text n.0) };
-
-    fn fmt<W: fmt::Write>(&self, f: &mut fmt::Formatter<W>) -> fmt::Result {
-        match self.0 {
-            None => f.write_str("-"),
-            Some(name) => write!(f, "{name}"),
         }
     }
 }

@@ -4,7 +4,7 @@ ghost use Rattle.std.specs.Prelude.{◌≡◌, ◌≤◌, ℕ, true, length, tak
 ghost use Rattle.std.specs.Io.KnownBytes.{Appends};
 ghost use Rattle.pfl_timeline.specs.Replies.{reply_of};
 ghost use Rattle.pfl_script.specs.Readers.{IsWriteFault};
-ghost use Rattle.pfl_script.specs.Replies.{reply_text};
+ghost use Rattle.pfl_script.specs.Replies.{reply_text, takes_memory};
 ghost use Rattle.pfl_script.specs.inner.Answers.{branch_text};
 ghost use Rattle.pfl_timeline.specs.Rooted.{shown};
 
@@ -33,7 +33,8 @@ pub fn write_text<W: Output>(writer: &mut W, text: &[u8]) -> Result<(), EngineFa
     Ok(())
 }
 
-/// Writes the lines of a reply, or the first part of them. Without memory for them nothing is written.
+/// Writes the lines of a reply, or the first part of them. Without memory for them nothing is written; none is wanted but
+/// where the reply lists branches, places or events, or shows a branch.
 pub fn write_reply<A: Allocator, B: Allocator + Copy, W: Output>(
     alloc: A,
     reply: &Reply<B>,
@@ -41,12 +42,13 @@ pub fn write_reply<A: Allocator, B: Allocator + Copy, W: Output>(
 ) -> Result<(), EngineFault>
     ensures whole { OnOk result (Appends (W.written writer.old) (W.written writer.new) (reply_text (reply_of reply.now))) }
     ensures stays { OnOk result (W.has_failed writer.new ≡ W.has_failed writer.old) }
+    ensures memory { IfErr result (λ e. e ≡ EngineFault.NoMemory → takes_memory (reply_of reply.now) ≡ true) }
     ensures untouched { IfErr result (λ e. e ≡ EngineFault.NoMemory → writer.new ≡ writer.old) }
     ensures part { OnErr result ((n : ℕ) × Appends (W.written writer.old) (W.written writer.new) (take n (reply_text (reply_of reply.now)))) }
     ensures fault { IfErr result (λ e. IsWriteFault e (W.has_failed writer.new)) }
 {
     match reply_text(alloc, reply) {
-        Ok(text) => write_text(writer, text.as_slice()),
+        Ok(text) => write_text(writer, text.bytes()),
         Err(_) => Err(EngineFault::NoMemory),
     }
 }

@@ -1,16 +1,19 @@
 //! The text of replies.
 
-ghost use Rattle.std.specs.Prelude.{◌≡◌, ◌++◌, codes, IfOk, OnOk};
+ghost use Rattle.std.specs.Prelude.{◌≡◌, ◌++◌, true, codes, IfOk, OnOk, OnErr};
 ghost use Rattle.std.specs.List.{flat_map};
 ghost use Rattle.std.specs.Fmt.{decimal};
 ghost use Rattle.pfl_timeline.specs.Replies.{Stepped, At, Names, Excised, Restored, Refused as Refusing, reply_of};
 ghost use Rattle.pfl_script.specs.Texts.{bad_text};
-ghost use Rattle.pfl_script.specs.Replies.{named, placed, reply_text};
+ghost use Rattle.pfl_script.specs.Replies.{named, placed, reply_text, takes_memory};
+ghost use Rattle.pfl_script.specs.inner.Texts.{bytes_of};
 
 use crate::listed::push_shown;
 use crate::logged::logged_text;
-use crate::outcomes::OutcomeWords;
-use crate::refusals::RefusedWords;
+use crate::outcomes::push_outcome;
+use crate::refusals::push_refused;
+use crate::reply_text::ReplyText;
+use crate::short_line::{ShortLine, plain_line, push_number};
 use crate::shown::shown_text;
 use pfl_edits::NoMemory;
 use pfl_language::{BranchWord, Outcome, Refused};
@@ -34,29 +37,45 @@ pub fn fault_line(fault: LineFault) -> &'static str
 }
 
 /// The line of an event that was accepted.
-fn stepped_line<A: Allocator>(
-    alloc: A,
-    outcome: Outcome,
-    dropped: usize,
-) -> Result<Vec<u8, A>, NoMemory>
-    ensures { IfOk result (λ text. text.items ≡ reply_text (Stepped outcome dropped)) }
+fn stepped_line(outcome: Outcome, dropped: usize) -> ShortLine
+    ensures { result.bytes ≡ reply_text (Stepped outcome dropped) }
 {
-    let outcome = OutcomeWords(outcome);
-    Ok(format!(in alloc; "step {outcome} dropped {dropped}\n")?.into_bytes())
+    let mut line = plain_line("step ");
+    push_outcome(&mut line, outcome);
+    line.push_str(" dropped ");
+    push_number(&mut line, dropped as u64);
+    line.push_str("\n");
+    line
 }
 
 /// The line of a cursor that moved.
-fn cursor_line<A: Allocator>(alloc: A, cursor: usize) -> Result<Vec<u8, A>, NoMemory>
-    ensures { IfOk result (λ text. text.items ≡ reply_text (At cursor)) }
+fn cursor_line(cursor: usize) -> ShortLine
+    ensures { result.bytes ≡ reply_text (At cursor) }
 {
-    Ok(format!(in alloc; "at {cursor}\n")?.into_bytes())
+    let mut line = plain_line("at ");
+    push_number(&mut line, cursor as u64);
+    line.push_str("\n");
+    line
 }
 
-/// A line that tells nothing but its word.
-fn word_line<A: Allocator>(alloc: A, line: &[u8]) -> Result<Vec<u8, A>, NoMemory>
-    ensures { IfOk result (λ text. text.items ≡ line.now) }
+/// The line of a branch that is as it was.
+fn restored_line(cursor: usize) -> ShortLine
+    ensures { result.bytes ≡ reply_text (Restored cursor) }
 {
-    Ok(Vec::from_slice(alloc, line)?)
+    let mut line = plain_line("restored ");
+    push_number(&mut line, cursor as u64);
+    line.push_str("\n");
+    line
+}
+
+/// The line of a command that is refused.
+fn refused_line(why: Refused) -> ShortLine
+    ensures { result.bytes ≡ reply_text (Refusing why) }
+{
+    let mut line = plain_line("refused ");
+    push_refused(&mut line, why);
+    line.push_str("\n");
+    line
 }
 
 /// Puts names behind a text, each behind a space.
@@ -103,47 +122,33 @@ fn excised_line<A: Allocator>(alloc: A, places: &[usize]) -> Result<Vec<u8, A>, 
     Ok(text)
 }
 
-/// The line of a branch that is as it was.
-fn restored_line<A: Allocator>(alloc: A, cursor: usize) -> Result<Vec<u8, A>, NoMemory>
-    ensures { IfOk result (λ text. text.items ≡ reply_text (Restored cursor)) }
-{
-    Ok(format!(in alloc; "restored {cursor}\n")?.into_bytes())
-}
-
-/// The line of a command that is refused.
-fn refused_line<A: Allocator>(alloc: A, why: Refused) -> Result<Vec<u8, A>, NoMemory>
-    ensures { IfOk result (λ text. text.items ≡ reply_text (Refusing why)) }
-{
-    let why = RefusedWords(why);
-    Ok(format!(in alloc; "refused {why}\n")?.into_bytes())
-}
-
-/// The text of a reply.
+/// The text of a reply. Memory is taken only for one that lists branches, places or events, or shows a branch.
 pub fn reply_text<A: Allocator, B: Allocator + Copy>(
     alloc: A,
     reply: &Reply<B>,
-) -> Result<Vec<u8, A>, NoMemory>
-    ensures { IfOk result (λ text. text.items ≡ reply_text (reply_of reply.now)) }
+) -> Result<ReplyText<A>, NoMemory>
+    ensures text { IfOk result (λ text. bytes_of text ≡ reply_text (reply_of reply.now)) }
+    ensures memory { OnErr result (takes_memory (reply_of reply.now) ≡ true) }
 {
-    match reply {
-        Reply::Stepped { outcome, dropped } => stepped_line(alloc, *outcome, *dropped),
-        Reply::At(cursor) => cursor_line(alloc, *cursor),
-        Reply::Forked => word_line(alloc, b"forked\n"),
-        Reply::Removed => word_line(alloc, b"removed\n"),
-        Reply::Names(names) => names_line(alloc, names.as_slice()),
+    Ok(match reply {
+        Reply::Stepped { outcome, dropped } => ReplyText::Short(stepped_line(*outcome, *dropped)),
+        Reply::At(cursor) => ReplyText::Short(cursor_line(*cursor)),
+        Reply::Forked => ReplyText::Short(plain_line("forked\n")),
+        Reply::Removed => ReplyText::Short(plain_line("removed\n")),
+        Reply::Names(names) => ReplyText::Long(names_line(alloc, names.as_slice())?),
         Reply::Shown {
             name,
             events,
             cursor,
             world,
-        } => shown_text(alloc, name.bytes(), *events, *cursor, world),
-        Reply::Excised(places) => excised_line(alloc, places.as_slice()),
-        Reply::Restored(cursor) => restored_line(alloc, *cursor),
+        } => ReplyText::Long(shown_text(alloc, name.bytes(), *events, *cursor, world)?),
+        Reply::Excised(places) => ReplyText::Long(excised_line(alloc, places.as_slice())?),
+        Reply::Restored(cursor) => ReplyText::Short(restored_line(*cursor)),
         Reply::Logged {
             name,
             events,
             cursor,
-        } => logged_text(alloc, name.bytes(), events.as_slice(), *cursor),
-        Reply::Refused(why) => refused_line(alloc, *why),
-    }
+        } => ReplyText::Long(logged_text(alloc, name.bytes(), events.as_slice(), *cursor)?),
+        Reply::Refused(why) => ReplyText::Short(refused_line(*why)),
+    })
 }

@@ -5,11 +5,11 @@ ghost use Rattle.std.specs.List.{flat_map};
 ghost use Rattle.pfl_edits.specs.Maps as maps;
 ghost use Rattle.pfl_link.specs.Framed.{entry_of};
 ghost use Rattle.pfl_table.specs.Tables.{states_of};
-ghost use Rattle.pfl_script.specs.Shows.{branch_line, node_line, state_line, queue_lines, node_lines, frame_line, link_lines, show_text};
+ghost use Rattle.pfl_script.specs.Shows.{branch_line, state_line, queue_lines, node_lines, frame_line, link_lines, show_text};
 
 use crate::link_lines::{FrameLine, LinkLine};
 use crate::listed::{push_list, push_shown};
-use crate::node_lines::{BulkWords, CountLine, NodeLine, NumbersWords};
+use crate::node_lines::{push_counts, push_node_line};
 use pfl_base::NodeId;
 use pfl_edits::{InOrder, NoMemory};
 use pfl_link::{Link, Ticketed};
@@ -31,35 +31,6 @@ fn push_branch<A: Allocator>(
     text.extend_from_slice(b"branch ")?;
     text.extend_from_slice(name)?;
     push_shown(text, format_args!(" events {events} cursor {cursor}\n"))
-}
-
-/// Puts the line of a node behind a text.
-fn push_node_line<A: Allocator, B: Allocator>(
-    text: &mut Vec<u8, A>,
-    id: NodeId,
-    node: &Node<B>,
-) -> Result<(), NoMemory>
-    ensures { OnOk result (text.new.items ≡ text.old.items ++ node_line id node.now) }
-{
-    let numbers = NumbersWords {
-        clock: node.clock(),
-        boot: node.creator(),
-        next_id: node.next_id(),
-        next_number: node.queue().next(),
-    };
-    let bulk = BulkWords {
-        push: node.push(),
-        server: node.server(),
-        client: node.client(),
-    };
-    push_shown(
-        text,
-        NodeLine {
-            node: id,
-            numbers,
-            bulk,
-        },
-    )
 }
 
 /// Puts the lines of states behind a text, by their names.
@@ -97,13 +68,7 @@ fn push_node<A: Allocator, B: Allocator + Copy>(
     ensures { OnOk result (text.new.items ≡ text.old.items ++ node_lines id node.now) }
 {
     push_node_line(text, id, node)?;
-    push_shown(
-        text,
-        CountLine {
-            node: id,
-            counters: node.counters(),
-        },
-    )?;
+    push_counts(text, id, node.counters())?;
     push_states(text, id, node.states())?;
     push_queue(text, id, node.queue())?;
     push_list(text, id, InOrder::of(node.held().as_slice()))

@@ -1,167 +1,117 @@
-//! The line of a state, part by part. Each part prints as its words.
+//! The line of a state, part by part.
 
-ghost use Rattle.std.specs.Prelude.{Some};
-ghost use Rattle.pfl_script.specs.Shows.{key_text, peer_text, flags_text, flow_text, use_text, sync_text, ends_text, state_text, state_line};
+ghost use Rattle.std.specs.Prelude.{◌≡◌, ◌++◌, OnOk};
+ghost use Rattle.pfl_script.specs.Shows.{flags_text, peer_text, flow_text, use_text, sync_text, ends_text, state_text, state_line};
 
+use crate::listed::push_shown;
 use crate::optional::OptionalNumber;
-use pfl_base::{Key, NodeId};
+use pfl_base::NodeId;
+use pfl_edits::NoMemory;
 use pfl_track::{Peer, PeerFields, State};
-use std::fmt;
+use std::alloc::Allocator;
 
-/// The far and the near end of a flow.
-#[derive(Clone, Copy)]
-pub struct KeyWords(pub Key);
-
-impl fmt::Display for KeyWords {
-    ghost output = { λ k. Some (key_text k.0) };
-
-    fn fmt<W: fmt::Write>(&self, f: &mut fmt::Formatter<W>) -> fmt::Result {
-        let far = self.0.far;
-        let near = self.0.near;
-        write!(f, "{far} {near}")
-    }
+/// Puts an end of a connection behind a text: level, scale, window, lo and hi.
+#[tactic(auto, unfolding(crate::specs::Shows::peer_text))]
+fn push_peer<A: Allocator>(text: &mut Vec<u8, A>, peer: Peer) -> Result<(), NoMemory>
+    ensures { OnOk result (text.new.items ≡ text.old.items ++ peer_text peer) }
+{
+    let PeerFields {
+        level,
+        scale,
+        window,
+        lo,
+        hi,
+    } = peer.fields();
+    let scale = OptionalNumber::of_u8(scale);
+    push_shown(text, format_args!("{level} {scale} {window} {lo} {hi}"))
 }
 
-/// An end of a connection: level, scale, window, lo and hi.
-#[derive(Clone, Copy)]
-pub struct PeerWords(pub Peer);
+/// Puts the flow of a state behind a text: its protocol, the way of its first packet, and its keys, each with its far and
+/// its near end.
+#[tactic(auto, unfolding(crate::specs::Shows::flow_text))]
+fn push_flow<A: Allocator>(text: &mut Vec<u8, A>, state: &State) -> Result<(), NoMemory>
+    ensures { OnOk result (text.new.items ≡ text.old.items ++ flow_text state.now) }
+{
+    let direction = state.direction();
+    let (wire, stack) = (state.wire(), state.stack());
+    let proto = wire.proto;
+    let (far, near) = (wire.far, wire.near);
+    let (stack_far, stack_near) = (stack.far, stack.near);
+    push_shown(
+        text,
+        format_args!("{proto} {direction} {far} {near} {stack_far} {stack_near}"),
+    )
+}
 
-impl fmt::Display for PeerWords {
-    ghost output = { λ e. Some (peer_text e.0) };
+/// Puts the ends of a state behind a text: the one that sent the first packet, and the other.
+#[tactic(auto, unfolding(crate::specs::Shows::ends_text))]
+fn push_ends<A: Allocator>(text: &mut Vec<u8, A>, state: &State) -> Result<(), NoMemory>
+    ensures { OnOk result (text.new.items ≡ text.old.items ++ ends_text state.now) }
+{
+    push_peer(text, state.src())?;
+    text.extend_from_slice(b" ")?;
+    push_peer(text, state.dst())
+}
 
-    #[tactic(auto, unfolding(crate::specs::Shows::peer_text))]
-    fn fmt<W: fmt::Write>(&self, f: &mut fmt::Formatter<W>) -> fmt::Result {
-        let PeerFields {
-            level,
-            scale,
-            window,
-            lo,
-            hi,
-        } = self.0.fields();
-        let scale = OptionalNumber::of_u8(scale);
-        write!(f, "{level} {scale} {window} {lo} {hi}")
-    }
+/// Puts the class of a state behind a text, when it was last used, and its rule.
+#[tactic(auto, unfolding(crate::specs::Shows::use_text))]
+fn push_use<A: Allocator>(text: &mut Vec<u8, A>, state: &State) -> Result<(), NoMemory>
+    ensures { OnOk result (text.new.items ≡ text.old.items ++ use_text state.now) }
+{
+    let class = state.class();
+    let last = state.last();
+    let rule = OptionalNumber::of_u16(state.rule());
+    push_shown(text, format_args!("{class} {last} {rule}"))
 }
 
 /// The flags of a state: `n` for no-sync, `k` for ack-wanted, or a dash.
-#[derive(Clone, Copy)]
-pub struct FlagWords {
-    pub no_sync: bool,
-    pub ack_wanted: bool,
-}
-
-impl fmt::Display for FlagWords {
-    ghost output = { λ flags. Some (flags_text flags.no_sync flags.ack_wanted) };
-
-    fn fmt<W: fmt::Write>(&self, f: &mut fmt::Formatter<W>) -> fmt::Result {
-        f.write_str(if self.no_sync {
-            "n"
-        } else if self.ack_wanted {
-            "k"
-        } else {
-            "-"
-        })
+fn flags_word(no_sync: bool, ack_wanted: bool) -> &'static str
+    ensures { result.now ≡ flags_text no_sync ack_wanted }
+{
+    if no_sync {
+        "n"
+    } else if ack_wanted {
+        "k"
+    } else {
+        "-"
     }
 }
 
-/// The flow of a state: its protocol, the way of its first packet, and its keys.
-#[derive(Clone, Copy)]
-pub struct FlowWords(pub State);
-
-impl fmt::Display for FlowWords {
-    ghost output = { λ s. Some (flow_text s.0) };
-
-    #[tactic(auto, unfolding(crate::specs::Shows::flow_text))]
-    fn fmt<W: fmt::Write>(&self, f: &mut fmt::Formatter<W>) -> fmt::Result {
-        let proto = self.0.wire().proto;
-        let direction = self.0.direction();
-        let wire = KeyWords(self.0.wire());
-        let stack = KeyWords(self.0.stack());
-        write!(f, "{proto} {direction} {wire} {stack}")
-    }
+/// Puts the flags of a state behind a text, its update count, and when the peer last changed it.
+#[tactic(auto, unfolding(crate::specs::Shows::sync_text))]
+fn push_sync<A: Allocator>(text: &mut Vec<u8, A>, state: &State) -> Result<(), NoMemory>
+    ensures { OnOk result (text.new.items ≡ text.old.items ++ sync_text state.now) }
+{
+    let flags = flags_word(state.no_sync(), state.ack_wanted());
+    let updates = state.updates();
+    let peer_change = OptionalNumber(state.peer_change());
+    push_shown(text, format_args!("{flags} {updates} {peer_change}"))
 }
 
-/// The class of a state, when it was last used, and its rule.
-#[derive(Clone, Copy)]
-pub struct UseWords(pub State);
-
-impl fmt::Display for UseWords {
-    ghost output = { λ s. Some (use_text s.0) };
-
-    #[tactic(auto, unfolding(crate::specs::Shows::use_text))]
-    fn fmt<W: fmt::Write>(&self, f: &mut fmt::Formatter<W>) -> fmt::Result {
-        let class = self.0.class();
-        let last = self.0.last();
-        let rule = OptionalNumber::of_u16(self.0.rule());
-        write!(f, "{class} {last} {rule}")
-    }
+/// Puts a state behind a text, but for its node and its name.
+#[tactic(auto, unfolding(crate::specs::Shows::state_text))]
+fn push_parts<A: Allocator>(text: &mut Vec<u8, A>, state: &State) -> Result<(), NoMemory>
+    ensures { OnOk result (text.new.items ≡ text.old.items ++ state_text state.now) }
+{
+    push_flow(text, state)?;
+    text.extend_from_slice(b" ")?;
+    push_ends(text, state)?;
+    text.extend_from_slice(b" ")?;
+    push_use(text, state)?;
+    text.extend_from_slice(b" ")?;
+    push_sync(text, state)
 }
 
-/// The flags of a state, its update count, and when the peer last changed it.
-#[derive(Clone, Copy)]
-pub struct SyncWords(pub State);
-
-impl fmt::Display for SyncWords {
-    ghost output = { λ s. Some (sync_text s.0) };
-
-    #[tactic(auto, unfolding(crate::specs::Shows::sync_text))]
-    fn fmt<W: fmt::Write>(&self, f: &mut fmt::Formatter<W>) -> fmt::Result {
-        let flags = FlagWords {
-            no_sync: self.0.no_sync(),
-            ack_wanted: self.0.ack_wanted(),
-        };
-        let updates = self.0.updates();
-        let peer_change = OptionalNumber(self.0.peer_change());
-        write!(f, "{flags} {updates} {peer_change}")
-    }
-}
-
-/// The ends of a state: the one that sent the first packet, and the other.
-#[derive(Clone, Copy)]
-pub struct EndsWords(pub State);
-
-impl fmt::Display for EndsWords {
-    ghost output = { λ s. Some (ends_text s.0) };
-
-    #[tactic(auto, unfolding(crate::specs::Shows::ends_text))]
-    fn fmt<W: fmt::Write>(&self, f: &mut fmt::Formatter<W>) -> fmt::Result {
-        let src = PeerWords(self.0.src());
-        let dst = PeerWords(self.0.dst());
-        write!(f, "{src} {dst}")
-    }
-}
-
-/// A state but for its name.
-#[derive(Clone, Copy)]
-pub struct StateWords(pub State);
-
-impl fmt::Display for StateWords {
-    ghost output = { λ s. Some (state_text s.0) };
-
-    #[tactic(auto, unfolding(crate::specs::Shows::state_text))]
-    fn fmt<W: fmt::Write>(&self, f: &mut fmt::Formatter<W>) -> fmt::Result {
-        let flow = FlowWords(self.0);
-        let ends = EndsWords(self.0);
-        let used = UseWords(self.0);
-        let sync = SyncWords(self.0);
-        write!(f, "{flow} {ends} {used} {sync}")
-    }
-}
-
-/// A state of a node, as a line.
-#[derive(Clone, Copy)]
-pub struct StateLine {
-    pub node: NodeId,
-    pub state: State,
-}
-
-impl fmt::Display for StateLine {
-    ghost output = { λ l. Some (state_line l.node l.state) };
-
-    fn fmt<W: fmt::Write>(&self, f: &mut fmt::Formatter<W>) -> fmt::Result {
-        let node = self.node;
-        let name = self.state.name();
-        let state = StateWords(self.state);
-        writeln!(f, "state {node} {name} {state}")
-    }
+/// Puts the line of a state of a node behind a text.
+pub fn push_state<A: Allocator>(
+    text: &mut Vec<u8, A>,
+    node: NodeId,
+    state: &State,
+) -> Result<(), NoMemory>
+    ensures { OnOk result (text.new.items ≡ text.old.items ++ state_line node state.now) }
+{
+    let name = state.name();
+    push_shown(text, format_args!("state {node} {name} "))?;
+    push_parts(text, state)?;
+    Ok(text.extend_from_slice(b"\n")?)
 }
