@@ -4,6 +4,7 @@ pub mod Undone
 pub mod Taped
 pub mod Turns
 pub mod Levels
+pub mod Fronts
 pub mod Leading
 pub mod Linking
 pub mod Maps

@@ -10,6 +10,12 @@ first_counted p b bs = sum_by-cons (λ x. cond (p x) 1 0) b bs
 last_counted : (p : Bool → Bool) (b : Bool) (bs : List Bool) → count_by p (bs ++ b ∷ []) ≡ count_by p bs + cond (p b) 1 0
 last_counted p b bs = sum_by_push (λ x. cond (p x) 1 0) bs b
 
+-- each turn is one of a small edit, or of a larger one
+pub marked_or_not : (turns : List Bool) → count_by (λ is_small. is_small) turns + count_by not turns ≡ length turns
+marked_or_not [] = refl
+marked_or_not (true ∷ turns) = omega (arith, first_counted (λ is_small. is_small) true turns, first_counted not true turns, marked_or_not turns)
+marked_or_not (false ∷ turns) = omega (arith, first_counted (λ is_small. is_small) false turns, first_counted not false turns, marked_or_not turns)
+
 module _ {S E : Type 0} where
   -- the turns behind the first
   behind_small : (turns : List Bool) (s : S) (small : List S) (large : List E) → HaveTurns (true ∷ turns) (s ∷ small) large → HaveTurns turns small large
@@ -37,7 +43,7 @@ module _ {S E : Type 0} where
   length-all_edits whole (false ∷ turns) small (e ∷ large) h = ap suc (length-all_edits whole turns small large (behind_large turns small e large h))
 
   -- the edits of later turns come behind those of earlier ones
-  all_edits-append : (whole : S → E) (turns : List Bool) (small : List S) (large : List E) (later : List Bool) (ss : List S) (es : List E) → HaveTurns turns small large
+  pub all_edits-append : (whole : S → E) (turns : List Bool) (small : List S) (large : List E) (later : List Bool) (ss : List S) (es : List E) → HaveTurns turns small large
       → all_edits whole (turns ++ later) (small ++ ss) (large ++ es) ≡ all_edits whole turns small large ++ all_edits whole later ss es
   all_edits-append whole [] [] [] later ss es h = refl
   all_edits-append whole [] (s ∷ small) large later ss es h = absurd (omega (arith, h.of_small))

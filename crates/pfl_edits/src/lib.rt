@@ -17,4 +17,4 @@ pub use no_memory::NoMemory;
 pub use packed::{Copied, Packed, Packing};
 pub use reversible::{Reversible, take_back, undo_all};
 pub use rows::Rows;
-pub use tapes::{Tape, undo_to};
+pub use tapes::{Tape, undo_copies_to, undo_to};

@@ -1,12 +1,16 @@
 //! Lists of edits that grow, and are taken back to a mark.
+
+mod front;
+
 ghost use Rattle.std.specs.Prelude.{◌≡◌, ◌+◌, ◌<◌, ◌≤◌, [], ◌∷◌, ◌++◌, length, IfOk, OnOk, OnErr, IsOk, MatchOption};
 ghost use Rattle.pfl_edits.specs.Changes.{back, Fits};
-ghost use Rattle.pfl_edits.specs.Tapes.{above, below};
+ghost use Rattle.pfl_edits.specs.Tapes.{above, below, IsSomeWayBack};
 
 use crate::changes::Change;
 use crate::no_memory::NoMemory;
 use crate::packed::{Copied, Packed, Packing};
 use crate::reversible::Reversible;
+use crate::tapes::front::Front;
 use std::alloc::Allocator;
 use std::marker::Model;
 
@@ -146,35 +150,13 @@ impl<E: Packed, A: Allocator> Tape<E, A> {
 }
 
 impl<E: Packed + Copied + Drop, A: Allocator + Copy> Tape<E, A> {
-    /// A tape of equal edits, in memory of its own.
-    pub fn copy(&self, alloc: A) -> Result<Self, NoMemory>
-        ensures same { IfOk result (λ copied. copied.list ≡ self.now.list) }
+    /// A tape of edits that equal those below the mark, in memory of its own. Those above it are not copied.
+    pub fn copy_below(&self, alloc: A, mark: usize) -> Result<Self, NoMemory>
+        requires within { mark ≤ length self.now.list }
+        ensures edits { IfOk result (λ copied. copied.list ≡ below mark self.now.list) }
     {
-        let turns = Vec::from_slice(alloc, &self.turns)?;
-        let small = Vec::from_slice(alloc, &self.small)?;
-        let larger_turns = Vec::from_slice(alloc, &self.larger_turns)?;
-        let middle = Vec::from_slice(alloc, &self.middle)?;
-        let large = copy_all(alloc, &self.large)?;
-        Ok(Tape {
-            turns,
-            small,
-            larger_turns,
-            middle,
-            large,
-            spare: 0,
-        })
+        Front::of(self).below(mark).copied(alloc)
     }
-}
-
-/// Equal values, in memory of their own.
-fn copy_all<X: Copied + Drop, A: Allocator>(alloc: A, values: &[X]) -> Result<Vec<X, A>, NoMemory>
-    ensures same { IfOk result (λ copied. copied.items ≡ values.now) }
-{
-    let mut copied = Vec::with_capacity(alloc, values.len())?;
-    for value in values {
-        copied.push(value.copied()?).unwrap();
-    }
-    Ok(copied)
 }
 
 /// Takes the edits above the mark back, the newest first, and shortens the tape to the mark, without memory. No room is lost.
@@ -194,4 +176,23 @@ pub fn undo_to<T: Reversible<Edit: Packed>, A: Allocator>(
             value.undo(edit);
         }
     }
+}
+
+/// Takes the edits above the mark back from a value that equals the one which they led to, the newest first. The tape stays as
+/// it is: what is taken back are copies, one at a time. Where there is no memory for one, the value is back some of the way.
+pub fn undo_copies_to<T: Reversible<Edit: Packed + Copied>, A: Allocator>(
+    value: &mut T,
+    tape: &Tape<T::Edit, A>,
+    mark: usize,
+) -> Result<(), NoMemory>
+    requires within { mark ≤ length tape.now.list }
+    requires fits { Fits T.finds T.allows T.put_back (above mark tape.now.list) value.old }
+    ensures value { OnOk result (value.new ≡ back T.put_back (above mark tape.now.list) value.old) }
+    ensures stopped { OnErr result (IsSomeWayBack T.put_back mark tape.now.list value.old value.new) }
+{
+    let mut front = Front::of(tape);
+    while front.len() > mark {
+        value.undo(front.pop_copied()?);
+    }
+    Ok(())
 }

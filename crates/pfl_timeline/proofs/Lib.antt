@@ -10,6 +10,7 @@ pub mod Refusals
 pub mod Asked
 pub mod Wants
 pub mod Prefixes
+pub mod Copying
 pub mod Sieving
 pub mod Parting
 pub mod Excised

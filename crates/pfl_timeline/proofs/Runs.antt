@@ -248,17 +248,6 @@ module _ {M : Type 0} (w new : World) (events : List Event) (tape more : List (W
   pub history-again : history new events (tape ++ more) (marks ++ length tape ∷ []) ≡ of_parts (back put_back tape w) events (length marks + 1)
   history-again = history-step w new events events tape more marks e out k stepped fits back_is next_of_all (omega (arith, within))
 
--- the first events alone, all of which stand
-pub kept-front : {M : Type 0} (w : World) (events : List Event) (tape : List (WorldEdit M)) (marks : List ℕ) → IsKept w events tape marks → IsKept w (take (length marks) events) tape marks
-kept-front {M = M} w events tape marks k = record {
-  opening = k.opening;
-  within = omega (arith, length-take-le (length marks) events k.within);
-  fits = k.fits;
-  rising = k.rising;
-  each = λ i h. ap (run (back put_back tape w)) (take-take i (length marks) events h) ∙ k.each i h;
-  whole = subst (λ (o : Option World). IsTrue (is_some o)) (sym (reached-kept w events tape marks k)) refl;
-}
-
 pub put_as : (es fs : List Event) (ms ns : List ℕ) (e : Event) → fs ≡ es → ns ≡ ms → take (length ns) fs ++ e ∷ [] ≡ take (length ms) es ++ e ∷ []
 put_as es fs ms ns e a b = ap (λ (xs : List Event). take (length ns) xs ++ e ∷ []) a ∙ ap (λ (xs : List ℕ). take (length xs) es ++ e ∷ []) b
 

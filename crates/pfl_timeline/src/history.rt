@@ -5,10 +5,11 @@ ghost use Rattle.pfl_world.specs.Events.{step, IsEventRefusal};
 ghost use Rattle.pfl_world.specs.Worlds.{World as Pair};
 ghost use Rattle.pfl_timeline.specs.Excisions.{placed, without, sieve};
 ghost use Rattle.pfl_timeline.specs.Histories.{IsHistory, reached, continued};
+ghost use Rattle.pfl_timeline.specs.Kept.{mark_at};
 ghost use Rattle.pfl_timeline.specs.inner.Histories.{standing_at, first_of, Sifts, so_far};
 
 use pfl_base::Refusal;
-use pfl_edits::{NoMemory, Tape, undo_to};
+use pfl_edits::{NoMemory, Tape, undo_copies_to, undo_to};
 use pfl_language::{Event, Outcome};
 use pfl_world::{World, WorldTape};
 use std::alloc::Allocator;
@@ -88,6 +89,16 @@ fn put<A: Allocator>(
     events.push(event).unwrap();
     marks.push(mark).unwrap();
     dropped
+}
+
+/// How long the tape was when so many events stood.
+fn mark_of<A: Allocator>(tape: &WorldTape<A>, marks: &[usize], place: usize) -> usize
+    ensures mark { result ≡ mark_at tape.now.list marks.now place }
+{
+    match marks.get(place) {
+        Some(mark) => *mark,
+        None => tape.len(),
+    }
 }
 
 impl<A: Allocator> History<A> {
@@ -204,29 +215,21 @@ impl<A: Allocator + Copy> History<A> {
         Ok(())
     }
 
-    /// Lets events happen again, or takes them back, until so many stand.
-    fn move_to(&mut self, place: usize) -> Result<(), NoMemory>
-        requires within { place ≤ length self.old.events }
-        ensures history { OnOk result (self.new ≡ standing_at self.old place) }
-    {
-        let cursor = self.cursor();
-        if place < cursor {
-            self.take_back_to(place);
-            Ok(())
-        } else {
-            self.redo(place - cursor)
-        }
-    }
-
-    /// An equal history, in memory of its own. It copies one world, and the tape that leads back from it.
-    fn copy(&self) -> Result<History<A>, NoMemory>
-        ensures same { IfOk result (λ copied. copied ≡ self.now) }
+    /// Its first events, so many as `count`, of which the first `standing` stand, in memory of their own. It copies one world, and
+    /// of the tape what those that stand changed. By the rest of the tape, which stays as it is, the copied world is taken back.
+    fn copy_front(&self, count: usize, standing: usize) -> Result<History<A>, NoMemory>
+        requires within { count ≤ length self.now.events }
+        requires few { standing ≤ self.now.cursor }
+        requires enough { standing ≤ count }
+        ensures history { IfOk result (λ copied. copied ≡ standing_at (first_of self.now count) standing) }
     {
         let alloc = *self.events.allocator();
-        let events = Vec::from_slice(alloc, &self.events)?;
-        let marks = Vec::from_slice(alloc, &self.marks)?;
-        let tape = self.tape.copy(alloc)?;
-        let world = self.world.copy()?;
+        let mark = mark_of(&self.tape, &self.marks, standing);
+        let events = Vec::from_slice(alloc, &self.events[..count])?;
+        let marks = Vec::from_slice(alloc, &self.marks[..standing])?;
+        let tape = self.tape.copy_below(alloc, mark)?;
+        let mut world = self.world.copy()?;
+        undo_copies_to(&mut world, &self.tape, mark)?;
         Ok(History {
             world,
             events,
@@ -240,9 +243,9 @@ impl<A: Allocator + Copy> History<A> {
         requires within { count ≤ length self.now.events }
         ensures history { IfOk result (λ first. first ≡ first_of self.now count) }
     {
-        let mut first = self.copy()?;
-        first.move_to(count)?;
-        first.events.truncate(count);
+        let standing = count.min(self.cursor());
+        let mut first = self.copy_front(count, standing)?;
+        first.redo(count - standing)?;
         Ok(first)
     }
 

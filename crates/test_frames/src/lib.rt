@@ -15,4 +15,6 @@ mod link;
 #[cfg(test)]
 mod queue;
 #[cfg(test)]
+mod tapes;
+#[cfg(test)]
 mod wire;

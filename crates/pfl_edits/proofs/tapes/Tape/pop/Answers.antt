@@ -1,18 +1,18 @@
 use Rattle.std.proofs.Common.{rules, ◌∙◌, ap, sym}
 use Rattle.pfl_edits.specs.Tapes.{Taped}
 use Rattle.pfl_edits.specs.inner.Tapes.{all_edits}
-use Rattle.pfl_edits.proofs.Turns.{less_small, less_large}
-use Rattle.pfl_edits.proofs.Levels.{less_larger, HaveTurns-less_larger, HaveTurns-less_middle}
+use Rattle.pfl_edits.proofs.Turns.{less_small}
+use Rattle.pfl_edits.proofs.Levels.{turns_less_middle, edits_less_middle, turns_less_large, edits_less_large}
 use Rattle.pfl_edits.proofs.tapes.Tape.pop.Goals as goal
 
 pub invariant_of-self-then-unwrap : goal.invariant_of-self-then-unwrap
 invariant_of-self-then-unwrap g c =
     let t = c.self.inside in
-    let newest = less_small g.E.Packed.whole_middle t.larger_turns.items c.pop-else-is_small.new.self.items c.unwrap-else-is_small.result t.middle.items c.pop-then-unwrap.new.self.items
-    c.pop-then-unwrap.result c.unwrap-then-unwrap.result t.large.items c.self.invariant.1 (rw c.unwrap-else-is_small.ensures at c.pop-else-is_small.ensures.items) c.if-unwrap.true c.pop-then-unwrap.ensures.items c.unwrap-then-unwrap.ensures in (
-      HaveTurns-less_larger g.E.Packed.whole_small t.turns.items t.small.items c.pop.new.self.items c.in_ok-is_small.is_small _ _ c.self.invariant.0 c.in_ok-is_small.ensures.items c.if-is_small.false _ newest,
-      HaveTurns-less_middle t.larger_turns.items c.pop-else-is_small.new.self.items c.unwrap-else-is_small.result t.middle.items c.pop-then-unwrap.new.self.items c.unwrap-then-unwrap.result t.large.items
-          c.self.invariant.1 (rw c.unwrap-else-is_small.ensures at c.pop-else-is_small.ensures.items) c.if-unwrap.true (rw c.unwrap-then-unwrap.ensures at c.pop-then-unwrap.ensures.items),
+    let larger = rw c.unwrap-else-is_small.ensures at c.pop-else-is_small.ensures.items in
+    let middle = rw c.unwrap-then-unwrap.ensures at c.pop-then-unwrap.ensures.items in
+    let less = turns_less_middle g.E.Packed.whole_small g.E.Packed.whole_middle t.turns.items t.small.items t.larger_turns.items t.middle.items t.large.items c.self.invariant.0 c.self.invariant.1 c.pop.new.self.items c.in_ok-is_small.is_small c.in_ok-is_small.ensures.items c.if-is_small.false c.pop-else-is_small.new.self.items c.unwrap-else-is_small.result larger c.if-unwrap.true c.pop-then-unwrap.new.self.items c.unwrap-then-unwrap.result middle in (
+      less.0,
+      less.1,
       search rules,
       search rules,
       search rules,
@@ -23,11 +23,11 @@ invariant_of-self-then-unwrap g c =
 pub invariant_of-self-else-unwrap : goal.invariant_of-self-else-unwrap
 invariant_of-self-else-unwrap g c =
     let t = c.self.inside in
-    let newest = less_large g.E.Packed.whole_middle t.larger_turns.items c.pop-else-is_small.new.self.items c.unwrap-else-is_small.result t.middle.items t.large.items c.pop-else-unwrap.new.self.items
-    c.pop-else-unwrap.result c.unwrap-else-unwrap.result c.self.invariant.1 (rw c.unwrap-else-is_small.ensures at c.pop-else-is_small.ensures.items) c.if-unwrap.false c.pop-else-unwrap.ensures.items c.unwrap-else-unwrap.ensures in (
-      HaveTurns-less_larger g.E.Packed.whole_small t.turns.items t.small.items c.pop.new.self.items c.in_ok-is_small.is_small _ _ c.self.invariant.0 c.in_ok-is_small.ensures.items c.if-is_small.false _ newest,
-      HaveTurns-less_larger g.E.Packed.whole_middle t.larger_turns.items t.middle.items c.pop-else-is_small.new.self.items c.unwrap-else-is_small.result t.large.items c.pop-else-unwrap.new.self.items
-          c.self.invariant.1 (rw c.unwrap-else-is_small.ensures at c.pop-else-is_small.ensures.items) c.if-unwrap.false c.unwrap-else-unwrap.result (rw c.unwrap-else-unwrap.ensures at c.pop-else-unwrap.ensures.items),
+    let larger = rw c.unwrap-else-is_small.ensures at c.pop-else-is_small.ensures.items in
+    let large = rw c.unwrap-else-unwrap.ensures at c.pop-else-unwrap.ensures.items in
+    let less = turns_less_large g.E.Packed.whole_small g.E.Packed.whole_middle t.turns.items t.small.items t.larger_turns.items t.middle.items t.large.items c.self.invariant.0 c.self.invariant.1 c.pop.new.self.items c.in_ok-is_small.is_small c.in_ok-is_small.ensures.items c.if-is_small.false c.pop-else-is_small.new.self.items c.unwrap-else-is_small.result larger c.if-unwrap.false c.pop-else-unwrap.new.self.items c.unwrap-else-unwrap.result large in (
+      less.0,
+      less.1,
       search rules,
       search rules,
       search rules,
@@ -46,15 +46,15 @@ returns-then-is_small-clause-edit g c =
 pub returns-then-unwrap-clause-edit : goal.returns-then-unwrap-clause-edit
 returns-then-unwrap-clause-edit g c =
     let t = c.self.inside in
-    let newest = less_small g.E.Packed.whole_middle t.larger_turns.items c.pop-else-is_small.new.self.items c.unwrap-else-is_small.result t.middle.items c.pop-then-unwrap.new.self.items
-    c.pop-then-unwrap.result c.unwrap-then-unwrap.result t.large.items c.self.invariant.1 (rw c.unwrap-else-is_small.ensures at c.pop-else-is_small.ensures.items) c.if-unwrap.true c.pop-then-unwrap.ensures.items c.unwrap-then-unwrap.ensures in
-    let less = less_larger g.E.Packed.whole_small t.turns.items t.small.items c.pop.new.self.items c.in_ok-is_small.is_small _ _ c.self.invariant.0 c.in_ok-is_small.ensures.items c.if-is_small.false _ newest in
+    let larger = rw c.unwrap-else-is_small.ensures at c.pop-else-is_small.ensures.items in
+    let middle = rw c.unwrap-then-unwrap.ensures at c.pop-then-unwrap.ensures.items in
+    let less = edits_less_middle g.E.Packed.whole_small g.E.Packed.whole_middle t.turns.items t.small.items t.larger_turns.items t.middle.items t.large.items c.self.invariant.0 c.self.invariant.1 c.pop.new.self.items c.in_ok-is_small.is_small c.in_ok-is_small.ensures.items c.if-is_small.false c.pop-else-is_small.new.self.items c.unwrap-else-is_small.result larger c.if-unwrap.true c.pop-then-unwrap.new.self.items c.unwrap-then-unwrap.result middle in
     rw c.unpack_middle.ensures.whole (sym (ap (λ (t : Taped _). t.list) c.self.view_is) ∙ less)
 
 pub returns-else-unwrap-clause-edit : goal.returns-else-unwrap-clause-edit
 returns-else-unwrap-clause-edit g c =
     let t = c.self.inside in
-    let newest = less_large g.E.Packed.whole_middle t.larger_turns.items c.pop-else-is_small.new.self.items c.unwrap-else-is_small.result t.middle.items t.large.items c.pop-else-unwrap.new.self.items
-    c.pop-else-unwrap.result c.unwrap-else-unwrap.result c.self.invariant.1 (rw c.unwrap-else-is_small.ensures at c.pop-else-is_small.ensures.items) c.if-unwrap.false c.pop-else-unwrap.ensures.items c.unwrap-else-unwrap.ensures in
-    let less = less_larger g.E.Packed.whole_small t.turns.items t.small.items c.pop.new.self.items c.in_ok-is_small.is_small _ _ c.self.invariant.0 c.in_ok-is_small.ensures.items c.if-is_small.false _ newest in
+    let larger = rw c.unwrap-else-is_small.ensures at c.pop-else-is_small.ensures.items in
+    let large = rw c.unwrap-else-unwrap.ensures at c.pop-else-unwrap.ensures.items in
+    let less = edits_less_large g.E.Packed.whole_small g.E.Packed.whole_middle t.turns.items t.small.items t.larger_turns.items t.middle.items t.large.items c.self.invariant.0 c.self.invariant.1 c.pop.new.self.items c.in_ok-is_small.is_small c.in_ok-is_small.ensures.items c.if-is_small.false c.pop-else-is_small.new.self.items c.unwrap-else-is_small.result larger c.if-unwrap.false c.pop-else-unwrap.new.self.items c.unwrap-else-unwrap.result large in
     sym (ap (λ (t : Taped _). t.list) c.self.view_is) ∙ less

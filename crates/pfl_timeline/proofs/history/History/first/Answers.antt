@@ -1,23 +1,10 @@
-use Rattle.std.specs.Prelude.{refl, take}
-use Rattle.std.proofs.Common.{◌∙◌, ap, sym}
+use Rattle.std.specs.Prelude.{length}
+use Rattle.std.proofs.Common.{ap, arith, length-take-le}
 use Rattle.pfl_timeline.specs.Histories.{History}
-use Rattle.pfl_timeline.specs.inner.Histories.{standing_at}
-use Rattle.pfl_timeline.proofs.Runs.{kept-front, kept_as, parts_as}
 use Rattle.pfl_timeline.proofs.history.History.first.Goals as goal
 
-pub invariant_of-first : goal.invariant_of-first
-invariant_of-first g c =
-    let view = c.first.view_is ∙ c.in_ok-move_to.ensures.history ∙ ap (λ (r : History). standing_at r c.args.count) c.in_ok-first.ensures.same in
-    let cursor = ap (λ (r : History). r.cursor) view in
-    kept_as _ _ _ _ _ _ _ _ refl (c.truncate.ensures.items ∙ ap (λ n. take n c.first.inside.events.items) (sym cursor)) refl refl
-    (kept-front _ _ _ _ c.first.invariant)
-
-pub returns : goal.returns
-returns g c =
-    let view = c.first.view_is ∙ c.in_ok-move_to.ensures.history ∙ ap (λ (r : History). standing_at r c.args.count) c.in_ok-first.ensures.same in
-    record {
-      history = parts_as _ _ _ _ _ _
-          (ap (λ (r : History). r.opening) view)
-          (c.truncate.ensures.items ∙ ap (λ (r : History). take c.args.count r.events) view)
-          (ap (λ (r : History). r.cursor) view);
-    }
+pub redo-requires : goal.redo-requires
+redo-requires g c =
+    let cursor = ap (λ (r : History). r.cursor) c.in_ok-first.ensures.history in
+    let events = ap (λ (r : History). length r.events) c.in_ok-first.ensures.history in
+    record { within = omega (arith, cursor, events, length-take-le c.args.count c.args.self.now.events c.requires.within, c.min-standing.ensures) }

@@ -1,5 +1,5 @@
 use Rattle.std.proofs.Common.{◌≡◌, ◌≤◌, length, take, vec_capacity}
-use Rattle.pfl_edits.proofs.tapes.copy_all.Given as goal
+use Rattle.pfl_edits.proofs.tapes.front.copy_all.Given as goal
 
 abbrev pub invariant-loop-value : goal.invariant-loop-value
 invariant-loop-value g l = record {
