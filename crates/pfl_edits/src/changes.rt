@@ -127,3 +127,14 @@ impl<E, A: Allocator> Change<E, A> {
         self.into_edits().destroy_empty();
     }
 }
+
+impl<E: Drop, A: Allocator> Change<E, A> {
+    /// Gives the edits up. The room that they had is given back.
+    pub fn clear(&mut self)
+        ensures none { self.new.list ≡ [] }
+        ensures room { self.new.spare ≡ self.old.spare + length self.old.list }
+    {
+        self.spare += self.edits.len();
+        self.edits.truncate(0);
+    }
+}

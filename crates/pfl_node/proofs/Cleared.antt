@@ -9,17 +9,15 @@ use Rattle.std.specs.Cmp.{eq_by_cmp_equiv}
 use Rattle.pfl_base.specs.declared.state_name.StateName.{StateName}
 use Rattle.pfl_base.specs.Names.{name_cmp}
 use Rattle.pfl_base.proofs.ForCallers.{names_total}
-use Rattle.pfl_edits.specs.Changes.{Edits}
 use Rattle.pfl_edits.specs.Maps as maps
 use Rattle.pfl_edits.specs.Maps.{entries_sorted}
 use Rattle.pfl_edits.proofs.ForCallers.{len-entries}
 use Rattle.pfl_table.specs.Tables.{States}
 use Rattle.pfl_track.specs.declared.state.State.{State}
-use Rattle.pfl_parts.specs.declared.edit.NodeEdit.{NodeEdit}
 use Rattle.pfl_parts.specs.Changes.{count_lost, without_held, is_held, forgotten, tell_clear}
-use Rattle.pfl_parts.specs.Edits.{NodeExtends}
+use Rattle.pfl_parts.specs.Drafts.{Draft, Writes}
 use Rattle.pfl_parts.specs.Nodes.{Node}
-use Rattle.pfl_parts.proofs.ForCallers.{extends-none, extends-then, extends-more}
+use Rattle.pfl_parts.proofs.ForCallers.{writes-none, writes-then, writes-more}
 use Rattle.pfl_node.specs.Clearing.{cleared}
 use Rattle.pfl_node.proofs.Expired.{Entries, left, right, less_is}
 
@@ -61,45 +59,45 @@ forgotten-states n name = by (is_held n name)
 abbrev pub emptied : Node → Node
 emptied n = fold forgotten n (maps.keys n.states)
 
--- m is what n was made to by forgetting some of its states, recorded in y
-pub record IsEmptied (n m : Node) (x y : Edits NodeEdit) : Type 0 where
-  pub room : 4 * maps.len m.states ≤ y.spare
-  pub rest : emptied m ≡ emptied n
-  pub fewer : maps.len m.states ≤ maps.len n.states
-  pub extends : NodeExtends (4 * (maps.len n.states - maps.len m.states)) x y n m
+-- b is what a was made to by forgetting some of its states
+pub record IsEmptied (a b : Draft) : Type 0 where
+  pub room : 4 * maps.len b.node.states ≤ b.edits.spare
+  pub rest : emptied b.node ≡ emptied a.node
+  pub fewer : maps.len b.node.states ≤ maps.len a.node.states
+  pub writes : Writes (4 * (maps.len a.node.states - maps.len b.node.states)) a b
 
-pub emptied-first : (n : Node) (x : Edits NodeEdit) → 4 * maps.len n.states ≤ x.spare → IsEmptied n n x x
-emptied-first n x room = record { room = room; rest = refl; fewer = omega arith; extends = extends-more 0 (4 * (maps.len n.states - maps.len n.states)) x x n n (omega arith) (extends-none x n) }
+pub emptied-first : (a : Draft) → 4 * maps.len a.node.states ≤ a.edits.spare → IsEmptied a a
+emptied-first a room = record { room = room; rest = refl; fewer = omega arith; writes = writes-none (4 * (maps.len a.node.states - maps.len a.node.states)) a }
 
 -- the next that is forgotten
-pub record IsNextName (m : Node) (name : StateName) (y : Edits NodeEdit) : Type 0 where
-  pub rest : emptied m ≡ emptied (forgotten m name)
-  pub long : maps.len m.states ≡ maps.len (forgotten m name).states + 1
-  pub room : 4 ≤ y.spare
+pub record IsNextName (b : Draft) (name : StateName) : Type 0 where
+  pub rest : emptied b.node ≡ emptied (forgotten b.node name)
+  pub long : maps.len b.node.states ≡ maps.len (forgotten b.node name).states + 1
+  pub room : 4 ≤ b.edits.spare
 
-pub next-name : (n m : Node) (x y : Edits NodeEdit) (name : StateName) → IsEmptied n m x y → slice_get (maps.keys m.states) 0 ≡ Some name → IsNextName m name y
-next-name n m x y name so first =
-    let next = keys-next m.states name first in
-    let states = forgotten-states m name in
+pub next-name : (a b : Draft) (name : StateName) → IsEmptied a b → slice_get (maps.keys b.node.states) 0 ≡ Some name → IsNextName b name
+next-name a b name so first =
+    let next = keys-next b.node.states name first in
+    let states = forgotten-states b.node name in
     let room = so.room in
-    let long : maps.len m.states ≡ maps.len (forgotten m name).states + 1 =
+    let long : maps.len b.node.states ≡ maps.len (forgotten b.node name).states + 1 =
     let more = ap (λ (ns : List StateName). length ns) next in
-    let here = len-keys m.states in
-    let there = len-keys (maps.remove m.states name) in
+    let here = len-keys b.node.states in
+    let there = len-keys (maps.remove b.node.states name) in
     let same = ap (λ (s : States). maps.len s) states in
     omega (arith, more, here, there, same) in
     record {
-      rest = ap (fold forgotten m) next ∙ ap (λ (s : States). fold forgotten (forgotten m name) (maps.keys s)) (sym states);
+      rest = ap (fold forgotten b.node) next ∙ ap (λ (s : States). fold forgotten (forgotten b.node name) (maps.keys s)) (sym states);
       long = long;
       room = omega (arith, room, long);
     }
 
-module _ (n m : Node) (x y : Edits NodeEdit) (so : IsEmptied n m x y) (name : StateName) (next : IsNextName m name y) where
-  pub fewer-states : maps.len (forgotten m name).states < maps.len m.states
+module _ (a b : Draft) (so : IsEmptied a b) (name : StateName) (next : IsNextName b name) where
+  pub fewer-states : maps.len (forgotten b.node name).states < maps.len b.node.states
   fewer-states = omega (arith, next.long)
 
-  pub emptied-more : (k : Node) (z : Edits NodeEdit) → k ≡ forgotten m name → NodeExtends 4 y z m k → IsEmptied n k x z
-  emptied-more k z same more =
+  pub emptied-more : (d : Draft) → d.node ≡ forgotten b.node name → Writes 4 b d → IsEmptied a d
+  emptied-more d same more =
       let spare = more.spare in
       let room = so.room in
       let few = so.fewer in
@@ -109,24 +107,26 @@ module _ (n m : Node) (x y : Edits NodeEdit) (so : IsEmptied n m x y) (name : St
         room = omega (arith, room, spare, long, left);
         rest = ap emptied same ∙ (sym next.rest ∙ so.rest);
         fewer = omega (arith, few, long, left);
-        extends = extends-more (4 * (maps.len n.states - maps.len m.states) + 4) (4 * (maps.len n.states - maps.len k.states)) x z n k (omega (arith, few, long, left)) (extends-then (4 * (maps.len n.states - maps.len m.states)) 4 x y z n m k so.extends more);
+        writes =
+            writes-more (4 * (maps.len a.node.states - maps.len b.node.states) + 4) (4 * (maps.len a.node.states - maps.len d.node.states)) a d (omega (arith, few, long, left))
+            (writes-then (4 * (maps.len a.node.states - maps.len b.node.states)) 4 a b d so.writes more);
       }
 
 -- where none is left, all are forgotten
-pub record IsDone (n m : Node) (x y : Edits NodeEdit) : Type 0 where
-  pub node : m ≡ emptied n
-  pub extends : NodeExtends (4 * maps.len n.states) x y n m
+pub record IsDone (a b : Draft) : Type 0 where
+  pub node : b.node ≡ emptied a.node
+  pub writes : Writes (4 * maps.len a.node.states) a b
 
 none_first : (ns : List StateName) → slice_get ns 0 ≡ None → ns ≡ []
 none_first [] e = refl
 none_first (name ∷ ns) e = absurd (cc)
 
-pub emptied-done : (n m : Node) (x y : Edits NodeEdit) → IsEmptied n m x y → slice_get (maps.keys m.states) 0 ≡ None → IsDone n m x y
-emptied-done n m x y so none =
-    let empty = none_first (maps.keys m.states) none in
+pub emptied-done : (a b : Draft) → IsEmptied a b → slice_get (maps.keys b.node.states) 0 ≡ None → IsDone a b
+emptied-done a b so none =
+    let empty = none_first (maps.keys b.node.states) none in
     record {
-      node = sym (ap (fold forgotten m) empty) ∙ so.rest;
-      extends = extends-more (4 * (maps.len n.states - maps.len m.states)) (4 * maps.len n.states) x y n m (omega arith) so.extends;
+      node = sym (ap (fold forgotten b.node) empty) ∙ so.rest;
+      writes = writes-more (4 * (maps.len a.node.states - maps.len b.node.states)) (4 * maps.len a.node.states) a b (omega arith) so.writes;
     }
 
 -- ---- and the peer is told

@@ -3,16 +3,14 @@ use Rattle.std.specs.Prelude.{◌≡◌, ◌≤◌, ◌<◌, ℕ, ◌+◌, ◌*�
 use Rattle.std.specs.List.{fold, slice_get, list_any}
 use Rattle.std.proofs.Common.{◌∙◌, ap, sym, subst, arith}
 use Rattle.pfl_base.specs.Lists.{folds}
-use Rattle.pfl_edits.specs.Changes.{Edits}
 use Rattle.pfl_edits.specs.Maps as maps
 use Rattle.pfl_track.specs.declared.state.State.{State}
-use Rattle.pfl_parts.specs.declared.edit.NodeEdit.{NodeEdit}
 use Rattle.pfl_parts.specs.declared.parts.judge.Overfull.{Overfull}
-use Rattle.pfl_parts.specs.Edits.{NodeExtends}
+use Rattle.pfl_parts.specs.Drafts.{Draft, Writes}
 use Rattle.pfl_parts.specs.Nodes.{Node, AreParts, is_overfull, is_overcounted}
 use Rattle.pfl_parts.specs.Changes.{deleted}
 use Rattle.pfl_node.specs.Purging.{purged, purge_points, expired_states}
-use Rattle.pfl_parts.proofs.ForCallers.{Rest, deleted-rest, extends-none, extends-then, extends-more}
+use Rattle.pfl_parts.proofs.ForCallers.{Rest, deleted-rest, writes-none, writes-then, writes-more}
 use Rattle.pfl_node.proofs.Expired.{expired-without, expired-few, first-stands}
 
 -- ---- one deletion after another
@@ -41,59 +39,59 @@ points-none n e = ap (folds deleted n) e
 
 -- ---- state by state
 
--- m is what n was made to by some of its deletions, recorded in y; over says whether after one of them a number was too high
-pub record IsPurged (n m : Node) (x y : Edits NodeEdit) (count : ℕ) (over : Bool) : Type 0 where
-  pub room : 5 * length (expired_states m) ≤ y.spare
-  pub few : length (expired_states n) ≤ 65536
-  pub rest : purged m ≡ purged n
-  pub full : list_any is_overfull (purge_points m) ≡ list_any is_overfull (purge_points n)
-  pub counted : (over || list_any is_overcounted (purge_points m)) ≡ list_any is_overcounted (purge_points n)
-  pub all : count + length (expired_states m) ≡ length (expired_states n)
-  pub extends : NodeExtends (5 * count) x y n m
+-- b is what a was made to by so many of its deletions; over says whether after one of them a number was too high
+pub record IsPurged (a b : Draft) (count : ℕ) (over : Bool) : Type 0 where
+  pub room : 5 * length (expired_states b.node) ≤ b.edits.spare
+  pub few : length (expired_states a.node) ≤ 65536
+  pub rest : purged b.node ≡ purged a.node
+  pub full : list_any is_overfull (purge_points b.node) ≡ list_any is_overfull (purge_points a.node)
+  pub counted : (over || list_any is_overcounted (purge_points b.node)) ≡ list_any is_overcounted (purge_points a.node)
+  pub all : count + length (expired_states b.node) ≡ length (expired_states a.node)
+  pub writes : Writes (5 * count) a b
 
-pub purged-first : (n : Node) (x : Edits NodeEdit) → AreParts n → 5 * length (expired_states n) ≤ x.spare → IsPurged n n x x 0 false
-purged-first n x is room = record {
+pub purged-first : (a : Draft) → AreParts a.node → 5 * length (expired_states a.node) ≤ a.edits.spare → IsPurged a a 0 false
+purged-first a is room = record {
   room = room;
-  few = let states = is.limits.0.1 in let few = is.few in omega (arith, expired-few n, few, states);
+  few = let states = is.limits.0.1 in let few = is.few in omega (arith, expired-few a.node, few, states);
   rest = refl;
   full = refl;
   counted = refl;
   all = omega arith;
-  extends = extends-none x n;
+  writes = writes-none 0 a;
 }
 
 -- the next state that is to be deleted
-pub record IsNext (m : Node) (s : State) (y : Edits NodeEdit) : Type 0 where
-  pub expired : expired_states m ≡ s ∷ expired_states (deleted m s)
-  pub points : purge_points m ≡ deleted m s ∷ purge_points (deleted m s)
-  pub stands : maps.get m.states s.name ≡ Some s
-  pub rest : purged m ≡ purged (deleted m s)
-  pub room : 5 ≤ y.spare
+pub record IsNext (b : Draft) (s : State) : Type 0 where
+  pub expired : expired_states b.node ≡ s ∷ expired_states (deleted b.node s)
+  pub points : purge_points b.node ≡ deleted b.node s ∷ purge_points (deleted b.node s)
+  pub stands : maps.get b.node.states s.name ≡ Some s
+  pub rest : purged b.node ≡ purged (deleted b.node s)
+  pub room : 5 ≤ b.edits.spare
 
-pub next-is : (n m : Node) (x y : Edits NodeEdit) (count : ℕ) (over : Bool) (s : State) → AreParts m → IsPurged n m x y count over → slice_get (expired_states m) 0 ≡ Some s → IsNext m s y
-next-is n m x y count over s is so first =
-    let expired = expired-next m s is first in
+pub next-is : (a b : Draft) (count : ℕ) (over : Bool) (s : State) → AreParts b.node → IsPurged a b count over → slice_get (expired_states b.node) 0 ≡ Some s → IsNext b s
+next-is a b count over s is so first =
+    let expired = expired-next b.node s is first in
     let long = ap (λ (ss : List State). length ss) expired in
     let room = so.room in
-    record { expired = expired; points = points-next m s is first; stands = first-stands m s is first; rest = purged-next m s is first; room = omega (arith, room, long) }
+    record { expired = expired; points = points-next b.node s is first; stands = first-stands b.node s is first; rest = purged-next b.node s is first; room = omega (arith, room, long) }
 
 assoc : (a b c : Bool) → ((a || b) || c) ≡ (a || (b || c))
 assoc true b c = refl
 assoc false b c = refl
 
-module _ (n m : Node) (x y : Edits NodeEdit) (count : ℕ) (over : Bool) (so : IsPurged n m x y count over) (s : State) (next : IsNext m s y) where
-  long : length (expired_states m) ≡ length (expired_states (deleted m s)) + 1
+module _ (a b : Draft) (count : ℕ) (over : Bool) (so : IsPurged a b count over) (s : State) (next : IsNext b s) where
+  long : length (expired_states b.node) ≡ length (expired_states (deleted b.node s)) + 1
   long = let more = ap (λ (ss : List State). length ss) next.expired in omega (arith, more)
 
   -- one is left less
-  pub fewer : length (expired_states (deleted m s)) < length (expired_states m)
+  pub fewer : length (expired_states (deleted b.node s)) < length (expired_states b.node)
   fewer = omega (arith, long)
 
   pub counted-few : count ≤ 65535
   counted-few = let few = so.few in let all = so.all in omega (arith, few, all, long)
 
-  pub purged-more : (k : Node) (z : Edits NodeEdit) (now : Bool) → k ≡ deleted m s → NodeExtends 5 y z m k → is_overfull k ≡ false → now ≡ is_overcounted k → IsPurged n k x z (count + 1) (over || now)
-  purged-more k z now same more fits counts =
+  pub purged-more : (d : Draft) (now : Bool) → d.node ≡ deleted b.node s → Writes 5 b d → is_overfull d.node ≡ false → now ≡ is_overcounted d.node → IsPurged a d (count + 1) (over || now)
+  purged-more d now same more fits counts =
       let spare = more.spare in
       let room = so.room in
       let all = so.all in
@@ -103,35 +101,35 @@ module _ (n m : Node) (x y : Edits NodeEdit) (count : ℕ) (over : Bool) (so : I
         few = so.few;
         rest = ap purged same ∙ (sym next.rest ∙ so.rest);
         full =
-            ap (λ b. b || list_any is_overfull (purge_points k)) (sym fits)
+            ap (λ f. f || list_any is_overfull (purge_points d.node)) (sym fits)
             ∙ (ap (λ (v : Node). is_overfull v || list_any is_overfull (purge_points v)) same
             ∙ (ap (list_any is_overfull) (sym next.points) ∙ so.full));
         counted =
-            ap (λ b. (over || b) || list_any is_overcounted (purge_points k)) counts
-            ∙ (assoc over (is_overcounted k) (list_any is_overcounted (purge_points k))
+            ap (λ f. (over || f) || list_any is_overcounted (purge_points d.node)) counts
+            ∙ (assoc over (is_overcounted d.node) (list_any is_overcounted (purge_points d.node))
             ∙ (ap (λ (v : Node). over || (is_overcounted v || list_any is_overcounted (purge_points v))) same
             ∙ (ap (λ (ps : List Node). over || list_any is_overcounted ps) (sym next.points) ∙ so.counted)));
         all = omega (arith, all, long, left);
-        extends = extends-more (5 * count + 5) (5 * (count + 1)) x z n k (omega arith) (extends-then (5 * count) 5 x y z n m k so.extends more);
+        writes = writes-more (5 * count + 5) (5 * (count + 1)) a d (omega arith) (writes-then (5 * count) 5 a b d so.writes more);
       }
 
   -- too much is pending after the next one
-  pub purged-full : is_overfull (deleted m s) ≡ true → list_any is_overfull (purge_points n) ≡ true
-  purged-full e = sym so.full ∙ (ap (list_any is_overfull) next.points ∙ ap (λ b. b || list_any is_overfull (purge_points (deleted m s))) e)
+  pub purged-full : is_overfull (deleted b.node s) ≡ true → list_any is_overfull (purge_points a.node) ≡ true
+  purged-full e = sym so.full ∙ (ap (list_any is_overfull) next.points ∙ ap (λ f. f || list_any is_overfull (purge_points (deleted b.node s))) e)
 
   -- and what was recorded till then
-  pub purged-stops : (k : Node) (z : Edits NodeEdit) → NodeExtends 5 y z m k → NodeExtends (5 * length (expired_states n)) x z n k
-  purged-stops k z more =
+  pub purged-stops : (d : Draft) → Writes 5 b d → Writes (5 * length (expired_states a.node)) a d
+  purged-stops d more =
       let all = so.all in
-      extends-more (5 * count + 5) (5 * length (expired_states n)) x z n k (omega (arith, all, long)) (extends-then (5 * count) 5 x y z n m k so.extends more)
+      writes-more (5 * count + 5) (5 * length (expired_states a.node)) a d (omega (arith, all, long)) (writes-then (5 * count) 5 a b d so.writes more)
 
 -- where none is left, the purge is done
-pub record IsDone (n m : Node) (x y : Edits NodeEdit) (count : ℕ) (over : Bool) : Type 0 where
-  pub node : m ≡ purged n
-  pub full : list_any is_overfull (purge_points n) ≡ false
-  pub counted : over ≡ list_any is_overcounted (purge_points n)
-  pub all : count ≡ length (expired_states n)
-  pub extends : NodeExtends (5 * length (expired_states n)) x y n m
+pub record IsDone (a b : Draft) (count : ℕ) (over : Bool) : Type 0 where
+  pub node : b.node ≡ purged a.node
+  pub full : list_any is_overfull (purge_points a.node) ≡ false
+  pub counted : over ≡ list_any is_overcounted (purge_points a.node)
+  pub all : count ≡ length (expired_states a.node)
+  pub writes : Writes (5 * length (expired_states a.node)) a b
 
 none_first : (ss : List State) → slice_get ss 0 ≡ None → ss ≡ []
 none_first [] e = refl
@@ -141,18 +139,18 @@ or_false : (a : Bool) → a ≡ (a || false)
 or_false true = refl
 or_false false = refl
 
-pub purged-done : (n m : Node) (x y : Edits NodeEdit) (count : ℕ) (over : Bool) → IsPurged n m x y count over → slice_get (expired_states m) 0 ≡ None → IsDone n m x y count over
-purged-done n m x y count over so none =
-    let empty = none_first (expired_states m) none in
+pub purged-done : (a b : Draft) (count : ℕ) (over : Bool) → IsPurged a b count over → slice_get (expired_states b.node) 0 ≡ None → IsDone a b count over
+purged-done a b count over so none =
+    let empty = none_first (expired_states b.node) none in
     let long = ap (λ (ss : List State). length ss) empty in
     let all = so.all in
-    let points = points-none m empty in
+    let points = points-none b.node empty in
     record {
-      node = sym (purged-none m empty) ∙ so.rest;
+      node = sym (purged-none b.node empty) ∙ so.rest;
       full = sym so.full ∙ ap (list_any is_overfull) points;
       counted = or_false over ∙ (ap (λ (ps : List Node). over || list_any is_overcounted ps) (sym points) ∙ so.counted);
       all = omega (arith, all, long);
-      extends = extends-more (5 * count) (5 * length (expired_states n)) x y n m (omega (arith, all, long)) so.extends;
+      writes = writes-more (5 * count) (5 * length (expired_states a.node)) a b (omega (arith, all, long)) so.writes;
     }
 
 -- ---- where it ends

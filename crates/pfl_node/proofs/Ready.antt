@@ -3,72 +3,66 @@ use Rattle.std.specs.Prelude.{◌≡◌, ◌≤◌, ℕ, ◌+◌, ◌*◌, Bool,
 use Rattle.std.specs.List.{list_any}
 use Rattle.std.proofs.Common.{◌∙◌, ap, sym, subst, arith}
 use Rattle.pfl_base.specs.declared.refusal.Refusal.{Refusal}
-use Rattle.pfl_base.specs.Numbers.{greatest}
-use Rattle.pfl_edits.specs.Changes.{Edits, Fits, LeadsBack, back}
-use Rattle.pfl_edits.proofs.ForCallers.{LeadsBack-none}
-use Rattle.pfl_queue.specs.Queues.{most_numbers}
+use Rattle.pfl_edits.specs.Changes.{Edits, LeadsBack, back}
 use Rattle.pfl_language.specs.declared.limits.Limits.{Limits}
+use Rattle.pfl_language.specs.Limits.{AreLimits}
 use Rattle.pfl_parts.specs.declared.edit.NodeEdit.{NodeEdit}
 use Rattle.pfl_parts.specs.declared.edit.NodeEdit.TheVariants.{OfState, Moved, OfQueue, OfHeld, Server, Client, Clock, NextId, Push, Count}
 use Rattle.pfl_parts.specs.declared.parts.judge.Overfull.{Overfull}
-use Rattle.pfl_parts.specs.Edits.{Finds, put_back, NodeExtends, NodeLeadsBack, total}
+use Rattle.pfl_parts.specs.Drafts.{Draft, Writes, began}
+use Rattle.pfl_parts.specs.Edits.{Finds, put_back, NodeLeadsBack}
+use Rattle.pfl_parts.specs.inner.Drafting.{most_room}
 use Rattle.pfl_parts.specs.inner.Judging.{Went, judgement}
 use Rattle.pfl_parts.specs.Nodes.{Node, AreParts, IsNode, IsRefusal, is_overcounted, points_refusal}
-use Rattle.pfl_parts.proofs.ForCallers.{counted_all, leads_through, went-refusal, went-counted}
+use Rattle.pfl_parts.proofs.ForCallers.{leads_through, went-refusal, went-counted}
 pub use Rattle.pfl_parts.proofs.ForCallers.{settled-answer}
 use Rattle.pfl_receive.specs.inner.Delivering.{frame_room}
 use Rattle.pfl_node.specs.Weights.{packet_edits}
 use Rattle.pfl_node.specs.inner.Room.{IsReady, most_edits}
 
+-- ---- the room that a node keeps
+
+-- it is far from the most that there may be
+pub most-few : (l : Limits) → AreLimits l → most_edits l ≤ most_room
+most-few l are =
+    let states = are.0.1 in
+    let queue = are.1.0.1 in
+    let mtu = are.1.1.1.0.1 in
+    let held = are.1.1.1.1.0.1 in
+    omega (arith, states, queue, mtu, held)
+
 -- ---- where an event begins
 
--- there is room for its edits, and it can count
-pub record Begins (n : Node) (x : Edits NodeEdit) : Type 0 where
-  pub room : 5 * n.limits.states + 2 * n.limits.queue + packet_edits ≤ x.spare
-  pub frame : frame_room n.limits.states n.limits.mtu ≤ x.spare
-  pub held : 3 * n.limits.held ≤ x.spare
-  pub countable : total n + x.spare ≤ most_numbers
+-- there is room for its edits
+pub record Begins (d : Draft) : Type 0 where
+  pub room : 5 * d.node.limits.states + 2 * d.node.limits.queue + packet_edits ≤ d.edits.spare
+  pub frame : frame_room d.node.limits.states d.node.limits.mtu ≤ d.edits.spare
+  pub held : 3 * d.node.limits.held ≤ d.edits.spare
 
-small : (n : Node) → is_overcounted n ≡ false → total n ≤ 9 * greatest
-unfolding total
-small n c = let k = counted_all n c in omega (arith, k.next_id, k.next, k.passed, k.blocked, k.freed, k.lost, k.bad, k.stale, k.broken)
-
-pub begins : (n : Node) (x : Edits NodeEdit) → IsNode n → IsReady n.limits x → Begins n x
-begins n x is ready =
-    let states = is.parts.limits.0.1 in
-    let queue = is.parts.limits.1.0.1 in
-    let mtu = is.parts.limits.1.1.1.0.1 in
-    let held = is.parts.limits.1.1.1.1.0.1 in
+pub begins : (d : Draft) → IsReady d.node.limits d.edits → Begins d
+begins d ready =
     let room = ready.room in
-    record {
-      room = omega (arith, room);
-      frame = omega (arith, room);
-      held = omega (arith, room);
-      countable = omega (arith, small n is.counted, states, queue, mtu, held, room);
-    }
+    record { room = omega (arith, room); frame = omega (arith, room); held = omega (arith, room) }
 
--- ---- what it recorded
+-- ---- where it is carried out
 
-pub record Back (k : ℕ) (l : Limits) (a b : Node) (y : Edits NodeEdit) : Type 0 where
-  pub leads : LeadsBack Finds AreParts put_back y.list a b
-  pub few : length y.list ≤ k
-  pub room : y.spare + length y.list ≡ most_edits l
+-- b is what an event that began with the node n makes of a desk with so much room, by at most k edits
+record Carries (k all : ℕ) (n : Node) (b : Draft) : Type 0 where
+  pub began : began b ≡ n
+  pub few : length b.edits.list ≤ k
+  pub room : b.edits.spare + length b.edits.list ≡ all
 
-recorded-back : (k : ℕ) (l : Limits) (a b : Node) (x y : Edits NodeEdit) → IsReady l x → NodeExtends k x y a b → Back k l a b y
-recorded-back k l a b x y ready e =
+carried : (k : ℕ) (a b : Draft) → IsReady a.node.limits a.edits → Writes k a b → Carries k (most_edits a.node.limits) a.node b
+carried k a b ready w =
     let none = ap (λ (es : List NodeEdit). length es) ready.none in
-    let room = e.room in
-    let spare = e.spare in
+    let room = w.room in
+    let spare = w.spare in
     let all = ready.room in
     record {
-      leads = e.leads_back a (subst (λ (es : List NodeEdit). LeadsBack Finds AreParts put_back es a a) (sym ready.none) (LeadsBack-none Finds AreParts put_back a));
+      began = w.began ∙ ap (λ (es : List NodeEdit). back put_back es a.node) ready.none;
       few = omega (arith, room, spare, none);
       room = omega (arith, room, none, all);
     }
-
--- it can be taken back
-pub recorded-fits : (k : ℕ) (l : Limits) (a b : Node) (x y : Edits NodeEdit) → IsReady l x → NodeExtends k x y a b → Fits Finds AreParts put_back y.list b
-recorded-fits k l a b x y ready extends = (recorded-back k l a b x y ready extends).leads.fits
 
 put_back-limits : (e : NodeEdit) (n : Node) → (put_back e n).limits ≡ n.limits
 put_back-limits (OfState e) n = refl
@@ -88,59 +82,64 @@ back-limits (e ∷ es) n = put_back-limits e (back put_back es n) ∙ back-limit
 
 -- ---- where it ends
 
--- what an event makes of the node a: m, ready with z again
-pub record Concluded {T : Type 0} (k : ℕ) (a m : Node) (z : Edits NodeEdit) (result : Result (T × Edits NodeEdit) Refusal) : Type 0 where
-  pub node : IsNode m
-  pub ready : IsReady m.limits z
-  pub unchanged : OnErr result (m ≡ a)
-  pub leads_back : IfOk result (λ r. NodeLeadsBack r.1.list a m)
+-- what an event makes of the node n: it stands on the desk d, which is ready again
+pub record Concluded {T : Type 0} (k : ℕ) (n : Node) (d : Draft) (result : Result (T × Edits NodeEdit) Refusal) : Type 0 where
+  pub node : IsNode d.node
+  pub ready : IsReady d.node.limits d.edits
+  pub unchanged : OnErr result (d.node ≡ n)
+  pub leads_back : IfOk result (λ r. NodeLeadsBack r.1.list n d.node)
   pub weight : IfOk result (λ r. length r.1.list ≤ k)
 
 -- Stands says which answers were given where no number is too high
-module _ {T : Type 0} (k : ℕ) (a b m : Node) (x y z : Edits NodeEdit) (Stands : T → Type 0)
-    (is : IsNode a) (ready : IsReady a.limits x) (extends : NodeExtends k x y a b) (counted : (t : T) → Stands t → is_overcounted b ≡ false)
-    (none : z.list ≡ []) (room : z.spare ≡ y.spare + length y.list) where
-  recorded : Back k a.limits a b y
-  recorded = recorded-back k a.limits a b x y ready extends
+module _ {T : Type 0} (k : ℕ) (a b d : Draft) (Stands : T → Type 0)
+    (is : IsNode a.node) (ready : IsReady a.node.limits a.edits) (writes : Writes k a b) (counted : (t : T) → Stands t → is_overcounted b.node ≡ false)
+    (none : d.edits.list ≡ []) (room : d.edits.spare ≡ b.edits.spare + length b.edits.list) where
+  so : Carries k (most_edits a.node.limits) a.node b
+  so = carried k a b ready writes
 
-  pub concluded : (result : Result (T × Edits NodeEdit) Refusal) → OnErr result (m ≡ back put_back y.list b) → IfOk result (λ r. Stands r.0) → OnOk result (m ≡ b) → OnOk result (AreParts m)
-      → IfOk result (λ r. r.1.list ≡ y.list) → Concluded k a m z result
-  concluded (Ok r) undone stands kept parts edits =
-      let low = counted r.0 stands in
-      let lead = leads_through y.list a b recorded.leads low in
-      let limits : a.limits ≡ m.limits = ap (λ (n : Node). n.limits) (sym recorded.leads.back) ∙ (back-limits y.list b ∙ ap (λ (n : Node). n.limits) (sym kept)) in
-      let few = recorded.few in
+  pub concluded : (result : Result (T × Edits NodeEdit) Refusal) → OnErr result (d.node ≡ began b) → IfOk result (λ r. Stands r.0) → OnOk result (d.node ≡ b.node) → OnOk result (AreParts d.node)
+      → IfOk result (λ r. r.1.list ≡ b.edits.list) → IfOk result (λ r. LeadsBack Finds AreParts put_back r.1.list (began b) d.node) → Concluded k a.node d result
+  concluded (Ok r) undone stands kept parts edits leads =
+      let low = ap is_overcounted kept ∙ counted r.0 stands in
+      let limits : a.node.limits ≡ d.node.limits = ap (λ (n : Node). n.limits) (sym so.began) ∙ (back-limits b.edits.list b.node ∙ ap (λ (n : Node). n.limits) (sym kept)) in
+      let few = so.few in
       let long = ap (λ (es : List NodeEdit). length es) edits in
       record {
-        node = record { parts = parts; counted = ap is_overcounted kept ∙ low };
-        ready = record { none = none; room = room ∙ (recorded.room ∙ ap most_edits limits) };
+        node = record { parts = parts; counted = low };
+        ready = record { none = none; room = room ∙ (so.room ∙ ap most_edits limits) };
         unchanged = tt;
-        leads_back = subst (λ (n : Node). NodeLeadsBack r.1.list a n) (sym kept) (subst (λ (es : List NodeEdit). NodeLeadsBack es a b) (sym edits) lead);
+        leads_back = leads_through r.1.list a.node d.node (subst (λ (n : Node). LeadsBack Finds AreParts put_back r.1.list n d.node) so.began leads) low;
         weight = omega (arith, few, long);
       }
-  concluded (Err e) undone stands kept parts edits =
-      let same : m ≡ a = undone ∙ recorded.leads.back in
+  concluded (Err e) undone stands kept parts edits leads =
+      let same : d.node ≡ a.node = undone ∙ so.began in
       record {
         node = subst IsNode (sym same) is;
-        ready = record { none = none; room = room ∙ (recorded.room ∙ ap (λ (n : Node). most_edits n.limits) (sym same)) };
+        ready = record { none = none; room = room ∙ (so.room ∙ ap (λ (n : Node). most_edits n.limits) (sym same)) };
         unchanged = same;
         leads_back = tt;
         weight = tt;
       }
 
 -- the same of an event that went through these points
-pub record Settled {T : Type 0} (k : ℕ) (a m : Node) (z : Edits NodeEdit) (points : List Node) (result : Result (T × Edits NodeEdit) Refusal) : Type 0 where
-  pub node : IsNode m
-  pub ready : IsReady m.limits z
+pub record Settled {T : Type 0} (k : ℕ) (n : Node) (d : Draft) (points : List Node) (result : Result (T × Edits NodeEdit) Refusal) : Type 0 where
+  pub node : IsNode d.node
+  pub ready : IsReady d.node.limits d.edits
   pub refused : IfErr result (IsRefusal (points_refusal points))
-  pub unchanged : OnErr result (m ≡ a)
+  pub unchanged : OnErr result (d.node ≡ n)
   pub not_refused : OnOk result (points_refusal points ≡ None)
-  pub leads_back : IfOk result (λ r. NodeLeadsBack r.1.list a m)
+  pub leads_back : IfOk result (λ r. NodeLeadsBack r.1.list n d.node)
   pub weight : IfOk result (λ r. length r.1.list ≤ k)
 
-module _ {T : Type 0} (k : ℕ) (a b m : Node) (x y z : Edits NodeEdit) (tried : Result (T × Bool) Overfull) (points : List Node)
-    (is : IsNode a) (ready : IsReady a.limits x) (extends : NodeExtends k x y a b) (went : Went tried points) (counted : (t : T) → tried ≡ Ok (t, false) → list_any is_overcounted points ≡ false → is_overcounted b ≡ false)
-    (none : z.list ≡ []) (room : z.spare ≡ y.spare + length y.list) where
+-- an event that was carried out to the node n may be judged: where it tells that no number was too high, none is in the end
+pub may-settle : {T : Type 0} (n : Node) (tried : Result (T × Bool) Overfull) (points : List Node) → Went tried points
+    → ((t : T) → tried ≡ Ok (t, false) → list_any is_overcounted points ≡ false → is_overcounted n ≡ false) → IfOk tried (λ r. r.1 ≡ false → is_overcounted n ≡ false)
+may-settle n (Ok r) points went counted = λ low. counted r.0 (λ i. Ok (r.0, low i)) (went-counted (Ok r) r.0 points went (λ i. Ok (r.0, low i)))
+may-settle n (Err e) points went counted = tt
+
+module _ {T : Type 0} (k : ℕ) (a b d : Draft) (tried : Result (T × Bool) Overfull) (points : List Node)
+    (is : IsNode a.node) (ready : IsReady a.node.limits a.edits) (writes : Writes k a b) (went : Went tried points) (counted : (t : T) → tried ≡ Ok (t, false) → list_any is_overcounted points ≡ false → is_overcounted b.node ≡ false)
+    (none : d.edits.list ≡ []) (room : d.edits.spare ≡ b.edits.spare + length b.edits.list) where
   why : (result : Result (T × Edits NodeEdit) Refusal) → IfErr result (IsRefusal (judgement tried)) → IfErr result (IsRefusal (points_refusal points))
   why (Ok r) refused = tt
   why (Err e) refused = subst (λ (o : Option Refusal). IsRefusal o e) (sym (went-refusal tried points went)) refused
@@ -149,10 +148,10 @@ module _ {T : Type 0} (k : ℕ) (a b m : Node) (x y z : Edits NodeEdit) (tried :
   free (Ok r) stands = went-refusal tried points went ∙ ap (λ (q : Result (T × Bool) Overfull). judgement q) stands
   free (Err e) stands = tt
 
-  pub settled : (result : Result (T × Edits NodeEdit) Refusal) → IfErr result (IsRefusal (judgement tried)) → OnErr result (m ≡ back put_back y.list b) → IfOk result (λ r. tried ≡ Ok (r.0, false)) → OnOk result (m ≡ b) → OnOk result (AreParts m)
-      → IfOk result (λ r. r.1.list ≡ y.list) → Settled k a m z points result
-  settled result refused undone stands kept parts edits =
-      let all = concluded k a b m x y z (λ t. tried ≡ Ok (t, false)) is ready extends (λ t stood. counted t stood (went-counted tried t points went stood)) none room result undone stands kept parts edits in
+  pub settled : (result : Result (T × Edits NodeEdit) Refusal) → IfErr result (IsRefusal (judgement tried)) → OnErr result (d.node ≡ began b) → IfOk result (λ r. tried ≡ Ok (r.0, false)) → OnOk result (d.node ≡ b.node) → OnOk result (AreParts d.node)
+      → IfOk result (λ r. r.1.list ≡ b.edits.list) → IfOk result (λ r. LeadsBack Finds AreParts put_back r.1.list (began b) d.node) → Settled k a.node d points result
+  settled result refused undone stands kept parts edits leads =
+      let all = concluded k a b d (λ t. tried ≡ Ok (t, false)) is ready writes (λ t stood. counted t stood (went-counted tried t points went stood)) none room result undone stands kept parts edits leads in
       record {
         node = all.node;
         ready = all.ready;

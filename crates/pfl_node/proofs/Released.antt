@@ -18,10 +18,10 @@ use Rattle.pfl_track.specs.declared.state.State.{State}
 use Rattle.pfl_language.specs.declared.limits.Limits.{Limits}
 use Rattle.pfl_parts.specs.declared.edit.NodeEdit.{NodeEdit}
 use Rattle.pfl_parts.specs.Changes.{count_freed, without_held, freed, not_waiting, put_state, released}
-use Rattle.pfl_parts.specs.Edits.{NodeExtends}
+use Rattle.pfl_parts.specs.Drafts.{Draft, Writes}
 use Rattle.pfl_parts.specs.inner.Judging.{judged_as}
 use Rattle.pfl_parts.specs.Nodes.{Node, AreParts, is_overcounted}
-use Rattle.pfl_parts.proofs.ForCallers.{extends-none, extends-then, extends-more}
+use Rattle.pfl_parts.proofs.ForCallers.{writes-none, writes-then, writes-more}
 use Rattle.pfl_node.specs.Releasing.{due_names, released_due}
 
 -- ---- the first of the names that are due, and those of the list without it
@@ -115,49 +115,49 @@ due-few n is =
 
 -- ---- name by name
 
--- m is what n was made to by some of its packets going out, recorded in y
-pub record IsReleased (n m : Node) (x y : Edits NodeEdit) (count : ℕ) : Type 0 where
-  pub room : 3 * length (due_names m) ≤ y.spare
-  pub few : length (due_names n) ≤ 128
-  pub rest : released_due m ≡ released_due n
-  pub all : count + length (due_names m) ≡ length (due_names n)
-  pub extends : NodeExtends (3 * count) x y n m
+-- b is what a was made to by so many of its packets going out
+pub record IsReleased (a b : Draft) (count : ℕ) : Type 0 where
+  pub room : 3 * length (due_names b.node) ≤ b.edits.spare
+  pub few : length (due_names a.node) ≤ 128
+  pub rest : released_due b.node ≡ released_due a.node
+  pub all : count + length (due_names b.node) ≡ length (due_names a.node)
+  pub writes : Writes (3 * count) a b
 
-pub released-first : (n : Node) (x : Edits NodeEdit) → AreParts n → 3 * length (due_names n) ≤ x.spare → IsReleased n n x x 0
-released-first n x is room = record {
+pub released-first : (a : Draft) → AreParts a.node → 3 * length (due_names a.node) ≤ a.edits.spare → IsReleased a a 0
+released-first a is room = record {
   room = room;
-  few = let most = is.limits.1.1.1.1.0.1 in let few = due-few n is in omega (arith, few, most);
+  few = let most = is.limits.1.1.1.1.0.1 in let few = due-few a.node is in omega (arith, few, most);
   rest = refl;
   all = omega arith;
-  extends = extends-none x n;
+  writes = writes-none 0 a;
 }
 
 -- the next packet that goes out
-pub record IsNextDue (m : Node) (name : StateName) (y : Edits NodeEdit) : Type 0 where
-  pub due : due_names m ≡ name ∷ due_names (released m name)
-  pub rest : released_due m ≡ released_due (released m name)
-  pub room : 3 ≤ y.spare
+pub record IsNextDue (b : Draft) (name : StateName) : Type 0 where
+  pub due : due_names b.node ≡ name ∷ due_names (released b.node name)
+  pub rest : released_due b.node ≡ released_due (released b.node name)
+  pub room : 3 ≤ b.edits.spare
 
-pub next-due : (n m : Node) (x y : Edits NodeEdit) (count : ℕ) (name : StateName) → AreParts m → IsReleased n m x y count → slice_get (due_names m) 0 ≡ Some name → IsNextDue m name y
-next-due n m x y count name is so first =
-    let next = due-next m name is first in
+pub next-due : (a b : Draft) (count : ℕ) (name : StateName) → AreParts b.node → IsReleased a b count → slice_get (due_names b.node) 0 ≡ Some name → IsNextDue b name
+next-due a b count name is so first =
+    let next = due-next b.node name is first in
     let long = ap (λ (ns : List StateName). length ns) next in
     let room = so.room in
-    record { due = next; rest = released-next m name next; room = omega (arith, room, long) }
+    record { due = next; rest = released-next b.node name next; room = omega (arith, room, long) }
 
-module _ (n m : Node) (x y : Edits NodeEdit) (count : ℕ) (so : IsReleased n m x y count) (name : StateName) (next : IsNextDue m name y) where
-  long : length (due_names m) ≡ length (due_names (released m name)) + 1
+module _ (a b : Draft) (count : ℕ) (so : IsReleased a b count) (name : StateName) (next : IsNextDue b name) where
+  long : length (due_names b.node) ≡ length (due_names (released b.node name)) + 1
   long = let more = ap (λ (ns : List StateName). length ns) next.due in omega (arith, more)
 
   -- one is left less
-  pub fewer-due : length (due_names (released m name)) < length (due_names m)
+  pub fewer-due : length (due_names (released b.node name)) < length (due_names b.node)
   fewer-due = omega (arith, long)
 
   pub counted-few : count ≤ 127
   counted-few = let few = so.few in let all = so.all in omega (arith, few, all, long)
 
-  pub released-more : (k : Node) (z : Edits NodeEdit) → k ≡ released m name → NodeExtends 3 y z m k → IsReleased n k x z (count + 1)
-  released-more k z same more =
+  pub released-more : (d : Draft) → d.node ≡ released b.node name → Writes 3 b d → IsReleased a d (count + 1)
+  released-more d same more =
       let spare = more.spare in
       let room = so.room in
       let all = so.all in
@@ -167,28 +167,28 @@ module _ (n m : Node) (x y : Edits NodeEdit) (count : ℕ) (so : IsReleased n m 
         few = so.few;
         rest = ap released_due same ∙ (sym next.rest ∙ so.rest);
         all = omega (arith, all, long, left);
-        extends = extends-more (3 * count + 3) (3 * (count + 1)) x z n k (omega arith) (extends-then (3 * count) 3 x y z n m k so.extends more);
+        writes = writes-more (3 * count + 3) (3 * (count + 1)) a d (omega arith) (writes-then (3 * count) 3 a b d so.writes more);
       }
 
 -- where none is left, the release is done
-pub record IsDone (n m : Node) (x y : Edits NodeEdit) (count : ℕ) : Type 0 where
-  pub node : m ≡ released_due n
-  pub all : count ≡ length (due_names n)
-  pub extends : NodeExtends (3 * length (due_names n)) x y n m
+pub record IsDone (a b : Draft) (count : ℕ) : Type 0 where
+  pub node : b.node ≡ released_due a.node
+  pub all : count ≡ length (due_names a.node)
+  pub writes : Writes (3 * length (due_names a.node)) a b
 
 none_first : (ns : List StateName) → slice_get ns 0 ≡ None → ns ≡ []
 none_first [] e = refl
 none_first (name ∷ ns) e = absurd (cc)
 
-pub released-done : (n m : Node) (x y : Edits NodeEdit) (count : ℕ) → IsReleased n m x y count → slice_get (due_names m) 0 ≡ None → IsDone n m x y count
-released-done n m x y count so none =
-    let empty = none_first (due_names m) none in
+pub released-done : (a b : Draft) (count : ℕ) → IsReleased a b count → slice_get (due_names b.node) 0 ≡ None → IsDone a b count
+released-done a b count so none =
+    let empty = none_first (due_names b.node) none in
     let long = ap (λ (ns : List StateName). length ns) empty in
     let all = so.all in
     record {
-      node = sym (released-none m empty) ∙ so.rest;
+      node = sym (released-none b.node empty) ∙ so.rest;
       all = omega (arith, all, long);
-      extends = extends-more (3 * count) (3 * length (due_names n)) x y n m (omega (arith, all, long)) so.extends;
+      writes = writes-more (3 * count) (3 * length (due_names a.node)) a b (omega (arith, all, long)) so.writes;
     }
 
 -- ---- how a release is judged

@@ -20,14 +20,14 @@ use Rattle.pfl_queue.specs.Queues.{pending}
 use Rattle.pfl_queue.specs.Taking.{in_turn, gone, left_by, next_frame}
 use Rattle.pfl_queue.proofs.ForCallers.{frame_carries, pending-in_turn, Stands, frame_stands, frame_begins, frame_fits}
 use Rattle.pfl_parts.specs.declared.edit.NodeEdit.{NodeEdit}
-use Rattle.pfl_parts.specs.Edits.{NodeExtends}
+use Rattle.pfl_parts.specs.Drafts.{Draft, Writes}
 use Rattle.pfl_parts.specs.Nodes.{Node, AreParts, IsRefusal, is_overcounted}
 use Rattle.pfl_parts.specs.inner.Judging.{judged_as}
 use Rattle.pfl_parts.specs.Changes.{put_state}
 use Rattle.pfl_node.specs.Flushing.{frame_of, flushed, update_count_cleared, send_refusal}
 use Rattle.pfl_node.specs.inner.Sending.{IsTold, frame_with}
 use Rattle.pfl_parts.specs.inner.Taking.{taken_from}
-use Rattle.pfl_parts.proofs.ForCallers.{frame_entries, left-next, extends-none, extends-then, extends-more}
+use Rattle.pfl_parts.proofs.ForCallers.{frame_entries, left-next, writes-none, writes-then, writes-more}
 
 -- ---- what its entries tell is there
 
@@ -90,35 +90,29 @@ sent-short n es is same = subst (λ (xs : List Entry). entry_bytes xs < 2 ^ 16) 
 
 -- ---- the counts of updates are cleared one after another
 
--- m is what n was made to by the first i of the entries, recorded in y
-pub record IsCleared (n m : Node) (es : List Entry) (i : ℕ) (x y : Edits NodeEdit) : Type 0 where
+-- e is what d was made to by the first i of the entries
+pub record IsCleared (d e : Draft) (es : List Entry) (i : ℕ) : Type 0 where
   pub within : i ≤ length es
-  pub node : m ≡ fold update_count_cleared n (take i es)
-  pub extends : NodeExtends i x y n m
+  pub node : e.node ≡ fold update_count_cleared d.node (take i es)
+  pub writes : Writes i d e
 
-pub cleared-first : (n : Node) (es : List Entry) (x : Edits NodeEdit) → IsCleared n n es 0 x x
-cleared-first n es x = record { within = omega arith; node = refl; extends = extends-none x n }
+pub cleared-first : (d : Draft) (es : List Entry) → IsCleared d d es 0
+cleared-first d es = record { within = omega arith; node = refl; writes = writes-none 0 d }
 
-pub cleared-more : (n m k : Node) (es : List Entry) (i : ℕ) (d : Entry) (x y z : Edits NodeEdit) → i < length es → IsCleared n m es i x y → k ≡ update_count_cleared m (get_or es i d) → NodeExtends 1 y z m k → IsCleared n k es (i + 1) x z
-cleared-more n m k es i d x y z below so is more = record {
-  within = omega arith;
-  node = is ∙ (ap (λ (h : Node). update_count_cleared h (get_or es i d)) so.node ∙ sym (fold_more update_count_cleared n es i d below));
-  extends = extends-then i 1 x y z n m k so.extends more;
-}
+module _ (d e : Draft) (es : List Entry) (i : ℕ) (so : IsCleared d e es i) where
+  pub cleared-room : length es ≤ d.edits.spare → i < length es → 0 < e.edits.spare
+  cleared-room room below = let spare = so.writes.spare in omega (arith, spare)
 
-pub cleared-room : (n m : Node) (es : List Entry) (i : ℕ) (x y : Edits NodeEdit) → IsCleared n m es i x y → length es ≤ x.spare → i < length es → 0 < y.spare
-cleared-room n m es i x y so room below = let spare = so.extends.spare in omega (arith, spare)
+  pub cleared-more : (f : Draft) (x : Entry) → i < length es → f.node ≡ update_count_cleared e.node (get_or es i x) → Writes 1 e f → IsCleared d f es (i + 1)
+  cleared-more f x below is more = record {
+    within = omega arith;
+    node = is ∙ (ap (λ (h : Node). update_count_cleared h (get_or es i x)) so.node ∙ sym (fold_more update_count_cleared d.node es i x below));
+    writes = writes-then i 1 d e f so.writes more;
+  }
 
--- after the last of them
-pub record IsAllCleared (n m : Node) (es : List Entry) (x y : Edits NodeEdit) : Type 0 where
-  pub node : m ≡ fold update_count_cleared n es
-  pub extends : NodeExtends (length es) x y n m
-
-pub cleared-all : (n m : Node) (es : List Entry) (i : ℕ) (x y : Edits NodeEdit) → IsCleared n m es i x y → length es ≤ i → IsAllCleared n m es x y
-cleared-all n m es i x y so end = record {
-  node = so.node ∙ ap (fold update_count_cleared n) (take_all i es end);
-  extends = extends-more i (length es) x y n m so.within so.extends;
-}
+  -- after the last of them
+  pub cleared-all : length es ≤ i → (e.node ≡ fold update_count_cleared d.node es) × Writes (length es) d e
+  cleared-all end = (so.node ∙ ap (fold update_count_cleared d.node) (take_all i es end), writes-more i (length es) d e so.within so.writes)
 
 -- ---- an event that sends it has room for its edits
 
@@ -182,6 +176,11 @@ flushed-counted n m same low =
 
 pub flushed-ends : {T : Type 0} (n m : Node) (sent : Result T Refusal) → is_overcounted n ≡ false → OnOk sent (m ≡ flushed n) → (t : T) → sent ≡ Ok t → is_overcounted m ≡ false
 flushed-ends {T} n m sent low node t stands = let same = subst (λ (q : Result T Refusal). OnOk q (m ≡ flushed n)) stands node in flushed-counted n m same low
+
+-- so what was sent may stand
+pub flushed-counts : {T : Type 0} (n m : Node) (sent : Result T Refusal) → is_overcounted n ≡ false → OnOk sent (m ≡ flushed n) → OnOk sent (is_overcounted m ≡ false)
+flushed-counts n m (Ok t) low node = flushed-counted n m node low
+flushed-counts n m (Err e) low node = tt
 
 -- only want of memory refuses it then
 pub wants-memory : {T U : Type 0} (sent : Result T Refusal) → IfErr sent (λ e. e ≡ NoMemory) → (result : Result U Refusal) → IfErr result (IsRefusal (judged_as sent)) → IfErr result (IsRefusal None)

@@ -13,7 +13,6 @@ use Rattle.pfl_bulk.specs.Bulk.{names_after, first_names, turn_names, is_last_tu
 use Rattle.pfl_bulk.proofs.ForCallers.{turn_names-first, is_last_turn-first, after_turn-first}
 use Rattle.pfl_bulk.specs.declared.BulkServer.{BulkServer}
 use Rattle.pfl_bulk.specs.declared.BulkServer.TheVariants as server
-use Rattle.pfl_edits.specs.Changes.{Edits}
 use Rattle.pfl_edits.specs.Maps as maps
 use Rattle.pfl_edits.proofs.ForCallers.{len-insert, len-entries}
 use Rattle.pfl_edits.specs.Ordered.{IsRising}
@@ -24,12 +23,11 @@ use Rattle.pfl_track.specs.declared.state.State.{State}
 use Rattle.pfl_wire.specs.declared.message.BulkStatus.{BulkStatus}
 use Rattle.pfl_wire.specs.declared.message.BulkStatus.TheVariants.{End as Finish}
 use Rattle.pfl_language.specs.declared.limits.Limits.{Limits}
-use Rattle.pfl_parts.specs.declared.edit.NodeEdit.{NodeEdit}
 use Rattle.pfl_parts.specs.Changes.{mark, tell_status}
-use Rattle.pfl_parts.specs.Edits.{NodeExtends}
+use Rattle.pfl_parts.specs.Drafts.{Draft, Writes}
 use Rattle.pfl_parts.specs.inner.Kept.{MayMark}
 use Rattle.pfl_parts.specs.Nodes.{Node, AreParts, ServesSince, is_overfull}
-use Rattle.pfl_parts.proofs.ForCallers.{told-may, extends-none, extends-then, extends-more}
+use Rattle.pfl_parts.proofs.ForCallers.{told-may, writes-none, writes-then, writes-more}
 use Rattle.pfl_node.specs.Turning.{is_eligible, eligible_names, queued, turn_of, ended, turned}
 use Rattle.pfl_node.proofs.Expired.{values-stand}
 use Rattle.pfl_node.proofs.Risen.{names, values-rising, rising-names, rising-filter, rising-take}
@@ -141,43 +139,43 @@ turn-few n = by n.server
 
 -- ---- marked one after another
 
--- m is what n was made to by marking the first i of the names, recorded in y
-pub record IsQueued (n m : Node) (ns : List StateName) (i : ℕ) (x y : Edits NodeEdit) : Type 0 where
+-- e is what d was made to by marking the first i of the names
+pub record IsQueued (d e : Draft) (ns : List StateName) (i : ℕ) : Type 0 where
   pub within : i ≤ length ns
-  pub node : m ≡ queued n (take i ns)
-  pub extends : NodeExtends i x y n m
+  pub node : e.node ≡ queued d.node (take i ns)
+  pub writes : Writes i d e
 
-pub queued-first : (n : Node) (ns : List StateName) (x : Edits NodeEdit) → IsQueued n n ns 0 x x
-queued-first n ns x = record { within = omega arith; node = refl; extends = extends-none x n }
+pub queued-first : (d : Draft) (ns : List StateName) → IsQueued d d ns 0
+queued-first d ns = record { within = omega arith; node = refl; writes = writes-none 0 d }
 
-module _ (n m : Node) (ns : List StateName) (i : ℕ) (x y : Edits NodeEdit) (so : IsQueued n m ns i x y) where
-  pub queued-room : length ns ≤ x.spare → i < length ns → 0 < y.spare
-  queued-room room below = let spare = so.extends.spare in omega (arith, spare)
+module _ (d e : Draft) (ns : List StateName) (i : ℕ) (so : IsQueued d e ns i) where
+  pub queued-room : length ns ≤ d.edits.spare → i < length ns → 0 < e.edits.spare
+  queued-room room below = let spare = so.writes.spare in omega (arith, spare)
 
-  pub queued-next : (d : StateName) → AllByRecursion (λ name. MayMark n name Update) ns → i < length ns → MayMark m (get_or ns i d) Update
-  queued-next d may below = subst (λ (k : Node). MayMark k (get_or ns i d) Update) (sym so.node) (queued-may (take i ns) n (get_or ns i d) (all_at (λ name. MayMark n name Update) ns i d may below))
+  pub queued-next : (x : StateName) → AllByRecursion (λ name. MayMark d.node name Update) ns → i < length ns → MayMark e.node (get_or ns i x) Update
+  queued-next x may below = subst (λ (k : Node). MayMark k (get_or ns i x) Update) (sym so.node) (queued-may (take i ns) d.node (get_or ns i x) (all_at (λ name. MayMark d.node name Update) ns i x may below))
 
-  one-more : (d : StateName) → i < length ns → mark m (get_or ns i d) Update ≡ queued n (take (i + 1) ns)
-  one-more d below = ap (λ (k : Node). mark k (get_or ns i d) Update) so.node ∙ sym (fold_more (λ (k : Node) (name : StateName). mark k name Update) n ns i d below)
+  one-more : (x : StateName) → i < length ns → mark e.node (get_or ns i x) Update ≡ queued d.node (take (i + 1) ns)
+  one-more x below = ap (λ (k : Node). mark k (get_or ns i x) Update) so.node ∙ sym (fold_more (λ (k : Node) (name : StateName). mark k name Update) d.node ns i x below)
 
-  pub queued-more : (k : Node) (d : StateName) (z : Edits NodeEdit) → i < length ns → k ≡ mark m (get_or ns i d) Update → NodeExtends 1 y z m k → IsQueued n k ns (i + 1) x z
-  queued-more k d z below is more = record { within = omega arith; node = is ∙ one-more d below; extends = extends-then i 1 x y z n m k so.extends more }
+  pub queued-more : (f : Draft) (x : StateName) → i < length ns → f.node ≡ mark e.node (get_or ns i x) Update → Writes 1 e f → IsQueued d f ns (i + 1)
+  queued-more f x below is more = record { within = omega arith; node = is ∙ one-more x below; writes = writes-then i 1 d e f so.writes more }
 
   -- too much is pending after the next one
-  pub queued-full : (d : StateName) → i < length ns → is_overfull (mark m (get_or ns i d) Update) ≡ true → is_overfull (queued n ns) ≡ true
-  queued-full d below e =
-      let whole = ap (queued n) (take-append-drop (i + 1) ns) in
-      let parted = fold-append (λ (k : Node) (name : StateName). mark k name Update) n (take (i + 1) ns) (drop (i + 1) ns) in
-      ap is_overfull (sym whole ∙ parted) ∙ over-queued (drop (i + 1) ns) (queued n (take (i + 1) ns)) (ap is_overfull (sym (one-more d below)) ∙ e)
+  pub queued-full : (x : StateName) → i < length ns → is_overfull (mark e.node (get_or ns i x) Update) ≡ true → is_overfull (queued d.node ns) ≡ true
+  queued-full x below full =
+      let whole = ap (queued d.node) (take-append-drop (i + 1) ns) in
+      let parted = fold-append (λ (k : Node) (name : StateName). mark k name Update) d.node (take (i + 1) ns) (drop (i + 1) ns) in
+      ap is_overfull (sym whole ∙ parted) ∙ over-queued (drop (i + 1) ns) (queued d.node (take (i + 1) ns)) (ap is_overfull (sym (one-more x below)) ∙ full)
 
   -- and what was recorded till then
-  pub queued-stops : (k : Node) (z : Edits NodeEdit) → i < length ns → NodeExtends 1 y z m k → NodeExtends (length ns) x z n k
-  queued-stops k z below more = extends-more (i + 1) (length ns) x z n k (omega arith) (extends-then i 1 x y z n m k so.extends more)
+  pub queued-stops : (f : Draft) → i < length ns → Writes 1 e f → Writes (length ns) d f
+  queued-stops f below more = writes-more (i + 1) (length ns) d f (omega arith) (writes-then i 1 d e f so.writes more)
 
-  pub queued-last : length ns ≤ i → (m ≡ queued n ns) × NodeExtends (length ns) x y n m
+  pub queued-last : length ns ≤ i → (e.node ≡ queued d.node ns) × Writes (length ns) d e
   queued-last all =
       let within = so.within in
-      (so.node ∙ ap (queued n) (take_all i ns all), extends-more i (length ns) x y n m within so.extends)
+      (so.node ∙ ap (queued d.node) (take_all i ns all), writes-more i (length ns) d e within so.writes)
 
 -- ---- the turn over the first names is one over all
 

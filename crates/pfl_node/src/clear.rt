@@ -5,16 +5,16 @@ ghost use Rattle.std.specs.Prelude.{◌≡◌, ◌≤◌, ◌+◌, ◌*◌, [], 
 ghost use Rattle.pfl_edits.specs.Maps as maps;
 ghost use Rattle.pfl_node.specs.Clearing as clearing;
 ghost use Rattle.pfl_parts.specs.Changes.{forgotten};
-ghost use Rattle.pfl_parts.specs.Edits.{NodeExtends, NodeLeadsBack, total};
+ghost use Rattle.pfl_parts.specs.Drafts.{Writes};
+ghost use Rattle.pfl_parts.specs.Edits.{NodeLeadsBack};
 ghost use Rattle.pfl_parts.specs.inner.Judging.{Went};
 ghost use Rattle.pfl_parts.specs.Nodes.{Node as Whole, IsRefusal};
-ghost use Rattle.pfl_queue.specs.Queues.{most_numbers};
 ghost use Rattle.pfl_parts.specs.Weights.{forgotten_edits, listed_edits};
 
 use crate::node::Node;
 use pfl_base::{Refusal, StateName};
 use pfl_edits::Change;
-use pfl_parts::{NodeEdit, Overfull, Parts, settle};
+use pfl_parts::{Desk, NodeEdit, Overfull};
 use std::alloc::Allocator;
 
 impl<A: Allocator + Copy> Node<A> {
@@ -28,47 +28,42 @@ impl<A: Allocator + Copy> Node<A> {
         ensures leads_back { IfOk result (λ r. NodeLeadsBack r.1.list self.old self.new) }
         ensures weight { IfOk result (λ r. length r.1.list ≤ forgotten_edits * maps.len self.old.states + listed_edits) }
     {
-        let tried = clear(&mut self.parts, &mut self.edits);
-        settle(self.alloc, &mut self.parts, &mut self.edits, tried)
+        let tried = clear(&mut self.desk);
+        self.desk.settle(self.alloc, tried)
     }
 }
 
 /// Gives up all states, and has the peer clear them; tells how many there were, and whether a number was too high.
-fn clear<A: Allocator>(
-    parts: &mut Parts<A>,
-    change: &mut Change<NodeEdit, A>,
-) -> Result<(usize, bool), Overfull>
-    requires room { 4 * maps.len parts.old.states + 2 ≤ change.old.spare }
-    requires countable { total parts.old + change.old.spare ≤ most_numbers }
-    ensures went { Went result (clearing.cleared parts.old ∷ []) }
-    ensures node { OnOk result (parts.new ≡ clearing.cleared parts.old) }
-    ensures count { IfOk result (λ r. r.0 ≡ maps.len parts.old.states) }
-    ensures extends { NodeExtends (4 * maps.len parts.old.states + 2) change.old change.new parts.old parts.new }
+fn clear<A: Allocator>(desk: &mut Desk<A>) -> Result<(usize, bool), Overfull>
+    requires room { 4 * maps.len desk.old.node.states + 2 ≤ desk.old.edits.spare }
+    ensures went { Went result (clearing.cleared desk.old.node ∷ []) }
+    ensures node { OnOk result (desk.new.node ≡ clearing.cleared desk.old.node) }
+    ensures count { IfOk result (λ r. r.0 ≡ maps.len desk.old.node.states) }
+    ensures writes { Writes (4 * maps.len desk.old.node.states + 2) desk.old desk.new }
 {
-    let count = parts.states().len();
-    let creator = parts.creator();
-    let last = parts.next_id().saturating_sub(1);
-    forget_all(parts, change);
-    parts.tell_clear(creator, last, change)?;
-    Ok((count, parts.is_overcounted()))
+    let count = desk.states().len();
+    let creator = desk.creator();
+    let last = desk.next_id().saturating_sub(1);
+    forget_all(desk);
+    desk.tell_clear(creator, last)?;
+    Ok((count, desk.is_overcounted()))
 }
 
 /// Forgets all states, the one of the least name first.
-fn forget_all<A: Allocator>(parts: &mut Parts<A>, change: &mut Change<NodeEdit, A>)
-    requires room { 4 * maps.len parts.old.states ≤ change.old.spare }
-    requires countable { total parts.old + change.old.spare ≤ most_numbers }
-    ensures node { parts.new ≡ fold forgotten parts.old (maps.keys parts.old.states) }
-    ensures extends { NodeExtends (4 * maps.len parts.old.states) change.old change.new parts.old parts.new }
+fn forget_all<A: Allocator>(desk: &mut Desk<A>)
+    requires room { 4 * maps.len desk.old.node.states ≤ desk.old.edits.spare }
+    ensures node { desk.new.node ≡ fold forgotten desk.old.node (maps.keys desk.old.node.states) }
+    ensures writes { Writes (4 * maps.len desk.old.node.states) desk.old desk.new }
 {
-    while let Some(name) = first_name(parts) {
-        parts.forget(name, change);
+    while let Some(name) = first_name(desk) {
+        desk.forget(name);
     }
 }
 
 /// The least name of a state.
-fn first_name<A: Allocator>(parts: &Parts<A>) -> Option<StateName>
-    ensures first { result ≡ slice_get (maps.keys parts.now.states) 0 }
+fn first_name<A: Allocator>(desk: &Desk<A>) -> Option<StateName>
+    ensures first { result ≡ slice_get (maps.keys desk.now.node.states) 0 }
 {
-    let row = parts.states().iter().next()?;
+    let row = desk.states().iter().next()?;
     Some(row.state.name())
 }

@@ -3,12 +3,10 @@
 mod frame;
 
 ghost use Rattle.std.specs.List.{fold};
-ghost use Rattle.std.specs.Option.{option_map_or};
-ghost use Rattle.std.specs.Prelude.{◌≡◌, ◌≤◌, ◌<◌, ◌+◌, ◌*◌, ◌++◌, false, None, length, IfOk, IfErr, OnOk, OnErr};
+ghost use Rattle.std.specs.Prelude.{◌≡◌, ◌≤◌, ◌<◌, ◌+◌, ◌*◌, false, None, length, IfOk, IfErr, OnOk, OnErr};
 ghost use Rattle.pfl_base.specs.declared.refusal.Refusal.TheVariants as refusal;
-ghost use Rattle.pfl_edits.specs.Maps as maps;
-ghost use Rattle.pfl_parts.specs.Changes as to;
-ghost use Rattle.pfl_parts.specs.Edits.{NodeLeadsBack, NodeExtends};
+ghost use Rattle.pfl_parts.specs.Drafts.{Writes};
+ghost use Rattle.pfl_parts.specs.Edits.{NodeLeadsBack};
 ghost use Rattle.pfl_node.specs.Flushing as flushing;
 ghost use Rattle.pfl_parts.specs.Nodes.{Node as Whole, AreParts, IsRefusal};
 ghost use Rattle.pfl_parts.specs.inner.Taking.{taken_from};
@@ -18,10 +16,10 @@ ghost use Rattle.pfl_node.specs.Weights.{sent_edits};
 
 use crate::flush::frame::bytes_of;
 use crate::node::Node;
-use pfl_base::{Refusal, StateName};
+use pfl_base::Refusal;
 use pfl_edits::{Change, NoMemory};
-use pfl_parts::{NodeEdit, Parts, conclude};
-use pfl_queue::{Entry, QueueEdit};
+use pfl_parts::{Desk, NodeEdit};
+use pfl_queue::Entry;
 use std::alloc::Allocator;
 
 impl<A: Allocator + Copy> Node<A> {
@@ -41,8 +39,8 @@ impl<A: Allocator + Copy> Node<A> {
         if let Some(refusal) = self.send_refusal() {
             return Err(refusal);
         }
-        let sent = send(&mut self.parts, self.alloc, &mut self.edits);
-        conclude(self.alloc, &mut self.parts, &mut self.edits, sent)
+        let sent = send(&mut self.desk, self.alloc);
+        self.desk.conclude(self.alloc, sent)
     }
 }
 
@@ -51,7 +49,7 @@ impl<A: Allocator> Node<A> {
     pub fn send_refusal(&self) -> Option<Refusal>
         ensures refusal { result ≡ flushing.send_refusal self.now }
     {
-        if self.parts.queue().is_empty() {
+        if self.desk.queue().is_empty() {
             return Some(Refusal::NothingPending);
         }
         None
@@ -59,22 +57,18 @@ impl<A: Allocator> Node<A> {
 }
 
 /// Sends the next frame, which may be empty. It is refused only where there is no memory for it.
-fn send<A: Allocator + Copy>(
-    parts: &mut Parts<A>,
-    alloc: A,
-    change: &mut Change<NodeEdit, A>,
-) -> Result<Vec<u8, A>, Refusal>
-    requires parts { AreParts parts.old }
-    requires room { 2 * length (next_frame parts.old.queue parts.old.limits.mtu) < change.old.spare }
+fn send<A: Allocator + Copy>(desk: &mut Desk<A>, alloc: A) -> Result<Vec<u8, A>, Refusal>
+    requires parts { AreParts desk.old.node }
+    requires room { 2 * length (next_frame desk.old.node.queue desk.old.node.limits.mtu) < desk.old.edits.spare }
     ensures memory { IfErr result (λ error. error ≡ refusal.NoMemory) }
-    ensures node { OnOk result (parts.new ≡ flushing.flushed parts.old) }
-    ensures bytes { IfOk result (λ bytes. bytes.items ≡ spelling (flushing.frame_of parts.old)) }
-    ensures fits { IfOk result (λ bytes. length bytes.items ≤ parts.old.limits.mtu) }
-    ensures extends { NodeExtends (1 + 2 * length (next_frame parts.old.queue parts.old.limits.mtu)) change.old change.new parts.old parts.new }
+    ensures node { OnOk result (desk.new.node ≡ flushing.flushed desk.old.node) }
+    ensures bytes { IfOk result (λ bytes. bytes.items ≡ spelling (flushing.frame_of desk.old.node)) }
+    ensures fits { IfOk result (λ bytes. length bytes.items ≤ desk.old.node.limits.mtu) }
+    ensures writes { Writes (1 + 2 * length (next_frame desk.old.node.queue desk.old.node.limits.mtu)) desk.old desk.new }
 {
-    match frame_taken(parts, alloc, change) {
+    match frame_taken(desk, alloc) {
         Ok((bytes, entries)) => {
-            clear_told(parts, &entries, change);
+            clear_told(desk, &entries);
             Ok(bytes)
         }
         Err(_) => Err(Refusal::NoMemory),
@@ -83,60 +77,51 @@ fn send<A: Allocator + Copy>(
 
 /// Takes the entries of the next frame out of what is pending, and gives its bytes and them.
 fn frame_taken<A: Allocator + Copy>(
-    parts: &mut Parts<A>,
+    desk: &mut Desk<A>,
     alloc: A,
-    change: &mut Change<NodeEdit, A>,
 ) -> Result<(Vec<u8, A>, Vec<Entry, A>), NoMemory>
-    requires parts { AreParts parts.old }
-    requires room { length (next_frame parts.old.queue parts.old.limits.mtu) ≤ change.old.spare }
-    ensures bytes { IfOk result (λ r. r.0.items ≡ spelling (flushing.frame_of parts.old)) }
-    ensures fits { IfOk result (λ r. length r.0.items ≤ parts.old.limits.mtu) }
-    ensures entries { IfOk result (λ r. r.1.items ≡ next_frame parts.old.queue parts.old.limits.mtu) }
-    ensures node { OnOk result (parts.new ≡ taken_from parts.old) }
-    ensures extends { NodeExtends (length (next_frame parts.old.queue parts.old.limits.mtu)) change.old change.new parts.old parts.new }
+    requires parts { AreParts desk.old.node }
+    requires room { length (next_frame desk.old.node.queue desk.old.node.limits.mtu) ≤ desk.old.edits.spare }
+    ensures bytes { IfOk result (λ r. r.0.items ≡ spelling (flushing.frame_of desk.old.node)) }
+    ensures fits { IfOk result (λ r. length r.0.items ≤ desk.old.node.limits.mtu) }
+    ensures entries { IfOk result (λ r. r.1.items ≡ next_frame desk.old.node.queue desk.old.node.limits.mtu) }
+    ensures node { OnOk result (desk.new.node ≡ taken_from desk.old.node) }
+    ensures writes { Writes (length (next_frame desk.old.node.queue desk.old.node.limits.mtu)) desk.old desk.new }
 {
-    let entries = parts.take_entries(change)?;
-    let bytes = bytes_of(parts, alloc, &entries)?;
+    let entries = desk.take_entries()?;
+    let bytes = bytes_of(desk, alloc, &entries)?;
     Ok((bytes, entries))
 }
 
 /// No frame is wanted soon any more, and the states that the entries tell of have no updates left to tell.
-fn clear_told<A: Allocator>(
-    parts: &mut Parts<A>,
-    entries: &[Entry],
-    change: &mut Change<NodeEdit, A>,
-)
-    requires room { length entries.now < change.old.spare }
-    ensures node { parts.new ≡ fold flushing.update_count_cleared (record parts.old { push = false }) entries.now }
-    ensures extends { NodeExtends (1 + length entries.now) change.old change.new parts.old parts.new }
+fn clear_told<A: Allocator>(desk: &mut Desk<A>, entries: &[Entry])
+    requires room { length entries.now < desk.old.edits.spare }
+    ensures node { desk.new.node ≡ fold flushing.update_count_cleared (record desk.old.node { push = false }) entries.now }
+    ensures writes { Writes (1 + length entries.now) desk.old desk.new }
 {
-    parts.set_push(false, change);
-    clear_counts(parts, entries, change);
+    desk.set_push(false);
+    clear_counts(desk, entries);
 }
 
 /// The states that the entries tell of have no updates left to tell.
-fn clear_counts<A: Allocator>(
-    parts: &mut Parts<A>,
-    entries: &[Entry],
-    change: &mut Change<NodeEdit, A>,
-)
-    requires room { length entries.now ≤ change.old.spare }
-    ensures node { parts.new ≡ fold flushing.update_count_cleared parts.old entries.now }
-    ensures extends { NodeExtends (length entries.now) change.old change.new parts.old parts.new }
+fn clear_counts<A: Allocator>(desk: &mut Desk<A>, entries: &[Entry])
+    requires room { length entries.now ≤ desk.old.edits.spare }
+    ensures node { desk.new.node ≡ fold flushing.update_count_cleared desk.old.node entries.now }
+    ensures writes { Writes (length entries.now) desk.old desk.new }
 {
     for entry in entries {
-        clear_count(parts, entry, change);
+        clear_count(desk, entry);
     }
 }
 
 /// The state that the entry tells of, if it is of one, has no updates left to tell.
-fn clear_count<A: Allocator>(parts: &mut Parts<A>, entry: &Entry, change: &mut Change<NodeEdit, A>)
-    requires room { 0 < change.old.spare }
-    ensures node { parts.new ≡ flushing.update_count_cleared parts.old entry.now }
-    ensures extends { NodeExtends 1 change.old change.new parts.old parts.new }
+fn clear_count<A: Allocator>(desk: &mut Desk<A>, entry: &Entry)
+    requires room { 0 < desk.old.edits.spare }
+    ensures node { desk.new.node ≡ flushing.update_count_cleared desk.old.node entry.now }
+    ensures writes { Writes 1 desk.old desk.new }
 {
     match *entry {
-        Entry::Marked { name, .. } => parts.clear_updates(name, change),
+        Entry::Marked { name, .. } => desk.clear_updates(name),
         Entry::Request(_) | Entry::Status(_) | Entry::Clear { .. } => {}
     }
 }

@@ -4,16 +4,16 @@ ghost use Rattle.std.specs.Prelude.{◌≡◌, ◌≤◌, ◌∷◌, ◌+◌, []
 ghost use Rattle.pfl_edits.specs.Maps as maps;
 ghost use Rattle.pfl_node.specs.Killing as killing;
 ghost use Rattle.pfl_parts.specs.Changes.{deleted};
-ghost use Rattle.pfl_parts.specs.Edits.{NodeExtends, NodeLeadsBack, total};
+ghost use Rattle.pfl_parts.specs.Drafts.{Writes};
+ghost use Rattle.pfl_parts.specs.Edits.{NodeLeadsBack};
 ghost use Rattle.pfl_parts.specs.inner.Judging.{Went};
 ghost use Rattle.pfl_parts.specs.Nodes.{Node as Whole, IsRefusal};
-ghost use Rattle.pfl_queue.specs.Queues.{most_numbers};
 ghost use Rattle.pfl_parts.specs.Weights.{deleted_edits};
 
 use crate::node::Node;
 use pfl_base::{Refusal, StateName};
 use pfl_edits::Change;
-use pfl_parts::{NodeEdit, Overfull, Parts, settle};
+use pfl_parts::{Desk, NodeEdit, Overfull};
 use pfl_track::State;
 use std::alloc::Allocator;
 
@@ -31,25 +31,20 @@ impl<A: Allocator + Copy> Node<A> {
         let Some(state) = self.states().by_name(name).copied() else {
             return Err(Refusal::NoSuchState);
         };
-        let tried = delete(&mut self.parts, state, &mut self.edits);
-        settle(self.alloc, &mut self.parts, &mut self.edits, tried)
+        let tried = delete(&mut self.desk, state);
+        self.desk.settle(self.alloc, tried)
     }
 }
 
 /// Deletes the state, which is answered, and tells whether after it a number was too high.
-fn delete<A: Allocator>(
-    parts: &mut Parts<A>,
-    state: State,
-    change: &mut Change<NodeEdit, A>,
-) -> Result<(State, bool), Overfull>
-    requires room { 5 ≤ change.old.spare }
-    requires countable { total parts.old + change.old.spare ≤ most_numbers }
-    requires stands { maps.get parts.old.states state.name ≡ Some state }
-    ensures went { Went result (deleted parts.old state ∷ []) }
-    ensures node { OnOk result (parts.new ≡ deleted parts.old state) }
+fn delete<A: Allocator>(desk: &mut Desk<A>, state: State) -> Result<(State, bool), Overfull>
+    requires room { 5 ≤ desk.old.edits.spare }
+    requires stands { maps.get desk.old.node.states state.name ≡ Some state }
+    ensures went { Went result (deleted desk.old.node state ∷ []) }
+    ensures node { OnOk result (desk.new.node ≡ deleted desk.old.node state) }
     ensures state { IfOk result (λ r. r.0 ≡ state) }
-    ensures extends { NodeExtends 5 change.old change.new parts.old parts.new }
+    ensures writes { Writes 5 desk.old desk.new }
 {
-    parts.delete(&state, change)?;
-    Ok((state, parts.is_overcounted()))
+    desk.delete(&state)?;
+    Ok((state, desk.is_overcounted()))
 }

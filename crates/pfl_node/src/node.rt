@@ -7,9 +7,9 @@ ghost use Rattle.pfl_language.specs.Limits.{AreLimits};
 ghost use Rattle.pfl_node.specs.inner.Room.{most_edits as most};
 ghost use Rattle.pfl_parts.specs.Nodes.{Node as Whole, IsNode, new_node};
 
-use pfl_edits::{Change, NoMemory, Reversible};
+use pfl_edits::{NoMemory, Reversible};
 use pfl_language::Limits;
-use pfl_parts::{NodeEdit, Parts};
+use pfl_parts::{Desk, NodeEdit};
 use pfl_rules::RuleSet;
 use std::alloc::Allocator;
 use std::marker::Model;
@@ -18,18 +18,13 @@ use std::marker::Model;
 /// change. All room is made by `new`, also that for the edits of an event while it is carried out and judged.
 pub struct Node<A: Allocator> {
     pub(crate) alloc: A,
-    pub(crate) parts: Parts<A>,
-    pub(crate) edits: Change<NodeEdit, A>,
+    pub(crate) desk: Desk<A>,
 }
 
 // Not derived: to a proof a written drop is one call, where a derived one is opened again on every way out.
 impl<A: Allocator> Drop for Node<A> {
     fn drop(self) {
-        let Node {
-            alloc: _,
-            parts: _,
-            edits: _,
-        } = self;
+        let Node { alloc: _, desk: _ } = self;
     }
 }
 
@@ -42,9 +37,9 @@ impl<A: Allocator> Model for Node<A> {
 
     ghost coded = { coded_node };
 
-    ghost view = { λ n. n.parts };
+    ghost view = { λ n. n.desk.node };
 
-    ghost invariant = { λ n. IsNode n.parts × IsReady n.parts.limits n.edits };
+    ghost invariant = { λ n. IsNode n.desk.node × IsReady n.desk.node.limits n.desk.edits };
 }
 
 impl<A: Allocator + Copy> Node<A> {
@@ -53,25 +48,19 @@ impl<A: Allocator + Copy> Node<A> {
         requires limits { AreLimits limits }
         ensures new { IfOk result (λ n. n ≡ new_node limits rules creator 1 0) }
     {
-        let parts = Parts::new(alloc, limits, rules, creator)?;
-        let edits = Change::with_room(alloc, most_edits(&limits))?;
-        Ok(Node {
-            alloc,
-            parts,
-            edits,
-        })
+        let desk = Desk::new(alloc, limits, rules, creator, most_edits(&limits))?;
+        Ok(Node { alloc, desk })
     }
 
     /// An equal node, with memory of its own.
     pub fn copy(&self) -> Result<Self, NoMemory>
         ensures same { IfOk result (λ copied. copied ≡ self.now) }
     {
-        let parts = self.parts.copy()?;
-        let edits = Change::with_room(self.alloc, most_edits(&parts.limits()))?;
+        let room = most_edits(&self.desk.limits());
+        let desk = self.desk.copy(self.alloc, room)?;
         Ok(Node {
             alloc: self.alloc,
-            parts,
-            edits,
+            desk,
         })
     }
 }
@@ -81,7 +70,7 @@ impl<A: Allocator> Node<A> {
     pub fn known(&self)
         ensures node { IsNode self.now }
     {
-        let _parts = &self.parts;
+        let _desk = &self.desk;
     }
 }
 
@@ -114,7 +103,7 @@ impl<A: Allocator> Reversible for Node<A> {
     ghost allows = { IsNode };
 
     fn undo(&mut self, edit: NodeEdit) {
-        self.parts.undo(edit);
+        self.desk.undo(edit);
     }
 
     ghost both_ways = { edit-both_ways };

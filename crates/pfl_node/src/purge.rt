@@ -2,17 +2,17 @@
 
 ghost use Rattle.std.specs.List.{slice_get};
 ghost use Rattle.std.specs.Prelude.{◌≡◌, ◌≤◌, ◌+◌, ◌*◌, None, IfOk, IfErr, OnOk, OnErr, length};
-ghost use Rattle.pfl_parts.specs.Edits.{NodeExtends, NodeLeadsBack, total};
+ghost use Rattle.pfl_parts.specs.Drafts.{Writes};
+ghost use Rattle.pfl_parts.specs.Edits.{NodeLeadsBack};
 ghost use Rattle.pfl_node.specs.Purging as event;
 ghost use Rattle.pfl_parts.specs.inner.Judging.{Went};
 ghost use Rattle.pfl_parts.specs.Nodes.{Node as Whole, AreParts, IsRefusal, points_refusal};
-ghost use Rattle.pfl_queue.specs.Queues.{most_numbers};
 ghost use Rattle.pfl_parts.specs.Weights.{deleted_edits};
 
 use crate::node::Node;
 use pfl_base::Refusal;
 use pfl_edits::Change;
-use pfl_parts::{NodeEdit, Overfull, Parts, any, settle};
+use pfl_parts::{Desk, NodeEdit, Overfull};
 use pfl_track::State;
 use std::alloc::Allocator;
 
@@ -28,41 +28,37 @@ impl<A: Allocator + Copy> Node<A> {
         ensures leads_back { IfOk result (λ r. NodeLeadsBack r.1.list self.old self.new) }
         ensures weight { IfOk result (λ r. length r.1.list ≤ deleted_edits * length (event.expired_states self.old)) }
     {
-        let tried = purge(&mut self.parts, &mut self.edits);
-        settle(self.alloc, &mut self.parts, &mut self.edits, tried)
+        let tried = purge(&mut self.desk);
+        self.desk.settle(self.alloc, tried)
     }
 }
 
 /// Deletes all states that have expired, and tells how many, and whether after one of them a number was too high.
-fn purge<A: Allocator>(
-    parts: &mut Parts<A>,
-    change: &mut Change<NodeEdit, A>,
-) -> Result<(usize, bool), Overfull>
-    requires parts { AreParts parts.old }
-    requires room { 5 * length (event.expired_states parts.old) ≤ change.old.spare }
-    requires countable { total parts.old + change.old.spare ≤ most_numbers }
-    ensures went { Went result (event.purge_points parts.old) }
-    ensures node { OnOk result (parts.new ≡ event.purged parts.old) }
-    ensures count { IfOk result (λ r. r.0 ≡ length (event.expired_states parts.old)) }
-    ensures extends { NodeExtends (5 * length (event.expired_states parts.old)) change.old change.new parts.old parts.new }
+fn purge<A: Allocator>(desk: &mut Desk<A>) -> Result<(usize, bool), Overfull>
+    requires parts { AreParts desk.old.node }
+    requires room { 5 * length (event.expired_states desk.old.node) ≤ desk.old.edits.spare }
+    ensures went { Went result (event.purge_points desk.old.node) }
+    ensures node { OnOk result (desk.new.node ≡ event.purged desk.old.node) }
+    ensures count { IfOk result (λ r. r.0 ≡ length (event.expired_states desk.old.node)) }
+    ensures writes { Writes (5 * length (event.expired_states desk.old.node)) desk.old desk.new }
 {
     let mut count = 0;
     let mut overcounted = false;
-    while let Some(state) = first_expired(parts) {
-        parts.delete(&state, change)?;
-        overcounted = any(overcounted, parts.is_overcounted());
+    while let Some(state) = first_expired(desk) {
+        desk.delete(&state)?;
+        overcounted |= desk.is_overcounted();
         count += 1;
     }
     Ok((count, overcounted))
 }
 
 /// Of the states that have expired, the first to expire.
-fn first_expired<A: Allocator>(parts: &Parts<A>) -> Option<State>
-    ensures first { result ≡ slice_get (event.expired_states parts.now) 0 }
-    ensures parts { AreParts parts.now }
+fn first_expired<A: Allocator>(desk: &Desk<A>) -> Option<State>
+    ensures first { result ≡ slice_get (event.expired_states desk.now.node) 0 }
+    ensures parts { AreParts desk.now.node }
 {
-    let row = parts.states().first_expiring()?;
-    if row.expires <= parts.clock() {
+    let row = desk.states().first_expiring()?;
+    if row.expires <= desk.clock() {
         Some(row.state)
     } else {
         None

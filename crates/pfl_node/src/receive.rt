@@ -3,17 +3,17 @@
 ghost use Rattle.std.specs.Prelude.{◌≡◌, ◌≤◌, ◌<◌, ◌+◌, ◌*◌, [], ◌∷◌, None, IfOk, IfErr, OnOk, OnErr, length};
 ghost use Rattle.pfl_node.specs.Delivering as delivering;
 ghost use Rattle.pfl_parts.specs.Changes as to;
-ghost use Rattle.pfl_parts.specs.Edits.{NodeExtends, NodeLeadsBack, total};
+ghost use Rattle.pfl_parts.specs.Drafts.{Writes};
+ghost use Rattle.pfl_parts.specs.Edits.{NodeLeadsBack};
 ghost use Rattle.pfl_parts.specs.inner.Judging.{Went};
 ghost use Rattle.pfl_parts.specs.Nodes.{Node as Whole, IsRefusal};
-ghost use Rattle.pfl_queue.specs.Queues.{most_numbers};
 ghost use Rattle.pfl_receive.specs.Delivering as receiving;
 ghost use Rattle.pfl_wire.specs.Frames.{frame_len, records_of};
 
 use crate::node::Node;
 use pfl_base::Refusal;
 use pfl_edits::Change;
-use pfl_parts::{Counter, NodeEdit, Overfull, Parts, settle};
+use pfl_parts::{Counter, Desk, NodeEdit, Overfull};
 use pfl_receive::take_frame;
 use pfl_wire::FrameBytes;
 use std::alloc::Allocator;
@@ -35,8 +35,8 @@ impl<A: Allocator + Copy> Node<A> {
         ensures leads_back { IfOk result (λ r. NodeLeadsBack r.1.list self.old self.new) }
         ensures weight { IfOk result (λ r. length r.1.list ≤ receiving.work_edits * receiving.frame_work self.old frame.now) }
     {
-        let tried = take_frame(&mut self.parts, frame, &mut self.edits);
-        settle(self.alloc, &mut self.parts, &mut self.edits, tried)
+        let tried = take_frame(&mut self.desk, frame);
+        self.desk.settle(self.alloc, tried)
     }
 
     /// Counts a frame that cannot be read.
@@ -48,22 +48,18 @@ impl<A: Allocator + Copy> Node<A> {
         ensures leads_back { IfOk result (λ r. NodeLeadsBack r.1.list self.old self.new) }
         ensures weight { IfOk result (λ r. length r.1.list ≤ 1) }
     {
-        let tried = count_one(&mut self.parts, &mut self.edits);
-        settle(self.alloc, &mut self.parts, &mut self.edits, tried)
+        let tried = count_one(&mut self.desk);
+        self.desk.settle(self.alloc, tried)
     }
 }
 
 /// Counts a frame that cannot be read, and tells whether after it a number was too high.
-fn count_one<A: Allocator>(
-    parts: &mut Parts<A>,
-    change: &mut Change<NodeEdit, A>,
-) -> Result<((), bool), Overfull>
-    requires room { 0 < change.old.spare }
-    requires countable { total parts.old + change.old.spare ≤ most_numbers }
-    ensures went { Went result (to.count_broken parts.old ∷ []) }
-    ensures node { OnOk result (parts.new ≡ to.count_broken parts.old) }
-    ensures extends { NodeExtends 1 change.old change.new parts.old parts.new }
+fn count_one<A: Allocator>(desk: &mut Desk<A>) -> Result<((), bool), Overfull>
+    requires room { 0 < desk.old.edits.spare }
+    ensures went { Went result (to.count_broken desk.old.node ∷ []) }
+    ensures node { OnOk result (desk.new.node ≡ to.count_broken desk.old.node) }
+    ensures writes { Writes 1 desk.old desk.new }
 {
-    parts.count(Counter::Broken, change);
-    Ok(((), parts.is_overcounted()))
+    desk.count(Counter::Broken);
+    Ok(((), desk.is_overcounted()))
 }

@@ -4,16 +4,16 @@ ghost use Rattle.std.specs.List.{slice_get};
 ghost use Rattle.std.specs.Prelude.{◌≡◌, ◌≤◌, ◌*◌, ◌+◌, ◌==◌, [], ◌∷◌, None, false, IfOk, IfErr, OnOk, OnErr, length};
 ghost use Rattle.pfl_base.specs.declared.refusal.Refusal.TheVariants as refusal;
 ghost use Rattle.pfl_node.specs.Releasing as releasing;
-ghost use Rattle.pfl_parts.specs.Edits.{NodeExtends, NodeLeadsBack, total};
+ghost use Rattle.pfl_parts.specs.Drafts.{Writes};
+ghost use Rattle.pfl_parts.specs.Edits.{NodeLeadsBack};
 ghost use Rattle.pfl_parts.specs.inner.Judging.{judged_as};
 ghost use Rattle.pfl_parts.specs.Nodes.{Node as Whole, AreParts, IsRefusal, is_overcounted, refused_by};
-ghost use Rattle.pfl_queue.specs.Queues.{most_numbers};
 ghost use Rattle.pfl_parts.specs.Weights.{released_edits};
 
 use crate::node::Node;
 use pfl_base::{Refusal, StateName};
 use pfl_edits::Change;
-use pfl_parts::{NodeEdit, Parts, conclude};
+use pfl_parts::{Desk, NodeEdit};
 use std::alloc::Allocator;
 
 impl<A: Allocator + Copy> Node<A> {
@@ -30,48 +30,47 @@ impl<A: Allocator + Copy> Node<A> {
         if self.held().is_empty() {
             return Err(Refusal::NothingPending);
         }
-        let count = release(&mut self.parts, &mut self.edits);
-        let judged = judge(&self.parts, count);
-        conclude(self.alloc, &mut self.parts, &mut self.edits, judged)
+        let count = release(&mut self.desk);
+        let judged = judge(&self.desk, count);
+        self.desk.conclude(self.alloc, judged)
     }
 }
 
 /// Lets the packets go out whose time has come, and tells how many.
-fn release<A: Allocator>(parts: &mut Parts<A>, change: &mut Change<NodeEdit, A>) -> usize
-    requires parts { AreParts parts.old }
-    requires room { 3 * length (releasing.due_names parts.old) ≤ change.old.spare }
-    requires countable { total parts.old + change.old.spare ≤ most_numbers }
-    ensures node { parts.new ≡ releasing.released_due parts.old }
-    ensures count { result ≡ length (releasing.due_names parts.old) }
-    ensures extends { NodeExtends (3 * length (releasing.due_names parts.old)) change.old change.new parts.old parts.new }
+fn release<A: Allocator>(desk: &mut Desk<A>) -> usize
+    requires parts { AreParts desk.old.node }
+    requires room { 3 * length (releasing.due_names desk.old.node) ≤ desk.old.edits.spare }
+    ensures node { desk.new.node ≡ releasing.released_due desk.old.node }
+    ensures count { result ≡ length (releasing.due_names desk.old.node) }
+    ensures writes { Writes (3 * length (releasing.due_names desk.old.node)) desk.old desk.new }
 {
     let mut count = 0;
-    while let Some(name) = first_due(parts) {
-        parts.release(name, change);
+    while let Some(name) = first_due(desk) {
+        desk.release(name);
         count += 1;
     }
     count
 }
 
 /// Of the packets whose time has come, the name of the oldest.
-fn first_due<A: Allocator>(parts: &Parts<A>) -> Option<StateName>
-    ensures first { result ≡ slice_get (releasing.due_names parts.now) 0 }
-    ensures parts { AreParts parts.now }
+fn first_due<A: Allocator>(desk: &Desk<A>) -> Option<StateName>
+    ensures first { result ≡ slice_get (releasing.due_names desk.now.node) 0 }
+    ensures parts { AreParts desk.now.node }
 {
-    let wait = u64::from(parts.limits().defer_ms);
-    let held = parts.held().due(parts.clock(), wait).first()?;
+    let wait = u64::from(desk.limits().defer_ms);
+    let held = desk.held().due(desk.clock(), wait).first()?;
     Some(held.name)
 }
 
 /// What becomes of a release of so many packets: at least one has to go out, and no number may be too high.
-fn judge<A: Allocator>(parts: &Parts<A>, count: usize) -> Result<usize, Refusal>
-    ensures refused { judged_as result ≡ refused_by ((count == 0, refusal.TooEarly) ∷ (is_overcounted parts.now, refusal.CountFull) ∷ []) }
+fn judge<A: Allocator>(desk: &Desk<A>, count: usize) -> Result<usize, Refusal>
+    ensures refused { judged_as result ≡ refused_by ((count == 0, refusal.TooEarly) ∷ (is_overcounted desk.now.node, refusal.CountFull) ∷ []) }
     ensures count { IfOk result (λ c. c ≡ count) }
-    ensures counted { OnOk result (is_overcounted parts.now ≡ false) }
+    ensures counted { OnOk result (is_overcounted desk.now.node ≡ false) }
 {
     if count == 0 {
         Err(Refusal::TooEarly)
-    } else if parts.is_overcounted() {
+    } else if desk.is_overcounted() {
         Err(Refusal::CountFull)
     } else {
         Ok(count)

@@ -3,7 +3,8 @@
 ghost use Rattle.std.specs.Prelude.{◌≡◌, ◌≤◌, [], ◌∷◌, None, IfOk, IfErr, OnOk, OnErr, length};
 ghost use Rattle.pfl_bulk.specs.Bulk.{asks_again, retried};
 ghost use Rattle.pfl_node.specs.Retrying as retrying;
-ghost use Rattle.pfl_parts.specs.Edits.{NodeExtends, NodeLeadsBack};
+ghost use Rattle.pfl_parts.specs.Drafts.{Writes};
+ghost use Rattle.pfl_parts.specs.Edits.{NodeLeadsBack};
 ghost use Rattle.pfl_parts.specs.inner.Judging.{Went};
 ghost use Rattle.pfl_parts.specs.Nodes.{Node as Whole, IsRefusal};
 ghost use Rattle.pfl_node.specs.Weights.{retried_edits};
@@ -13,7 +14,7 @@ use pfl_base::{Refusal, StateName};
 use pfl_bulk::Retry;
 use pfl_edits::Change;
 use pfl_language::Retried;
-use pfl_parts::{NodeEdit, Overfull, Parts, settle};
+use pfl_parts::{Desk, NodeEdit, Overfull};
 use std::alloc::Allocator;
 
 /// As a request, this name asks for all states.
@@ -32,30 +33,26 @@ impl<A: Allocator + Copy> Node<A> {
     {
         let wait = u64::from(self.limits().bulk_ms);
         let retry = self.client().retry(wait, self.clock())?;
-        let tried = ask_again(&mut self.parts, retry, &mut self.edits);
-        settle(self.alloc, &mut self.parts, &mut self.edits, tried)
+        let tried = ask_again(&mut self.desk, retry);
+        self.desk.settle(self.alloc, tried)
     }
 }
 
 /// Does what a client does whose time has come, and tells whether after it a number was too high.
-fn ask_again<A: Allocator>(
-    parts: &mut Parts<A>,
-    retry: Retry,
-    change: &mut Change<NodeEdit, A>,
-) -> Result<(Retried, bool), Overfull>
-    requires room { 3 ≤ change.old.spare }
-    requires asks { retry.asks ≡ asks_again parts.old.client }
-    requires client { retry.client ≡ retried parts.old.client parts.old.clock }
-    ensures went { Went result (retrying.retried_client parts.old ∷ []) }
-    ensures node { OnOk result (parts.new ≡ retrying.retried_client parts.old) }
-    ensures answer { IfOk result (λ r. r.0 ≡ retrying.retry_answer parts.old) }
-    ensures extends { NodeExtends 3 change.old change.new parts.old parts.new }
+fn ask_again<A: Allocator>(desk: &mut Desk<A>, retry: Retry) -> Result<(Retried, bool), Overfull>
+    requires room { 3 ≤ desk.old.edits.spare }
+    requires asks { retry.asks ≡ asks_again desk.old.node.client }
+    requires client { retry.client ≡ retried desk.old.node.client desk.old.node.clock }
+    ensures went { Went result (retrying.retried_client desk.old.node ∷ []) }
+    ensures node { OnOk result (desk.new.node ≡ retrying.retried_client desk.old.node) }
+    ensures answer { IfOk result (λ r. r.0 ≡ retrying.retry_answer desk.old.node) }
+    ensures writes { Writes 3 desk.old desk.new }
 {
     if !retry.asks {
-        parts.set_client(retry.client, change);
-        return Ok((Retried::Served, parts.is_overcounted()));
+        desk.set_client(retry.client);
+        return Ok((Retried::Served, desk.is_overcounted()));
     }
-    parts.ask(ALL_STATES, change)?;
-    parts.set_client(retry.client, change);
-    Ok((Retried::Asked(retry.client.tries()), parts.is_overcounted()))
+    desk.ask(ALL_STATES)?;
+    desk.set_client(retry.client);
+    Ok((Retried::Asked(retry.client.tries()), desk.is_overcounted()))
 }

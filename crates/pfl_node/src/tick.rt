@@ -9,7 +9,7 @@ ghost use Rattle.pfl_node.specs.Weights.{ticked_edits};
 use crate::node::Node;
 use pfl_base::{Millis, Refusal};
 use pfl_edits::Change;
-use pfl_parts::{NodeEdit, settle};
+use pfl_parts::NodeEdit;
 use std::alloc::Allocator;
 
 /// The last millisecond that a clock shows.
@@ -43,12 +43,7 @@ impl<A: Allocator + Copy> Node<A> {
             return Err(refusal);
         }
         let clock = self.clock() + ms;
-        self.parts.set_clock(clock, &mut self.edits);
-        settle(
-            self.alloc,
-            &mut self.parts,
-            &mut self.edits,
-            Ok((clock, false)),
-        )
+        self.desk.set_clock(clock);
+        self.desk.settle(self.alloc, Ok((clock, false)))
     }
 }

@@ -4,11 +4,11 @@ ghost use Rattle.std.specs.List.{AllByRecursion};
 ghost use Rattle.std.specs.Prelude.{◌≡◌, ◌≤◌, ◌+◌, ◌∷◌, [], true, None, IfOk, IfErr, OnOk, OnErr, length, take};
 ghost use Rattle.pfl_bulk.specs.Bulk.{first_names};
 ghost use Rattle.pfl_node.specs.Turning as turning;
-ghost use Rattle.pfl_parts.specs.Edits.{NodeExtends, NodeLeadsBack, total};
+ghost use Rattle.pfl_parts.specs.Drafts.{Writes};
+ghost use Rattle.pfl_parts.specs.Edits.{NodeLeadsBack};
 ghost use Rattle.pfl_parts.specs.inner.Judging.{Went};
 ghost use Rattle.pfl_parts.specs.inner.Kept.{MayMark};
 ghost use Rattle.pfl_parts.specs.Nodes.{Node as Whole, AreParts, IsRefusal, is_overfull};
-ghost use Rattle.pfl_queue.specs.Queues.{most_numbers};
 ghost use Rattle.pfl_queue.specs.declared.Kind.TheVariants as kind;
 ghost use Rattle.pfl_node.specs.Weights.{turned_edits};
 
@@ -16,7 +16,7 @@ use crate::node::Node;
 use pfl_base::{Millis, Refusal, StateName};
 use pfl_bulk::BulkServer;
 use pfl_edits::Change;
-use pfl_parts::{NodeEdit, Overfull, Parts, settle};
+use pfl_parts::{Desk, NodeEdit, Overfull};
 use pfl_queue::Kind;
 use pfl_track::State;
 use pfl_wire::BulkStatus;
@@ -43,53 +43,49 @@ impl<A: Allocator + Copy> Node<A> {
         if !self.server().is_serving() {
             return Err(Refusal::NotSyncing);
         }
-        let tried = turn(&mut self.parts, &mut self.edits);
-        settle(self.alloc, &mut self.parts, &mut self.edits, tried)
+        let tried = turn(&mut self.desk);
+        self.desk.settle(self.alloc, tried)
     }
 }
 
 /// Queues the next states of the bulk update; tells how many, and whether after it a number was too high.
-fn turn<A: Allocator>(
-    parts: &mut Parts<A>,
-    change: &mut Change<NodeEdit, A>,
-) -> Result<(usize, bool), Overfull>
-    requires parts { AreParts parts.old }
-    requires room { length (turning.turn_of parts.old) + 3 ≤ change.old.spare }
-    requires countable { total parts.old + change.old.spare ≤ most_numbers }
-    ensures went { Went result (turning.turned parts.old ∷ []) }
-    ensures node { OnOk result (parts.new ≡ turning.turned parts.old) }
-    ensures count { IfOk result (λ r. r.0 ≡ length (turning.turn_of parts.old)) }
-    ensures extends { NodeExtends (length (turning.turn_of parts.old) + 3) change.old change.new parts.old parts.new }
+fn turn<A: Allocator>(desk: &mut Desk<A>) -> Result<(usize, bool), Overfull>
+    requires parts { AreParts desk.old.node }
+    requires room { length (turning.turn_of desk.old.node) + 3 ≤ desk.old.edits.spare }
+    ensures went { Went result (turning.turned desk.old.node ∷ []) }
+    ensures node { OnOk result (desk.new.node ≡ turning.turned desk.old.node) }
+    ensures count { IfOk result (λ r. r.0 ≡ length (turning.turn_of desk.old.node)) }
+    ensures writes { Writes (length (turning.turn_of desk.old.node) + 3) desk.old desk.new }
 {
-    let batch = parts.limits().batch as usize;
+    let batch = desk.limits().batch as usize;
     let mut names = [NO_NAME; MOST_NAMES];
-    let count = next_names(parts, batch + 1, &mut names);
-    let turn = parts.server().turn(&names[..count], batch);
-    queue_all(parts, turn.names, change)?;
-    tell_end(parts, turn.is_last, change)?;
-    parts.set_server(turn.server, change);
-    Ok((turn.names.len(), parts.is_overcounted()))
+    let count = next_names(desk, batch + 1, &mut names);
+    let turn = desk.server().turn(&names[..count], batch);
+    queue_all(desk, turn.names)?;
+    tell_end(desk, turn.is_last)?;
+    desk.set_server(turn.server);
+    Ok((turn.names.len(), desk.is_overcounted()))
 }
 
 /// Of the names that the server may send, the first behind its cursor, at most so many: they are written to the front of `names`,
 /// and counted.
-fn next_names<A: Allocator>(parts: &Parts<A>, most: usize, names: &mut [StateName]) -> usize
-    requires parts { AreParts parts.now }
+fn next_names<A: Allocator>(desk: &Desk<A>, most: usize, names: &mut [StateName]) -> usize
+    requires parts { AreParts desk.now.node }
     requires room { most ≤ length names.old }
     ensures few { result ≤ length names.new }
-    ensures names { take result names.new ≡ first_names parts.now.server (turning.eligible_names parts.now parts.now.server) most }
+    ensures names { take result names.new ≡ first_names desk.now.node.server (turning.eligible_names desk.now.node desk.now.node.server) most }
 {
-    let BulkServer::Serving { cursor, since } = parts.server() else {
+    let BulkServer::Serving { cursor, since } = desk.server() else {
         return 0;
     };
     let mut at = cursor;
     let mut count = 0;
     while count < most {
-        let Some(row) = parts.states().after(at) else {
+        let Some(row) = desk.states().after(at) else {
             return count;
         };
         at = row.state.name();
-        if is_eligible(parts, &row.state, since) {
+        if is_eligible(desk, &row.state, since) {
             names[count] = at;
             count += 1;
         }
@@ -98,48 +94,39 @@ fn next_names<A: Allocator>(parts: &Parts<A>, most: usize, names: &mut [StateNam
 }
 
 /// The state may be sent in a bulk update that runs since then.
-fn is_eligible<A: Allocator>(parts: &Parts<A>, state: &State, since: Millis) -> bool
-    ensures eligible { result ≡ turning.is_eligible parts.now since state.now }
+fn is_eligible<A: Allocator>(desk: &Desk<A>, state: &State, since: Millis) -> bool
+    ensures eligible { result ≡ turning.is_eligible desk.now.node since state.now }
 {
     let settled = match state.peer_change() {
         Some(time) => time <= since,
         None => true,
     };
-    parts.queue().kind_of(state.name()).is_none() && !state.no_sync() && settled
+    desk.queue().kind_of(state.name()).is_none() && !state.no_sync() && settled
 }
 
 /// Puts all these names on the queue of updates.
-fn queue_all<A: Allocator>(
-    parts: &mut Parts<A>,
-    names: &[StateName],
-    change: &mut Change<NodeEdit, A>,
-) -> Result<(), Overfull>
-    requires room { length names.now ≤ change.old.spare }
-    requires countable { total parts.old + change.old.spare ≤ most_numbers }
-    requires may { AllByRecursion (λ name. MayMark parts.old name kind.Update) names.now }
-    ensures full { OnErr result (is_overfull (turning.queued parts.old names.now) ≡ true) }
-    ensures node { OnOk result (parts.new ≡ turning.queued parts.old names.now) }
-    ensures extends { NodeExtends (length names.now) change.old change.new parts.old parts.new }
+fn queue_all<A: Allocator>(desk: &mut Desk<A>, names: &[StateName]) -> Result<(), Overfull>
+    requires room { length names.now ≤ desk.old.edits.spare }
+    requires may { AllByRecursion (λ name. MayMark desk.old.node name kind.Update) names.now }
+    ensures full { OnErr result (is_overfull (turning.queued desk.old.node names.now) ≡ true) }
+    ensures node { OnOk result (desk.new.node ≡ turning.queued desk.old.node names.now) }
+    ensures writes { Writes (length names.now) desk.old desk.new }
 {
     for name in names {
-        parts.mark(*name, Kind::Update, change)?;
+        desk.mark(*name, Kind::Update)?;
     }
     Ok(())
 }
 
 /// Tells the end of the bulk update, where the turn is its last.
-fn tell_end<A: Allocator>(
-    parts: &mut Parts<A>,
-    is_last: bool,
-    change: &mut Change<NodeEdit, A>,
-) -> Result<(), Overfull>
-    requires room { 2 ≤ change.old.spare }
-    ensures full { OnErr result (is_overfull (turning.ended is_last parts.old) ≡ true) }
-    ensures node { OnOk result (parts.new ≡ turning.ended is_last parts.old) }
-    ensures extends { NodeExtends 2 change.old change.new parts.old parts.new }
+fn tell_end<A: Allocator>(desk: &mut Desk<A>, is_last: bool) -> Result<(), Overfull>
+    requires room { 2 ≤ desk.old.edits.spare }
+    ensures full { OnErr result (is_overfull (turning.ended is_last desk.old.node) ≡ true) }
+    ensures node { OnOk result (desk.new.node ≡ turning.ended is_last desk.old.node) }
+    ensures writes { Writes 2 desk.old desk.new }
 {
     if is_last {
-        parts.tell_status(BulkStatus::End, change)
+        desk.tell_status(BulkStatus::End)
     } else {
         Ok(())
     }

@@ -4,6 +4,6 @@ pub use Rattle.pfl_parts.proofs.Deletions.{Rest, deleted-rest}
 pub use Rattle.pfl_parts.proofs.Keeps.{counted_all, keeps_next_id, state_still}
 pub use Rattle.pfl_parts.proofs.NewNodes.{new_node-is}
 pub use Rattle.pfl_parts.proofs.Putting.{put-node, told-may}
-pub use Rattle.pfl_parts.proofs.Recording.{extends-more, extends-none, extends-then}
+pub use Rattle.pfl_parts.proofs.Recording.{writes-more, writes-none, writes-then}
 pub use Rattle.pfl_parts.proofs.Settling.{leads_through, settled-answer, went-counted, went-refusal}
 pub use Rattle.pfl_parts.proofs.Taking.{frame_entries, left-next}

@@ -1,22 +1,19 @@
 -- What a node keeps where a request, a bulk status or a clear is listed, and what is recorded of it.
 use Rattle.std.specs.Prelude.{◌≡◌, ◌≤◌, ℕ, ◌+◌, Bool, true, false, [], ◌∷◌, ◌++◌, Option, Some, None, if◌then◌else◌, refl}
-use Rattle.std.proofs.Common.{cond, ◌∙◌, ap, sym, arith}
+use Rattle.std.proofs.Common.{cond, ap, arith}
 use Rattle.pfl_base.specs.declared.state_name.StateName.{StateName}
-use Rattle.pfl_edits.specs.Changes.{Edits}
 use Rattle.pfl_edits.proofs.ForCallers.{LeadsBack-one}
 use Rattle.pfl_wire.specs.declared.message.BulkStatus.{BulkStatus}
-use Rattle.pfl_queue.specs.declared.QueueFault.{QueueFault}
 use Rattle.pfl_queue.specs.declared.edits.QueueEdit.{QueueEdit}
 use Rattle.pfl_queue.specs.Edits.{QueueLeadsBack}
-use Rattle.pfl_queue.specs.Queues.{Queue, IsQueue, list_fault, request_fault, is_requested}
+use Rattle.pfl_queue.specs.Queues.{Queue, list_fault, request_fault, is_requested}
 use Rattle.pfl_queue.proofs.ForCallers.{status_kept, clear_kept, request_kept}
-use Rattle.pfl_parts.specs.declared.edit.NodeEdit.{NodeEdit}
 use Rattle.pfl_parts.specs.declared.edit.NodeEdit.TheVariants.{OfQueue}
 use Rattle.pfl_parts.specs.Changes.{list_request, list_status, list_clear}
-use Rattle.pfl_parts.specs.Edits.{Finds, put_back, NextStays, NodeExtends, total}
+use Rattle.pfl_parts.specs.Edits.{Finds, put_back, NextStays, total}
+use Rattle.pfl_parts.specs.inner.Drafting.{Makes}
 use Rattle.pfl_parts.specs.Nodes.{Node, AreParts}
 use Rattle.pfl_parts.proofs.Keeps.{keeps_queue}
-use Rattle.pfl_parts.proofs.Recording.{extends-push}
 
 -- ---- what stays a node's parts
 
@@ -49,7 +46,8 @@ unfolding total
 total-queue n q next = omega (arith, next)
 
 -- an edit of what is pending that takes no number
-pub recorded_queue : (x y : Edits NodeEdit) (n : Node) (e : QueueEdit) (q : Queue) → AreParts n → QueueLeadsBack (e ∷ []) n.queue q → NextStays e → q.next ≡ n.queue.next → y.list ≡ x.list ++ OfQueue e ∷ [] → y.spare + 1 ≡ x.spare → NodeExtends 1 x y n (record n { queue = q })
-recorded_queue x y n e q is back stays next lists spares =
-    extends-push x y (OfQueue e) n (record n { queue = q }) lists spares (total-queue n q next)
-    (LeadsBack-one Finds AreParts put_back (OfQueue e) n (record n { queue = q }) (back.fits.1, stays) is (ap (λ (r : Queue). record n { queue = r }) back.back))
+pub makes_queue : (n : Node) (e : QueueEdit) (q : Queue) → AreParts n → QueueLeadsBack (e ∷ []) n.queue q → NextStays e → q.next ≡ n.queue.next → Makes (OfQueue e ∷ []) n (record n { queue = q })
+makes_queue n e q is back stays next = record {
+  leads_back = LeadsBack-one Finds AreParts put_back (OfQueue e) n (record n { queue = q }) (back.fits.1, stays) is (ap (λ (r : Queue). record n { queue = r }) back.back);
+  counted = total-queue n q next;
+}

@@ -1,10 +1,11 @@
 -- An edit that is recorded leads back, and counts at most one more.
-use Rattle.std.specs.Prelude.{◌≡◌, ◌≤◌, ℕ, ◌+◌, Bool, true, false, not, ◌&&◌, nat_le, nat_lt, List, [], ◌∷◌, ◌++◌, length, Option, Some, None, is_some, if◌then◌else◌, refl}
+use Rattle.std.specs.Prelude.{◌≡◌, ◌≤◌, ◌<◌, ℕ, ◌+◌, ◌*◌, Bool, true, false, not, ◌&&◌, nat_le, nat_lt, List, [], ◌∷◌, ◌++◌, length, Option, Some, None, is_some, if◌then◌else◌, refl}
 use Rattle.std.proofs.Common.{cond, ◌∙◌, ap, sym, subst, arith, length-append}
 use Rattle.std.proofs.lemmas.Bool.Decides.{nat_tests}
 use Rattle.pfl_base.specs.declared.state_name.StateName.{StateName}
 use Rattle.pfl_base.proofs.ForCallers.{names_total}
 use Rattle.pfl_base.specs.Names.{is_name}
+use Rattle.pfl_base.specs.Numbers.{greatest}
 use Rattle.pfl_edits.specs.Changes.{Edits, LeadsBack}
 use Rattle.pfl_edits.proofs.ForCallers.{LeadsBack-one, LeadsBack-append, len-insert}
 use Rattle.pfl_edits.specs.Maps as maps
@@ -13,7 +14,7 @@ use Rattle.pfl_queue.specs.declared.Mark.{Mark}
 use Rattle.pfl_queue.specs.declared.QueueFault.{QueueFault}
 use Rattle.pfl_queue.specs.declared.QueueFault.TheVariants.{QueueFull}
 use Rattle.pfl_queue.specs.declared.edits.QueueEdit.TheVariants.{OfMark, OfName, OfRequest, OfStatus, OfClear}
-use Rattle.pfl_queue.specs.Queues.{Queue, pending, marked, room_fault}
+use Rattle.pfl_queue.specs.Queues.{Queue, most_numbers, pending, marked, room_fault}
 use Rattle.pfl_defer.specs.declared.edits.DeferEdit.{DeferEdit}
 use Rattle.pfl_defer.specs.Deferring.{Deferrals, let_go}
 use Rattle.pfl_defer.specs.Edits.{DefersBack}
@@ -23,38 +24,90 @@ use Rattle.pfl_parts.specs.declared.edit.Counter.TheVariants.{Passed, Blocked, F
 use Rattle.pfl_parts.specs.declared.edit.NodeEdit.{NodeEdit}
 use Rattle.pfl_parts.specs.declared.edit.NodeEdit.TheVariants.{OfState, Moved, OfQueue, OfHeld, Server, Client, Clock, NextId, Push, Count}
 use Rattle.pfl_parts.specs.Changes.{without_held, mark}
-use Rattle.pfl_parts.specs.Edits.{Finds, FindsFormer, put_back, redone, NodeExtends, total, count_of}
+use Rattle.pfl_parts.specs.Drafts.{Draft, Writes, began}
+use Rattle.pfl_parts.specs.Edits.{Finds, FindsFormer, put_back, redone, total, count_of}
 use Rattle.pfl_parts.specs.inner.BothWays.{edit-both_ways}
-use Rattle.pfl_parts.specs.Nodes.{Node, AreParts, is_overfull}
-use Rattle.pfl_parts.proofs.Keeps.{keeps_held}
+use Rattle.pfl_parts.specs.inner.Drafting.{IsDraft, Makes, MakesIf, Wrote}
+use Rattle.pfl_parts.specs.Nodes.{Node, AreParts, is_overcounted, is_overfull}
+use Rattle.pfl_parts.proofs.Keeps.{counted_all, keeps_held}
 
 -- ---- what is recorded one after another
 
--- nothing
-pub extends-none : (x : Edits NodeEdit) (n : Node) → NodeExtends 0 x x n n
-extends-none x n = record { spare = omega arith; room = refl; counted = omega arith; leads_back = λ o l. l }
+-- a draft of this node, with these edits
+abbrev pub draft : Node → Edits NodeEdit → Draft
+draft n x = record { node = n; edits = x }
 
--- one edit
-pub extends-push : (x y : Edits NodeEdit) (e : NodeEdit) (a b : Node) → y.list ≡ x.list ++ e ∷ [] → y.spare + 1 ≡ x.spare → total b ≤ total a + 1 → LeadsBack Finds AreParts put_back (e ∷ []) a b → NodeExtends 1 x y a b
-extends-push x y e a b lists spares more l = record {
-  spare = omega arith;
-  room = omega (arith, ap (λ (es : List NodeEdit). length es) lists ∙ length-append x.list (e ∷ []));
-  counted = omega arith;
-  leads_back = λ origin before. subst (λ (es : List NodeEdit). LeadsBack Finds AreParts put_back es origin b) (sym lists) (LeadsBack-append Finds AreParts put_back x.list (e ∷ []) origin a b before l);
-}
+-- nothing
+pub writes-none : (k : ℕ) (d : Draft) → Writes k d d
+writes-none k d = record { spare = omega arith; room = refl; began = refl }
 
 -- at most k edits, and then at most l
-pub extends-then : (k l : ℕ) (x y z : Edits NodeEdit) (a b c : Node) → NodeExtends k x y a b → NodeExtends l y z b c → NodeExtends (k + l) x z a c
-extends-then k l x y z a b c f g = record {
-  spare = omega (arith, f.spare, g.spare);
-  room = g.room ∙ f.room;
-  counted = omega (arith, f.counted, g.counted);
-  leads_back = λ origin before. g.leads_back origin (f.leads_back origin before);
-}
+pub writes-then : (k l : ℕ) (d e f : Draft) → Writes k d e → Writes l e f → Writes (k + l) d f
+writes-then k l d e f v w =
+    let first = v.spare in
+    let second = w.spare in
+    record { spare = omega (arith, first, second); room = w.room ∙ v.room; began = w.began ∙ v.began }
 
 -- a larger bound
-pub extends-more : (k l : ℕ) (x y : Edits NodeEdit) (a b : Node) → k ≤ l → NodeExtends k x y a b → NodeExtends l x y a b
-extends-more k l x y a b h f = record { spare = omega (arith, f.spare); room = f.room; counted = f.counted; leads_back = f.leads_back }
+pub writes-more : (k l : ℕ) (d e : Draft) → k ≤ l → Writes k d e → Writes l d e
+writes-more k l d e h w = let few = w.spare in record { spare = omega (arith, few, h); room = w.room; began = w.began }
+
+-- ---- what was made, recorded
+
+module _ (a b : Node) (x y : Edits NodeEdit) (es : List NodeEdit) (is : IsDraft (draft a x)) (made : Makes es a b) (lists : y.list ≡ x.list ++ es) (spares : y.spare + length es ≡ x.spare) where
+  long : length y.list ≡ length x.list + length es
+  long = ap (λ (l : List NodeEdit). length l) lists ∙ length-append x.list es
+
+  leads : LeadsBack Finds AreParts put_back y.list (began (draft a x)) b
+  leads = subst (λ (l : List NodeEdit). LeadsBack Finds AreParts put_back l (began (draft a x)) b) (sym lists)
+      (LeadsBack-append Finds AreParts put_back x.list es (began (draft a x)) a b (record { fits = is.fits; back = refl }) made.leads_back)
+
+  pub draft-all : IsDraft (draft b y)
+  draft-all =
+      let more = made.counted in
+      let before = is.counted in
+      let all = is.room in
+      let same = ap total leads.back in
+      record {
+        fits = leads.fits;
+        start = ap is_overcounted leads.back ∙ is.start;
+        counted = omega (arith, more, before, long, same);
+        room = omega (arith, all, long, spares);
+      }
+
+  pub writes-all : Writes (length es) (draft a x) (draft b y)
+  writes-all = record { spare = omega (arith, spares); room = omega (arith, long, spares); began = leads.back }
+
+-- one edit
+module _ (a b : Node) (x y : Edits NodeEdit) (e : NodeEdit) (is : IsDraft (draft a x)) (made : Makes (e ∷ []) a b) (lists : y.list ≡ x.list ++ e ∷ []) (spares : y.spare + 1 ≡ x.spare) where
+  pub draft-one : IsDraft (draft b y)
+  draft-one = draft-all a b x y (e ∷ []) is made lists spares
+
+  pub writes-one : Writes 1 (draft a x) (draft b y)
+  writes-one = writes-all a b x y (e ∷ []) is made lists spares
+
+-- one edit, if any
+pub draft-if : (a b : Node) (x y : Edits NodeEdit) (o : Option NodeEdit) → IsDraft (draft a x) → MakesIf o a b → Wrote o x y → IsDraft (draft b y)
+draft-if a b x y (Some e) is made wrote = draft-one a b x y e is made wrote.0 wrote.1
+draft-if a b x y None is made wrote = subst (λ (n : Node). IsDraft (draft n y)) (sym made) (subst (λ (z : Edits NodeEdit). IsDraft (draft a z)) (sym wrote) is)
+
+pub writes-if : (a b : Node) (x y : Edits NodeEdit) (o : Option NodeEdit) → IsDraft (draft a x) → MakesIf o a b → Wrote o x y → Writes 1 (draft a x) (draft b y)
+writes-if a b x y (Some e) is made wrote = writes-one a b x y e is made wrote.0 wrote.1
+writes-if a b x y None is made wrote =
+    subst (λ (n : Node). Writes 1 (draft a x) (draft n y)) (sym made) (subst (λ (z : Edits NodeEdit). Writes 1 (draft a x) (draft a z)) (sym wrote) (writes-none 1 (draft a x)))
+
+-- what is counted is far from the last number that the code has
+total-small : (n : Node) → is_overcounted n ≡ false → total n ≤ 9 * greatest
+unfolding total
+total-small n c = let k = counted_all n c in omega (arith, k.next_id, k.next, k.passed, k.blocked, k.freed, k.lost, k.bad, k.stale, k.broken)
+
+-- so one more can be counted
+pub countable : (d : Draft) → IsDraft d → total d.node < most_numbers
+countable d is =
+    let small = total-small (began d) is.start in
+    let more = is.counted in
+    let few = is.room in
+    omega (arith, small, more, few)
 
 -- ---- an edit of what is there
 
@@ -88,16 +141,18 @@ total-redone n (Count Bad before after) f h = let now = f.0 in omega arith
 total-redone n (Count Stale before after) f h = let now = f.0 in omega arith
 total-redone n (Count Broken before after) f h = let now = f.0 in omega arith
 
--- made and recorded
-pub recorded : (x y : Edits NodeEdit) (n : Node) (e : NodeEdit) → AreParts n → FindsFormer e n → CountsOne e → y.list ≡ x.list ++ e ∷ [] → y.spare + 1 ≡ x.spare → NodeExtends 1 x y n (redone e n)
-recorded x y n e is former one lists spares =
+-- the edit was made
+pub makes : (n : Node) (e : NodeEdit) → AreParts n → FindsFormer e n → CountsOne e → Makes (e ∷ []) n (redone e n)
+makes n e is former one =
     let both = edit-both_ways e in
-    extends-push x y e n (redone e n) lists spares (total-redone n e former one)
-    (LeadsBack-one Finds AreParts put_back e n (redone e n) (both.redone_finds n former) is (both.put_back_redone n former))
+    record {
+      leads_back = LeadsBack-one Finds AreParts put_back e n (redone e n) (both.redone_finds n former) is (both.put_back_redone n former);
+      counted = total-redone n e former one;
+    }
 
 -- the same, where the edit is known to be this one
-pub recorded_as : (x y : Edits NodeEdit) (n : Node) (e f : NodeEdit) → e ≡ f → AreParts n → FindsFormer f n → CountsOne f → y.list ≡ x.list ++ e ∷ [] → y.spare + 1 ≡ x.spare → NodeExtends 1 x y n (redone f n)
-recorded_as x y n e f same is former one lists spares = recorded x y n f is former one (lists ∙ ap (λ (d : NodeEdit). x.list ++ d ∷ []) same) spares
+pub makes_as : (n : Node) (e f : NodeEdit) → e ≡ f → AreParts n → FindsFormer f n → CountsOne f → Makes (e ∷ []) n (redone f n)
+makes_as n e f same is former one = subst (λ (d : NodeEdit). Makes (d ∷ []) n (redone f n)) (sym same) (makes n f is former one)
 
 -- a number is below the last one that the code has, where there is room for one edit more
 pub total-least : (n : Node) → (n.next_id ≤ total n) × (n.queue.next ≤ total n)
@@ -120,12 +175,14 @@ total-held : (n : Node) (d : Deferrals) → total (record n { held = d }) ≡ to
 unfolding total
 total-held n d = refl
 
--- a change of the held packets, recorded
-pub recorded_held : (x y : Edits NodeEdit) (n : Node) (e : DeferEdit) (d : Deferrals) → AreParts n → DefersBack (e ∷ []) n.held d → y.list ≡ x.list ++ OfHeld e ∷ [] → y.spare + 1 ≡ x.spare → NodeExtends 1 x y n (record n { held = d })
-recorded_held x y n e d is back lists spares =
+-- a change of the held packets
+pub makes_held : (n : Node) (e : DeferEdit) (d : Deferrals) → AreParts n → DefersBack (e ∷ []) n.held d → Makes (OfHeld e ∷ []) n (record n { held = d })
+makes_held n e d is back =
     let same = total-held n d in
-    extends-push x y (OfHeld e) n (record n { held = d }) lists spares (omega arith)
-    (LeadsBack-one Finds AreParts put_back (OfHeld e) n (record n { held = d }) back.fits.1 is (ap (λ (h : Deferrals). record n { held = h }) back.back))
+    record {
+      leads_back = LeadsBack-one Finds AreParts put_back (OfHeld e) n (record n { held = d }) back.fits.1 is (ap (λ (h : Deferrals). record n { held = h }) back.back);
+      counted = omega (arith, same);
+    }
 
 -- a node without the packet of a name
 pub without_held-node : (n : Node) (name : StateName) → AreParts n → AreParts (without_held n name)

@@ -1,10 +1,9 @@
 -- A state takes the place of one of its name, or moves there, and that is recorded.
-use Rattle.std.specs.Prelude.{◌≡◌, ◌+◌, [], ◌∷◌, ◌++◌, Option, Some, None}
+use Rattle.std.specs.Prelude.{◌≡◌, [], ◌∷◌, Option, Some, None}
 use Rattle.std.specs.Option.{option_map}
 use Rattle.std.proofs.Common.{◌∙◌, ap, sym, subst}
 use Rattle.pfl_base.specs.declared.state_name.StateName.{StateName}
 use Rattle.pfl_base.proofs.ForCallers.{names_total, names_exact}
-use Rattle.pfl_edits.specs.Changes.{Edits}
 use Rattle.pfl_edits.specs.Maps as maps
 use Rattle.pfl_edits.specs.Maps.{set_at}
 use Rattle.pfl_edits.proofs.ForCallers.{set_at-same}
@@ -16,9 +15,10 @@ use Rattle.pfl_parts.specs.declared.edit.NodeEdit.{NodeEdit}
 use Rattle.pfl_parts.specs.declared.edit.NodeEdit.TheVariants.{OfState, Moved, OfQueue, OfHeld, Server, Client, Clock, NextId, Push, Count}
 use Rattle.pfl_parts.specs.inner.Kept.{Replaces}
 use Rattle.pfl_parts.specs.Changes.{put_state}
-use Rattle.pfl_parts.specs.Edits.{NodeExtends, moved_at}
+use Rattle.pfl_parts.specs.Edits.{moved_at}
+use Rattle.pfl_parts.specs.inner.Drafting.{Makes}
 use Rattle.pfl_parts.specs.Nodes.{Node, AreParts}
-use Rattle.pfl_parts.proofs.Recording.{recorded_as}
+use Rattle.pfl_parts.proofs.Recording.{makes_as}
 
 -- a state that stands already, put in its place
 pub put_again : (n : Node) (s : State) → maps.get n.states s.name ≡ Some s → n ≡ put_state n s
@@ -31,20 +31,20 @@ moved_none n name to none =
     (sym (set_at-same names_total names_exact n.states name (option_map (with_motion to) (maps.get n.states name)) (none ∙ sym (ap (option_map (with_motion to)) none))))
 
 -- a state that replaces the one of its name is recorded
-pub replaced-extends : (x y : Edits NodeEdit) (n : Node) (former s : State) (e : NodeEdit) → Replaces former s e → AreParts n → maps.get n.states s.name ≡ Some former
-    → y.list ≡ x.list ++ e ∷ [] → y.spare + 1 ≡ x.spare → NodeExtends 1 x y n (put_state n s)
-replaced-extends x y n former s (OfState e) is parts there lists spares =
-    recorded_as x y n (OfState e) (OfState (record { name = s.name; before = Some former; after = Some s })) (ap OfState is) parts there tt lists spares
-replaced-extends x y n former s (Moved e) is parts there lists spares =
+pub replaced-makes : (n : Node) (former s : State) (e : NodeEdit) → Replaces former s e → AreParts n → maps.get n.states s.name ≡ Some former
+    → Makes (e ∷ []) n (put_state n s)
+replaced-makes n former s (OfState e) is parts there =
+    makes_as n (OfState e) (OfState (record { name = s.name; before = Some former; after = Some s })) (ap OfState is) parts there tt
+replaced-makes n former s (Moved e) is parts there =
     let moved : option_map (with_motion (motion s)) (maps.get n.states s.name) ≡ Some s =
     ap (option_map (with_motion (motion s))) there ∙ ap (λ (t : State). Some t) (sym is.1) in
-    subst (λ (at : Option State). NodeExtends 1 x y n (record n { states = set_at n.states s.name at })) moved
-    (recorded_as x y n (Moved e) (Moved (record { name = s.name; before = motion former; after = motion s })) (ap Moved is.0) parts (ap (option_map motion) there) tt lists spares)
-replaced-extends x y n former s (OfQueue e) is parts there lists spares = absurd is
-replaced-extends x y n former s (OfHeld e) is parts there lists spares = absurd is
-replaced-extends x y n former s (Server before after) is parts there lists spares = absurd is
-replaced-extends x y n former s (Client before after) is parts there lists spares = absurd is
-replaced-extends x y n former s (Clock before after) is parts there lists spares = absurd is
-replaced-extends x y n former s (NextId before after) is parts there lists spares = absurd is
-replaced-extends x y n former s (Push before after) is parts there lists spares = absurd is
-replaced-extends x y n former s (Count counter before after) is parts there lists spares = absurd is
+    subst (λ (at : Option State). Makes (Moved e ∷ []) n (record n { states = set_at n.states s.name at })) moved
+    (makes_as n (Moved e) (Moved (record { name = s.name; before = motion former; after = motion s })) (ap Moved is.0) parts (ap (option_map motion) there) tt)
+replaced-makes n former s (OfQueue e) is parts there = absurd is
+replaced-makes n former s (OfHeld e) is parts there = absurd is
+replaced-makes n former s (Server before after) is parts there = absurd is
+replaced-makes n former s (Client before after) is parts there = absurd is
+replaced-makes n former s (Clock before after) is parts there = absurd is
+replaced-makes n former s (NextId before after) is parts there = absurd is
+replaced-makes n former s (Push before after) is parts there = absurd is
+replaced-makes n former s (Count counter before after) is parts there = absurd is

@@ -1,8 +1,6 @@
 -- The entries of the next frame are taken out of the queue, which leads back.
-use Rattle.std.proofs.Common.{◌≡◌, ◌≢◌, ℕ, ◌+◌, ◌^◌, ◌<◌, ◌≤◌, List, [], ◌∷◌, ◌++◌, map, length, refl, sym, ◌∙◌, ap, subst, arith, length-append}
-use Rattle.std.specs.Prelude.{◌==◌, if◌then◌else◌}
-use Rattle.std.proofs.lemmas.List.{length-map}
-use Rattle.pfl_edits.specs.Changes.{Edits, LeadsBack}
+use Rattle.std.proofs.Common.{◌≡◌, ℕ, ◌+◌, List, [], ◌∷◌, ◌++◌, map, refl, sym, ◌∙◌, ap, subst, arith}
+use Rattle.pfl_edits.specs.Changes.{LeadsBack}
 use Rattle.pfl_edits.proofs.ForCallers.{LeadsBack-one, LeadsBack-none, LeadsBack-append}
 use Rattle.pfl_queue.specs.declared.Entry.{Entry}
 use Rattle.pfl_queue.specs.declared.Entry.TheVariants.{Marked, Request, Status, Clear}
@@ -11,9 +9,9 @@ use Rattle.pfl_queue.specs.Edits.{taking}
 use Rattle.pfl_queue.specs.Queues.{Queue}
 use Rattle.pfl_queue.specs.Taking.{in_turn, gone, left_by, next_frame}
 use Rattle.pfl_queue.proofs.ForCallers.{mark_stood, frame_begins, first_found, front_gone, redone_gone, next_stays, gone_kept}
-use Rattle.pfl_parts.specs.declared.edit.NodeEdit.{NodeEdit}
 use Rattle.pfl_parts.specs.declared.edit.NodeEdit.TheVariants.{OfQueue}
-use Rattle.pfl_parts.specs.Edits.{Finds, FindsFormer, NextStays, put_back, redone, NodeExtends, total}
+use Rattle.pfl_parts.specs.Edits.{Finds, FindsFormer, NextStays, put_back, redone, total}
+use Rattle.pfl_parts.specs.inner.Drafting.{Makes}
 use Rattle.pfl_parts.specs.inner.BothWays.{edit-both_ways}
 use Rattle.pfl_parts.specs.Nodes.{Node, AreParts}
 use Rattle.pfl_parts.specs.inner.Taking.{of_queue, taken_from}
@@ -71,21 +69,15 @@ left-total n q same = ap (λ (k : ℕ). n.next_id + k + n.counters.passed + n.co
 abbrev pub frame_entries : Node → List Entry
 frame_entries n = next_frame n.queue n.limits.mtu
 
--- the entries were taken out, and that is recorded
-pub taken-extends : (n m : Node) (x y : Edits NodeEdit) (taken : List QueueEdit) → AreParts n → m ≡ taken_from n → taken ≡ map taking (frame_entries n) → length taken ≡ length (frame_entries n)
-    → y.list ≡ x.list ++ of_queue taken → y.spare + length taken ≡ x.spare → NodeExtends (length (frame_entries n)) x y n m
-taken-extends n m x y taken is left edits one_each lists spares =
+-- the entries were taken out
+pub taken-makes : (n m : Node) (taken : List QueueEdit) → AreParts n → m ≡ taken_from n → taken ≡ map taking (frame_entries n) → Makes (of_queue taken) n m
+taken-makes n m taken is left edits =
     let es = frame_entries n in
     let begins = frame_begins n.queue n.limits.mtu in
     let leads = taken-back es n is begins.rest begins.is in
     let here = subst (λ (k : Node). LeadsBack Finds AreParts put_back (of_queue (map taking es)) n k) (sym left) leads in
     let sum = ap total left ∙ left-total n (left_by n.queue es) (left-next es n.queue) in
-    let long = ap (λ (es : List NodeEdit). length es) lists ∙ (length-append x.list (of_queue taken) ∙ ap (λ k. length x.list + k) (length-map taken OfQueue)) in
     record {
-      spare = omega (arith, spares, one_each);
-      room = omega (arith, spares, long);
-      counted = omega (arith, spares, sum);
-      leads_back = λ origin before.
-          subst (λ (l : List NodeEdit). LeadsBack Finds AreParts put_back l origin m) (sym (lists ∙ ap (λ (t : List QueueEdit). x.list ++ of_queue t) edits))
-          (LeadsBack-append Finds AreParts put_back x.list (of_queue (map taking es)) origin n m before here);
+      leads_back = subst (λ (t : List QueueEdit). LeadsBack Finds AreParts put_back (of_queue t) n m) (sym edits) here;
+      counted = omega (arith, sum);
     }

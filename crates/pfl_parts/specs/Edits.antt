@@ -1,9 +1,9 @@
 -- The edits of a node: each names one place, its former value and its new one (this project's profile).
-use Rattle.std.specs.Prelude.{◌≡◌, ◌≤◌, ℕ, ◌+◌, List, length, Some}
+use Rattle.std.specs.Prelude.{◌≡◌, ◌≤◌, ℕ, ◌+◌, List, Some}
 use Rattle.std.specs.Option.{option_map}
 use Rattle.pfl_base.specs.declared.state_name.StateName.{StateName}
 use Rattle.pfl_base.specs.Numbers.{greatest}
-use Rattle.pfl_edits.specs.Changes.{Edits, LeadsBack}
+use Rattle.pfl_edits.specs.Changes.{LeadsBack}
 use Rattle.pfl_edits.specs.Maps as maps
 use Rattle.pfl_edits.specs.Maps.{set_at}
 use Rattle.pfl_track.specs.declared.motion.Motion.{Motion}
@@ -18,7 +18,7 @@ use Rattle.pfl_parts.specs.declared.edit.Counter.{Counter}
 use Rattle.pfl_parts.specs.declared.edit.Counter.TheVariants.{Passed, Blocked, Freed, Lost, Bad, Stale, Broken}
 use Rattle.pfl_parts.specs.declared.edit.NodeEdit.{NodeEdit}
 use Rattle.pfl_parts.specs.declared.edit.NodeEdit.TheVariants.{OfState, Moved, OfQueue, OfHeld, Server, Client, Clock, NextId, Push, Count}
-use Rattle.pfl_parts.specs.Nodes.{Node, AreParts, IsNode}
+use Rattle.pfl_parts.specs.Nodes.{Node, IsNode}
 
 -- a number of the counters
 abbrev pub count_of : Counter → Counters → ℕ
@@ -113,11 +113,3 @@ NodeLeadsBack = LeadsBack Finds IsNode put_back
 -- all that a node counts, added up
 unfoldable pub total : Node → ℕ
 total n = n.next_id + n.queue.next + n.counters.passed + n.counters.blocked + n.counters.freed + n.counters.lost + n.counters.bad + n.counters.stale + n.counters.broken
-
--- At most k edits more were recorded on the way from a to b: where the edits before led back from a, those after lead back from b. No
--- more was counted than room was used up, so that no number comes near the last one that the code has.
-pub record NodeExtends (k : ℕ) (x y : Edits NodeEdit) (a b : Node) : Type 0 where
-  pub spare : x.spare ≤ y.spare + k
-  pub room : y.spare + length y.list ≡ x.spare + length x.list
-  pub counted : total b + y.spare ≤ total a + x.spare
-  pub leads_back : (origin : Node) → LeadsBack Finds AreParts put_back x.list origin a → LeadsBack Finds AreParts put_back y.list origin b

@@ -1,5 +1,5 @@
 -- Laws of nodes, in their own words (pf.c, if_pfsync.c).
-use Rattle.std.specs.Prelude.{◌≡◌, ◌≤◌, ℕ}
+use Rattle.std.specs.Prelude.{◌≤◌, ℕ}
 use Rattle.pfl_base.specs.Numbers.{greatest}
 use Rattle.pfl_rules.specs.Rules.{Rules, AreRules}
 use Rattle.pfl_language.specs.declared.limits.Limits.{Limits}

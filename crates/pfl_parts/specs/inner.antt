@@ -4,3 +4,4 @@ pub mod BothWays
 pub mod Kept
 pub mod Taking
 pub mod Judging
+pub mod Drafting

@@ -2,12 +2,13 @@
 #![tactic(auto)]
 
 mod counters;
+mod desk;
 mod edit;
 mod laws;
 mod parts;
 
 pub use counters::Counters;
+pub use desk::Desk;
 pub use edit::{Counter, MotionEdit, NodeEdit, StateEdit};
 pub use laws::new_nodes_are_nodes;
-pub use parts::Parts;
-pub use parts::judge::{Overfull, any, conclude, settle};
+pub use parts::judge::Overfull;

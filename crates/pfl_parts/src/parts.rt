@@ -1,8 +1,7 @@
-//! The parts of a node, which an event changes one by one: each place by itself (places), what the peer is asked for or told beside
-//! the queues of names (lists), the small changes that events are made of (changes), what a frame takes out (taking), what judges an
-//! event and ends it (judge), and what takes an edit back (undo). What is read of them stands in readers.
+//! The parts of a node, which an event changes one by one and which answer what changed as an edit: each place by itself (places), what
+//! the peer is asked for or told beside the queues of names (lists), and what a frame takes out (taking). What an event is judged by
+//! stands in judge, what takes an edit back in undo, and what is read of the parts in readers.
 
-mod changes;
 pub(crate) mod judge;
 mod lists;
 mod places;
@@ -128,7 +127,7 @@ impl<A: Allocator + Copy> Parts<A> {
 
 impl<A: Allocator> Parts<A> {
     /// Tells a proof what is true of the parts of each node. It does nothing.
-    fn known(&self)
+    pub(crate) fn known(&self)
         ensures parts { AreParts self.now }
     {
         let _clock = &self.clock;

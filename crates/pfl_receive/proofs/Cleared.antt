@@ -10,17 +10,16 @@ use Rattle.std.proofs.Common.{cond, T, ◌∙◌, ap, sym, arith}
 use Rattle.pfl_base.specs.declared.state_name.StateName.{StateName}
 use Rattle.pfl_base.specs.Names.{name_cmp}
 use Rattle.pfl_base.proofs.ForCallers.{names_total}
-use Rattle.pfl_edits.specs.Changes.{Edits}
 use Rattle.pfl_edits.specs.Maps as maps
 use Rattle.pfl_edits.specs.Maps.{entries_sorted}
 use Rattle.pfl_edits.proofs.ForCallers.{len-entries, len-remove, contains_key-keys}
 use Rattle.pfl_track.specs.declared.state.State.{State}
 use Rattle.pfl_table.specs.Tables.{States}
-use Rattle.pfl_parts.specs.declared.edit.NodeEdit.{NodeEdit}
 use Rattle.pfl_parts.specs.Changes.{forgotten, is_held, count_lost, without_held}
-use Rattle.pfl_parts.specs.Edits.{NodeExtends}
+use Rattle.pfl_parts.specs.Drafts.{Draft, Writes}
 use Rattle.pfl_parts.specs.Nodes.{Node}
-use Rattle.pfl_parts.proofs.ForCallers.{extends-none, extends-then}
+use Rattle.pfl_parts.proofs.ForCallers.{writes-none, writes-then}
+use Rattle.pfl_receive.specs.inner.Delivering.{IsPaid}
 use Rattle.pfl_receive.specs.Receiving.{clear_taken, cleared_names}
 
 -- ---- the names of a map
@@ -155,37 +154,35 @@ cleared-none m creator bound o first none = ap (fold forgotten m) (empty (cleare
 
 -- ---- name by name
 
--- m is what n was made to by some of its names, recorded in y
-pub record IsCleared (n m : Node) (creator bound : ℕ) (x y : Edits NodeEdit) : Type 0 where
-  pub rest : clear_taken m creator bound ≡ clear_taken n creator bound
-  pub paid : 4 * maps.len m.states + x.spare ≤ 4 * maps.len n.states + y.spare
-  pub due : x.spare + 4 * length (cleared_names m creator bound) ≤ y.spare + 4 * length (cleared_names n creator bound)
-  pub extends : NodeExtends (4 * length (cleared_names n creator bound)) x y n m
+-- e is what d was made to by some of its names
+pub record IsCleared (d e : Draft) (creator bound : ℕ) : Type 0 where
+  pub rest : clear_taken e.node creator bound ≡ clear_taken d.node creator bound
+  pub paid : IsPaid 0 d e
+  pub due : d.edits.spare + 4 * length (cleared_names e.node creator bound) ≤ e.edits.spare + 4 * length (cleared_names d.node creator bound)
+  pub writes : Writes (4 * length (cleared_names d.node creator bound)) d e
 
-pub cleared-first : (n : Node) (creator bound : ℕ) (x : Edits NodeEdit) → IsCleared n n creator bound x x
-cleared-first n creator bound x =
-    let none = extends-none x n in
-    record { rest = refl; paid = omega arith; due = omega arith; extends = record { spare = omega arith; room = none.room; counted = none.counted; leads_back = none.leads_back } }
+pub cleared-first : (d : Draft) (creator bound : ℕ) → IsCleared d d creator bound
+cleared-first d creator bound = record { rest = refl; paid = omega arith; due = omega arith; writes = writes-none _ d }
 
-module _ (n m : Node) (creator bound : ℕ) (x y : Edits NodeEdit) (so : IsCleared n m creator bound x y) (name : StateName) (next : IsNext m creator bound name) where
-  pub cleared-room : 4 * maps.len n.states ≤ x.spare → 4 ≤ y.spare
+module _ (d e : Draft) (creator bound : ℕ) (so : IsCleared d e creator bound) (name : StateName) (next : IsNext e.node creator bound name) where
+  pub cleared-room : 4 * maps.len d.node.states ≤ d.edits.spare → 4 ≤ e.edits.spare
   cleared-room room = let paid = so.paid in let fewer = next.fewer in omega (arith, paid, fewer, room)
 
-  pub cleared-more : (k : Node) (z : Edits NodeEdit) → k ≡ forgotten m name → NodeExtends 4 y z m k → IsCleared n k creator bound x z
-  cleared-more k z same more =
-      let all = extends-then (4 * length (cleared_names n creator bound)) 4 x y z n m k so.extends more in
+  pub cleared-more : (f : Draft) → f.node ≡ forgotten e.node name → Writes 4 e f → IsCleared d f creator bound
+  cleared-more f same more =
+      let all = writes-then (4 * length (cleared_names d.node creator bound)) 4 d e f so.writes more in
       let paid = so.paid in
       let due = so.due in
       let spare = more.spare in
-      let fewer = next.fewer ∙ ap (λ (v : Node). maps.len v.states + 1) (sym same) in
-      let one = next.one ∙ ap (λ (v : Node). length (cleared_names v creator bound) + 1) (sym same) in
-      let now : x.spare + 4 * length (cleared_names k creator bound) ≤ z.spare + 4 * length (cleared_names n creator bound) = omega (arith, due, spare, one) in
+      let fewer = next.fewer ∙ ap (λ (n : Node). maps.len n.states + 1) (sym same) in
+      let one = next.one ∙ ap (λ (n : Node). length (cleared_names n creator bound) + 1) (sym same) in
+      let now : d.edits.spare + 4 * length (cleared_names f.node creator bound) ≤ f.edits.spare + 4 * length (cleared_names d.node creator bound) = omega (arith, due, spare, one) in
       record {
-        rest = ap (λ (v : Node). clear_taken v creator bound) same ∙ (sym next.rest ∙ so.rest);
+        rest = ap (λ (n : Node). clear_taken n creator bound) same ∙ (sym next.rest ∙ so.rest);
         paid = omega (arith, paid, spare, fewer);
         due = now;
-        extends = record { spare = omega (arith, now); room = all.room; counted = all.counted; leads_back = all.leads_back };
+        writes = record { spare = omega (arith, now); room = all.room; began = all.began };
       }
 
-  pub cleared-fewer : (k : Node) → k ≡ forgotten m name → maps.len k.states < maps.len m.states
-  cleared-fewer k same = let fewer = next.fewer ∙ ap (λ (v : Node). maps.len v.states + 1) (sym same) in omega (arith, fewer)
+  pub cleared-fewer : (f : Draft) → f.node ≡ forgotten e.node name → maps.len f.node.states < maps.len e.node.states
+  cleared-fewer f same = let fewer = next.fewer ∙ ap (λ (n : Node). maps.len n.states + 1) (sym same) in omega (arith, fewer)

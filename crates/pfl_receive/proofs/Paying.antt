@@ -6,7 +6,6 @@ use Rattle.pfl_base.specs.declared.state_name.StateName.{StateName}
 use Rattle.pfl_base.proofs.ForCallers.{names_total}
 use Rattle.pfl_base.specs.Names.{is_name}
 use Rattle.pfl_base.specs.Packets.{is_tcp}
-use Rattle.pfl_edits.specs.Changes.{Edits}
 use Rattle.pfl_edits.specs.Maps as maps
 use Rattle.pfl_edits.proofs.ForCallers.{len-insert, len-remove}
 use Rattle.pfl_rules.specs.Rules.{timeout}
@@ -19,21 +18,20 @@ use Rattle.pfl_merge.specs.declared.received.Received.{Received}
 use Rattle.pfl_merge.specs.declared.merged.Merged.{Merged}
 use Rattle.pfl_merge.specs.Merging.{merged}
 use Rattle.pfl_bulk.specs.Bulk.{no_name}
-use Rattle.pfl_parts.specs.declared.edit.NodeEdit.{NodeEdit}
 use Rattle.pfl_parts.specs.Changes.{put_state, is_held, is_untold, count_freed, lost, count_lost, without_held, released, not_waiting, changed, count_stale, count_bad, forgotten, ask}
-use Rattle.pfl_parts.specs.Edits.{NodeExtends}
+use Rattle.pfl_parts.specs.Drafts.{Draft, Writes}
 use Rattle.pfl_parts.specs.Nodes.{Node}
 use Rattle.pfl_receive.specs.inner.Delivering.{IsPaid, paid_edits}
 use Rattle.pfl_receive.specs.Receiving.{insert_taken, can_import, imported, merge_taken, merged_into, bulk_taken, is_partly_told, request_taken, state_answered}
 use Rattle.pfl_receive.proofs.Cleared.{forgotten-states, known-some}
 
 -- k edits that leave l states more at most
-paid-by : (k l : ℕ) (x y : Edits NodeEdit) (a b : Node) → maps.len b.states ≤ maps.len a.states + l → NodeExtends k x y a b → IsPaid (k + 4 * l) x y a b
-paid-by k l x y a b more f = let spare = f.spare in omega (arith, more, spare)
+paid-by : (k l : ℕ) (d e : Draft) → maps.len e.node.states ≤ maps.len d.node.states + l → Writes k d e → IsPaid (k + 4 * l) d e
+paid-by k l d e more w = let spare = w.spare in omega (arith, more, spare)
 
 -- a payment is enough where a smaller one is
-pub paid-more : (k l : ℕ) (x y : Edits NodeEdit) (a b : Node) → k ≤ l → IsPaid k x y a b → IsPaid l x y a b
-paid-more k l x y a b more paid = omega (arith, more, paid)
+pub paid-more : (k l : ℕ) (d e : Draft) → k ≤ l → IsPaid k d e → IsPaid l d e
+paid-more k l d e more paid = omega (arith, more, paid)
 
 -- ---- how many states there are after it
 
@@ -109,21 +107,22 @@ few-request n name =
     (on-some _ (maps.get n.states name) (state_answered n) (count_bad n) (λ s. either _ (not s.no_sync && is_partly_told (kind_of n.queue s.name)) _ _ same same) same)
 
 -- a state that is forgotten pays for it
-pub paid-forgotten : (n m : Node) (name : StateName) (x y : Edits NodeEdit) → maps.contains_key n.states name ≡ true → m ≡ forgotten n name → NodeExtends 4 x y n m → IsPaid 0 x y n m
-paid-forgotten n m name x y known is more =
+pub paid-forgotten : (d e : Draft) (name : StateName) → maps.contains_key d.node.states name ≡ true → e.node ≡ forgotten d.node name → Writes 4 d e → IsPaid 0 d e
+paid-forgotten d e name known is w =
+    let n = d.node in
     let fewer = ap (λ (k : Node). maps.len k.states) is ∙ (ap maps.len (forgotten-states n name) ∙ (len-remove names_total n.states name ∙ ap (λ b. cond b (maps.len n.states - 1) (maps.len n.states)) known)) in
     let some = known-some n.states name known in
-    let spare = more.spare in
+    let spare = w.spare in
     omega (arith, fewer, some, spare)
 
 -- ---- what is made known of a record
 
-pub paid-as : (k l : ℕ) (m d : Message) (x y : Edits NodeEdit) (a b c : Node) → m ≡ d → k + 4 * l ≤ paid_edits d → b ≡ c → maps.len c.states ≤ maps.len a.states + l → NodeExtends k x y a b → IsPaid (paid_edits m) x y a b
-paid-as k l m d x y a b c is pays same more f =
+pub paid-as : (k l : ℕ) (m r : Message) (d e : Draft) (n : Node) → m ≡ r → k + 4 * l ≤ paid_edits r → e.node ≡ n → maps.len n.states ≤ maps.len d.node.states + l → Writes k d e → IsPaid (paid_edits m) d e
+paid-as k l m r d e n is pays same more w =
     let price = ap paid_edits is in
-    paid-more (k + 4 * l) (paid_edits m) x y a b (omega (arith, price, pays)) (paid-by k l x y a b (subst (λ (n : Node). maps.len n.states ≤ maps.len a.states + l) (sym same) more) f)
+    paid-more (k + 4 * l) (paid_edits m) d e (omega (arith, price, pays)) (paid-by k l d e (subst (λ (a : Node). maps.len a.states ≤ maps.len d.node.states + l) (sym same) more) w)
 
 -- where a record was taken to its end
-pub paid-on : {T E : Type 0} (r : Result T E) (k l : ℕ) (m d : Message) (x y : Edits NodeEdit) (a b c : Node) → m ≡ d → k + 4 * l ≤ paid_edits d → OnOk r (b ≡ c) → maps.len c.states ≤ maps.len a.states + l → NodeExtends k x y a b → OnOk r (IsPaid (paid_edits m) x y a b)
-paid-on (Ok t) k l m d x y a b c is pays same more f = paid-as k l m d x y a b c is pays same more f
-paid-on (Err e) k l m d x y a b c is pays same more f = tt
+pub paid-on : {T E : Type 0} (o : Result T E) (k l : ℕ) (m r : Message) (d e : Draft) (n : Node) → m ≡ r → k + 4 * l ≤ paid_edits r → OnOk o (e.node ≡ n) → maps.len n.states ≤ maps.len d.node.states + l → Writes k d e → OnOk o (IsPaid (paid_edits m) d e)
+paid-on (Ok t) k l m r d e n is pays same more w = paid-as k l m r d e n is pays same more w
+paid-on (Err f) k l m r d e n is pays same more w = tt

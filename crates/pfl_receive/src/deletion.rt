@@ -1,31 +1,24 @@
 //! A deletion at the peer.
 
-ghost use Rattle.std.specs.Prelude.{◌≡◌, ◌≤◌, ◌+◌};
-ghost use Rattle.pfl_parts.specs.Edits.{NodeExtends, total};
-ghost use Rattle.pfl_queue.specs.Queues.{most_numbers};
+ghost use Rattle.std.specs.Prelude.{◌≡◌, ◌≤◌};
+ghost use Rattle.pfl_parts.specs.Drafts.{Writes};
 ghost use Rattle.pfl_receive.specs.inner.Delivering.{IsPaid};
 ghost use Rattle.pfl_receive.specs.Receiving as receiving;
 
 use pfl_base::StateName;
-use pfl_edits::Change;
-use pfl_parts::{Counter, NodeEdit, Parts};
+use pfl_parts::{Counter, Desk};
 use std::alloc::Allocator;
 
 /// The state of the name goes unannounced; a name without one is bad.
-pub(crate) fn take_deletion<A: Allocator>(
-    parts: &mut Parts<A>,
-    name: StateName,
-    change: &mut Change<NodeEdit, A>,
-)
-    requires room { 4 ≤ change.old.spare }
-    requires countable { total parts.old + change.old.spare ≤ most_numbers }
-    ensures node { parts.new ≡ receiving.delete_taken parts.old name }
-    ensures paid { IsPaid 1 change.old change.new parts.old parts.new }
-    ensures extends { NodeExtends 4 change.old change.new parts.old parts.new }
+pub(crate) fn take_deletion<A: Allocator>(desk: &mut Desk<A>, name: StateName)
+    requires room { 4 ≤ desk.old.edits.spare }
+    ensures node { desk.new.node ≡ receiving.delete_taken desk.old.node name }
+    ensures paid { IsPaid 1 desk.old desk.new }
+    ensures writes { Writes 4 desk.old desk.new }
 {
-    if parts.states().by_name(name).is_some() {
-        parts.forget(name, change);
+    if desk.states().by_name(name).is_some() {
+        desk.forget(name);
     } else {
-        parts.count(Counter::Bad, change);
+        desk.count(Counter::Bad);
     }
 }

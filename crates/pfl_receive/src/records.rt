@@ -2,10 +2,9 @@
 
 ghost use Rattle.std.specs.Prelude.{◌≡◌, ◌≤◌, ◌+◌, ◌*◌, true, OnOk, OnErr};
 ghost use Rattle.pfl_edits.specs.Maps as maps;
-ghost use Rattle.pfl_parts.specs.Edits.{NodeExtends, total};
-ghost use Rattle.pfl_parts.specs.Nodes.{Node as Whole, is_overfull};
+ghost use Rattle.pfl_parts.specs.Drafts.{Writes};
+ghost use Rattle.pfl_parts.specs.Nodes.{is_overfull};
 ghost use Rattle.pfl_parts.specs.Weights.{forgotten_edits};
-ghost use Rattle.pfl_queue.specs.Queues.{most_numbers};
 ghost use Rattle.pfl_receive.specs.inner.Delivering.{IsPaid, paid_edits};
 ghost use Rattle.pfl_receive.specs.Delivering.{cleared_by, record_edits};
 ghost use Rattle.pfl_receive.specs.Receiving.{taken};
@@ -17,49 +16,46 @@ use crate::deletion::take_deletion;
 use crate::insertion::take_insertion;
 use crate::request::take_request;
 use crate::update::{take_short_update, take_update};
-use pfl_edits::Change;
-use pfl_parts::{NodeEdit, Overfull, Parts};
+use pfl_parts::{Desk, Overfull};
 use pfl_wire::Message;
 use std::alloc::Allocator;
 
 /// What a record from the peer does at a node. `same_rules` says that the peer's rules are the node's own. It stops where too much
 /// would be pending; what was done till then is recorded: at most eight edits, and four for each state that is cleared.
 pub fn take_record<A: Allocator>(
-    parts: &mut Parts<A>,
+    desk: &mut Desk<A>,
     message: &Message,
     same_rules: bool,
-    change: &mut Change<NodeEdit, A>,
 ) -> Result<(), Overfull>
-    requires room { forgotten_edits * maps.len parts.old.states + record_edits ≤ change.old.spare }
-    requires countable { total parts.old + change.old.spare ≤ most_numbers }
-    ensures full { OnErr result (is_overfull (taken parts.old same_rules message.now) ≡ true) }
-    ensures node { OnOk result (parts.new ≡ taken parts.old same_rules message.now) }
-    ensures paid { OnOk result (IsPaid (paid_edits message.now) change.old change.new parts.old parts.new) }
-    ensures extends { NodeExtends (record_edits + forgotten_edits * cleared_by parts.old message.now) change.old change.new parts.old parts.new }
+    requires room { forgotten_edits * maps.len desk.old.node.states + record_edits ≤ desk.old.edits.spare }
+    ensures full { OnErr result (is_overfull (taken desk.old.node same_rules message.now) ≡ true) }
+    ensures node { OnOk result (desk.new.node ≡ taken desk.old.node same_rules message.now) }
+    ensures paid { OnOk result (IsPaid (paid_edits message.now) desk.old desk.new) }
+    ensures writes { Writes (record_edits + forgotten_edits * cleared_by desk.old.node message.now) desk.old desk.new }
 {
     match message {
         Message::Clear { creator, bound } => {
-            take_clear(parts, *creator, *bound, change);
+            take_clear(desk, *creator, *bound);
             Ok(())
         }
-        Message::Insert(sent) => take_insertion(parts, sent, sent.ack_wanted, same_rules, change),
+        Message::Insert(sent) => take_insertion(desk, sent, sent.ack_wanted, same_rules),
         Message::InsertAck(name) => {
-            take_ack(parts, *name, change);
+            take_ack(desk, *name);
             Ok(())
         }
-        Message::Update(sent) => take_update(parts, sent, same_rules, change),
-        Message::UpdateShort(sent) => take_short_update(parts, sent, change),
-        Message::UpdateRequest(name) => take_request(parts, *name, change),
+        Message::Update(sent) => take_update(desk, sent, same_rules),
+        Message::UpdateShort(sent) => take_short_update(desk, sent),
+        Message::UpdateRequest(name) => take_request(desk, *name),
         Message::Delete(sent) => {
-            take_deletion(parts, sent.name, change);
+            take_deletion(desk, sent.name);
             Ok(())
         }
         Message::DeleteShort(name) => {
-            take_deletion(parts, *name, change);
+            take_deletion(desk, *name);
             Ok(())
         }
         Message::Bulk { status, .. } => {
-            take_status(parts, *status, change);
+            take_status(desk, *status);
             Ok(())
         }
     }

@@ -23,14 +23,14 @@ impl<A: Allocator> Node<A> {
     pub fn limits(&self) -> Limits
         ensures limits { result ≡ self.now.limits }
     {
-        self.parts.limits()
+        self.desk.limits()
     }
 
     /// Its rules.
     pub fn rules(&self) -> &RuleSet<A>
         ensures rules { result.now ≡ self.now.rules }
     {
-        self.parts.rules()
+        self.desk.rules()
     }
 
     /// Its states, each with the time at which it expires, in milliseconds.
@@ -39,35 +39,35 @@ impl<A: Allocator> Node<A> {
         ensures limit { result.now.limit ≡ self.now.limits.states }
         ensures expires { (name : StateName) (row : Row) → maps.get result.now.rows name ≡ Some row → row.expires ≡ expiry_at self.now row.state }
     {
-        self.parts.states()
+        self.desk.states()
     }
 
     /// What it has to tell its peer.
     pub fn queue(&self) -> &Pending<A>
         ensures queue { result.now ≡ self.now.queue }
     {
-        self.parts.queue()
+        self.desk.queue()
     }
 
     /// The packets that it holds until its peer knows of their states.
     pub fn held(&self) -> &Deferrals<A>
         ensures held { result.now ≡ self.now.held }
     {
-        self.parts.held()
+        self.desk.held()
     }
 
     /// The bulk update that it serves.
     pub fn server(&self) -> BulkServer
         ensures server { result ≡ self.now.server }
     {
-        self.parts.server()
+        self.desk.server()
     }
 
     /// The bulk update that it waits for.
     pub fn client(&self) -> BulkClient
         ensures client { result ≡ self.now.client }
     {
-        self.parts.client()
+        self.desk.client()
     }
 
     /// Its clock, in milliseconds.
@@ -75,34 +75,34 @@ impl<A: Allocator> Node<A> {
         ensures clock { result ≡ self.now.clock }
         ensures within { result ≤ last_millisecond }
     {
-        self.parts.clock()
+        self.desk.clock()
     }
 
     /// The number of its boot, by which its states are named.
     pub fn creator(&self) -> u32
         ensures creator { result ≡ self.now.creator }
     {
-        self.parts.creator()
+        self.desk.creator()
     }
 
     /// The id of its next state.
     pub fn next_id(&self) -> u64
         ensures next_id { result ≡ self.now.next_id }
     {
-        self.parts.next_id()
+        self.desk.next_id()
     }
 
     /// Whether a frame is wanted soon.
     pub fn push(&self) -> bool
         ensures push { result ≡ self.now.push }
     {
-        self.parts.push()
+        self.desk.push()
     }
 
     /// What it counted.
     pub fn counters(&self) -> Counters
         ensures counters { result ≡ self.now.counters }
     {
-        self.parts.counters()
+        self.desk.counters()
     }
 }

@@ -1,82 +1,68 @@
 //! A packet that is held back until the peer knows of its state (ifconfig(8), `defer`).
 
-ghost use Rattle.std.specs.Prelude.{◌≡◌, ◌≤◌, ◌<◌, ◌+◌, None, Some, length, true};
+ghost use Rattle.std.specs.Prelude.{◌≡◌, ◌≤◌, ◌<◌, None, Some, length, true};
 ghost use Rattle.pfl_defer.specs.Deferring as deferring;
 ghost use Rattle.pfl_edits.specs.Maps as maps;
-ghost use Rattle.pfl_parts.specs.Edits.{NodeExtends, total};
+ghost use Rattle.pfl_parts.specs.Drafts.{Writes};
 ghost use Rattle.pfl_parts.specs.inner.Kept.{MayReplace};
 ghost use Rattle.pfl_parts.specs.Nodes.{Node as Whole, AreParts};
 ghost use Rattle.pfl_node.specs.Starting as starting;
-ghost use Rattle.pfl_queue.specs.Queues.{most_numbers};
 
 use pfl_base::{Dir, Packet};
-use pfl_edits::Change;
 use pfl_language::Fate;
-use pfl_parts::{NodeEdit, Parts};
+use pfl_parts::Desk;
 use pfl_track::State;
 use std::alloc::Allocator;
 
 /// A packet is held on its way out, where deferring is on.
-pub(crate) fn is_deferred<A: Allocator>(parts: &Parts<A>, dir: Dir) -> bool
-    ensures deferred { result ≡ starting.is_deferred parts.now dir }
+pub(crate) fn is_deferred<A: Allocator>(desk: &Desk<A>, dir: Dir) -> bool
+    ensures deferred { result ≡ starting.is_deferred desk.now.node dir }
 {
     match dir {
-        Dir::Outbound => parts.limits().defer,
+        Dir::Outbound => desk.limits().defer,
         Dir::Inbound => false,
     }
 }
 
 /// Holds the packet of a new state that the peer is told of. A full list lets its oldest packet go.
-pub(crate) fn hold_back<A: Allocator>(
-    parts: &mut Parts<A>,
-    state: State,
-    packet: &Packet,
-    change: &mut Change<NodeEdit, A>,
-) -> Fate
-    requires room { 6 ≤ change.old.spare }
-    requires countable { total parts.old + change.old.spare ≤ most_numbers }
-    requires parts { AreParts parts.old }
-    requires stands { maps.get parts.old.states state.name ≡ Some state }
-    requires fresh { deferring.held_of parts.old.held state.name ≡ None }
-    ensures step { record { fate = result; node = parts.new } ≡ starting.hold (starting.with_room parts.old) state packet.now }
-    ensures extends { NodeExtends 6 change.old change.new parts.old parts.new }
+pub(crate) fn hold_back<A: Allocator>(desk: &mut Desk<A>, state: State, packet: &Packet) -> Fate
+    requires room { 6 ≤ desk.old.edits.spare }
+    requires parts { AreParts desk.old.node }
+    requires stands { maps.get desk.old.node.states state.name ≡ Some state }
+    requires fresh { deferring.held_of desk.old.node.held state.name ≡ None }
+    ensures step { record { fate = result; node = desk.new.node } ≡ starting.hold (starting.with_room desk.old.node) state packet.now }
+    ensures writes { Writes 6 desk.old desk.new }
 {
     let waiting = state.with_ack_wanted(true);
-    make_room(parts, change);
-    hold(parts, waiting, packet, change)
+    make_room(desk);
+    hold(desk, waiting, packet)
 }
 
 /// Lets the oldest packet go, if as many are held as may be.
-fn make_room<A: Allocator>(parts: &mut Parts<A>, change: &mut Change<NodeEdit, A>)
-    requires room { 3 ≤ change.old.spare }
-    requires countable { total parts.old + change.old.spare ≤ most_numbers }
-    ensures node { parts.new ≡ starting.with_room parts.old }
-    ensures extends { NodeExtends 3 change.old change.new parts.old parts.new }
+fn make_room<A: Allocator>(desk: &mut Desk<A>)
+    requires room { 3 ≤ desk.old.edits.spare }
+    ensures node { desk.new.node ≡ starting.with_room desk.old.node }
+    ensures writes { Writes 3 desk.old desk.new }
 {
-    let Some(held) = parts.held().pushed_out() else {
+    let Some(held) = desk.held().pushed_out() else {
         return;
     };
-    parts.release(held.name, change);
+    desk.release(held.name);
 }
 
 /// Holds the first packet of a state, which waits for the peer, where there is room.
-fn hold<A: Allocator>(
-    parts: &mut Parts<A>,
-    waiting: State,
-    packet: &Packet,
-    change: &mut Change<NodeEdit, A>,
-) -> Fate
-    requires room { 3 ≤ change.old.spare }
+fn hold<A: Allocator>(desk: &mut Desk<A>, waiting: State, packet: &Packet) -> Fate
+    requires room { 3 ≤ desk.old.edits.spare }
     requires waits { waiting.ack_wanted ≡ true }
-    requires known { MayReplace parts.old waiting }
-    requires free { length parts.old.held.list < parts.old.held.limit }
-    requires fresh { deferring.held_of parts.old.held waiting.name ≡ None }
-    ensures step { record { fate = result; node = parts.new } ≡ starting.hold parts.old waiting packet.now }
-    ensures extends { NodeExtends 3 change.old change.new parts.old parts.new }
+    requires known { MayReplace desk.old.node waiting }
+    requires free { length desk.old.node.held.list < desk.old.node.held.limit }
+    requires fresh { deferring.held_of desk.old.node.held waiting.name ≡ None }
+    ensures step { record { fate = result; node = desk.new.node } ≡ starting.hold desk.old.node waiting packet.now }
+    ensures writes { Writes 3 desk.old desk.new }
 {
     let name = waiting.name();
-    parts.keep(name, packet, change);
-    parts.replace_state(waiting, change);
-    parts.push_if(true, change);
+    desk.keep(name, packet);
+    desk.replace_state(waiting);
+    desk.push_if(true);
     Fate::Held(name)
 }

@@ -1,11 +1,12 @@
-//! The places of a node, each changed with its edit recorded.
+//! The places of a node, each changed by itself. What changes is answered as an edit.
 
 ghost use Rattle.std.specs.Option.{option_map};
-ghost use Rattle.std.specs.Prelude.{◌≡◌, ◌≤◌, ◌<◌, ◌+◌, true, false, None, OnOk, OnErr, length, Some, ◌^◌, IfSome, MatchOption};
+ghost use Rattle.std.specs.Prelude.{◌≡◌, ◌≤◌, ◌<◌, ◌+◌, true, None, OnOk, OnErr, IfOk, length, Some, ◌∷◌, [], ◌^◌, IfSome, MatchOption, is_some};
 ghost use Rattle.pfl_defer.specs.Deferring.{held_of, with_held};
 ghost use Rattle.pfl_edits.specs.Maps.{set_at};
 ghost use Rattle.pfl_parts.specs.Changes as to;
-ghost use Rattle.pfl_parts.specs.Edits.{NodeExtends, count_of, moved_at, total, with_count};
+ghost use Rattle.pfl_parts.specs.Edits.{count_of, moved_at, total, with_count};
+ghost use Rattle.pfl_parts.specs.inner.Drafting.{Makes, MakesIf};
 ghost use Rattle.pfl_parts.specs.inner.Kept.{MayAdd, MayMark, MayReplace, Replaces, expires_by, written};
 ghost use Rattle.pfl_parts.specs.Nodes.{Node as Whole, IsGiven, AreParts, AskedAt, ServesSince, is_overfull, last_millisecond};
 ghost use Rattle.pfl_queue.specs.Queues.{most_numbers};
@@ -15,7 +16,6 @@ use crate::parts::Parts;
 use crate::parts::judge::Overfull;
 use pfl_base::{Millis, Packet, StateName};
 use pfl_bulk::{BulkClient, BulkServer};
-use pfl_edits::Change;
 use pfl_queue::Kind;
 use pfl_table::{Row, TableEdit};
 use pfl_track::{Motion, State};
@@ -23,53 +23,46 @@ use std::alloc::Allocator;
 
 impl<A: Allocator> Parts<A> {
     /// Adds a state under a name that no state has.
-    pub fn add_state(&mut self, state: State, change: &mut Change<NodeEdit, A>)
-        requires room { 0 < change.old.spare }
+    pub(crate) fn add_state(&mut self, state: State) -> NodeEdit
         requires parts { AreParts (to.put_state self.old state) }
         requires may { MayAdd self.old state }
         ensures node { self.new ≡ to.put_state self.old state }
-        ensures extends { NodeExtends 1 change.old change.new self.old self.new }
+        ensures makes { Makes (result ∷ []) self.old self.new }
     {
         let expires = self.expiry(&state);
         let Ok(edit) = self.table.put(state, expires) else {
             unreachable!();
         };
-        change.push(NodeEdit::OfState(state_edit(&edit)));
+        NodeEdit::OfState(state_edit(&edit))
     }
 
-    /// Puts a state in the place of one of its name and keys. Nothing is recorded where it is the same one.
-    pub fn replace_state(&mut self, state: State, change: &mut Change<NodeEdit, A>)
-        requires room { 0 < change.old.spare }
+    /// Puts a state in the place of one of its name and keys. There is no edit where it is the same one.
+    pub(crate) fn replace_state(&mut self, state: State) -> Option<NodeEdit>
         requires may { MayReplace self.old state }
         ensures node { self.new ≡ to.put_state self.old state }
-        ensures extends { NodeExtends 1 change.old change.new self.old self.new }
+        ensures makes { MakesIf result self.old self.new }
     {
         let name = state.name();
         let Some(former) = self.table.by_name(name).copied() else {
             unreachable!();
         };
-        let Some(edit) = replacement(&former, &state) else {
-            return;
-        };
+        let edit = replacement(&former, &state)?;
         self.set_state(name, Some(state));
-        change.push(edit);
+        Some(edit)
     }
 
-    /// Takes the state of a name out. Nothing is recorded where there is none.
-    pub fn take_state(&mut self, name: StateName, change: &mut Change<NodeEdit, A>)
-        requires room { 0 < change.old.spare }
+    /// Takes the state of a name out. There is no edit where there is no state.
+    pub(crate) fn take_state(&mut self, name: StateName) -> Option<NodeEdit>
         requires parts { AreParts (to.without_state self.old name) }
         ensures node { self.new ≡ to.without_state self.old name }
-        ensures extends { NodeExtends 1 change.old change.new self.old self.new }
+        ensures makes { MakesIf result self.old self.new }
     {
-        let Some((_, edit)) = self.table.take(name) else {
-            return;
-        };
-        change.push(NodeEdit::OfState(state_edit(&edit)));
+        let (_, edit) = self.table.take(name)?;
+        Some(NodeEdit::OfState(state_edit(&edit)))
     }
 
     /// Sets what stands under a name.
-    pub fn set_state(&mut self, name: StateName, at: Option<State>)
+    pub(crate) fn set_state(&mut self, name: StateName, at: Option<State>)
         requires node { AreParts (record self.old { states = set_at self.old.states name at }) }
         ensures node { self.new ≡ record self.old { states = set_at self.old.states name at } }
     {
@@ -78,7 +71,7 @@ impl<A: Allocator> Parts<A> {
     }
 
     /// Moves the state of a name so, if there is one.
-    pub fn set_motion(&mut self, name: StateName, motion: Motion)
+    pub(crate) fn set_motion(&mut self, name: StateName, motion: Motion)
         requires node { AreParts (record self.old { states = moved_at self.old.states name motion }) }
         ensures node { self.new ≡ record self.old { states = moved_at self.old.states name motion } }
     {
@@ -108,178 +101,143 @@ impl<A: Allocator> Parts<A> {
     }
 
     /// Puts a name on a queue, with the next number.
-    pub fn mark(
-        &mut self,
-        name: StateName,
-        kind: Kind,
-        change: &mut Change<NodeEdit, A>,
-    ) -> Result<(), Overfull>
-        requires room { 0 < change.old.spare }
-        requires countable { total self.old + change.old.spare ≤ most_numbers }
+    pub(crate) fn mark(&mut self, name: StateName, kind: Kind) -> Result<NodeEdit, Overfull>
+        requires countable { total self.old < most_numbers }
         requires may { MayMark self.old name kind }
         ensures full { OnErr result (is_overfull (to.mark self.old name kind) ≡ true) }
+        ensures unchanged { OnErr result (self.new ≡ self.old) }
         ensures node { OnOk result (self.new ≡ to.mark self.old name kind) }
-        ensures parts { OnOk result (AreParts self.new) }
-        ensures extends { NodeExtends 1 change.old change.new self.old self.new }
+        ensures makes { IfOk result (λ edit. Makes (edit ∷ []) self.old self.new) }
     {
-        match self.queue.mark_on(name, kind) {
-            Ok(edit) => change.push(NodeEdit::OfQueue(edit)),
-            Err(_) => return Err(Overfull),
-        }
-        Ok(())
-    }
-
-    /// Takes a name off its queue.
-    pub fn unmark(&mut self, name: StateName, change: &mut Change<NodeEdit, A>)
-        requires room { 0 < change.old.spare }
-        ensures node { self.new ≡ to.unmark self.old name }
-        ensures parts { AreParts self.new }
-        ensures extends { NodeExtends 1 change.old change.new self.old self.new }
-    {
-        let Some(edit) = self.queue.unmark(name) else {
-            return;
+        let Ok(edit) = self.queue.mark_on(name, kind) else {
+            return Err(Overfull);
         };
-        change.push(NodeEdit::OfQueue(edit));
+        Ok(NodeEdit::OfQueue(edit))
     }
 
-    /// Wants a frame soon from now on, or no more. Nothing is recorded where it is so already.
-    pub fn set_push(&mut self, wanted: bool, change: &mut Change<NodeEdit, A>)
-        requires room { 0 < change.old.spare }
+    /// Takes a name off its queue. There is no edit where it is on none.
+    pub(crate) fn unmark(&mut self, name: StateName) -> Option<NodeEdit>
+        ensures node { self.new ≡ to.unmark self.old name }
+        ensures makes { MakesIf result self.old self.new }
+    {
+        let edit = self.queue.unmark(name)?;
+        Some(NodeEdit::OfQueue(edit))
+    }
+
+    /// Wants a frame soon from now on, or no more. There is no edit where it is so already.
+    pub(crate) fn set_push(&mut self, wanted: bool) -> Option<NodeEdit>
         ensures node { self.new ≡ record self.old { push = wanted } }
-        ensures extends { NodeExtends 1 change.old change.new self.old self.new }
+        ensures makes { MakesIf result self.old self.new }
     {
         let before = self.push;
         if before == wanted {
-            return;
+            return None;
         }
         self.push = wanted;
-        change.push(NodeEdit::Push {
+        Some(NodeEdit::Push {
             before,
             after: wanted,
-        });
-    }
-
-    /// Wants a frame soon, if it is asked for.
-    pub fn push_if(&mut self, asked: bool, change: &mut Change<NodeEdit, A>)
-        requires room { 0 < change.old.spare }
-        ensures node { self.new ≡ to.push_if asked self.old }
-        ensures extends { NodeExtends 1 change.old change.new self.old self.new }
-    {
-        if asked {
-            self.set_push(true, change);
-        }
+        })
     }
 
     /// Holds a packet of a name from now on, where there is room.
-    pub fn keep(&mut self, name: StateName, packet: &Packet, change: &mut Change<NodeEdit, A>)
-        requires room { 0 < change.old.spare }
+    pub(crate) fn keep(&mut self, name: StateName, packet: &Packet) -> NodeEdit
         requires given { IsGiven self.old name }
         requires free { length self.old.held.list < self.old.held.limit }
         requires fresh { held_of self.old.held name ≡ None }
         ensures node { self.new ≡ record self.old { held = with_held self.old.held name packet.now self.old.clock } }
-        ensures extends { NodeExtends 1 change.old change.new self.old self.new }
+        ensures makes { Makes (result ∷ []) self.old self.new }
     {
         let now = self.clock;
         let (_, edits) = self.held.hold(name, *packet, now);
-        change.push(NodeEdit::OfHeld(edits.held));
+        NodeEdit::OfHeld(edits.held)
     }
 
-    /// Lets the packet of a name go, if one is held, and says whether.
-    pub fn let_go(&mut self, name: StateName, change: &mut Change<NodeEdit, A>) -> bool
-        requires room { 0 < change.old.spare }
-        ensures held { result ≡ to.is_held self.old name }
-        ensures unchanged { result ≡ false → self.new ≡ self.old }
-        ensures node { result ≡ true → self.new ≡ to.without_held self.old name }
-        ensures extends { NodeExtends 1 change.old change.new self.old self.new }
+    /// Lets the packet of a name go, if one is held.
+    pub(crate) fn let_go(&mut self, name: StateName) -> Option<NodeEdit>
+        ensures held { is_some result ≡ to.is_held self.old name }
+        ensures node { MatchOption result (self.new ≡ self.old) (λ edit. self.new ≡ to.without_held self.old name) }
+        ensures makes { MakesIf result self.old self.new }
     {
-        let Some((_, edit)) = self.held.release(name) else {
-            return false;
-        };
-        change.push(NodeEdit::OfHeld(edit));
-        true
+        let (_, edit) = self.held.release(name)?;
+        Some(NodeEdit::OfHeld(edit))
     }
 
     /// Counts one more.
-    pub fn count(&mut self, counter: Counter, change: &mut Change<NodeEdit, A>)
-        requires room { 0 < change.old.spare }
-        requires countable { total self.old + change.old.spare ≤ most_numbers }
+    pub(crate) fn count(&mut self, counter: Counter) -> NodeEdit
+        requires countable { total self.old < most_numbers }
         ensures node { self.new ≡ record self.old { counters = with_count counter self.old.counters (count_of counter self.old.counters + 1) } }
-        ensures extends { NodeExtends 1 change.old change.new self.old self.new }
+        ensures makes { Makes (result ∷ []) self.old self.new }
     {
         let before = self.counters.get(counter);
         let after = before + 1;
         self.counters.set(counter, after);
-        change.push(NodeEdit::Count {
+        NodeEdit::Count {
             counter,
             before,
             after,
-        });
+        }
     }
 
     /// Takes the next id.
-    pub fn use_id(&mut self, change: &mut Change<NodeEdit, A>)
-        requires room { 0 < change.old.spare }
-        requires countable { total self.old + change.old.spare ≤ most_numbers }
+    pub(crate) fn use_id(&mut self) -> NodeEdit
+        requires countable { total self.old < most_numbers }
         ensures node { self.new ≡ record self.old { next_id = self.old.next_id + 1 } }
-        ensures extends { NodeExtends 1 change.old change.new self.old self.new }
+        ensures makes { Makes (result ∷ []) self.old self.new }
     {
         let before = self.next_id;
         let after = before + 1;
         self.next_id = after;
-        change.push(NodeEdit::NextId { before, after });
+        NodeEdit::NextId { before, after }
     }
 
-    /// Sets where the bulk server stands. Nothing is recorded where it stands there already.
-    pub fn set_server(&mut self, server: BulkServer, change: &mut Change<NodeEdit, A>)
-        requires room { 0 < change.old.spare }
+    /// Sets where the bulk server stands. There is no edit where it stands there already.
+    pub(crate) fn set_server(&mut self, server: BulkServer) -> Option<NodeEdit>
         requires past { ServesSince self.old server }
         ensures node { self.new ≡ record self.old { server = server } }
-        ensures extends { NodeExtends 1 change.old change.new self.old self.new }
+        ensures makes { MakesIf result self.old self.new }
     {
         let before = self.server;
         if before == server {
-            return;
+            return None;
         }
         self.server = server;
-        change.push(NodeEdit::Server {
+        Some(NodeEdit::Server {
             before,
             after: server,
-        });
+        })
     }
 
-    /// Sets where the bulk client stands. Nothing is recorded where it stands there already.
-    pub fn set_client(&mut self, client: BulkClient, change: &mut Change<NodeEdit, A>)
-        requires room { 0 < change.old.spare }
+    /// Sets where the bulk client stands. There is no edit where it stands there already.
+    pub(crate) fn set_client(&mut self, client: BulkClient) -> Option<NodeEdit>
         requires past { AskedAt self.old client }
         ensures node { self.new ≡ record self.old { client = client } }
-        ensures parts { AreParts self.new }
-        ensures extends { NodeExtends 1 change.old change.new self.old self.new }
+        ensures makes { MakesIf result self.old self.new }
     {
         let before = self.client;
         if before == client {
-            return;
+            return None;
         }
         self.client = client;
-        change.push(NodeEdit::Client {
+        Some(NodeEdit::Client {
             before,
             after: client,
-        });
+        })
     }
 
     /// Sets the clock.
-    pub fn set_clock(&mut self, clock: Millis, change: &mut Change<NodeEdit, A>)
-        requires room { 0 < change.old.spare }
+    pub(crate) fn set_clock(&mut self, clock: Millis) -> NodeEdit
         requires later { self.old.clock ≤ clock }
         requires within { clock ≤ last_millisecond }
         ensures node { self.new ≡ record self.old { clock = clock } }
-        ensures extends { NodeExtends 1 change.old change.new self.old self.new }
+        ensures makes { Makes (result ∷ []) self.old self.new }
     {
         let before = self.clock;
         self.clock = clock;
-        change.push(NodeEdit::Clock {
+        NodeEdit::Clock {
             before,
             after: clock,
-        });
+        }
     }
 }
 

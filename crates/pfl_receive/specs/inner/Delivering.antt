@@ -1,13 +1,11 @@
 -- How the records of a frame are carried out.
 use Rattle.std.specs.Prelude.{ℕ, ◌≤◌, ◌+◌, ◌*◌, ◌/◌, List}
 use Rattle.std.specs.List.{sum_by}
-use Rattle.pfl_edits.specs.Changes.{Edits}
 use Rattle.pfl_edits.specs.Maps as maps
 use Rattle.pfl_wire.specs.declared.message.Message.{Message}
 use Rattle.pfl_wire.specs.Actions.{record_len}
 use Rattle.pfl_wire.specs.Frames.{action_of}
-use Rattle.pfl_parts.specs.declared.edit.NodeEdit.{NodeEdit}
-use Rattle.pfl_parts.specs.Nodes.{Node}
+use Rattle.pfl_parts.specs.Drafts.{Draft}
 use Rattle.pfl_parts.specs.Weights.{forgotten_edits}
 use Rattle.pfl_receive.specs.Delivering.{record_edits}
 
@@ -21,8 +19,8 @@ paid_by messages = sum_by paid_edits messages
 
 -- What was recorded is paid by so many edits, and by four for each state that was taken out: so a clear, which takes out states that
 -- records before it brought, is paid by those.
-abbrev pub IsPaid : ℕ → Edits NodeEdit → Edits NodeEdit → Node → Node → Type 0
-IsPaid edits x y a b = 4 * maps.len b.states + x.spare ≤ 4 * maps.len a.states + edits + y.spare
+abbrev pub IsPaid : ℕ → Draft → Draft → Type 0
+IsPaid edits d e = 4 * maps.len e.node.states + d.edits.spare ≤ 4 * maps.len d.node.states + edits + e.edits.spare
 
 -- the room for records that pay for so many edits, at a node with so many states: that of one record is left till the last
 abbrev pub records_room : ℕ → ℕ → ℕ

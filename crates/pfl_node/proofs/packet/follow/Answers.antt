@@ -11,7 +11,7 @@ use Rattle.pfl_node.proofs.packet.follow.Goals as goal
 
 pub accept-requires-clause-known : goal.accept-requires-clause-known
 accept-requires-clause-known g c =
-    let n = c.args.parts.now in
+    let n = c.args.desk.now.node in
     let p = c.args.packet.now in
     let s = c.args.state.now in
     let moved : tracked s p c.args.dir n.clock ≡ Moved c.in-Moved.state = ap (tracked s p c.args.dir) (sym c.clock.ensures.clock) ∙ (sym c.track.ensures ∙ c.in-Moved.is) in
@@ -20,40 +20,40 @@ accept-requires-clause-known g c =
 pub returns-in_err-fate-in-Moved : goal.returns-in_err-fate-in-Moved
 returns-in_err-fate-in-Moved g c =
     let q = err_from_is_err_and c.from_residual.result c.from_residual.ensures.1 in
-    let n = c.args.parts.now in
+    let n = c.args.desk.now.node in
     let p = c.args.packet.now in
     let s = c.args.state.now in
     let moved : tracked s p c.args.dir n.clock ≡ Moved c.in-Moved.state = ap (tracked s p c.args.dir) (sym c.clock.ensures.clock) ∙ (sym c.track.ensures ∙ c.in-Moved.is) in
     let tried = c.in_err-fate-in-Moved.ensures.done in
-    record { done = rw q.1 (handles-tracked _ _ _ _ _ c.args.dir p s _ _ moved (stops-last _ 6 _ _ _ _ (followed n c.args.dir p s (Moved c.in-Moved.state)) _ (omega arith) tried.full tried.extends)) }
+    record { done = rw q.1 (handles-tracked _ _ _ n c.args.dir p s _ _ moved (stops-last _ 6 _ _ (followed n c.args.dir p s (Moved c.in-Moved.state)) _ (omega arith) tried.full tried.writes)) }
 
 pub returns-in_ok-fate-in-Moved : goal.returns-in_ok-fate-in-Moved
 returns-in_ok-fate-in-Moved g c =
-    let n = c.args.parts.now in
+    let n = c.args.desk.now.node in
     let p = c.args.packet.now in
     let s = c.args.state.now in
     let moved : tracked s p c.args.dir n.clock ≡ Moved c.in-Moved.state = ap (tracked s p c.args.dir) (sym c.clock.ensures.clock) ∙ (sym c.track.ensures ∙ c.in-Moved.is) in
     let tried = c.in_ok-fate-in-Moved.ensures.done in
-    record { done = handles-tracked _ _ _ _ _ c.args.dir p s _ _ moved (ends _ _ 6 _ _ _ _ (followed n c.args.dir p s (Moved c.in-Moved.state)) (omega arith) tried.step c.is_overcounted.ensures.room c.is_overcounted.ensures.counted tried.extends) }
+    record { done = handles-tracked _ _ _ n c.args.dir p s _ _ moved (ends _ _ 6 _ _ (followed n c.args.dir p s (Moved c.in-Moved.state)) (omega arith) tried.step c.is_overcounted.ensures.room c.is_overcounted.ensures.counted tried.writes) }
 
 pub returns-in-OutOfWindow : goal.returns-in-OutOfWindow
 returns-in-OutOfWindow g c =
-    let n = c.args.parts.now in
+    let n = c.args.desk.now.node in
     let p = c.args.packet.now in
     let s = c.args.state.now in
     let out : tracked s p c.args.dir n.clock ≡ OutOfWindow = ap (tracked s p c.args.dir) (sym c.clock.ensures.clock) ∙ (sym c.track.ensures ∙ c.in-OutOfWindow.is) in
     let e = c.drop_packet-fate.ensures in
-    record { done = handles-tracked _ _ _ _ _ c.args.dir p s _ _ out (ends _ _ 1 _ _ _ _ (followed n c.args.dir p s OutOfWindow) (omega arith) e.step c.is_overcounted-in-OutOfWindow.ensures.room c.is_overcounted-in-OutOfWindow.ensures.counted e.extends) }
+    record { done = handles-tracked _ _ _ n c.args.dir p s _ _ out (ends _ _ 1 _ _ (followed n c.args.dir p s OutOfWindow) (omega arith) e.step c.is_overcounted-in-OutOfWindow.ensures.room c.is_overcounted-in-OutOfWindow.ensures.counted e.writes) }
 
 pub reuse-requires-clause-stands : goal.reuse-requires-clause-stands
 reuse-requires-clause-stands g c =
-    let n = c.args.parts.now in
+    let n = c.args.desk.now.node in
     found-stands n.states (key c.args.packet.now c.args.dir) c.args.dir c.args.state.now c.requires.parts.states c.requires.found
 
 pub returns-in-Reused : goal.returns-in-Reused
 returns-in-Reused g c =
-    let n = c.args.parts.now in
+    let n = c.args.desk.now.node in
     let p = c.args.packet.now in
     let s = c.args.state.now in
     let reused : tracked s p c.args.dir n.clock ≡ Reused = ap (tracked s p c.args.dir) (sym c.clock.ensures.clock) ∙ (sym c.track.ensures ∙ c.in-Reused.is) in
-    record { done = handles-tracked _ _ _ _ _ c.args.dir p s _ _ reused c.reuse.ensures.done }
+    record { done = handles-tracked _ _ _ n c.args.dir p s _ _ reused c.reuse.ensures.done }

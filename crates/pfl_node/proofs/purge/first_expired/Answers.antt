@@ -13,7 +13,7 @@ use Rattle.pfl_node.proofs.purge.first_expired.Goals as goal
 
 pub returns-in_err-row : goal.returns-in_err-row
 returns-in_err-row g c =
-    let n = c.args.parts.now in
+    let n = c.args.desk.now.node in
     let by : ExpireBy (expires_by n.rules) c.states.result.now = record { each = c.states.ensures.expires } in
     let first = first-row (expires_by n.rules) n.clock c.states.result.now by ∙ ap (option_and_then (λ (r : Row). if nat_le r.expires n.clock then Some r.state else None)) (sym c.in_err-row.ensures.row) in
     let whole = ap (λ (states : States). slice_get (expired_states (record n { states = states })) 0) c.states.ensures.states in
@@ -21,7 +21,7 @@ returns-in_err-row g c =
 
 pub returns-then-row-clock : goal.returns-then-row-clock
 returns-then-row-clock g c =
-    let n = c.args.parts.now in
+    let n = c.args.desk.now.node in
     let by : ExpireBy (expires_by n.rules) c.states.result.now = record { each = c.states.ensures.expires } in
     let first = first-row (expires_by n.rules) n.clock c.states.result.now by ∙ ap (option_and_then (λ (r : Row). if nat_le r.expires n.clock then Some r.state else None)) (sym c.in_ok-row.ensures.row) in
     let whole = ap (λ (states : States). slice_get (expired_states (record n { states = states })) 0) c.states.ensures.states in
@@ -30,7 +30,7 @@ returns-then-row-clock g c =
 
 pub returns-else-row-clock : goal.returns-else-row-clock
 returns-else-row-clock g c =
-    let n = c.args.parts.now in
+    let n = c.args.desk.now.node in
     let by : ExpireBy (expires_by n.rules) c.states.result.now = record { each = c.states.ensures.expires } in
     let first = first-row (expires_by n.rules) n.clock c.states.result.now by ∙ ap (option_and_then (λ (r : Row). if nat_le r.expires n.clock then Some r.state else None)) (sym c.in_ok-row.ensures.row) in
     let whole = ap (λ (states : States). slice_get (expired_states (record n { states = states })) 0) c.states.ensures.states in

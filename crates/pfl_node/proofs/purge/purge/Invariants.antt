@@ -4,7 +4,7 @@ use Rattle.pfl_node.specs.Purging.{expired_states}
 use Rattle.pfl_node.proofs.purge.purge.Given as goal
 
 abbrev pub invariant-loop-state : goal.invariant-loop-state
-invariant-loop-state g l = IsPurged l.fn.parts l.parts l.fn.change l.change l.count l.overcounted
+invariant-loop-state g l = IsPurged l.fn.desk l.desk l.count l.overcounted
 
 abbrev pub decreases-loop-state : goal.decreases-loop-state
-decreases-loop-state g l = length (expired_states l.parts)
+decreases-loop-state g l = length (expired_states l.desk.node)

@@ -4,7 +4,7 @@ use Rattle.pfl_node.specs.Releasing.{due_names}
 use Rattle.pfl_node.proofs.release.release.Given as goal
 
 abbrev pub invariant-loop-name : goal.invariant-loop-name
-invariant-loop-name g l = IsReleased l.fn.parts l.parts l.fn.change l.change l.count
+invariant-loop-name g l = IsReleased l.fn.desk l.desk l.count
 
 abbrev pub decreases-loop-name : goal.decreases-loop-name
-decreases-loop-name g l = length (due_names l.parts)
+decreases-loop-name g l = length (due_names l.desk.node)

@@ -6,7 +6,7 @@ use Rattle.pfl_bulk.specs.Bulk.{first_names}
 use Rattle.pfl_queue.specs.declared.Kind.TheVariants.{Update}
 use Rattle.pfl_language.specs.declared.limits.Limits.{Limits}
 use Rattle.pfl_parts.specs.inner.Kept.{MayMark}
-use Rattle.pfl_parts.proofs.ForCallers.{extends-then, extends-more}
+use Rattle.pfl_parts.proofs.ForCallers.{writes-then, writes-more}
 use Rattle.pfl_node.specs.Turning.{turn_of, turned}
 use Rattle.pfl_node.proofs.OnePoint.{stops-there, ends-there}
 use Rattle.pfl_node.proofs.Turned.{all_eligible, first-rising, turn-by, turn-may, turned-full, ended-full, turned-is, turned-past}
@@ -14,27 +14,26 @@ use Rattle.pfl_node.proofs.turn.turn.Goals as goal
 
 pub turn-turn-requires : goal.turn-turn-requires
 turn-turn-requires g c =
-    let n = c.args.parts.now in
+    let n = c.args.desk.now.node in
     let first = c.next_names-count.ensures.names ∙ ap (λ (l : Limits). first_names n.server (all_eligible n) (l.batch + 1)) c.limits-batch.ensures.limits in
     record { rising = first-rising n _ first c.requires.parts }
 
 pub queue_all-requires : goal.queue_all-requires
 queue_all-requires g c =
-    let n = c.args.parts.now in
+    let n = c.args.desk.now.node in
     let told = c.turn-turn.ensures in
     let turn = turn-by n _ _ _ c.next_names-count.ensures.names c.server.ensures.server c.limits-batch.ensures.limits _ _ _ told.names told.server told.last in
     let long = ap (λ (ns : List StateName). length ns) turn.names in
     let room = c.requires.room in
     record {
       room = omega (arith, room, long);
-      countable = c.requires.countable;
       may = subst (AllByRecursion (λ name. MayMark n name Update)) (sym turn.names) (turn-may n c.requires.parts);
     }
 
 pub returns-in_err-queue_all : goal.returns-in_err-queue_all
 returns-in_err-queue_all g c =
     let p = err_from_is_err_and c.from_residual.result c.from_residual.ensures.1 in
-    let n = c.args.parts.now in
+    let n = c.args.desk.now.node in
     let told = c.turn-turn.ensures in
     let turn = turn-by n _ _ _ c.next_names-count.ensures.names c.server.ensures.server c.limits-batch.ensures.limits _ _ _ told.names told.server told.last in
     let long = ap (λ (ns : List StateName). length ns) turn.names in
@@ -42,58 +41,58 @@ returns-in_err-queue_all g c =
       went = rw p.1 (stops-there ℕ p.0 (turned n) (turned-full n _ _ _ turn c.in_err-queue_all.ensures.full));
       node = rw p.1 tt;
       count = rw p.1 tt;
-      extends = extends-more _ (length (turn_of n) + 3) _ _ _ _ (omega (arith, long)) c.queue_all.ensures.extends;
+      writes = writes-more _ (length (turn_of n) + 3) _ _ (omega (arith, long)) c.queue_all.ensures.writes;
     }
 
 pub tell_end-requires : goal.tell_end-requires
 tell_end-requires g c =
-    let n = c.args.parts.now in
+    let n = c.args.desk.now.node in
     let told = c.turn-turn.ensures in
     let turn = turn-by n _ _ _ c.next_names-count.ensures.names c.server.ensures.server c.limits-batch.ensures.limits _ _ _ told.names told.server told.last in
     let long = ap (λ (ns : List StateName). length ns) turn.names in
     let room = c.requires.room in
-    let spare = c.queue_all.ensures.extends.spare in
+    let spare = c.queue_all.ensures.writes.spare in
     record { room = omega (arith, room, long, spare) }
 
 pub returns-in_err-tell_end : goal.returns-in_err-tell_end
 returns-in_err-tell_end g c =
     let p = err_from_is_err_and c.from_residual-in_err-tell_end.result c.from_residual-in_err-tell_end.ensures.1 in
-    let n = c.args.parts.now in
+    let n = c.args.desk.now.node in
     let told = c.turn-turn.ensures in
     let turn = turn-by n _ _ _ c.next_names-count.ensures.names c.server.ensures.server c.limits-batch.ensures.limits _ _ _ told.names told.server told.last in
     let long = ap (λ (ns : List StateName). length ns) turn.names in
     record {
-      went = rw p.1 (stops-there ℕ p.0 (turned n) (ended-full n _ _ _ turn c.queue_all.new.parts c.in_ok-queue_all.ensures.node c.in_err-tell_end.ensures.full));
+      went = rw p.1 (stops-there ℕ p.0 (turned n) (ended-full n _ _ _ turn c.queue_all.new.desk.node c.in_ok-queue_all.ensures.node c.in_err-tell_end.ensures.full));
       node = rw p.1 tt;
       count = rw p.1 tt;
-      extends = extends-more _ (length (turn_of n) + 3) _ _ _ _ (omega (arith, long)) (extends-then _ 2 _ _ _ _ _ _ c.queue_all.ensures.extends c.tell_end.ensures.extends);
+      writes = writes-more _ (length (turn_of n) + 3) _ _ (omega (arith, long)) (writes-then _ 2 _ _ _ c.queue_all.ensures.writes c.tell_end.ensures.writes);
     }
 
 pub set_server-requires : goal.set_server-requires
 set_server-requires g c =
-    let n = c.args.parts.now in
+    let n = c.args.desk.now.node in
     let told = c.turn-turn.ensures in
     let turn = turn-by n _ _ _ c.next_names-count.ensures.names c.server.ensures.server c.limits-batch.ensures.limits _ _ _ told.names told.server told.last in
     let long = ap (λ (ns : List StateName). length ns) turn.names in
     let room = c.requires.room in
-    let spare = c.queue_all.ensures.extends.spare in
-    let left = c.tell_end.ensures.extends.spare in
+    let spare = c.queue_all.ensures.writes.spare in
+    let left = c.tell_end.ensures.writes.spare in
     record {
       room = omega (arith, room, long, spare, left);
-      past = turned-past n _ _ _ turn c.requires.parts c.queue_all.new.parts c.tell_end.new.parts c.in_ok-queue_all.ensures.node c.in_ok-tell_end.ensures.node;
+      past = turned-past n _ _ _ turn c.requires.parts c.queue_all.new.desk.node c.tell_end.new.desk.node c.in_ok-queue_all.ensures.node c.in_ok-tell_end.ensures.node;
     }
 
 pub returns : goal.returns
 returns g c =
-    let n = c.args.parts.now in
+    let n = c.args.desk.now.node in
     let told = c.turn-turn.ensures in
     let turn = turn-by n _ _ _ c.next_names-count.ensures.names c.server.ensures.server c.limits-batch.ensures.limits _ _ _ told.names told.server told.last in
     let long = ap (λ (ns : List StateName). length ns) turn.names in
-    let node : c.set_server.new.self ≡ turned n = c.set_server.ensures.node ∙ turned-is n _ _ _ turn c.queue_all.new.parts c.tell_end.new.parts c.in_ok-queue_all.ensures.node c.in_ok-tell_end.ensures.node in
-    let all = extends-then _ 1 _ _ _ _ _ _ (extends-then _ 2 _ _ _ _ _ _ c.queue_all.ensures.extends c.tell_end.ensures.extends) c.set_server.ensures.extends in
+    let node : c.set_server.new.self.node ≡ turned n = c.set_server.ensures.node ∙ turned-is n _ _ _ turn c.queue_all.new.desk.node c.tell_end.new.desk.node c.in_ok-queue_all.ensures.node c.in_ok-tell_end.ensures.node in
+    let all = writes-then _ 1 _ _ _ (writes-then _ 2 _ _ _ c.queue_all.ensures.writes c.tell_end.ensures.writes) c.set_server.ensures.writes in
     record {
-      went = ends-there (length c.turn-turn.result.names.now) c.is_overcounted.result (turned n) c.set_server.new.self node c.is_overcounted.ensures.room c.is_overcounted.ensures.counted;
+      went = ends-there (length c.turn-turn.result.names.now) c.is_overcounted.result (turned n) c.set_server.new.self.node node c.is_overcounted.ensures.room c.is_overcounted.ensures.counted;
       node = node;
       count = long;
-      extends = extends-more _ (length (turn_of n) + 3) _ _ _ _ (omega (arith, long)) all;
+      writes = writes-more _ (length (turn_of n) + 3) _ _ (omega (arith, long)) all;
     }

@@ -6,5 +6,5 @@ use Rattle.pfl_receive.proofs.ack.take_ack.Goals as goal
 
 pub returns-then-ack_wanted-clause-states : goal.returns-then-ack_wanted-clause-states
 returns-then-ack_wanted-clause-states g c =
-    let n = c.args.parts.now in
+    let n = c.args.desk.now.node in
     subst (λ (m : Node). maps.len m.states ≤ maps.len n.states) (sym c.release.ensures.node) (few-released n c.name.result c.states.ensures.parts.states)

@@ -6,6 +6,6 @@ use Rattle.pfl_receive.proofs.bulk.take_status.Goals as goal
 
 pub set_client-requires-clause-past : goal.set_client-requires-clause-past
 set_client-requires-clause-past g c =
-    let n = c.args.parts.now in
+    let n = c.args.desk.now.node in
     let same = c.status-client.ensures.client ∙ (λ i. after_status (c.client.ensures.client i) c.args.status (c.clock.ensures.clock i)) in
     subst (AskedAt n) (sym same) (heard-past n c.args.status)

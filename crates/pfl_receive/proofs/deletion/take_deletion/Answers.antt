@@ -14,8 +14,8 @@ copied-some (Some s) = refl
 
 pub returns-then-is_some-clause-paid : goal.returns-then-is_some-clause-paid
 returns-then-is_some-clause-paid g c =
-    let n = c.args.parts.now in
+    let n = c.args.desk.now.node in
     let known : maps.contains_key n.states c.args.name ≡ true =
     ap (λ (m : States). is_some (maps.get m c.args.name)) (sym c.states.ensures.states)
     ∙ (ap is_some (sym c.by_name.ensures.state) ∙ (copied-some c.by_name.result ∙ (sym c.is_some.ensures ∙ c.if-is_some.true))) in
-    paid-more 0 1 c.args.change.now c.forget.new.change n c.forget.new.self (omega arith) (paid-forgotten n c.forget.new.self c.args.name c.args.change.now c.forget.new.change known c.forget.ensures.node c.forget.ensures.extends)
+    paid-more 0 1 c.args.desk.now c.forget.new.self (omega arith) (paid-forgotten c.args.desk.now c.forget.new.self c.args.name known c.forget.ensures.node c.forget.ensures.writes)

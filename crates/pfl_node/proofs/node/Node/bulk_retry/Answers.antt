@@ -5,7 +5,7 @@ use Rattle.pfl_bulk.specs.Bulk as bulk
 use Rattle.pfl_language.specs.declared.limits.Limits.{Limits}
 use Rattle.pfl_node.specs.Retrying.{retried_client, retry_answer}
 use Rattle.pfl_parts.specs.Nodes.{Node, IsRefusal}
-use Rattle.pfl_node.proofs.Ready.{begins, settled, settled-answer, recorded-fits}
+use Rattle.pfl_node.proofs.Ready.{begins, may-settle, settled, settled-answer}
 use Rattle.pfl_node.proofs.Asking.{retry-early, retry-late}
 use Rattle.pfl_node.proofs.OnePoint.{point-ends, refused-as, not_refused-as}
 use Rattle.pfl_node.proofs.node.Node.bulk_retry.Goals as goal
@@ -30,8 +30,8 @@ returns-in_err-retry g c =
 
 pub ask_again-tried-requires : goal.ask_again-tried-requires
 ask_again-tried-requires g c =
-    let n = c.self.inside.parts in
-    let room = (begins n c.self.inside.edits c.self.invariant.0 c.self.invariant.1).room in
+    let n = c.self.inside.desk.node in
+    let room = (begins c.self.inside.desk c.self.invariant.1).room in
     let client : c.client.result ≡ n.client = c.client.ensures.client ∙ ap (λ (m : Node). m.client) (sym c.self.view_is) in
     let clock : c.clock.result ≡ n.clock = c.clock.ensures.clock ∙ ap (λ (m : Node). m.clock) (sym c.self.view_is) in
     record {
@@ -41,29 +41,37 @@ ask_again-tried-requires g c =
     }
 
 pub settle-requires : goal.settle-requires
-settle-requires g c = record { fits = recorded-fits 3 _ c.self.inside.parts _ c.self.inside.edits _ c.self.invariant.1 c.ask_again-tried.ensures.extends }
+settle-requires g c =
+    let n = c.self.inside.desk.node in
+    let d = c.ask_again-tried.ensures in
+    let m = c.ask_again-tried.new.desk.node in
+    record { counted = may-settle m c.ask_again-tried.result (retried_client n ∷ []) d.went (point-ends m (retried_client n) c.ask_again-tried.result d.node) }
 
 pub invariant_of-self : goal.invariant_of-self
 invariant_of-self g c =
-    let n = c.self.inside.parts in
+    let a = c.self.inside.desk in
+    let n = a.node in
+    let b = c.ask_again-tried.new.desk in
     let d = c.ask_again-tried.ensures in
     let e = c.settle.ensures in
-    let s = settled 3 n c.ask_again-tried.new.parts c.settle.new.parts c.self.inside.edits c.ask_again-tried.new.change c.settle.new.change c.ask_again-tried.result (retried_client n ∷ []) c.self.invariant.0 c.self.invariant.1 d.extends d.went (point-ends c.ask_again-tried.new.parts (retried_client n) c.ask_again-tried.result d.node) e.none e.room c.settle.result e.refused e.undone e.stands e.kept e.parts e.edits in
+    let s = settled 3 a b c.settle.new.self c.ask_again-tried.result (retried_client n ∷ []) c.self.invariant.0 c.self.invariant.1 d.writes d.went (point-ends b.node (retried_client n) c.ask_again-tried.result d.node) e.none e.room c.settle.result e.refused e.undone e.stands e.kept e.parts e.edits e.leads_back in
     (s.node, s.ready)
 
 pub returns : goal.returns
 returns g c =
-    let n = c.self.inside.parts in
+    let a = c.self.inside.desk in
+    let n = a.node in
+    let b = c.ask_again-tried.new.desk in
     let d = c.ask_again-tried.ensures in
     let e = c.settle.ensures in
-    let s = settled 3 n c.ask_again-tried.new.parts c.settle.new.parts c.self.inside.edits c.ask_again-tried.new.change c.settle.new.change c.ask_again-tried.result (retried_client n ∷ []) c.self.invariant.0 c.self.invariant.1 d.extends d.went (point-ends c.ask_again-tried.new.parts (retried_client n) c.ask_again-tried.result d.node) e.none e.room c.settle.result e.refused e.undone e.stands e.kept e.parts e.edits in
+    let s = settled 3 a b c.settle.new.self c.ask_again-tried.result (retried_client n ∷ []) c.self.invariant.0 c.self.invariant.1 d.writes d.went (point-ends b.node (retried_client n) c.ask_again-tried.result d.node) e.none e.room c.settle.result e.refused e.undone e.stands e.kept e.parts e.edits e.leads_back in
     let wait : c.from-wait.result ≡ c.args.self.now.limits.bulk_ms = c.from-wait.ensures ∙ ap (λ (l : Limits). l.bulk_ms) c.limits.ensures.limits in
     let free : bulk.ask_refusal n.client n.limits.bulk_ms n.clock ≡ None =
     ap (λ (m : Node). bulk.ask_refusal m.client m.limits.bulk_ms m.clock) c.self.view_is
     ∙ (sym (λ i. bulk.ask_refusal (c.client.ensures.client i) (wait i) (c.clock.ensures.clock i)) ∙ c.in_ok-retry.ensures.not_refused) in
     let why = retry-late n free c.self.invariant.0.counted in
-    let node = settled-answer c.ask_again-tried.new.parts c.settle.new.parts c.ask_again-tried.result (λ _ m. m ≡ retried_client n) d.node c.settle.result e.stands e.kept in
-    let answer = settled-answer c.ask_again-tried.new.parts c.settle.new.parts c.ask_again-tried.result (λ k m. k ≡ retry_answer n) d.answer c.settle.result e.stands e.kept in
+    let node = settled-answer b.node c.settle.new.self.node c.ask_again-tried.result (λ _ m. m ≡ retried_client n) d.node c.settle.result e.stands e.kept in
+    let answer = settled-answer b.node c.settle.new.self.node c.ask_again-tried.result (λ k m. k ≡ retry_answer n) d.answer c.settle.result e.stands e.kept in
     rw (← c.self.view_is) (record {
       refused = refused-as _ _ c.settle.result why s.refused;
       unchanged = s.unchanged;

@@ -5,7 +5,7 @@ use Rattle.pfl_base.specs.declared.refusal.Refusal.TheVariants.{NotSyncing}
 use Rattle.pfl_bulk.specs.Bulk.{is_serving}
 use Rattle.pfl_node.specs.Turning.{turn_of, turned, turn_refusal}
 use Rattle.pfl_parts.specs.Nodes.{Node, IsRefusal, full_tests, refused_by, points_refusal}
-use Rattle.pfl_node.proofs.Ready.{begins, settled, settled-answer, recorded-fits}
+use Rattle.pfl_node.proofs.Ready.{begins, may-settle, settled, settled-answer}
 use Rattle.pfl_node.proofs.OnePoint.{point-ends, refused-as, not_refused-as}
 use Rattle.pfl_node.proofs.Turned.{turn-few}
 use Rattle.pfl_node.proofs.node.Node.bulk_turn.Goals as goal
@@ -27,34 +27,41 @@ returns-then-not-is_serving g c =
 
 pub turn-tried-requires : goal.turn-tried-requires
 turn-tried-requires g c =
-    let n = c.self.inside.parts in
-    let b = begins n c.self.inside.edits c.self.invariant.0 c.self.invariant.1 in
-    let room = b.room in
+    let n = c.self.inside.desk.node in
+    let room = (begins c.self.inside.desk c.self.invariant.1).room in
     let states = c.self.invariant.0.parts.few in
     let few = turn-few n in
-    record { parts = c.self.invariant.0.parts; room = omega (arith, room, few, states); countable = b.countable }
+    record { parts = c.self.invariant.0.parts; room = omega (arith, room, few, states) }
 
 pub settle-requires : goal.settle-requires
-settle-requires g c = record { fits = recorded-fits (length (turn_of c.self.inside.parts) + 3) _ c.self.inside.parts _ c.self.inside.edits _ c.self.invariant.1 c.turn-tried.ensures.extends }
+settle-requires g c =
+    let n = c.self.inside.desk.node in
+    let d = c.turn-tried.ensures in
+    let m = c.turn-tried.new.desk.node in
+    record { counted = may-settle m c.turn-tried.result (turned n ∷ []) d.went (point-ends m (turned n) c.turn-tried.result d.node) }
 
 pub invariant_of-self : goal.invariant_of-self
 invariant_of-self g c =
-    let n = c.self.inside.parts in
+    let a = c.self.inside.desk in
+    let n = a.node in
+    let b = c.turn-tried.new.desk in
     let d = c.turn-tried.ensures in
     let e = c.settle.ensures in
-    let s = settled (length (turn_of n) + 3) n c.turn-tried.new.parts c.settle.new.parts c.self.inside.edits c.turn-tried.new.change c.settle.new.change c.turn-tried.result (turned n ∷ []) c.self.invariant.0 c.self.invariant.1 d.extends d.went (point-ends c.turn-tried.new.parts (turned n) c.turn-tried.result d.node) e.none e.room c.settle.result e.refused e.undone e.stands e.kept e.parts e.edits in
+    let s = settled (length (turn_of n) + 3) a b c.settle.new.self c.turn-tried.result (turned n ∷ []) c.self.invariant.0 c.self.invariant.1 d.writes d.went (point-ends b.node (turned n) c.turn-tried.result d.node) e.none e.room c.settle.result e.refused e.undone e.stands e.kept e.parts e.edits e.leads_back in
     (s.node, s.ready)
 
 pub returns : goal.returns
 returns g c =
-    let n = c.self.inside.parts in
+    let a = c.self.inside.desk in
+    let n = a.node in
+    let b = c.turn-tried.new.desk in
     let d = c.turn-tried.ensures in
     let e = c.settle.ensures in
-    let s = settled (length (turn_of n) + 3) n c.turn-tried.new.parts c.settle.new.parts c.self.inside.edits c.turn-tried.new.change c.settle.new.change c.turn-tried.result (turned n ∷ []) c.self.invariant.0 c.self.invariant.1 d.extends d.went (point-ends c.turn-tried.new.parts (turned n) c.turn-tried.result d.node) e.none e.room c.settle.result e.refused e.undone e.stands e.kept e.parts e.edits in
+    let s = settled (length (turn_of n) + 3) a b c.settle.new.self c.turn-tried.result (turned n ∷ []) c.self.invariant.0 c.self.invariant.1 d.writes d.went (point-ends b.node (turned n) c.turn-tried.result d.node) e.none e.room c.settle.result e.refused e.undone e.stands e.kept e.parts e.edits e.leads_back in
     let serves : is_serving n.server ≡ true = ap (λ (m : Node). is_serving m.server) c.self.view_is ∙ (ap is_serving (sym c.server.ensures.server) ∙ (sym c.is_serving.ensures.serving ∙ c.if-not-is_serving.false)) in
     let why : turn_refusal n ≡ points_refusal (turned n ∷ []) = ap (λ b. refused_by ((not b, NotSyncing) ∷ full_tests (turned n ∷ []))) serves in
-    let node = settled-answer c.turn-tried.new.parts c.settle.new.parts c.turn-tried.result (λ _ m. m ≡ turned n) d.node c.settle.result e.stands e.kept in
-    let count = settled-answer c.turn-tried.new.parts c.settle.new.parts c.turn-tried.result (λ k m. k ≡ length (turn_of n)) d.count c.settle.result e.stands e.kept in
+    let node = settled-answer b.node c.settle.new.self.node c.turn-tried.result (λ _ m. m ≡ turned n) d.node c.settle.result e.stands e.kept in
+    let count = settled-answer b.node c.settle.new.self.node c.turn-tried.result (λ k m. k ≡ length (turn_of n)) d.count c.settle.result e.stands e.kept in
     rw (← c.self.view_is) (record {
       refused = refused-as _ _ c.settle.result why s.refused;
       unchanged = s.unchanged;

@@ -1,13 +1,17 @@
 use Rattle.std.proofs.Common.{◌∙◌, ap, sym}
 use Rattle.pfl_node.specs.inner.Room.{most_edits}
 use Rattle.pfl_parts.specs.Nodes.{Node, is_overcounted}
+use Rattle.pfl_node.proofs.Ready.{most-few}
 use Rattle.pfl_node.proofs.node.Node.new.Goals as goal
+
+pub new-requires : goal.new-requires
+new-requires g c = record { limits = c.requires.limits; room = rw c.most_edits.ensures.most (most-few c.args.limits c.requires.limits) }
 
 pub invariant_of-result : goal.invariant_of-result
 invariant_of-result g c = (
-  record { parts = c.in_ok-parts.ensures.parts; counted = ap is_overcounted c.in_ok-parts.ensures.new },
+  record { parts = c.in_ok-desk.ensures.parts; counted = ap is_overcounted c.in_ok-desk.ensures.new },
   record {
-    none = c.in_ok-edits.ensures.list;
-    room = c.in_ok-edits.ensures.spare ∙ (c.most_edits.ensures.most ∙ ap (λ (n : Node). most_edits n.limits) (sym c.in_ok-parts.ensures.new));
+    none = c.in_ok-desk.ensures.none;
+    room = c.in_ok-desk.ensures.room ∙ (c.most_edits.ensures.most ∙ ap (λ (n : Node). most_edits n.limits) (sym c.in_ok-desk.ensures.new));
   },
 )

@@ -7,7 +7,7 @@ use Rattle.pfl_defer.specs.Deferring.{Deferrals}
 use Rattle.pfl_node.specs.Releasing.{release_refusal, released_due, due_names}
 use Rattle.pfl_parts.specs.inner.Judging.{judged_as}
 use Rattle.pfl_parts.specs.Nodes.{Node, IsRefusal, is_overcounted, refused_by}
-use Rattle.pfl_node.proofs.Ready.{begins, concluded, recorded-fits}
+use Rattle.pfl_node.proofs.Ready.{begins, concluded}
 use Rattle.pfl_node.proofs.OnePoint.{refused-as, not_refused-as}
 use Rattle.pfl_node.proofs.Released.{due-few, judged-low, judged-none}
 use Rattle.pfl_node.proofs.Sent.{sent-answer}
@@ -33,31 +33,28 @@ release-count-requires-clause-parts g c = c.self.invariant.0.parts
 
 pub release-count-requires-clause-room : goal.release-count-requires-clause-room
 release-count-requires-clause-room g c =
-    let n = c.self.inside.parts in
-    let room = (begins n c.self.inside.edits c.self.invariant.0 c.self.invariant.1).held in
+    let n = c.self.inside.desk.node in
+    let room = (begins c.self.inside.desk c.self.invariant.1).held in
     let few = due-few n c.self.invariant.0.parts in
     omega (arith, room, few)
 
-pub release-count-requires-clause-countable : goal.release-count-requires-clause-countable
-release-count-requires-clause-countable g c = (begins c.self.inside.parts c.self.inside.edits c.self.invariant.0 c.self.invariant.1).countable
-
 pub conclude-requires : goal.conclude-requires
-conclude-requires g c = record { fits = recorded-fits (3 * length (due_names c.self.inside.parts)) _ c.self.inside.parts _ c.self.inside.edits _ c.self.invariant.1 c.release-count.ensures.extends }
+conclude-requires g c = record { counted = c.judge-judged.ensures.counted }
 
 pub invariant_of-self : goal.invariant_of-self
 invariant_of-self g c =
-    let n = c.self.inside.parts in
+    let n = c.self.inside.desk.node in
     let e = c.conclude.ensures in
-    let s = concluded (3 * length (due_names n)) n c.release-count.new.parts c.conclude.new.parts c.self.inside.edits c.release-count.new.change c.conclude.new.change (λ count. c.judge-judged.result ≡ Ok count) c.self.invariant.0 c.self.invariant.1 c.release-count.ensures.extends (judged-low c.release-count.new.parts c.judge-judged.result c.judge-judged.ensures.counted) e.none e.room c.conclude.result e.undone e.stands e.kept e.parts e.edits in
+    let s = concluded (3 * length (due_names n)) c.self.inside.desk c.release-count.new.desk c.conclude.new.self (λ count. c.judge-judged.result ≡ Ok count) c.self.invariant.0 c.self.invariant.1 c.release-count.ensures.writes (judged-low c.release-count.new.desk.node c.judge-judged.result c.judge-judged.ensures.counted) e.none e.room c.conclude.result e.undone e.stands e.kept e.parts e.edits e.leads_back in
     (s.node, s.ready)
 
 pub returns : goal.returns
 returns g c =
-    let n = c.self.inside.parts in
+    let n = c.self.inside.desk.node in
     let d = c.release-count.ensures in
     let e = c.conclude.ensures in
     let judged = c.judge-judged.result in
-    let s = concluded (3 * length (due_names n)) n c.release-count.new.parts c.conclude.new.parts c.self.inside.edits c.release-count.new.change c.conclude.new.change (λ count. c.judge-judged.result ≡ Ok count) c.self.invariant.0 c.self.invariant.1 c.release-count.ensures.extends (judged-low c.release-count.new.parts c.judge-judged.result c.judge-judged.ensures.counted) e.none e.room c.conclude.result e.undone e.stands e.kept e.parts e.edits in
+    let s = concluded (3 * length (due_names n)) c.self.inside.desk c.release-count.new.desk c.conclude.new.self (λ count. c.judge-judged.result ≡ Ok count) c.self.invariant.0 c.self.invariant.1 c.release-count.ensures.writes (judged-low c.release-count.new.desk.node c.judge-judged.result c.judge-judged.ensures.counted) e.none e.room c.conclude.result e.undone e.stands e.kept e.parts e.edits e.leads_back in
     let some : (length n.held.list == 0) ≡ false = ap (λ (m : Node). length m.held.list == 0) c.self.view_is ∙ (ap (λ (l : Deferrals). length l.list == 0) (sym c.held.ensures.held) ∙ (sym c.is_empty.ensures.none ∙ c.if-is_empty.false)) in
     let why : release_refusal n ≡ judged_as judged =
     ap (λ t. refused_by ((t, NothingPending) ∷ (length (due_names n) == 0, TooEarly) ∷ (is_overcounted (released_due n), CountFull) ∷ [])) some

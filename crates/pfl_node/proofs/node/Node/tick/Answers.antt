@@ -18,21 +18,24 @@ where_ok : {P : Type 0} (result : Result (ℕ × Edits NodeEdit) Refusal) → P 
 where_ok (Ok r) p = p
 where_ok (Err e) p = tt
 
+pub settle-requires : goal.settle-requires
+settle-requires g c = record { counted = λ low. ap is_overcounted c.set_clock.ensures.node ∙ c.self.invariant.0.counted }
+
 pub invariant_of-self : goal.invariant_of-self
 invariant_of-self g c =
     let e = c.settle.ensures in
-    let s = settled 1 c.self.inside.parts c.set_clock.new.self c.settle.new.parts c.self.inside.edits c.set_clock.new.change c.settle.new.change (Ok (c.clock.result + c.args.ms, false)) [] c.self.invariant.0 c.self.invariant.1 c.set_clock.ensures.extends (refl, refl) (after-clock c.self.inside.parts c.set_clock.new.self _ c.self.invariant.0.counted c.set_clock.ensures.node (Ok (c.clock.result + c.args.ms, false))) e.none e.room c.settle.result e.refused e.undone e.stands e.kept e.parts e.edits in
+    let s = settled 1 c.self.inside.desk c.set_clock.new.self c.settle.new.self (Ok (c.clock.result + c.args.ms, false)) [] c.self.invariant.0 c.self.invariant.1 c.set_clock.ensures.writes (refl, refl) (after-clock c.self.inside.desk.node c.set_clock.new.self.node _ c.self.invariant.0.counted c.set_clock.ensures.node (Ok (c.clock.result + c.args.ms, false))) e.none e.room c.settle.result e.refused e.undone e.stands e.kept e.parts e.edits e.leads_back in
     (s.node, s.ready)
 
 pub returns : goal.returns
 returns g c =
     let e = c.settle.ensures in
-    let s = settled 1 c.self.inside.parts c.set_clock.new.self c.settle.new.parts c.self.inside.edits c.set_clock.new.change c.settle.new.change (Ok (c.clock.result + c.args.ms, false)) [] c.self.invariant.0 c.self.invariant.1 c.set_clock.ensures.extends (refl, refl) (after-clock c.self.inside.parts c.set_clock.new.self _ c.self.invariant.0.counted c.set_clock.ensures.node (Ok (c.clock.result + c.args.ms, false))) e.none e.room c.settle.result e.refused e.undone e.stands e.kept e.parts e.edits in
+    let s = settled 1 c.self.inside.desk c.set_clock.new.self c.settle.new.self (Ok (c.clock.result + c.args.ms, false)) [] c.self.invariant.0 c.self.invariant.1 c.set_clock.ensures.writes (refl, refl) (after-clock c.self.inside.desk.node c.set_clock.new.self.node _ c.self.invariant.0.counted c.set_clock.ensures.node (Ok (c.clock.result + c.args.ms, false))) e.none e.room c.settle.result e.refused e.undone e.stands e.kept e.parts e.edits e.leads_back in
     let none : tick_refusal c.args.self.now c.args.ms ≡ None = sym c.tick_refusal.ensures.refusal ∙ c.in_default.is in
     let clocks = c.clock.ensures.clock ∙ ap (λ (n : Node). n.clock) (sym c.self.view_is) in
-    let later : c.set_clock.new.self ≡ ticked c.self.inside.parts c.args.ms = c.set_clock.ensures.node ∙ ap (λ k. record c.self.inside.parts { clock = k + c.args.ms }) clocks in
-    let node = settled-answer c.set_clock.new.self c.settle.new.parts (Ok (c.clock.result + c.args.ms, false)) (λ (t : ℕ) (n : Node). n ≡ ticked c.self.inside.parts c.args.ms) later c.settle.result e.stands e.kept in
-    let clock = settled-answer c.set_clock.new.self c.settle.new.parts (Ok (c.clock.result + c.args.ms, false)) (λ (t : ℕ) (n : Node). t ≡ n.clock) (ap (λ (n : Node). n.clock) (sym c.set_clock.ensures.node)) c.settle.result e.stands e.kept in
+    let later : c.set_clock.new.self.node ≡ ticked c.self.inside.desk.node c.args.ms = c.set_clock.ensures.node ∙ ap (λ k. record c.self.inside.desk.node { clock = k + c.args.ms }) clocks in
+    let node = settled-answer c.set_clock.new.self.node c.settle.new.self.node (Ok (c.clock.result + c.args.ms, false)) (λ (t : ℕ) (n : Node). n ≡ ticked c.self.inside.desk.node c.args.ms) later c.settle.result e.stands e.kept in
+    let clock = settled-answer c.set_clock.new.self.node c.settle.new.self.node (Ok (c.clock.result + c.args.ms, false)) (λ (t : ℕ) (n : Node). t ≡ n.clock) (ap (λ (n : Node). n.clock) (sym c.set_clock.ensures.node)) c.settle.result e.stands e.kept in
     record {
       refused = subst (λ (o : Option Refusal). IfErr c.settle.result (IsRefusal o)) (sym none) e.refused;
       unchanged = rw (← c.self.view_is) s.unchanged;

@@ -1,6 +1,6 @@
 use Rattle.std.proofs.Common.{refl}
 use Rattle.pfl_defer.specs.Deferring.{with_held}
-use Rattle.pfl_parts.proofs.ForCallers.{extends-then, held-may}
+use Rattle.pfl_parts.proofs.ForCallers.{writes-then, held-may}
 use Rattle.pfl_node.proofs.Holding.{waits-is}
 use Rattle.pfl_node.proofs.packet.hold.hold.Goals as goal
 
@@ -12,7 +12,7 @@ keep-requires-clause-fresh g c = rw c.name-name.ensures c.requires.fresh
 
 pub replace_state-requires-clause-may : goal.replace_state-requires-clause-may
 replace_state-requires-clause-may g c =
-    let n = c.args.parts.now in
+    let n = c.args.desk.now.node in
     let d = with_held n.held c.name-name.result c.args.packet.now n.clock in
     rw c.keep.ensures.node (held-may n c.args.waiting d c.requires.known)
 
@@ -20,7 +20,7 @@ pub returns-clause-step : goal.returns-clause-step
 returns-clause-step g c =
     rw (c.push_if.ensures.node, c.replace_state.ensures.node, c.keep.ensures.node, c.name-name.ensures) (rw (waits-is c.args.waiting c.requires.waits) refl)
 
-pub returns-clause-extends : goal.returns-clause-extends
-returns-clause-extends g c =
-    extends-then 2 1 _ _ _ _ _ _
-    (extends-then 1 1 _ _ _ _ _ _ c.keep.ensures.extends c.replace_state.ensures.extends) c.push_if.ensures.extends
+pub returns-clause-writes : goal.returns-clause-writes
+returns-clause-writes g c =
+    writes-then 2 1 _ _ _
+    (writes-then 1 1 _ _ _ c.keep.ensures.writes c.replace_state.ensures.writes) c.push_if.ensures.writes

@@ -11,41 +11,41 @@ use Rattle.pfl_node.specs.inner.Carried.{Tried}
 use Rattle.pfl_parts.specs.inner.Kept.{MayStart}
 use Rattle.pfl_node.specs.Starting.{Handled, announced, with_new, new_state}
 use Rattle.pfl_node.proofs.Fated.{pair-is, new-starts}
-use Rattle.pfl_parts.proofs.ForCallers.{extends-more}
+use Rattle.pfl_parts.proofs.ForCallers.{writes-more}
 use Rattle.pfl_node.proofs.Started.{started-max, started-full, started-key, started-new}
 use Rattle.pfl_node.proofs.packet.start.start.Goals as goal
 
 pub returns-then-is_at_max : goal.returns-then-is_at_max
 returns-then-is_at_max g c =
-    let n = c.args.parts.now in
+    let n = c.args.desk.now.node in
     let p = c.args.packet.now in
     let r = c.args.rule.now in
     let why = started-max n c.args.dir p c.args.number r (sym c.is_at_max.ensures.most ∙ c.if-is_at_max.true) in
-    record { done = record { full = tt; step = c.drop_packet.ensures.step ∙ sym why; extends = extends-more 1 9 _ _ _ _ (omega arith) c.drop_packet.ensures.extends } }
+    record { done = record { full = tt; step = c.drop_packet.ensures.step ∙ sym why; writes = writes-more 1 9 _ _ (omega arith) c.drop_packet.ensures.writes } }
 
 pub returns-then-is_full : goal.returns-then-is_full
 returns-then-is_full g c =
-    let n = c.args.parts.now in
+    let n = c.args.desk.now.node in
     let p = c.args.packet.now in
     let r = c.args.rule.now in
     let full = c.is_full.ensures.states ∙ (λ i. nat_le (c.states.ensures.limit i) (maps.len (c.states.ensures.states i))) in
     let why = started-full n c.args.dir p c.args.number r (sym c.is_at_max.ensures.most ∙ c.if-is_at_max.false) (sym full ∙ c.if-is_full.true) in
-    record { done = record { full = tt; step = c.drop_packet-then-is_full.ensures.step ∙ sym why; extends = extends-more 1 9 _ _ _ _ (omega arith) c.drop_packet-then-is_full.ensures.extends } }
+    record { done = record { full = tt; step = c.drop_packet-then-is_full.ensures.step ∙ sym why; writes = writes-more 1 9 _ _ (omega arith) c.drop_packet-then-is_full.ensures.writes } }
 
 pub returns-then-key_in_use : goal.returns-then-key_in_use
 returns-then-key_in_use g c =
-    let n = c.args.parts.now in
+    let n = c.args.desk.now.node in
     let p = c.args.packet.now in
     let r = c.args.rule.now in
     let full = c.is_full.ensures.states ∙ (λ i. nat_le (c.states.ensures.limit i) (maps.len (c.states.ensures.states i))) in
     let keys = pair-is c.in-Some.keys (record { wire = wire_key (key p c.args.dir) r.nat; stack = key p c.args.dir }) (fits_family (key p c.args.dir) r.nat) c.in-Some.ensures c.requires.fits in
     let used : key_in_use n.states (wire_key (key p c.args.dir) r.nat) (key p c.args.dir) ≡ true = ap (λ (k : KeyFields). key_in_use n.states k.wire k.stack) (sym keys) ∙ (sym c.key_in_use.ensures.used ∙ c.if-key_in_use.true) in
     let why = started-key n c.args.dir p c.args.number r (sym c.is_at_max.ensures.most ∙ c.if-is_at_max.false) (sym full ∙ c.if-is_full.false) used in
-    record { done = record { full = tt; step = c.drop_packet-then-key_in_use.ensures.step ∙ sym why; extends = extends-more 1 9 _ _ _ _ (omega arith) c.drop_packet-then-key_in_use.ensures.extends } }
+    record { done = record { full = tt; step = c.drop_packet-then-key_in_use.ensures.step ∙ sym why; writes = writes-more 1 9 _ _ (omega arith) c.drop_packet-then-key_in_use.ensures.writes } }
 
 pub announce-requires-clause-known : goal.announce-requires-clause-known
 announce-requires-clause-known g c =
-    let n = c.args.parts.now in
+    let n = c.args.desk.now.node in
     let p = c.args.packet.now in
     let r = c.args.rule.now in
     let full = c.is_full.ensures.states ∙ (λ i. nat_le (c.states.ensures.limit i) (maps.len (c.states.ensures.states i))) in
@@ -57,7 +57,7 @@ announce-requires-clause-known g c =
 
 pub returns : goal.returns
 returns g c =
-    let n = c.args.parts.now in
+    let n = c.args.desk.now.node in
     let p = c.args.packet.now in
     let r = c.args.rule.now in
     let full = c.is_full.ensures.states ∙ (λ i. nat_le (c.states.ensures.limit i) (maps.len (c.states.ensures.states i))) in
@@ -68,4 +68,4 @@ returns g c =
     let same : c.start_state-state.result ≡ new_state n c.args.dir p c.args.number r = c.start_state-state.ensures.state ∙ (λ i. start_state (name i) ((keys i).wire) ((keys i).stack) c.args.dir p (Some c.args.number) r.no_sync (clock i)) in
     let why = started-new n c.args.dir p c.args.number r (sym c.is_at_max.ensures.most ∙ c.if-is_at_max.false) (sym full ∙ c.if-is_full.false) used in
     let whole = ap (λ (s : State). announced (with_new n s) s c.args.dir p) same ∙ sym why in
-    record { done = subst (λ (h : Handled). Tried 9 c.announce.result c.args.change.now c.announce.new.change n c.announce.new.parts h) whole c.announce.ensures.done }
+    record { done = subst (λ (h : Handled). Tried 9 c.announce.result c.args.desk.now c.announce.new.desk h) whole c.announce.ensures.done }

@@ -1,4 +1,4 @@
-use Rattle.std.specs.Prelude.{Some, ◌≡◌}
+use Rattle.std.specs.Prelude.{Some, ◌≡◌, ◌∷◌, []}
 use Rattle.std.specs.Option.{option_map}
 use Rattle.std.proofs.Common.{◌∙◌, ap, sym, subst}
 use Rattle.pfl_edits.specs.Maps as maps
@@ -8,10 +8,10 @@ use Rattle.pfl_table.specs.declared.row.Row.{Row}
 use Rattle.pfl_table.specs.Tables.{states_of, row_with, edit_of}
 use Rattle.pfl_table.proofs.ForCallers.{get-states_of}
 use Rattle.pfl_parts.specs.declared.edit.NodeEdit.TheVariants.{OfState}
-use Rattle.pfl_parts.specs.Edits.{NodeExtends}
+use Rattle.pfl_parts.specs.inner.Drafting.{Makes}
 use Rattle.pfl_parts.specs.inner.Kept.{expires_by, written}
 use Rattle.pfl_parts.specs.Nodes.{Node, AreParts}
-use Rattle.pfl_parts.proofs.Recording.{recorded_as}
+use Rattle.pfl_parts.proofs.Recording.{makes_as}
 use Rattle.pfl_parts.proofs.Stating.{addable, set-past, written-states, written-timely, whole-with}
 use Rattle.pfl_parts.proofs.parts.Parts.add_state.Goals as goal
 
@@ -42,8 +42,8 @@ returns-clause-node g c =
     let now = written-states c.self.inside.table c.put.new.self s.name (Some s) c.expiry-expires.result c.in-Ok.ensures.put ∙ ap (λ (m : Node). set_at m.states s.name (Some s)) c.self.view_is in
     whole-with _ n (states_of c.put.new.self) (set_at n.states s.name (Some s)) c.self.view_is now
 
-pub returns-clause-extends : goal.returns-clause-extends
-returns-clause-extends g c =
+pub returns-clause-makes : goal.returns-clause-makes
+returns-clause-makes g c =
     let n = c.args.self.now in
     let s = c.args.state in
     let t = c.self.inside.table in
@@ -51,5 +51,5 @@ returns-clause-extends g c =
     let whole = whole-with _ n (states_of c.put.new.self) (set_at n.states s.name (Some s)) c.self.view_is now in
     let former : maps.get n.states s.name ≡ option_map (λ (r : Row). r.state) (maps.get t.rows s.name) = ap (λ (m : Node). maps.get m.states s.name) (sym c.self.view_is) ∙ get-states_of t s.name in
     let wrote = OfState (written (edit_of t s.name (row_with (Some s) c.expiry-expires.result))) in
-    subst (λ (m : Node). NodeExtends 1 c.args.change.now c.push.new.self n m) (sym whole)
-    (recorded_as _ _ n (OfState c.state_edit.result) wrote (ap OfState (c.state_edit.ensures ∙ ap written c.in-Ok.ensures.edit)) (subst AreParts c.self.view_is c.self.invariant.1) former tt c.push.ensures.list c.push.ensures.spare)
+    subst (λ (m : Node). Makes (OfState c.state_edit.result ∷ []) n m) (sym whole)
+    (makes_as n (OfState c.state_edit.result) wrote (ap OfState (c.state_edit.ensures ∙ ap written c.in-Ok.ensures.edit)) (subst AreParts c.self.view_is c.self.invariant.1) former tt)

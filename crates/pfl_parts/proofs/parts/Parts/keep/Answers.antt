@@ -4,7 +4,7 @@ use Rattle.pfl_defer.specs.Deferring.{Deferrals, held_of, with_held}
 use Rattle.pfl_defer.specs.Edits.{DefersBack}
 use Rattle.pfl_parts.specs.Nodes.{Node, IsGiven}
 use Rattle.pfl_parts.proofs.Deferred.{held-node, one_edit, stays-roomy}
-use Rattle.pfl_parts.proofs.Recording.{recorded_held}
+use Rattle.pfl_parts.proofs.Recording.{makes_held}
 use Rattle.pfl_parts.proofs.parts.Parts.keep.Goals as goal
 
 pub hold-edits-requires : goal.hold-edits-requires
@@ -30,9 +30,9 @@ returns-clause-node g c =
     let held = c.hold-edits.ensures.deferrals ∙ ap (λ (d : Deferrals). with_held d c.args.name c.args.packet.now c.self.inside.clock) (stays-roomy c.self.inside.held free).1 in
     rw held (ap (λ (m : Node). record m { held = with_held m.held c.args.name c.args.packet.now m.clock }) c.self.view_is)
 
-pub returns-clause-extends : goal.returns-clause-extends
-returns-clause-extends g c =
+pub returns-clause-makes : goal.returns-clause-makes
+returns-clause-makes g c =
     let free = subst (λ (m : Node). length m.held.list < m.held.limit) (sym c.self.view_is) c.requires.free in
     let one = one_edit c.hold-edits.result.1.released c.hold-edits.result.1.held (c.hold-edits.ensures.edit ∙ (stays-roomy c.self.inside.held free).0) in
     let back = subst (λ (es : List DeferEdit). DefersBack es c.self.inside.held c.hold-edits.new.self) one c.hold-edits.ensures.leads_back in
-    rw (← c.self.view_is) (recorded_held _ _ _ c.hold-edits.result.1.held c.hold-edits.new.self c.self.invariant.1 back c.push.ensures.list c.push.ensures.spare)
+    rw (← c.self.view_is) (makes_held _ c.hold-edits.result.1.held c.hold-edits.new.self c.self.invariant.1 back)

@@ -2,7 +2,7 @@ use Rattle.std.proofs.Common.{refl, sym, subst}
 use Rattle.pfl_parts.specs.declared.edit.NodeEdit.TheVariants.{Server}
 use Rattle.pfl_parts.specs.Nodes.{Node, ServesSince}
 use Rattle.pfl_parts.proofs.Keeps.{keeps_server}
-use Rattle.pfl_parts.proofs.Recording.{recorded}
+use Rattle.pfl_parts.proofs.Recording.{makes}
 use Rattle.pfl_parts.proofs.parts.Parts.set_server.Goals as goal
 
 pub invariant_of-self : goal.invariant_of-self
@@ -10,5 +10,5 @@ invariant_of-self g c =
     let past = subst (λ (m : Node). ServesSince m c.args.server) (sym c.self.view_is) c.requires.past in
     (c.self.invariant.0, keeps_server _ c.args.server c.self.invariant.1 past)
 
-pub returns-clause-extends : goal.returns-clause-extends
-returns-clause-extends g c = rw (← c.self.view_is) (recorded _ _ _ (Server c.self.inside.server c.args.server) c.self.invariant.1 refl tt c.push.ensures.list c.push.ensures.spare)
+pub returns-clause-makes : goal.returns-clause-makes
+returns-clause-makes g c = rw (← c.self.view_is) (makes _ (Server c.self.inside.server c.args.server) c.self.invariant.1 refl tt)

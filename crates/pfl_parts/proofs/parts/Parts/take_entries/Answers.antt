@@ -1,17 +1,13 @@
 use Rattle.std.proofs.Common.{refl}
 use Rattle.pfl_queue.specs.Taking.{next_frame}
-use Rattle.pfl_parts.proofs.Taking.{left-node, taken-extends}
+use Rattle.pfl_parts.proofs.Taking.{left-node, taken-makes}
 use Rattle.pfl_parts.proofs.parts.Parts.take_entries.Goals as goal
 
 pub invariant_of-self-2 : goal.invariant_of-self-2
 invariant_of-self-2 g c =
     (c.self.invariant.0, rw c.in_ok-entries.ensures.left (left-node (next_frame c.self.inside.queue c.self.inside.limits.mtu) _ c.self.invariant.1))
 
-pub returns-clause-extends : goal.returns-clause-extends
-returns-clause-extends g c =
+pub returns-clause-makes : goal.returns-clause-makes
+returns-clause-makes g c =
     let e = c.in_ok-entries.ensures in
-    rw (← c.self.view_is) (rw e.left (taken-extends _ _ _ _ c.in_ok-entries.taken.list c.self.invariant.1 refl e.edits e.one_each c.record_all.ensures.list c.record_all.ensures.spare))
-
-pub returns-clause-parts : goal.returns-clause-parts
-returns-clause-parts g c =
-    rw c.in_ok-entries.ensures.left (left-node (next_frame c.self.inside.queue c.self.inside.limits.mtu) _ c.self.invariant.1)
+    rw (← c.self.view_is) (rw e.left (taken-makes _ _ c.in_ok-entries.taken.list c.self.invariant.1 refl e.edits))

@@ -1,4 +1,4 @@
-use Rattle.std.specs.Prelude.{None, ◌≡◌}
+use Rattle.std.specs.Prelude.{None, ◌≡◌, ◌∷◌, []}
 use Rattle.std.specs.Option.{option_map}
 use Rattle.std.proofs.Common.{◌∙◌, ap, sym, subst}
 use Rattle.pfl_base.proofs.ForCallers.{names_total, names_exact}
@@ -9,18 +9,18 @@ use Rattle.pfl_table.specs.declared.row.Row.{Row}
 use Rattle.pfl_table.specs.Tables.{states_of, edit_of}
 use Rattle.pfl_table.proofs.ForCallers.{get-states_of}
 use Rattle.pfl_parts.specs.declared.edit.NodeEdit.TheVariants.{OfState}
-use Rattle.pfl_parts.specs.Edits.{NodeExtends}
+use Rattle.pfl_parts.specs.inner.Drafting.{Makes}
 use Rattle.pfl_parts.specs.inner.Kept.{written}
 use Rattle.pfl_parts.specs.Nodes.{Node, AreParts}
-use Rattle.pfl_parts.proofs.Recording.{recorded_as}
+use Rattle.pfl_parts.proofs.Recording.{makes_as}
 use Rattle.pfl_parts.proofs.Stating.{written-states, written-timely, whole-with}
 use Rattle.pfl_parts.proofs.parts.Parts.take_state.Goals as goal
 
-pub returns-in_default-clause-node : goal.returns-in_default-clause-node
-returns-in_default-clause-node g c =
+pub returns-in_err-edit-clause-node : goal.returns-in_err-edit-clause-node
+returns-in_err-edit-clause-node g c =
     let n = c.args.self.now in
     let name = c.args.name in
-    let same = ap states_of c.in_default.ensures.unchanged ∙ sym (set_at-same names_total names_exact (states_of c.self.inside.table) name None c.in_default.ensures.state) in
+    let same = ap states_of c.in_err-edit.ensures.unchanged ∙ sym (set_at-same names_total names_exact (states_of c.self.inside.table) name None c.in_err-edit.ensures.state) in
     whole-with _ n (states_of c.take.new.self) (set_at n.states name None) c.self.view_is (same ∙ ap (λ (m : Node). set_at m.states name None) c.self.view_is)
 
 pub invariant_of-self-2 : goal.invariant_of-self-2
@@ -28,8 +28,8 @@ invariant_of-self-2 g c =
     let n = c.args.self.now in
     let name = c.args.name in
     let t = c.self.inside.table in
-    let now = written-states t c.take.new.self name None 0 c.in-Some.ensures.taken ∙ ap (λ (m : Node). set_at m.states name None) c.self.view_is in (
-      written-timely c.self.inside.limits c.self.inside.rules t c.take.new.self name None 0 c.self.invariant.0 tt c.in-Some.ensures.taken,
+    let now = written-states t c.take.new.self name None 0 c.in_ok-edit.ensures.taken ∙ ap (λ (m : Node). set_at m.states name None) c.self.view_is in (
+      written-timely c.self.inside.limits c.self.inside.rules t c.take.new.self name None 0 c.self.invariant.0 tt c.in_ok-edit.ensures.taken,
       subst AreParts (sym (whole-with _ n (states_of c.take.new.self) (set_at n.states name None) c.self.view_is now)) c.requires.parts,
     )
 
@@ -37,16 +37,16 @@ pub returns-clause-node : goal.returns-clause-node
 returns-clause-node g c =
     let n = c.args.self.now in
     let name = c.args.name in
-    let now = written-states c.self.inside.table c.take.new.self name None 0 c.in-Some.ensures.taken ∙ ap (λ (m : Node). set_at m.states name None) c.self.view_is in
+    let now = written-states c.self.inside.table c.take.new.self name None 0 c.in_ok-edit.ensures.taken ∙ ap (λ (m : Node). set_at m.states name None) c.self.view_is in
     whole-with _ n (states_of c.take.new.self) (set_at n.states name None) c.self.view_is now
 
-pub returns-clause-extends : goal.returns-clause-extends
-returns-clause-extends g c =
+pub returns-clause-makes : goal.returns-clause-makes
+returns-clause-makes g c =
     let n = c.args.self.now in
     let name = c.args.name in
     let t = c.self.inside.table in
-    let now = written-states t c.take.new.self name None 0 c.in-Some.ensures.taken ∙ ap (λ (m : Node). set_at m.states name None) c.self.view_is in
+    let now = written-states t c.take.new.self name None 0 c.in_ok-edit.ensures.taken ∙ ap (λ (m : Node). set_at m.states name None) c.self.view_is in
     let whole = whole-with _ n (states_of c.take.new.self) (set_at n.states name None) c.self.view_is now in
     let former : maps.get n.states name ≡ option_map (λ (r : Row). r.state) (maps.get t.rows name) = ap (λ (m : Node). maps.get m.states name) (sym c.self.view_is) ∙ get-states_of t name in
-    subst (λ (m : Node). NodeExtends 1 c.args.change.now c.push.new.self n m) (sym whole)
-    (recorded_as _ _ n (OfState c.state_edit.result) (OfState (written (edit_of t name None))) (ap OfState (c.state_edit.ensures ∙ ap written c.in-Some.ensures.edit)) (subst AreParts c.self.view_is c.self.invariant.1) former tt c.push.ensures.list c.push.ensures.spare)
+    subst (λ (m : Node). Makes (OfState c.state_edit.result ∷ []) n m) (sym whole)
+    (makes_as n (OfState c.state_edit.result) (OfState (written (edit_of t name None))) (ap OfState (c.state_edit.ensures ∙ ap written c.in_ok-edit.ensures.edit)) (subst AreParts c.self.view_is c.self.invariant.1) former tt)

@@ -2,15 +2,12 @@ use Rattle.std.proofs.Common.{ap, refl}
 use Rattle.pfl_parts.specs.declared.edit.NodeEdit.TheVariants.{OfQueue}
 use Rattle.pfl_queue.specs.Edits.{unmarking}
 use Rattle.pfl_parts.proofs.Deletions.{unmarked-node}
-use Rattle.pfl_parts.proofs.Recording.{recorded_as}
+use Rattle.pfl_parts.proofs.Recording.{makes_as}
 use Rattle.pfl_parts.proofs.parts.Parts.unmark.Goals as goal
 
 pub invariant_of-self-2 : goal.invariant_of-self-2
 invariant_of-self-2 g c = (c.self.invariant.0, rw c.unmark.ensures.unmarked (unmarked-node _ c.args.name c.self.invariant.1))
 
-pub returns-clause-extends : goal.returns-clause-extends
-returns-clause-extends g c =
-    rw (← c.self.view_is) (rw c.unmark.ensures.unmarked (recorded_as _ _ _ (OfQueue c.in-Some.edit) (OfQueue (unmarking c.self.inside.queue c.args.name)) (ap OfQueue c.in-Some.ensures.edit) c.self.invariant.1 (refl, tt) tt c.push.ensures.list c.push.ensures.spare))
-
-pub returns-clause-parts : goal.returns-clause-parts
-returns-clause-parts g c = rw c.unmark.ensures.unmarked (unmarked-node _ c.args.name c.self.invariant.1)
+pub returns-clause-makes : goal.returns-clause-makes
+returns-clause-makes g c =
+    rw (← c.self.view_is) (rw c.unmark.ensures.unmarked (makes_as _ (OfQueue c.in_ok-edit.edit) (OfQueue (unmarking c.self.inside.queue c.args.name)) (ap OfQueue c.in_ok-edit.ensures.edit) c.self.invariant.1 (refl, tt) tt))

@@ -1,5 +1,0 @@
-use Rattle.pfl_parts.proofs.Recording.{extends-then}
-use Rattle.pfl_parts.proofs.parts.Parts.tell_clear.Goals as goal
-
-pub returns-clause-extends : goal.returns-clause-extends
-returns-clause-extends g c = extends-then 1 1 _ _ _ _ _ _ c.list_clear.ensures.extends c.push_if.ensures.extends
