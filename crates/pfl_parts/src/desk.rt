@@ -50,7 +50,7 @@ impl<A: Allocator> Model for Desk<A> {
 }
 
 impl<A: Allocator + Copy> Desk<A> {
-    /// A node that has seen nothing, with room for so many edits. Its creator is the number of its boot.
+    /// A desk with a node that has seen nothing, and with room for so many edits. The node's creator is the number of its boot.
     pub fn new(
         alloc: A,
         limits: Limits,
@@ -70,7 +70,7 @@ impl<A: Allocator + Copy> Desk<A> {
         Ok(Desk { parts, edits })
     }
 
-    /// An equal node between events, with memory of its own and room for so many edits.
+    /// A desk with an equal node, between events, with memory of its own and room for so many edits.
     pub fn copy(&self, alloc: A, room: usize) -> Result<Self, NoMemory>
         requires between { self.now.edits.list ≡ [] }
         requires room { room ≤ most_room }

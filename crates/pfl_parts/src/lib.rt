@@ -1,4 +1,5 @@
-//! The parts of one node of the pair, and the small changes that its events are made of, each recorded (pf.c, if_pfsync.c).
+//! The desk on which the events of one node of the pair are carried out: the parts of the node, and the small changes that events
+//! are made of, each recorded (pf.c, if_pfsync.c).
 #![tactic(auto)]
 
 mod counters;

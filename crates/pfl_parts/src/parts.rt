@@ -79,7 +79,12 @@ impl<A: Allocator> Model for Parts<A> {
 
 impl<A: Allocator + Copy> Parts<A> {
     /// The parts of a node that has seen nothing.
-    pub fn new(alloc: A, limits: Limits, rules: RuleSet<A>, creator: u32) -> Result<Self, NoMemory>
+    pub(crate) fn new(
+        alloc: A,
+        limits: Limits,
+        rules: RuleSet<A>,
+        creator: u32,
+    ) -> Result<Self, NoMemory>
         requires limits { AreLimits limits }
         ensures new { IfOk result (λ n. n ≡ new_node limits rules creator 1 0) }
         ensures parts { IfOk result (λ n. AreParts n) }
@@ -105,7 +110,7 @@ impl<A: Allocator + Copy> Parts<A> {
     }
 
     /// Equal parts, with memory of their own.
-    pub fn copy(&self) -> Result<Self, NoMemory>
+    pub(crate) fn copy(&self) -> Result<Self, NoMemory>
         ensures same { IfOk result (λ copied. copied ≡ self.now) }
     {
         Ok(Parts {

@@ -1,4 +1,4 @@
--- How a packet is carried out on the parts of a node.
+-- How a packet is carried out on the desk of a node.
 use Rattle.std.specs.Prelude.{◌≡◌, ℕ, Result, IfOk, OnErr, true, List, Bool}
 use Rattle.pfl_language.specs.declared.fate.Fate.{Fate}
 use Rattle.pfl_parts.specs.declared.parts.judge.Overfull.{Overfull}

@@ -71,7 +71,7 @@ impl<A: Allocator> Desk<A> {
         Err(refusal)
     }
 
-    /// What was recorded belongs to no event, and is not taken back by itself: it is given up, and its room given back.
+    /// Gives up what was recorded, so that it can no longer be taken back. Its room is given back.
     pub fn give_up_edits(&mut self)
         requires counted { is_overcounted self.old.node ≡ false }
         ensures node { self.new.node ≡ self.old.node }

@@ -9,7 +9,7 @@ ghost use Rattle.pfl_queue.specs.Queues.{is_requested};
 ghost use Rattle.pfl_parts.specs.Weights.{listed_edits};
 
 use crate::desk::Desk;
-use crate::desk::places::write;
+use crate::desk::places::record_if;
 use crate::parts::judge::Overfull;
 use pfl_base::StateName;
 use pfl_wire::BulkStatus;
@@ -62,7 +62,7 @@ impl<A: Allocator> Desk<A> {
     {
         let edit = self.parts.list_request(name)?;
         let is_new = edit.is_some();
-        write(&mut self.edits, edit);
+        record_if(&mut self.edits, edit);
         Ok(is_new)
     }
 

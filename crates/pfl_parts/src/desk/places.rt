@@ -40,7 +40,7 @@ impl<A: Allocator> Desk<A> {
         ensures writes { Writes 1 self.old self.new }
     {
         let edit = self.parts.replace_state(state);
-        write(&mut self.edits, edit);
+        record_if(&mut self.edits, edit);
     }
 
     /// Takes the state of a name out. Nothing is recorded where there is none.
@@ -51,7 +51,7 @@ impl<A: Allocator> Desk<A> {
         ensures writes { Writes 1 self.old self.new }
     {
         let edit = self.parts.take_state(name);
-        write(&mut self.edits, edit);
+        record_if(&mut self.edits, edit);
     }
 
     /// Puts a name on a queue, with the next number.
@@ -77,7 +77,7 @@ impl<A: Allocator> Desk<A> {
         ensures writes { Writes 1 self.old self.new }
     {
         let edit = self.parts.unmark(name);
-        write(&mut self.edits, edit);
+        record_if(&mut self.edits, edit);
         self.parts.known();
     }
 
@@ -88,7 +88,7 @@ impl<A: Allocator> Desk<A> {
         ensures writes { Writes 1 self.old self.new }
     {
         let edit = self.parts.set_push(wanted);
-        write(&mut self.edits, edit);
+        record_if(&mut self.edits, edit);
     }
 
     /// Wants a frame soon, if it is asked for.
@@ -160,7 +160,7 @@ impl<A: Allocator> Desk<A> {
         ensures writes { Writes 1 self.old self.new }
     {
         let edit = self.parts.set_server(server);
-        write(&mut self.edits, edit);
+        record_if(&mut self.edits, edit);
     }
 
     /// Sets where the bulk client stands. Nothing is recorded where it stands there already.
@@ -172,7 +172,7 @@ impl<A: Allocator> Desk<A> {
         ensures writes { Writes 1 self.old self.new }
     {
         let edit = self.parts.set_client(client);
-        write(&mut self.edits, edit);
+        record_if(&mut self.edits, edit);
         self.parts.known();
     }
 
@@ -190,7 +190,7 @@ impl<A: Allocator> Desk<A> {
 }
 
 /// Records an edit, if there is one, in room that was made.
-pub(crate) fn write<A: Allocator>(edits: &mut Change<NodeEdit, A>, edit: Option<NodeEdit>)
+pub(crate) fn record_if<A: Allocator>(edits: &mut Change<NodeEdit, A>, edit: Option<NodeEdit>)
     requires room { 0 < edits.old.spare }
     ensures { Wrote edit edits.old edits.new }
 {

@@ -26,7 +26,7 @@ impl<A: Allocator + Copy> Desk<A> {
         ensures writes { Writes (length (next_frame self.old.node.queue self.old.node.limits.mtu)) self.old self.new }
     {
         let (entries, taken) = self.parts.take_entries()?;
-        write_all(&mut self.edits, taken);
+        record_all(&mut self.edits, taken);
         self.parts.known();
         Ok(entries)
     }
@@ -47,7 +47,7 @@ impl<A: Allocator> Desk<A> {
 }
 
 /// Records what was taken out of what is pending, in room that was made.
-fn write_all<A: Allocator>(edits: &mut Change<NodeEdit, A>, taken: Change<QueueEdit, A>)
+fn record_all<A: Allocator>(edits: &mut Change<NodeEdit, A>, taken: Change<QueueEdit, A>)
     requires room { length taken.list ≤ edits.old.spare }
     ensures list { edits.new.list ≡ edits.old.list ++ of_queue taken.list }
     ensures spare { edits.new.spare + length taken.list ≡ edits.old.spare }

@@ -15,7 +15,7 @@ pub struct Overfull;
 
 impl<A: Allocator> Parts<A> {
     /// The next id, the next queueing number or a counter is past the greatest.
-    pub fn is_overcounted(&self) -> bool
+    pub(crate) fn is_overcounted(&self) -> bool
         ensures counted { result ≡ is_overcounted self.now }
         ensures room { is_overfull self.now ≡ false }
     {

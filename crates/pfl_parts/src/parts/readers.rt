@@ -20,21 +20,21 @@ use std::alloc::Allocator;
 
 impl<A: Allocator> Parts<A> {
     /// Its limits.
-    pub fn limits(&self) -> Limits
+    pub(crate) fn limits(&self) -> Limits
         ensures limits { result ≡ self.now.limits }
     {
         self.limits
     }
 
     /// Its rules.
-    pub fn rules(&self) -> &RuleSet<A>
+    pub(crate) fn rules(&self) -> &RuleSet<A>
         ensures rules { result.now ≡ self.now.rules }
     {
         &self.rules
     }
 
     /// Its states, each with the time at which it expires, in milliseconds.
-    pub fn states(&self) -> &StateTable<A>
+    pub(crate) fn states(&self) -> &StateTable<A>
         ensures parts { AreParts self.now }
         ensures states { states_of result.now ≡ self.now.states }
         ensures limit { result.now.limit ≡ self.now.limits.states }
@@ -44,14 +44,14 @@ impl<A: Allocator> Parts<A> {
     }
 
     /// What it has to tell its peer.
-    pub fn queue(&self) -> &Pending<A>
+    pub(crate) fn queue(&self) -> &Pending<A>
         ensures queue { result.now ≡ self.now.queue }
     {
         &self.queue
     }
 
     /// The packets that it holds until its peer knows of their states.
-    pub fn held(&self) -> &Deferrals<A>
+    pub(crate) fn held(&self) -> &Deferrals<A>
         ensures parts { AreParts self.now }
         ensures held { result.now ≡ self.now.held }
     {
@@ -59,21 +59,21 @@ impl<A: Allocator> Parts<A> {
     }
 
     /// The bulk update that it serves.
-    pub fn server(&self) -> BulkServer
+    pub(crate) fn server(&self) -> BulkServer
         ensures server { result ≡ self.now.server }
     {
         self.server
     }
 
     /// The bulk update that it waits for.
-    pub fn client(&self) -> BulkClient
+    pub(crate) fn client(&self) -> BulkClient
         ensures client { result ≡ self.now.client }
     {
         self.client
     }
 
     /// Its clock, in milliseconds.
-    pub fn clock(&self) -> Millis
+    pub(crate) fn clock(&self) -> Millis
         ensures clock { result ≡ self.now.clock }
         ensures within { result ≤ last_millisecond }
     {
@@ -81,28 +81,28 @@ impl<A: Allocator> Parts<A> {
     }
 
     /// The number of its boot, by which its states are named.
-    pub fn creator(&self) -> u32
+    pub(crate) fn creator(&self) -> u32
         ensures creator { result ≡ self.now.creator }
     {
         self.creator
     }
 
     /// The id of its next state.
-    pub fn next_id(&self) -> u64
+    pub(crate) fn next_id(&self) -> u64
         ensures next_id { result ≡ self.now.next_id }
     {
         self.next_id
     }
 
     /// Whether a frame is wanted soon.
-    pub fn push(&self) -> bool
+    pub(crate) fn push(&self) -> bool
         ensures push { result ≡ self.now.push }
     {
         self.push
     }
 
     /// What it counted.
-    pub fn counters(&self) -> Counters
+    pub(crate) fn counters(&self) -> Counters
         ensures counters { result ≡ self.now.counters }
     {
         self.counters

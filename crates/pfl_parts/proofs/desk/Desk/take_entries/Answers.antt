@@ -9,15 +9,15 @@ pub invariant_of-self-2 : goal.invariant_of-self-2
 invariant_of-self-2 g c =
     let taken = c.in_ok-entries.taken.list in
     let long = length-map taken OfQueue in
-    let spare = c.write_all.ensures.spare in
-    draft-all _ _ _ _ (of_queue taken) c.self.invariant c.in_ok-entries.ensures.makes c.write_all.ensures.list (omega (arith, long, spare))
+    let spare = c.record_all.ensures.spare in
+    draft-all _ _ _ _ (of_queue taken) c.self.invariant c.in_ok-entries.ensures.makes c.record_all.ensures.list (omega (arith, long, spare))
 
 pub returns-clause-writes : goal.returns-clause-writes
 returns-clause-writes g c =
     let taken = c.in_ok-entries.taken.list in
     let long = length-map taken OfQueue in
-    let spare = c.write_all.ensures.spare in
+    let spare = c.record_all.ensures.spare in
     let few = c.in_ok-entries.ensures.few in
     rw (← c.self.view_is)
     (writes-more (length (of_queue taken)) _ _ _ (omega (arith, long, few))
-    (writes-all _ _ _ _ (of_queue taken) c.self.invariant c.in_ok-entries.ensures.makes c.write_all.ensures.list (omega (arith, long, spare))))
+    (writes-all _ _ _ _ (of_queue taken) c.self.invariant c.in_ok-entries.ensures.makes c.record_all.ensures.list (omega (arith, long, spare))))

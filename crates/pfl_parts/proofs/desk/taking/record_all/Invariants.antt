@@ -1,7 +1,7 @@
 use Rattle.std.proofs.Common.{◌≡◌, ◌+◌, ◌++◌, length}
 use Rattle.std.specs.Vec.Iter.{into_iter_items}
 use Rattle.pfl_parts.specs.inner.Taking.{of_queue}
-use Rattle.pfl_parts.proofs.desk.taking.write_all.Given as goal
+use Rattle.pfl_parts.proofs.desk.taking.record_all.Given as goal
 
 abbrev pub invariant-loop-edit : goal.invariant-loop-edit
 invariant-loop-edit g l = record {
