@@ -6,6 +6,7 @@ use Rattle.pfl_base.specs.declared.addr.Addr.TheVariants.{V4}
 use Rattle.pfl_rules.specs.declared.rule_dir.RuleDir.TheVariants.{Out, Any}
 use Rattle.pfl_rules.specs.declared.fault.RuleFault.TheVariants.{TooMany, NatNotOut, ZeroMax}
 use Rattle.pfl_rules.specs.Rules.{rule_fault}
+use Rattle.pfl_rules.specs.Scaling.{scaled}
 use Rattle.pfl_rules.specs.Texts.{canonical_text}
 use Rattle.md5.specs.Md5.{md5, digest_bytes, hash_after, compress, rounds, block_words}
 
@@ -61,3 +62,30 @@ lower_first = refl
 too_many : rule_fault (replicate 257 no_states) ≡ Some TooMany
 unfolding pass_out
 too_many = refl
+
+-- ---- timeouts that shorten
+
+up_to_the_start : scaled 60 (record { start = 2; end = 4 }) 2 ≡ 60
+up_to_the_start = refl
+
+half_way : scaled 60 (record { start = 2; end = 4 }) 3 ≡ 30
+half_way = refl
+
+at_the_end : scaled 60 (record { start = 2; end = 4 }) 4 ≡ 0
+at_the_end = refl
+
+past_the_end : scaled 60 (record { start = 2; end = 4 }) 5 ≡ 0
+past_the_end = refl
+
+-- 240 / 7, and not 4 times 60 / 7
+truncated_last : scaled 60 (record { start = 0; end = 7 }) 3 ≡ 34
+truncated_last = refl
+
+turned_off : scaled 60 (record { start = 0; end = 0 }) 3 ≡ 60
+turned_off = refl
+
+end_at_the_start : scaled 60 (record { start = 4; end = 4 }) 9 ≡ 60
+end_at_the_start = refl
+
+greatest_timeout : scaled 4294967295 (record { start = 0; end = 131072 }) 65536 ≡ 2147483647
+greatest_timeout = refl
