@@ -6,7 +6,7 @@ from typing import Callable, Dict, Iterable, List, Sequence
 
 from .helps import WORDS
 from .laboratory import Laboratory
-from .names import CLASSES, DEFAULT_LIMITS, EVENTS, NODES
+from .names import CLASSES, EVENTS, LIMITS, NODES
 from .pair import Pair
 
 Choice = Callable[[Laboratory, Sequence[str]], Sequence[str]]
@@ -43,7 +43,7 @@ EVENT_WORDS: Dict[str, List[Choice]] = {
 }
 
 OTHER_WORDS: Dict[str, List[Choice]] = {
-    "set": [_fixed(*DEFAULT_LIMITS)],
+    "set": [_fixed(*LIMITS)],
     "rule": [_fixed(*NODES), _fixed("pass", "block"), _fixed("in", "out", "any")],
     "help": [_fixed(*WORDS)],
     "diff": [_branches, _branches],

@@ -14,6 +14,7 @@ from .names import NODES, Name
 from .pair import Node, Pair, State, other
 from .setups import Setup
 from .words import (
+    UNKNOWN_SETUP,
     bulk_client,
     bulk_server,
     counted,
@@ -21,6 +22,7 @@ from .words import (
     expiry,
     flow,
     milliseconds_left,
+    scaling,
     seconds,
     state_fields,
     state_line,
@@ -51,7 +53,7 @@ def between_nodes(pair: Pair, setup: Optional[Setup], paint: Paint) -> List[str]
     compared = _compare(pair, setup)
     lines = [_answer(pair, compared, paint), *_circumstances(pair, setup, paint)]
     if setup is None:
-        lines.append(paint.note("the setup is not known here: times of expiry are those of the default timeouts"))
+        lines.append(paint.note(UNKNOWN_SETUP))
     for node, states in compared.only.items():
         lines += [paint.bad(f"only on {node}: ") + _alone(pair, node, it, setup, paint) for it in states]
     for name, parts in compared.differing.items():
@@ -131,6 +133,7 @@ def _circumstances(pair: Pair, setup: Optional[Setup], paint: Paint) -> List[str
         lines.append(f"{pending}; {counted(len(pair.frames), 'frame')} in flight")
     if pair.a.clock != pair.b.clock:
         lines.append(f"clocks: {seconds(pair.a.clock)} at a, {seconds(pair.b.clock)} at b")
+    lines += filter(None, (scaling(setup, node) for node in (pair.a, pair.b)))
     for node in (pair.a, pair.b):
         if node.serve != "-":
             lines.append(f"{node.id} serves a bulk update, {bulk_server(node.serve)}")

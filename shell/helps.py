@@ -17,7 +17,10 @@ SETUP: Dict[str, Help] = {
     "set": Help(
         "set LIMIT N",
         "sets a limit of the pair",
-        "Limits: states, queue, frames, mtu, held, defer (0 or 1), defer_ms, maxupd, batch, bulk_ms. The last value of each counts.",
+        "Limits: states, queue, frames, mtu, held, defer (0 or 1), defer_ms, maxupd, batch, bulk_ms, astart, aend. The last value "
+        "of each counts. Where a node has more states than `astart` (three fifths of `states` where it is not set), timeouts are "
+        "scaled by (aend - its states) / (aend - astart), and from `aend` (six fifths of `states`) on they are 0. Where `aend` is "
+        "not above `astart`, as with both 0, they are whole.",
     ),
     "rule": Help(
         "rule NODE pass|block in|out|any [quick] [proto P] [from NET] [fport N] [to NET] [tport N] [flags any] [no-sync] [max N] "
@@ -89,7 +92,9 @@ EVENTS: Dict[str, Help] = {
         "Answers `clock MS`. Refused: 6 ClockFull. `tick both MS` ticks both nodes.",
     ),
     "purge": Help(
-        "purge NODE", "a node deletes the states that have expired", "Answers `purged N`. Refused: 5 QueueFull, 7 CountFull."
+        "purge NODE",
+        "a node deletes the states that have expired",
+        "Answers `purged N`. Timeouts are those of as many states as it finds (`help set`). Refused: 5 QueueFull, 7 CountFull.",
     ),
     "release": Help(
         "release NODE",

@@ -61,6 +61,9 @@ DEFAULT_LIMITS: Dict[str, int] = {
     "batch": 16,
     "bulk_ms": 10000,
 }
+# Two limits more, between which timeouts shrink. Where they are not set they are so many fifths of `states`.
+FIFTHS_OF_STATES: Dict[str, int] = {"astart": 3, "aend": 6}
+LIMITS: Tuple[str, ...] = (*DEFAULT_LIMITS, *FIFTHS_OF_STATES)
 
 
 class CounterName(NamedTuple):

@@ -2,9 +2,9 @@
 from __future__ import annotations
 
 from dataclasses import dataclass, field
-from typing import Dict, List, Optional, Sequence
+from typing import Dict, List, NamedTuple, Optional, Sequence
 
-from .names import DEFAULT_LIMITS, DEFAULT_SECONDS, NODES
+from .names import DEFAULT_LIMITS, DEFAULT_SECONDS, FIFTHS_OF_STATES, NODES
 
 
 @dataclass(frozen=True)
@@ -39,9 +39,27 @@ class Rule:
         return None
 
 
+class Adaptive(NamedTuple):
+    """The numbers of states between which timeouts shrink: the limits `astart` and `aend`, as pf.conf(5) has `adaptive.start` and
+    `adaptive.end`."""
+
+    start: int
+    end: int
+
+    def shortens(self, states: int) -> bool:
+        """Whether a node that has so many states goes by shorter timeouts."""
+        return self.start < states and self.start < self.end
+
+    def scaled(self, seconds: int, states: int) -> int:
+        """The seconds of a timeout where a node has so many states."""
+        if not self.shortens(states):
+            return seconds
+        return seconds * max(0, self.end - states) // (self.end - self.start)
+
+
 @dataclass
 class Setup:
-    """The lines of a setup without `open`, and what they say."""
+    """The lines of a setup without `open`, and what they say. Its limits have `astart` and `aend` only where these are set."""
 
     lines: List[str] = field(default_factory=list)
     limits: Dict[str, int] = field(default_factory=lambda: dict(DEFAULT_LIMITS))
@@ -68,8 +86,14 @@ class Setup:
         rules = self.rules[node]
         return rules[number] if number is not None and number < len(rules) else None
 
+    @property
+    def adaptive(self) -> Adaptive:
+        """Between which numbers of states timeouts shrink."""
+        start, end = (self.limits.get(it, self.limits["states"] * fifths // 5) for it, fifths in FIFTHS_OF_STATES.items())
+        return Adaptive(start, end)
+
     def seconds(self, node: str, number: Optional[int], timeout_class: str) -> int:
-        """The timeout of a state's class under its rule, in seconds."""
+        """The timeout of a state's class under its rule, in seconds, where no number of states shortens it."""
         rule = self.rule(node, number)
         own = rule.seconds(timeout_class) if rule else None
         return DEFAULT_SECONDS[timeout_class] if own is None else own

@@ -13,6 +13,7 @@ from .records import record_line
 from .setups import Setup
 from .words import (
     FLAGS,
+    UNKNOWN_SETUP,
     bulk_client,
     bulk_server,
     bulk_status,
@@ -23,12 +24,12 @@ from .words import (
     near_and_far,
     request,
     rule_number,
+    scaling,
     seconds,
     sequence,
     state_line,
 )
 
-UNKNOWN_SETUP = "the setup is not known here: times of expiry are those of the default timeouts and limits"
 WIDTH = 120
 
 
@@ -52,6 +53,8 @@ def _node(node: Node, setup: Optional[Setup], paint: Paint) -> List[str]:
     lines = [paint.head(f"node {node.id}") + f"  {numbers}"]
     if not node.states:
         lines.append("  no states")
+    if scaling(setup, node):
+        lines.append(paint.note(f"  {scaling(setup, node)}"))
     for name in sorted(node.states):
         lines += _state(node.states[name], node, setup, paint)
     lines.append(_counters(node))

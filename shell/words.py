@@ -10,6 +10,7 @@ from .setups import Setup
 
 Flow = Union[State, StateRecord]
 ALL_STATES = Name(0, 0)
+UNKNOWN_SETUP = "the setup is not known here: times of expiry are those of the default timeouts and limits"
 FLAGS = {"-": "none", "n": "no-sync", "k": "waits for an acknowledgement"}
 
 
@@ -70,11 +71,27 @@ def sequence(end: End) -> str:
     return f"[{end.lo} + {(end.hi - end.lo) % 2**32}]{scale} win {end.window}"
 
 
+def expires_at(setup: Optional[Setup], node: Node, state: State) -> int:
+    """When a state of a node expires, by the node's clock: its last use, and the timeout of its class under its rule, as short as
+    the number of states makes it that the node has. Without a setup timeouts and limits are the default ones."""
+    known = setup or Setup()
+    timeout = known.seconds(node.id, state.rule, state.timeout_class)
+    return state.last + 1000 * known.adaptive.scaled(timeout, len(node.states))
+
+
 def milliseconds_left(setup: Optional[Setup], node: Node, state: State) -> int:
-    """How long a state of a node has until it expires: its last use and the timeout of its class under its rule, less the clock.
-    Without a setup the timeout is the default one. What has none left is deleted by a purge."""
-    timeout = (setup or Setup()).seconds(node.id, state.rule, state.timeout_class)
-    return state.last + timeout * 1000 - node.clock
+    """How long a state of a node has until it expires. What has none left is deleted by a purge."""
+    return expires_at(setup, node, state) - node.clock
+
+
+def scaling(setup: Optional[Setup], node: Node) -> str:
+    """By how much the number of states shortens the timeouts of a node; empty where it does not."""
+    start, end = adaptive = (setup or Setup()).adaptive
+    states = len(node.states)
+    if not adaptive.shortens(states):
+        return ""
+    by = f"are scaled by {end - states}/{end - start}" if states < end else "are all 0 s"
+    return f"timeouts of {node.id} {by}: it has {counted(states, 'state')}, `astart` is {start}, `aend` {end}"
 
 
 def expiry(left: int) -> str:

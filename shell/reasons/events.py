@@ -7,31 +7,46 @@ from ..frames import HEADER, summary
 from ..names import MOST_TRIES, Name
 from ..pair import Node, State, other
 from .questions import Question, name_list, told_state
-from ..words import counted
+from ..words import counted, expires_at, scaling
 
 
 def _node(question: Question) -> Node:
     return question.table(question.words[1])
 
 
-def _expiry(question: Question, node: Node, state: State) -> int:
-    return state.last + 1000 * question.lab.setup.seconds(node.id, state.rule, state.timeout_class)
-
-
 def _purged(question: Question) -> List[str]:
+    """What a purge found expired, the first to expire first. Its timeouts are those of the number of states at its start, and the
+    next purge may have longer ones."""
     node = _node(question)
-    after = question.after.nodes[node.id]
-    gone = [it for name, it in node.states.items() if name not in after.states]
-    lines = [f"the clock of {node.id} stands at {node.clock} ms"]
-    for state in gone:
-        seconds = question.lab.setup.seconds(node.id, state.rule, state.timeout_class)
-        lines.append(
-            f"{told_state(state)} expired at {_expiry(question, node, state)} ms: "
-            f"last used at {state.last} ms, and {state.timeout_class} is {seconds} s"
-        )
-    kept = [_expiry(question, node, it) for it in after.states.values()]
-    left = f"of the {counted(len(kept), 'state')} left the next expires at {min(kept)} ms" if kept else "no state is left"
-    return [*lines, left]
+    after, setup = question.after.nodes[node.id], question.lab.setup
+    by_expiry = sorted(node.states.values(), key=lambda it: (expires_at(setup, node, it), it.name))
+    gone = [it for it in by_expiry if it.name not in after.states]
+    lines = [f"the clock of {node.id} stands at {node.clock} ms", *filter(None, [scaling(setup, node)])]
+    lines += [_expired(question, node, it) for it in gone]
+    if gone != [it for it in by_expiry if expires_at(setup, node, it) <= node.clock]:
+        lines.append("by the shell's reckoning others have expired: trust the program")
+    return [*lines, *_left(question, node, after)]
+
+
+def _expired(question: Question, node: Node, state: State) -> str:
+    setup, at = question.lab.setup, expires_at(question.lab.setup, node, state)
+    timeout = setup.seconds(node.id, state.rule, state.timeout_class)
+    now = setup.adaptive.scaled(timeout, len(node.states))
+    scaled = f", scaled to {now} s" if setup.adaptive.shortens(len(node.states)) else ""
+    used = f"last used at {state.last} ms, and {state.timeout_class} is {timeout} s{scaled}"
+    return f"{told_state(state)} expired at {at} ms: {used}"
+
+
+def _left(question: Question, node: Node, after: Node) -> List[str]:
+    """What is left behind a purge, and when the next of it expires; where the purge had shorter timeouts, by which ones."""
+    if not after.states:
+        return ["no state is left"]
+    setup = question.lab.setup
+    expiry, left = min(expires_at(setup, after, it) for it in after.states.values()), counted(len(after.states), "state")
+    lines = [f"of the {left} left the next expires at {expiry} ms"]
+    if scaling(setup, after) == scaling(setup, node):
+        return lines
+    return [*lines, scaling(setup, after) or f"timeouts of {node.id} are whole again: it has {left}"]
 
 
 def _released(question: Question) -> List[str]:

@@ -4,7 +4,7 @@ from __future__ import annotations
 from typing import Dict, List, Optional, Sequence, Tuple
 
 from . import word_forms as form
-from ..names import CLASSES, COMMANDS, EVENTS, OF_NODE, SETUP
+from ..names import CLASSES, COMMANDS, EVENTS, LIMITS, OF_NODE, SETUP
 from .packets import PacketEvent, read_packet
 from .word_forms import Form, nearest, number, one_of
 
@@ -178,7 +178,7 @@ def _check_setup(reader: _Reader) -> None:
     hint = ": it is a command, and those come behind `open`" if reader.next in COMMANDS else ""
     word = reader.known("line of a setup", SETUP, hint)
     if word == "set":
-        limit = reader.known("limit", form.LIMITS)
+        limit = reader.known("limit", LIMITS)
         reader.take(number("N", 1 if limit == "defer" else form.GREATEST))
         reader.finish()
     elif word == "open":

@@ -7,7 +7,7 @@ from difflib import get_close_matches
 from typing import Callable, Optional, Sequence
 
 from ..frames import PROTOCOLS
-from ..names import CLASSES, DEFAULT_LIMITS, NODES
+from ..names import CLASSES, NODES
 
 GREATEST = 4294967295
 GREATEST_LONG = 18446744073709551615
@@ -141,7 +141,6 @@ RULE_DIRECTION = choice("in|out|any", ("in", "out", "any"))
 ACTION = choice("pass|block", ("pass", "block"))
 ANY = choice("any", ("any",))
 CLASS = choice("CLASS", [name for name, _ in CLASSES])
-LIMITS = tuple(DEFAULT_LIMITS)
 PROTOCOL = Form("PROTO", "tcp, udp, icmp or a number from 0 to 255", _protocol_wrong)
 SOURCE = Form("SRC", "the source, ADDRESS:PORT or for IPv6 [ADDRESS]:PORT", _end_wrong)
 DESTINATION = Form("DST", "the destination, ADDRESS:PORT or for IPv6 [ADDRESS]:PORT", _end_wrong)

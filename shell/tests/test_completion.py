@@ -36,6 +36,7 @@ class Offered(unittest.TestCase):
         self.offers("step other kill b ")
         self.offers("rule a pass out timeout udp.f", "udp.first")
         self.offers("diff main ", "main", "other")
+        self.offers("set a", "astart", "aend")
         self.offers("back main ")
 
 

@@ -95,6 +95,21 @@ class BetweenNodes(unittest.TestCase):
         apart = "agree, but apart: 1.1  last used 60 s | 3 s ago, expired | expires in 57 s"
         self.assertEqual(told, ["a and b agree in 1 state", apart])
 
+    def test_one_node_has_shorter_timeouts(self) -> None:
+        # Node a has three states, above `astart`, and half of each timeout: 30 of 60 s. Node b has two of them, and all of it.
+        setup = Setup.of(["set astart 2", "set aend 4", "rule a pass out", "rule b pass out"])
+        ends = [UDP.replace("10.0.0.1", f"10.0.0.{it}") for it in (1, 2, 3)]
+        both = [f"state {node} 1.{it} {ends[it - 1]} {SINGLE} udp.first 0 0 - 0 -" for node in "ab" for it in (1, 2)]
+        self.assertEqual(diff(*both, setup=setup, clock=30000), ["a and b agree in 2 states"])
+        told = diff(*both, f"state a 1.3 {ends[2]} {SINGLE} udp.first 10000 0 - 0 -", setup=setup, clock=30000)
+        expected = [
+            "a and b differ in 1 state: 1 only on a, 0 only on b, 0 differ",
+            "timeouts of a are scaled by 1/2: it has 3 states, `astart` is 2, `aend` 4",
+            "only on a: 1.3  udp 10.0.0.3:1000 -> 192.0.2.9:53  SINGLE:NO_TRAFFIC  expires in 10 s",
+            "agree, but apart: 1.1, 1.2  expired | expires in 30 s",
+        ]
+        self.assertEqual(told, expected)
+
     def test_rule_numbers(self) -> None:
         states = f"state a 1.1 {UDP} {SINGLE} udp.first 0 0 - 0 -", f"state b 1.1 {UDP} {SINGLE} udp.first 0 - - 0 0"
         self.assertEqual(diff(*states)[1:], ["differ: 1.1  udp 10.0.0.1:1000 -> 192.0.2.9:53  rule 0 | none"])
@@ -102,7 +117,7 @@ class BetweenNodes(unittest.TestCase):
         rules = "rules: those of a and b differ, so neither keeps the other's rule numbers"
         self.assertEqual(other_rules, ["a and b agree in 1 state", rules, "agree, but apart: 1.1  rule 0 | none"])
         unknown = between_nodes(pair(*states), None, PLAIN)
-        note = "the setup is not known here: times of expiry are those of the default timeouts"
+        note = "the setup is not known here: times of expiry are those of the default timeouts and limits"
         self.assertEqual(unknown, ["a and b agree in 1 state", note, "agree, but apart: 1.1  rule 0 | none"])
 
     def test_one_flow_with_two_names(self) -> None:

@@ -6,7 +6,8 @@ import unittest
 from typing import List, Optional
 
 from . import program
-from ..reasons.faults import explain_fault
+from ..names import LIMITS
+from ..reasons.faults import RANGES, explain_fault
 from ..reasons.line_forms import LineFault, check_line
 from ..programs import check_setup, run_lines
 
@@ -50,6 +51,8 @@ SETUPS = [
     ("step main flush a", "line 3 Unknown", "step", "those come behind `open`"),
     ("set states", "line 4 Missing", "", "N is missing"),
     ("set defer 2", "line 5 Number", "2", "is above 1"),
+    ("set astat 3", "line 3 Unknown", "astat", "did you mean `astart`?"),
+    ("set aend 4294967296", "line 5 Number", "4294967296", "is above 4294967295"),
     ("rule a pass in from 10.0.0.1", "line 5 Number", "10.0.0.1", "has no length behind a slash"),
     ("rule a pass in from 10.0.0.0/33", "line 5 Number", "10.0.0.0/33", "has the length 33, above 32"),
     ("rule a pass in to 10.0.0.0/8 from 10.0.0.0/8", "line 6 Extra", "from", "out of its order"),
@@ -104,6 +107,8 @@ class FaultReasons(unittest.TestCase):
         cases = [
             ("set mtu 100", "world 1 TooSmall", "a limit is below its range: `mtu` is from 148 to 9000, and not 100"),
             ("set batch 300", "world 2 TooLarge", "a limit is above its range: `batch` is from 1 to 256, and not 300"),
+            ("set astart 131073", "world 2 TooLarge", "a limit is above its range: `astart` is from 0 to 131072, and not 131073"),
+            ("set aend 131073", "world 2 TooLarge", "a limit is above its range: `aend` is from 0 to 131072, and not 131073"),
             ("rule b pass in nat 1.2.3.4:5", "rule 2 NatNotOut", "a rule with `nat` has to be for the way `out`"),
             ("rule a pass out max 0", "rule 3 ZeroMax", "a rule has to allow one state at least, and says `max 0`"),
         ]
@@ -112,6 +117,17 @@ class FaultReasons(unittest.TestCase):
                 fault = check_setup(program(), [line])
                 self.assertEqual(fault and fault.fault, reply)
                 self.assertEqual(explain_fault(line, reply), [why])
+
+    def test_each_limit_has_the_range_of_the_program(self) -> None:
+        self.assertEqual(sorted(RANGES), sorted(LIMITS))
+        for name, (low, high) in RANGES.items():
+            for number, wanted in ((low - 1, "world 1 TooSmall"), (low, None), (high, None), (high + 1, "world 2 TooLarge")):
+                with self.subTest(name, number=number):
+                    line = f"set {name} {number}"
+                    fault = check_setup(program(), [line])
+                    # (a number below 0, or above 1 for `defer`, is a fault of the line itself)
+                    is_number = number >= 0 and (name != "defer" or number <= 1)
+                    self.assertEqual(fault and fault.fault, wanted if is_number else "line 5 Number")
 
     def test_a_fault_that_the_shell_does_not_find_is_not_explained(self) -> None:
         lines = explain_fault("step main flush a", "bad 5 Number")

@@ -8,6 +8,8 @@ from unittest import mock
 from . import laboratory, reasons
 from ..colours import PLAIN
 from ..laboratory import Unknown
+from ..reasons.events import explain_other
+from ..reasons.questions import ask
 from ..reasons.why import why, why_event, why_last
 
 WALLS = "rule a block any\nrule a pass out\nrule b block any\nrule b pass out\nopen\n"
@@ -334,6 +336,63 @@ COMMANDS: Cases = {
     "a faulty line": (WALLS + "step main flush c", ["`c` is no NODE; NODE is a or b", "wanted: step BRANCH flush NODE"]),
 }
 
+# Three flows, of which the second one has five seconds.
+HALVED = "set astart 2\nset aend 4\nrule a pass out\nrule a pass out from 10.0.0.2/32 timeout udp.first 5\nopen\n"
+THIRD = "step main packet a out udp 10.0.0.3:1000 192.0.2.9:53 40\n"
+
+PURGES: Cases = {
+    "nothing has expired": (
+        WALLS + QUERY + "step main tick a 59999\nstep main purge a",
+        ["the clock of a stands at 59999 ms", "of the 1 state left the next expires at 60000 ms"],
+    ),
+    "the last state": (
+        WALLS + QUERY + "step main tick a 60000\nstep main purge a",
+        [f"{FLOW} expired at 60000 ms: last used at 0 ms, and udp.first is 60 s", "no state is left"],
+    ),
+    "two states, whose timeouts are whole": (
+        HALVED + QUERY + SECOND + "step main tick a 5000\nstep main purge a",
+        [
+            "state 1.2 (udp 10.0.0.2:1000 -> 192.0.2.9:53) expired at 5000 ms: last used at 0 ms, and udp.first is 5 s",
+            "of the 1 state left the next expires at 60000 ms",
+        ],
+    ),
+    # Half of five seconds is two whole ones. The two that are left have all of their 60.
+    "three states, whose timeouts are halved": (
+        HALVED + QUERY + SECOND + THIRD + "step main tick a 2000\nstep main purge a",
+        [
+            "timeouts of a are scaled by 1/2: it has 3 states, `astart` is 2, `aend` 4",
+            "state 1.2 (udp 10.0.0.2:1000 -> 192.0.2.9:53) expired at 2000 ms: "
+            "last used at 0 ms, and udp.first is 5 s, scaled to 2 s",
+            "of the 2 states left the next expires at 60000 ms",
+            "timeouts of a are whole again: it has 2 states",
+        ],
+    ),
+    "three states, one millisecond early": (
+        HALVED + QUERY + SECOND + THIRD + "step main tick a 1999\nstep main purge a",
+        [
+            "timeouts of a are scaled by 1/2: it has 3 states, `astart` is 2, `aend` 4",
+            "of the 3 states left the next expires at 2000 ms",
+        ],
+    ),
+    # Behind the purge there are two states in place of three: two thirds are left, where it was one.
+    "fewer states, and timeouts still scaled": (
+        HALVED.replace("astart 2", "astart 1") + QUERY + SECOND + THIRD + "step main tick a 1000\nstep main purge a",
+        [
+            "timeouts of a are scaled by 1/3: it has 3 states, `astart` is 1, `aend` 4",
+            "of the 2 states left the next expires at 40000 ms",
+            "timeouts of a are scaled by 2/3: it has 2 states, `astart` is 1, `aend` 4",
+        ],
+    ),
+    "as many states as the limit says": (
+        "set states 1\n" + WALLS + QUERY + "step main purge a",
+        [
+            "timeouts of a are all 0 s: it has 1 state, `astart` is 0, `aend` 1",
+            f"{FLOW} expired at 0 ms: last used at 0 ms, and udp.first is 60 s, scaled to 0 s",
+            "no state is left",
+        ],
+    ),
+}
+
 
 class Reasons(unittest.TestCase):
     def check(self, cases: Cases) -> None:
@@ -355,6 +414,24 @@ class Reasons(unittest.TestCase):
 
     def test_commands(self) -> None:
         self.check(COMMANDS)
+
+    def test_purges(self) -> None:
+        self.check(PURGES)
+
+    def test_a_purge_tells_the_first_to_expire_first(self) -> None:
+        told = [it.split(" (")[0] for it in reasons(HALVED + QUERY + SECOND + "step main tick a 60000\nstep main purge a")]
+        self.assertEqual(told, ["the clock of a stands at 60000 ms", "state 1.2", "state 1.1", "no state is left"])
+        # A fourth state: each timeout is 0, and all expire at one time.
+        told = reasons(HALVED + QUERY + SECOND + THIRD + THIRD.replace("10.0.0.3", "10.0.0.4") + "step main purge a")
+        self.assertEqual([it.split(" (")[0] for it in told[2:]], [*(f"state 1.{it}" for it in range(1, 5)), "no state is left"])
+
+    def test_a_purge_of_others_is_told(self) -> None:
+        lab = laboratory(WALLS + QUERY)
+        self.addCleanup(lab.close)
+        question = ask(lab, tuple(lab.branch("main").events), "purge a", "step purged 0 dropped 0", PLAIN)
+        # As if the program had deleted a state that has 60 seconds left.
+        question.after.a.states.clear()
+        self.assertIn("by the shell's reckoning others have expired: trust the program", explain_other(question))
 
     def test_the_outcome_comes_first(self) -> None:
         lab = laboratory(WALLS + ANSWER_AT_B)

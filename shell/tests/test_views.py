@@ -10,8 +10,8 @@ from ..colours import PLAIN, Paint
 from ..frames import checksum
 from ..pair import Pair, read_shown
 from ..setups import Rule, Setup
-from ..views import UNKNOWN_SETUP, view
-from ..words import flow, levels, seconds, sequence
+from ..views import view
+from ..words import UNKNOWN_SETUP, flow, levels, seconds, sequence
 from . import laboratory
 
 SILENT = "0 - 0 0 0"
@@ -166,6 +166,36 @@ class States(unittest.TestCase):
         before = shown(line, node="clock 2999 boot 1 id 9 seq 9 push 0 serve - sync -")
         expected = f"       expires in 0 s, udp.first, last used 1.999 s ago, rule 0: {rule}"
         self.assertEqual(node_a(before, f"rule a {rule}")[1], expected)
+
+    def test_timeouts_that_the_number_of_states_shortens(self) -> None:
+        def told(count: int, *setup: str) -> List[str]:
+            flows = (f"192.0.2.9:53 10.0.0.1:{1000 + it}" for it in range(count))
+            lines = [state(f"udp out {it} {it}").replace("1.1", f"1.{at}", 1) for at, it in enumerate(flows, 1)]
+            lines = [it.strip() for it in node_a(shown(*lines), *setup)]
+            return [it.split(", udp")[0] for it in lines if it.startswith(("timeouts", "expire"))]
+
+        # Each is last used at 1 s, and it is 3 s now: of 60 s 58 are left, and of 30 s 28.
+        limits = ("set astart 2", "set aend 4")
+        self.assertEqual(told(2, *limits), ["expires in 58 s"] * 2)
+        halved = "timeouts of a are scaled by 1/2: it has 3 states, `astart` is 2, `aend` 4"
+        self.assertEqual(told(3, *limits), [halved, *["expires in 28 s"] * 3])
+        none = "timeouts of a are all 0 s: it has 4 states, `astart` is 2, `aend` 4"
+        self.assertEqual(told(4, *limits), [none, *["expired"] * 4])
+        self.assertEqual(told(4, "set astart 0", "set aend 0"), ["expires in 58 s"] * 4)
+        self.assertEqual(told(38), ["expires in 58 s"] * 38)
+        # 60 s by 37/38 are 58 whole ones.
+        scaled = "timeouts of a are scaled by 37/38: it has 39 states, `astart` is 38, `aend` 76"
+        self.assertEqual(told(39), [scaled, *["expires in 56 s"] * 39])
+
+    def test_what_a_shorter_timeout_leaves_is_what_a_purge_deletes(self) -> None:
+        for milliseconds, says, outcome in ((29999, "expires in 0 s", "purged 0"), (30000, "expired", "purged 3")):
+            queries = [f"step main packet a out udp 10.0.0.1:{it} 192.0.2.9:53 40" for it in (1000, 1001, 1002)]
+            setup = ["set astart 2", "set aend 4", "rule a pass out", "open"]
+            lab = laboratory("\n".join([*setup, *queries, f"step main tick a {milliseconds}"]))
+            told = "\n".join(view(lab.show("main"), lab.setup, PLAIN))
+            self.assertEqual(told.count(f"       {says}, udp.first"), 3)
+            self.assertEqual(lab.ask("step main purge a"), [f"step {outcome} dropped 0"])
+            lab.close()
 
     def test_expired_is_what_a_purge_deletes(self) -> None:
         for milliseconds, says, outcome in ((59999, "expires in 0 s", "purged 0"), (60000, "expired", "purged 1")):

@@ -5,6 +5,7 @@ ghost use Rattle.std.specs.List.{list_any};
 ghost use Rattle.pfl_language.specs.Limits as meant;
 
 use pfl_base::GREATEST_NUMBER;
+use pfl_rules::Adaptive;
 
 /// A limit, by name.
 #[derive(Clone, Copy, Debug, PartialEq, Eq)]
@@ -19,11 +20,13 @@ pub enum Limit {
     MaxUpdates,
     Batch,
     BulkMs,
+    AdaptiveStart,
+    AdaptiveEnd,
 }
 
 impl Limit {
     /// All limits.
-    pub const ALL: [Limit; 10] = [
+    pub const ALL: [Limit; 12] = [
         Limit::States,
         Limit::Queue,
         Limit::Frames,
@@ -34,6 +37,8 @@ impl Limit {
         Limit::MaxUpdates,
         Limit::Batch,
         Limit::BulkMs,
+        Limit::AdaptiveStart,
+        Limit::AdaptiveEnd,
     ];
 
     /// The limit's word in lines, which no other limit has.
@@ -52,6 +57,8 @@ impl Limit {
             Limit::MaxUpdates => "maxupd",
             Limit::Batch => "batch",
             Limit::BulkMs => "bulk_ms",
+            Limit::AdaptiveStart => "astart",
+            Limit::AdaptiveEnd => "aend",
         }
     }
 
@@ -80,6 +87,7 @@ impl Limit {
             Limit::MaxUpdates => (1, 255),
             Limit::Batch => (1, 256),
             Limit::BulkMs => (1, 60000),
+            Limit::AdaptiveStart | Limit::AdaptiveEnd => (0, 131072),
         }
     }
 
@@ -136,6 +144,10 @@ pub struct Limits {
     pub batch: u32,
     /// How long a client waits before it asks again.
     pub bulk_ms: u32,
+    /// Above how many states timeouts shrink (pf.conf(5), `adaptive.start`). `None`: three fifths of `states`.
+    pub astart: Option<u32>,
+    /// From how many states on they are 0 (pf.conf(5), `adaptive.end`). `None`: six fifths of `states`.
+    pub aend: Option<u32>,
 }
 
 impl Default for Limits {
@@ -153,6 +165,8 @@ impl Default for Limits {
             maxupd: 128,
             batch: 16,
             bulk_ms: 10000,
+            astart: None,
+            aend: None,
         }
     }
 }
@@ -174,6 +188,8 @@ impl Limits {
             Limit::MaxUpdates => limits.maxupd = n,
             Limit::Batch => limits.batch = n,
             Limit::BulkMs => limits.bulk_ms = n,
+            Limit::AdaptiveStart => limits.astart = Some(n),
+            Limit::AdaptiveEnd => limits.aend = Some(n),
         }
         limits
     }
@@ -192,8 +208,20 @@ impl Limits {
         }
     }
 
-    /// Each limit that is a number, with its least and its greatest value.
-    fn ranges(&self) -> [(u32, u32, u32); 9]
+    /// The numbers of states between which timeouts shrink (pf.conf(5)); where they are not set, three and six fifths of the limit
+    /// `states`, truncated.
+    pub fn adaptive(&self) -> Adaptive
+        requires limits { meant.AreLimits self.now }
+        ensures { result ≡ meant.adaptive self.now }
+    {
+        Adaptive {
+            start: self.astart.unwrap_or(self.states * 3 / 5),
+            end: self.aend.unwrap_or(self.states * 6 / 5),
+        }
+    }
+
+    /// Each limit that is a number, with its least and its greatest value; one that is not set counts as 0.
+    fn ranges(&self) -> [(u32, u32, u32); 11]
         ensures { result ≡ meant.ranges self.now }
     {
         [
@@ -206,6 +234,8 @@ impl Limits {
             Limit::MaxUpdates.ranged(self.maxupd),
             Limit::Batch.ranged(self.batch),
             Limit::BulkMs.ranged(self.bulk_ms),
+            Limit::AdaptiveStart.ranged(self.astart.unwrap_or(0)),
+            Limit::AdaptiveEnd.ranged(self.aend.unwrap_or(0)),
         ]
     }
 }

@@ -12,7 +12,6 @@ use Rattle.pfl_base.specs.Names.{is_name}
 use Rattle.pfl_base.specs.Packets.{is_tcp}
 use Rattle.pfl_edits.specs.Maps as maps
 use Rattle.pfl_edits.proofs.ForCallers.{key_cases}
-use Rattle.pfl_rules.specs.Rules.{timeout}
 use Rattle.pfl_track.specs.declared.state.State.{State}
 use Rattle.pfl_table.specs.Tables.{AreStates}
 use Rattle.pfl_wire.specs.declared.fault.BadFrame.{BadFrame}
@@ -28,7 +27,7 @@ use Rattle.pfl_queue.specs.declared.Kind.TheVariants.{Update}
 use Rattle.pfl_queue.specs.Queues.{kind_of}
 use Rattle.pfl_bulk.specs.Bulk.{no_name}
 use Rattle.pfl_defer.specs.declared.Held.{Held}
-use Rattle.pfl_parts.specs.Nodes.{Node}
+use Rattle.pfl_parts.specs.Nodes.{Node, timeout_at}
 use Rattle.pfl_parts.specs.Changes.{put_state, mark, push_if, count_bad, count_broken, count_stale, count_freed, count_lost, without_held, is_held, is_untold, freed, lost, released, changed, forgotten, ask}
 use Rattle.pfl_receive.specs.Receiving.{taken, insert_taken, can_import, merge_taken, merged_into, bulk_taken, state_answered, is_partly_told, ack_taken, delete_taken, is_known, cleared_names, of_state, of_update}
 use Rattle.pfl_node.proofs.ForCallers.{taken-apart}
@@ -90,7 +89,7 @@ merged-ids n x =
     ids-either (ids n) (x.stale_src || x.stale_dst) (push_if true (changed (count_stale n) calm)) (put_state n calm) (changed-ids (count_stale n) calm) refl
 
 merge-ids : (n : Node) (s : State) (r : Received) → ids (merge_taken n s r) ≡ ids n
-merge-ids n s r = merged-ids (lost n s.name) (merged s r (timeout n.rules.list s.rule r.class) n.clock) ∙ lost-ids n s.name
+merge-ids n s r = merged-ids (lost n s.name) (merged s r (timeout_at n s.rule r.class) n.clock) ∙ lost-ids n s.name
 
 insert-ids : (n : Node) (b : Bool) (r : StateRecord) (ack : Bool) → ids (insert_taken n b r ack) ≡ ids n
 insert-ids n b r ack = ids-either (ids n) (not (can_import n r)) _ _ refl (ids-either (ids n) ack _ _ refl refl)
@@ -134,7 +133,7 @@ out n k m name h held reason holds = elim (key_cases names_total names_exact h.n
 
 merge-stays : (n : Node) (m : Message) (s : State) (r : Received) (h : Held) → (h.name ≡ s.name → LetsOut m h.name) → Holds n h → Stays n m h (merge_taken n s r)
 merge-stays n m s r h reason holds =
-    let x = merged s r (timeout n.rules.list s.rule r.class) n.clock in
+    let x = merged s r (timeout_at n s.rule r.class) n.clock in
     let l = lost n s.name in
     let calm : State = record x.state { ack_wanted = false } in
     let puts : Puts (count_stale l) calm (changed (count_stale l) calm) = changed-puts (count_stale l) calm in

@@ -9,7 +9,6 @@ use Rattle.pfl_base.proofs.ForCallers.{names_total, names_exact}
 use Rattle.pfl_base.specs.Names.{is_name}
 use Rattle.pfl_edits.specs.Maps as maps
 use Rattle.pfl_edits.proofs.ForCallers.{get-set_at_cases, some_is_none}
-use Rattle.pfl_rules.specs.Rules.{timeout}
 use Rattle.pfl_track.specs.declared.peer.Peer.{Peer}
 use Rattle.pfl_track.specs.declared.state.State.{State}
 use Rattle.pfl_track.specs.Peers.{IsPeer}
@@ -24,7 +23,7 @@ use Rattle.pfl_merge.specs.Merging.{merged, refreshed, stale_src, stale_dst}
 use Rattle.pfl_queue.specs.declared.Kind.TheVariants.{InsertAck, Update}
 use Rattle.pfl_queue.specs.Queues.{kind_of}
 use Rattle.pfl_bulk.specs.Bulk.{no_name}
-use Rattle.pfl_parts.specs.Nodes.{Node}
+use Rattle.pfl_parts.specs.Nodes.{Node, timeout_at}
 use Rattle.pfl_parts.specs.Changes.{put_state, mark, push_if, count_bad, lost, released, changed, forgotten, count_stale, ask}
 use Rattle.pfl_receive.specs.Receiving.{taken, insert_taken, can_import, imported, merge_taken, merged_into, bulk_taken, state_answered, is_partly_told, request_taken, ack_taken, delete_taken, is_known, cleared_names, of_state, of_update}
 use Rattle.pfl_receive.proofs.ForCallers.{may-import}
@@ -98,8 +97,8 @@ module _ (P : State → Type 0) (still : (s : State) (ack : Bool) (updates : ℕ
 
   each-merge : (n : Node) (s : State) (r : Received) → ((seconds now : ℕ) → P (merged s r seconds now).state) → Each n.states → Each (merge_taken n s r).states
   each-merge n s r is each =
-      each-merged (lost n s.name) (merged s r (timeout n.rules.list s.rule r.class) n.clock) (subst Each (sym (lost-states n s.name)) each)
-      (is (timeout n.rules.list s.rule r.class) n.clock)
+      each-merged (lost n s.name) (merged s r (timeout_at n s.rule r.class) n.clock) (subst Each (sym (lost-states n s.name)) each)
+      (is (timeout_at n s.rule r.class) n.clock)
 
   -- a state that is taken over
   each-insert : (n : Node) (b : Bool) (r : StateRecord) (ack : Bool) → (can_import n r ≡ true → P (imported n b r)) → Each n.states → Each (insert_taken n b r ack).states

@@ -10,7 +10,6 @@ use Rattle.pfl_base.specs.Names.{is_name}
 use Rattle.pfl_base.specs.Packets.{is_tcp}
 use Rattle.pfl_edits.specs.Maps as maps
 use Rattle.pfl_edits.proofs.ForCallers.{get-set_at_cases}
-use Rattle.pfl_rules.specs.Rules.{timeout}
 use Rattle.pfl_track.specs.declared.peer.Peer.{Peer}
 use Rattle.pfl_track.specs.declared.state.State.{State}
 use Rattle.pfl_table.specs.Tables.{States}
@@ -22,7 +21,7 @@ use Rattle.pfl_merge.specs.Merging.{merged, stale_src, stale_dst, stale_source, 
 use Rattle.pfl_queue.specs.declared.Kind.TheVariants.{InsertAck, Update}
 use Rattle.pfl_queue.specs.Queues.{kind_of}
 use Rattle.pfl_bulk.specs.Bulk.{no_name}
-use Rattle.pfl_parts.specs.Nodes.{Node}
+use Rattle.pfl_parts.specs.Nodes.{Node, timeout_at}
 use Rattle.pfl_parts.specs.Changes.{put_state, push_if, mark, count_bad, is_held, lost, count_lost, without_held, released, changed, forgotten, count_stale, ask}
 use Rattle.pfl_receive.specs.Receiving.{taken, insert_taken, can_import, imported, merge_taken, merged_into, bulk_taken, state_answered, is_partly_told, request_taken, ack_taken, delete_taken, status_taken, is_known, cleared_names, of_state, of_update}
 use Rattle.pfl_laws.specs.Laws.{HasRisen, LevelsRise, RecordsLowerNoLevel}
@@ -162,7 +161,7 @@ merged-keeps q n s x at named up = by (x.stale_src || x.stale_dst)
 
 merge-up : (n : Node) (s : State) (r : Received) → maps.get n.states s.name ≡ Some s → LevelsRise n (merge_taken n s r)
 merge-up n s r at q a t before later =
-    let seconds = timeout n.rules.list s.rule r.class in
+    let seconds = timeout_at n s.rule r.class in
     let m = lost n s.name in
     let same = lost-states n s.name in
     from-risen q m (merge_taken n s r)

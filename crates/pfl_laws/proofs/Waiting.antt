@@ -12,7 +12,7 @@ use Rattle.pfl_base.specs.Names.{is_name}
 use Rattle.pfl_edits.specs.Maps as maps
 use Rattle.pfl_edits.proofs.ForCallers.{get-set_at_other, key_cases}
 use Rattle.pfl_rules.specs.declared.rule.Rule.{Rule}
-use Rattle.pfl_rules.specs.Rules.{timeout, verdict, rule_at}
+use Rattle.pfl_rules.specs.Rules.{verdict, rule_at}
 use Rattle.pfl_track.specs.declared.state.State.{State}
 use Rattle.pfl_track.specs.Keys.{wire_key}
 use Rattle.pfl_table.specs.Tables.{States, key_in_use}
@@ -25,7 +25,7 @@ use Rattle.pfl_queue.specs.declared.Kind.TheVariants.{Insert, InsertAck, Update}
 use Rattle.pfl_queue.specs.Queues.{kind_of}
 use Rattle.pfl_bulk.specs.Bulk.{no_name}
 use Rattle.pfl_defer.specs.Deferring.{pushed_out}
-use Rattle.pfl_parts.specs.Nodes.{Node, IsGiven}
+use Rattle.pfl_parts.specs.Nodes.{Node, IsGiven, timeout_at}
 use Rattle.pfl_parts.specs.Changes.{put_state, mark, push_if, count_bad, count_passed, count_blocked, is_held, freed, lost, changed, forgotten, released, count_stale, ask}
 use Rattle.pfl_node.specs.Packets.{accepted}
 use Rattle.pfl_receive.specs.Receiving.{taken, insert_taken, can_import, imported, merge_taken, merged_into, bulk_taken, state_answered, is_partly_told, request_taken, ack_taken, delete_taken, status_taken, is_known, cleared_names, of_state, of_update}
@@ -73,7 +73,7 @@ merged-tied n x tied =
 
 merge-tied : (n : Node) (s : State) (r : Received) → IsTied n → IsTied (merge_taken n s r)
 merge-tied n s r tied =
-    let seconds = timeout n.rules.list s.rule r.class in
+    let seconds = timeout_at n s.rule r.class in
     let x = merged s r seconds n.clock in
     subst (λ (name : StateName). IsTied (merged_into (lost n name) x)) (merged-name s r seconds n.clock) (merged-tied n x tied)
 

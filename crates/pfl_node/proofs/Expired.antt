@@ -16,12 +16,15 @@ use Rattle.pfl_base.proofs.ForCallers.{names_total, is_name-itself, is_name-same
 use Rattle.pfl_edits.specs.Maps as maps
 use Rattle.pfl_edits.specs.Maps.{entries_sorted}
 use Rattle.pfl_edits.proofs.ForCallers.{get-entries, len-entries, equal_is}
+use Rattle.pfl_rules.specs.declared.adaptive.Adaptive.{Adaptive}
+use Rattle.pfl_rules.specs.Scaling.{scaled}
 use Rattle.pfl_track.specs.declared.state.State.{State}
+use Rattle.pfl_track.specs.Tracking.{expiry}
 use Rattle.pfl_table.specs.declared.row.Row.{Row}
-use Rattle.pfl_table.proofs.ForCallers.{state_before, ExpireBy, row_of, first_expiring-states, IsInOrder, NoneBefore, IsInOrder-in_order, rest_in_order, in_order-filter, state_before-asymmetric, state_before-passed_on}
-use Rattle.pfl_table.specs.Tables.{Table, States, AreStates, states_of, first_expiring}
-use Rattle.pfl_parts.specs.Nodes.{Node, AreParts, expiry_at}
-use Rattle.pfl_node.specs.Purging.{expires_before, expired_states}
+use Rattle.pfl_table.proofs.ForCallers.{state_before, TimedBy, row_of, first_expiring-states, IsInOrder, NoneBefore, IsInOrder-in_order, rest_in_order, in_order-filter, state_before-asymmetric, state_before-passed_on}
+use Rattle.pfl_table.specs.Tables.{Table, States, AreStates, states_of, row_expiry, first_expiring}
+use Rattle.pfl_parts.specs.Nodes.{Node, AreParts}
+use Rattle.pfl_node.specs.Purging.{expiry_among, expires_before, expired_among}
 
 -- ---- lists
 
@@ -212,9 +215,9 @@ module _ (m : States) (are : AreStates m) where
 
 -- ---- one after another
 
-module _ (expiry : State → ℕ) where
+module _ (due : State → ℕ) where
   abbrev before : State → State → Bool
-  before = state_before expiry
+  before = state_before due
 
   with_rest : (ss : List State) (s : State) → slice_get ss 0 ≡ Some s → (rest : List State) × (ss ≡ s ∷ rest)
   with_rest [] s e = absurd (cc)
@@ -230,12 +233,12 @@ module _ (expiry : State → ℕ) where
       let split = with_rest (in_order before ss) s e in
       let apart_all : AreApart (s ∷ split.0) = subst AreApart split.1 (apart-in_order before ss are) in
       let other = λ (t : State). not (is_name s.name t.name) in
-      split.1 ∙ ap (λ (ts : List State). s ∷ ts) (sym (rest_in_order before (state_before-asymmetric expiry) (state_before-passed_on expiry) other ss s split.0 split.1 (ap not (is_name-itself s.name s.name refl)) (filter-all other split.0 (others s split.0 apart_all.0))))
+      split.1 ∙ ap (λ (ts : List State). s ∷ ts) (sym (rest_in_order before (state_before-asymmetric due) (state_before-passed_on due) other ss s split.0 split.1 (ap not (is_name-itself s.name s.name refl)) (filter-all other split.0 (others s split.0 apart_all.0))))
 
   module _ (clock : ℕ) where
     -- a state that has expired
     abbrev is_open : State → Bool
-    is_open s = nat_le (expiry s) clock
+    is_open s = nat_le (due s) clock
 
     -- without the first the others are left
     pub left-rest : (ss : List State) (s : State) → AreApart ss → slice_get (in_order before (filter is_open ss)) 0 ≡ Some s
@@ -246,9 +249,9 @@ module _ (expiry : State → ℕ) where
 
     -- where one has not expired, none behind it has
     late : (s t : State) → before t s ≡ false → is_open s ≡ false → is_open t ≡ false
-    late s t e f = by (nat_lt (expiry t) (expiry s)) refl e
+    late s t e f = by (nat_lt (due t) (due s)) refl e
       where
-        by : (b : Bool) → nat_lt (expiry t) (expiry s) ≡ b → (b || ((expiry t == expiry s) && is_lt (name_cmp t.name s.name))) ≡ false → is_open t ≡ false
+        by : (b : Bool) → nat_lt (due t) (due s) ≡ b → (b || ((due t == due s) && is_lt (name_cmp t.name s.name))) ≡ false → is_open t ≡ false
         by true is e = absurd (cc)
         by false is e = grind (arith, nat_tests)
 
@@ -266,19 +269,32 @@ module _ (expiry : State → ℕ) where
     -- the first to expire is the first that has expired, if one has
     pub first-open : (ss : List State) → slice_get (in_order before (filter is_open ss)) 0 ≡ option_and_then (λ s. if is_open s then Some s else None) (slice_get (in_order before ss) 0)
     first-open ss =
-        ap (λ (ts : List State). slice_get ts 0) (in_order-filter before (state_before-asymmetric expiry) (state_before-passed_on expiry) is_open ss)
-        ∙ first_of (in_order before ss) (IsInOrder-in_order before (state_before-asymmetric expiry) (state_before-passed_on expiry) ss)
+        ap (λ (ts : List State). slice_get ts 0) (in_order-filter before (state_before-asymmetric due) (state_before-passed_on due) is_open ss)
+        ∙ first_of (in_order before ss) (IsInOrder-in_order before (state_before-asymmetric due) (state_before-passed_on due) ss)
 
-    -- so it is the state of the first row of a table, if that has expired
-    pub first-row : (t : Table) → ExpireBy expiry t → slice_get (in_order before (filter is_open (maps.values (states_of t)))) 0 ≡ option_and_then (λ r. if nat_le r.expires clock then Some r.state else None) (first_expiring t)
-    first-row t by =
-        first-open (maps.values (states_of t))
-        ∙ (as_row (slice_get (in_order before (maps.values (states_of t))) 0)
-        ∙ ap (option_and_then (λ (r : Row). if nat_le r.expires clock then Some r.state else None)) (sym (first_expiring-states expiry t by)))
-      where
-        as_row : (o : Option State) → option_and_then (λ s. if is_open s then Some s else None) o ≡ option_and_then (λ (r : Row). if nat_le r.expires clock then Some r.state else None) (option_map (row_of expiry) o)
-        as_row None = refl
-        as_row (Some s) = refl
+-- ---- the rows of a table
+
+-- when a state expires whose timeout is scaled for so many states
+abbrev pub scaled_expiry : (State → ℕ) → Adaptive → ℕ → State → ℕ
+scaled_expiry timeout a states s = expiry s (scaled (timeout s) a states)
+
+-- the state of a row that has expired
+abbrev pub due_state : Adaptive → ℕ → ℕ → Row → Option State
+due_state a states clock r = if nat_le (row_expiry a states r) clock then Some r.state else None
+
+-- the first that has expired is the state of the first row, if that has expired
+pub first-row : (timeout : State → ℕ) (a : Adaptive) (states clock : ℕ) (t : Table) → TimedBy timeout t
+    → slice_get (in_order (state_before (scaled_expiry timeout a states)) (filter (λ s. nat_le (scaled_expiry timeout a states s) clock) (maps.values (states_of t)))) 0
+    ≡ option_and_then (due_state a states clock) (first_expiring a states t)
+first-row timeout a states clock t by =
+    let due = scaled_expiry timeout a states in
+    first-open due clock (maps.values (states_of t))
+    ∙ (as_row (slice_get (in_order (state_before due) (maps.values (states_of t))) 0)
+    ∙ ap (option_and_then (due_state a states clock)) (sym (first_expiring-states timeout t by a states)))
+  where
+    as_row : (o : Option State) → option_and_then (λ s. if nat_le (scaled_expiry timeout a states s) clock then Some s else None) o ≡ option_and_then (due_state a states clock) (option_map (row_of timeout) o)
+    as_row None = refl
+    as_row (Some s) = refl
 
 -- ---- how many there are
 
@@ -304,28 +320,29 @@ length-values : (es : Entries) → length (map (λ e. e.1) es) ≡ length es
 length-values [] = refl
 length-values (e ∷ es) = ap (λ (n : ℕ). suc n) (length-values es)
 
--- ---- those of a node
+-- ---- those of a node, by the timeouts of so many states
 
--- each state that has expired stands under its name
-pub expired-stand : (n : Node) → AreParts n → AllByRecursion (λ s. maps.get n.states s.name ≡ Some s) (expired_states n)
-expired-stand n is =
-    all-in_order (λ (s : State). maps.get n.states s.name ≡ Some s) (expires_before n) _ (all-filter (λ (s : State). maps.get n.states s.name ≡ Some s) _ (maps.values n.states) (values-stand n.states is.states))
+module _ (k : ℕ) where
+  -- each state that has expired stands under its name
+  pub expired-stand : (n : Node) → AreParts n → AllByRecursion (λ s. maps.get n.states s.name ≡ Some s) (expired_among k n)
+  expired-stand n is =
+      all-in_order (λ (s : State). maps.get n.states s.name ≡ Some s) (expires_before k n) _ (all-filter (λ (s : State). maps.get n.states s.name ≡ Some s) _ (maps.values n.states) (values-stand n.states is.states))
 
--- so does the first
-pub first-stands : (n : Node) (s : State) → AreParts n → slice_get (expired_states n) 0 ≡ Some s → maps.get n.states s.name ≡ Some s
-first-stands n s is e = first-all (λ (t : State). maps.get n.states t.name ≡ Some t) (expired_states n) s (expired-stand n is) e
+  -- so does the first
+  pub first-stands : (n : Node) (s : State) → AreParts n → slice_get (expired_among k n) 0 ≡ Some s → maps.get n.states s.name ≡ Some s
+  first-stands n s is e = first-all (λ (t : State). maps.get n.states t.name ≡ Some t) (expired_among k n) s (expired-stand n is) e
 
--- no more have expired than there are
-pub expired-few : (n : Node) → length (expired_states n) ≤ maps.len n.states
-expired-few n =
-    let ordered : length (expired_states n) ≡ length (filter (λ s. nat_le (expiry_at n s) n.clock) (maps.values n.states)) = length-in_order (expires_before n) _ in
-    let few = few-filter (λ s. nat_le (expiry_at n s) n.clock) (maps.values n.states) in
-    let long = length-values (maps.entries n.states) in
-    omega (arith, ordered, few, long, len-entries n.states)
+  -- no more have expired than there are
+  pub expired-few : (n : Node) → length (expired_among k n) ≤ maps.len n.states
+  expired-few n =
+      let ordered : length (expired_among k n) ≡ length (filter (λ s. nat_le (expiry_among k n s) n.clock) (maps.values n.states)) = length-in_order (expires_before k n) _ in
+      let few = few-filter (λ s. nat_le (expiry_among k n s) n.clock) (maps.values n.states) in
+      let long = length-values (maps.entries n.states) in
+      omega (arith, ordered, few, long, len-entries n.states)
 
--- without the first the others are left
-pub expired-without : (n m : Node) (s : State) → AreParts n → m.states ≡ maps.remove n.states s.name → m.rules ≡ n.rules → m.clock ≡ n.clock → slice_get (expired_states n) 0 ≡ Some s → expired_states n ≡ s ∷ expired_states m
-expired-without n m s is states rules clock e =
-    let without = ap (λ (ss : List State). s ∷ in_order (expires_before n) (filter (λ t. nat_le (expiry_at n t) n.clock) ss)) (sym (values-without n.states is.states s.name)) in
-    left-rest (expiry_at n) n.clock (maps.values n.states) s (values-apart n.states is.states) e
-    ∙ (without ∙ sym (λ i. s ∷ expired_states (record n { states = states i; rules = rules i; clock = clock i })))
+  -- without the first the others are left
+  pub expired-without : (n m : Node) (s : State) → AreParts n → m.states ≡ maps.remove n.states s.name → m.limits ≡ n.limits → m.rules ≡ n.rules → m.clock ≡ n.clock → slice_get (expired_among k n) 0 ≡ Some s → expired_among k n ≡ s ∷ expired_among k m
+  expired-without n m s is states limits rules clock e =
+      let without = ap (λ (ss : List State). s ∷ in_order (expires_before k n) (filter (λ t. nat_le (expiry_among k n t) n.clock) ss)) (sym (values-without n.states is.states s.name)) in
+      left-rest (expiry_among k n) n.clock (maps.values n.states) s (values-apart n.states is.states) e
+      ∙ (without ∙ sym (λ i. s ∷ expired_among k (record n { states = states i; limits = limits i; rules = rules i; clock = clock i })))

@@ -6,7 +6,7 @@ use Rattle.std.proofs.Common.{ap, cond, ◌∙◌}
 use Rattle.pfl_base.specs.declared.state_name.StateName.{StateName}
 use Rattle.pfl_base.specs.Packets.{is_tcp}
 use Rattle.pfl_edits.specs.Maps as maps
-use Rattle.pfl_rules.specs.Rules.{Rules, timeout}
+use Rattle.pfl_rules.specs.Rules.{Rules}
 use Rattle.pfl_merge.specs.Merging.{merged}
 use Rattle.pfl_track.specs.declared.state.State.{State}
 use Rattle.pfl_wire.specs.declared.message.BulkStatus.{BulkStatus}
@@ -18,7 +18,7 @@ use Rattle.pfl_merge.specs.declared.received.Received.{Received}
 use Rattle.pfl_merge.specs.declared.merged.Merged.{Merged}
 use Rattle.pfl_language.specs.declared.limits.Limits.{Limits}
 use Rattle.pfl_node.specs.Laws.{RecordsLeaveTheRest}
-use Rattle.pfl_parts.specs.Nodes.{Node}
+use Rattle.pfl_parts.specs.Nodes.{Node, timeout_at}
 use Rattle.pfl_parts.specs.Changes.{is_held, lost, freed, released, is_untold, changed, forgotten}
 use Rattle.pfl_receive.specs.Receiving.{taken, insert_taken, can_import, merge_taken, merged_into, bulk_taken, state_answered, request_taken, ack_taken, is_known, cleared_names, status_taken}
 
@@ -64,7 +64,7 @@ insert-keeps : (n : Node) (b : Bool) (r : StateRecord) (ack : Bool) → Keeps n 
 insert-keeps n b r ack = either (not (can_import n r)) n _ _ refl (either ack n _ _ refl refl)
 
 merge-keeps : (n : Node) (s : State) (r : Received) → Keeps n (merge_taken n s r)
-merge-keeps n s r = go (lost n s.name) (merged s r (timeout n.rules.list s.rule r.class) n.clock) ∙ lost-keeps n s.name
+merge-keeps n s r = go (lost n s.name) (merged s r (timeout_at n s.rule r.class) n.clock) ∙ lost-keeps n s.name
   where
     go : (m : Node) (x : Merged) → Keeps m (merged_into m x)
     go m x = either (x.stale_src || x.stale_dst) m _ _ (changed-keeps _ _) refl

@@ -12,7 +12,7 @@ use Rattle.pfl_base.specs.Packets.{is_tcp}
 use Rattle.pfl_edits.specs.Maps as maps
 use Rattle.pfl_edits.proofs.ForCallers.{get-set_at_same, get-set_at_other, key_cases}
 use Rattle.pfl_rules.specs.declared.rule.Rule.{Rule}
-use Rattle.pfl_rules.specs.Rules.{timeout, verdict, rule_at}
+use Rattle.pfl_rules.specs.Rules.{verdict, rule_at}
 use Rattle.pfl_track.specs.declared.state.State.{State}
 use Rattle.pfl_track.specs.declared.tracked.Tracked.{Tracked}
 use Rattle.pfl_track.specs.declared.tracked.Tracked.TheVariants.{Moved, OutOfWindow, Reused}
@@ -31,7 +31,7 @@ use Rattle.pfl_merge.specs.declared.merged.Merged.{Merged}
 use Rattle.pfl_merge.specs.Merging.{merged, stale_src, stale_dst}
 use Rattle.pfl_defer.specs.declared.Held.{Held}
 use Rattle.pfl_defer.specs.Deferring.{pushed_out}
-use Rattle.pfl_parts.specs.Nodes.{Node}
+use Rattle.pfl_parts.specs.Nodes.{Node, timeout_at}
 use Rattle.pfl_parts.specs.Changes.{put_state, mark, is_untold, is_insert, is_held, freed, lost, not_waiting, released, changed, deleted, forgotten, count_stale, count_freed, count_lost, without_held}
 use Rattle.pfl_track.specs.Keys.{wire_key}
 use Rattle.pfl_node.specs.Starting.{Handled, started, judged, by_rule, announced, hold, with_room, with_new, new_state, is_at_max, is_deferred}
@@ -189,7 +189,7 @@ merged-same held r seconds now =
     (record { name = refl; wire = refl; stack = refl }) (record { name = refl; wire = refl; stack = refl })
 
 merge-apart : (n : Node) (s : State) (r : Received) → Apart n → maps.get n.states s.name ≡ Some s → Apart (merge_taken n s r)
-merge-apart n s r k at = go (lost n s.name) (merged s r (timeout n.rules.list s.rule r.class) n.clock)
+merge-apart n s r k at = go (lost n s.name) (merged s r (timeout_at n s.rule r.class) n.clock)
     (lost-apart n s.name k) (ap (λ m. maps.get m s.name) (lost-states n s.name) ∙ at) (merged-same s r _ _)
   where
     go : (m : Node) (x : Merged) → Apart m → maps.get m.states s.name ≡ Some s → SameKeys s x.state → Apart (merged_into m x)

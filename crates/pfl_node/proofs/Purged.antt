@@ -5,86 +5,120 @@ use Rattle.std.proofs.Common.{◌∙◌, ap, sym, subst, arith}
 use Rattle.pfl_base.specs.Lists.{folds}
 use Rattle.pfl_edits.specs.Maps as maps
 use Rattle.pfl_track.specs.declared.state.State.{State}
+use Rattle.pfl_table.specs.Tables.{States}
 use Rattle.pfl_parts.specs.declared.parts.judge.Overfull.{Overfull}
 use Rattle.pfl_parts.specs.Drafts.{Draft, Writes}
 use Rattle.pfl_parts.specs.Nodes.{Node, AreParts, is_overfull, is_overcounted}
 use Rattle.pfl_parts.specs.Changes.{deleted}
-use Rattle.pfl_node.specs.Purging.{purged, purge_points, expired_states}
+use Rattle.pfl_node.specs.Purging.{purged, purge_points, expired_among, expired_states}
 use Rattle.pfl_parts.proofs.ForCallers.{Rest, deleted-rest, writes-none, writes-then, writes-more}
 use Rattle.pfl_node.proofs.Expired.{expired-without, expired-few, first-stands}
 
--- ---- one deletion after another
+-- ---- one deletion after another, by the timeouts of so many states
 
--- the first, and those of the node without it
-pub expired-next : (n : Node) (s : State) → AreParts n → slice_get (expired_states n) 0 ≡ Some s → expired_states n ≡ s ∷ expired_states (deleted n s)
-expired-next n s is e =
-    let rest = deleted-rest n s in
-    expired-without n (deleted n s) s is (ap (λ (r : Rest). r.1.1.0) rest) (ap (λ (r : Rest). r.1.0) rest) (ap (λ (r : Rest). r.1.1.1.0) rest) e
+-- what is left once all that has expired is deleted
+unfoldable pub purged_among : ℕ → Node → Node
+purged_among k n = fold deleted n (expired_among k n)
 
-pub purged-next : (n : Node) (s : State) → AreParts n → slice_get (expired_states n) 0 ≡ Some s → purged n ≡ purged (deleted n s)
-unfolding purged
-purged-next n s is e = ap (fold deleted n) (expired-next n s is e)
+-- the points on the way
+unfoldable pub points_among : ℕ → Node → List Node
+points_among k n = folds deleted n (expired_among k n)
 
-pub points-next : (n : Node) (s : State) → AreParts n → slice_get (expired_states n) 0 ≡ Some s → purge_points n ≡ deleted n s ∷ purge_points (deleted n s)
-unfolding purge_points
-points-next n s is e = ap (folds deleted n) (expired-next n s is e)
+-- a purge goes by the number of states that it finds
+purged-is : (n : Node) → purged_among (maps.len n.states) n ≡ purged n
+unfolding purged purged_among
+purged-is n = refl
 
-pub purged-none : (n : Node) → expired_states n ≡ [] → purged n ≡ n
-unfolding purged
-purged-none n e = ap (fold deleted n) e
+points-is : (n : Node) → points_among (maps.len n.states) n ≡ purge_points n
+unfolding purge_points points_among
+points-is n = refl
 
-pub points-none : (n : Node) → expired_states n ≡ [] → purge_points n ≡ []
-unfolding purge_points
-points-none n e = ap (folds deleted n) e
+module _ (k : ℕ) where
+  -- the first, and those of the node without it
+  expired-next : (n : Node) (s : State) → AreParts n → slice_get (expired_among k n) 0 ≡ Some s → expired_among k n ≡ s ∷ expired_among k (deleted n s)
+  expired-next n s is e =
+      let rest = deleted-rest n s in
+      expired-without k n (deleted n s) s is (ap (λ (r : Rest). r.1.1.0) rest) (ap (λ (r : Rest). r.0) rest) (ap (λ (r : Rest). r.1.0) rest) (ap (λ (r : Rest). r.1.1.1.0) rest) e
+
+  purged-next : (n : Node) (s : State) → AreParts n → slice_get (expired_among k n) 0 ≡ Some s → purged_among k n ≡ purged_among k (deleted n s)
+  unfolding purged_among
+  purged-next n s is e = ap (fold deleted n) (expired-next n s is e)
+
+  points-next : (n : Node) (s : State) → AreParts n → slice_get (expired_among k n) 0 ≡ Some s → points_among k n ≡ deleted n s ∷ points_among k (deleted n s)
+  unfolding points_among
+  points-next n s is e = ap (folds deleted n) (expired-next n s is e)
+
+  purged-none : (n : Node) → expired_among k n ≡ [] → purged_among k n ≡ n
+  unfolding purged_among
+  purged-none n e = ap (fold deleted n) e
+
+  points-none : (n : Node) → expired_among k n ≡ [] → points_among k n ≡ []
+  unfolding points_among
+  points-none n e = ap (folds deleted n) e
 
 -- ---- state by state
 
+-- the number of states whose timeouts hold in a purge that began at this draft, to its end
+abbrev pub found : Draft → ℕ
+found a = maps.len a.node.states
+
+-- it is what the table counted then
+pub found-is : (a : Draft) (states : States) (k : ℕ) → k ≡ maps.len states → states ≡ a.node.states → k ≡ found a
+found-is a states k len same = len ∙ ap (λ (m : States). maps.len m) same
+
 -- b is what a was made to by so many of its deletions; over says whether after one of them a number was too high
 pub record IsPurged (a b : Draft) (count : ℕ) (over : Bool) : Type 0 where
-  pub room : 5 * length (expired_states b.node) ≤ b.edits.spare
+  pub room : 5 * length (expired_among (found a) b.node) ≤ b.edits.spare
   pub few : length (expired_states a.node) ≤ 65536
-  pub rest : purged b.node ≡ purged a.node
-  pub full : list_any is_overfull (purge_points b.node) ≡ list_any is_overfull (purge_points a.node)
-  pub counted : (over || list_any is_overcounted (purge_points b.node)) ≡ list_any is_overcounted (purge_points a.node)
-  pub all : count + length (expired_states b.node) ≡ length (expired_states a.node)
+  pub rest : purged_among (found a) b.node ≡ purged a.node
+  pub full : list_any is_overfull (points_among (found a) b.node) ≡ list_any is_overfull (purge_points a.node)
+  pub counted : (over || list_any is_overcounted (points_among (found a) b.node)) ≡ list_any is_overcounted (purge_points a.node)
+  pub all : count + length (expired_among (found a) b.node) ≡ length (expired_states a.node)
   pub writes : Writes (5 * count) a b
 
 pub purged-first : (a : Draft) → AreParts a.node → 5 * length (expired_states a.node) ≤ a.edits.spare → IsPurged a a 0 false
 purged-first a is room = record {
   room = room;
-  few = let states = is.limits.0.1 in let few = is.few in omega (arith, expired-few a.node, few, states);
-  rest = refl;
-  full = refl;
-  counted = refl;
+  few = let states = is.limits.0.1 in let few = is.few in omega (arith, expired-few (found a) a.node, few, states);
+  rest = purged-is a.node;
+  full = ap (list_any is_overfull) (points-is a.node);
+  counted = ap (list_any is_overcounted) (points-is a.node);
   all = omega arith;
   writes = writes-none 0 a;
 }
 
--- the next state that is to be deleted
-pub record IsNext (b : Draft) (s : State) : Type 0 where
-  pub expired : expired_states b.node ≡ s ∷ expired_states (deleted b.node s)
-  pub points : purge_points b.node ≡ deleted b.node s ∷ purge_points (deleted b.node s)
+-- the next state that is to be deleted, by the timeouts of k states
+pub record IsNext (k : ℕ) (b : Draft) (s : State) : Type 0 where
+  pub expired : expired_among k b.node ≡ s ∷ expired_among k (deleted b.node s)
+  pub points : points_among k b.node ≡ deleted b.node s ∷ points_among k (deleted b.node s)
   pub stands : maps.get b.node.states s.name ≡ Some s
-  pub rest : purged b.node ≡ purged (deleted b.node s)
+  pub rest : purged_among k b.node ≡ purged_among k (deleted b.node s)
   pub room : 5 ≤ b.edits.spare
 
-pub next-is : (a b : Draft) (count : ℕ) (over : Bool) (s : State) → AreParts b.node → IsPurged a b count over → slice_get (expired_states b.node) 0 ≡ Some s → IsNext b s
-next-is a b count over s is so first =
-    let expired = expired-next b.node s is first in
+pub next-is : (a b : Draft) (count : ℕ) (over : Bool) (k : ℕ) (s : State) → AreParts b.node → IsPurged a b count over → k ≡ found a → slice_get (expired_among k b.node) 0 ≡ Some s → IsNext (found a) b s
+next-is a b count over k s is so same at =
+    let first : slice_get (expired_among (found a) b.node) 0 ≡ Some s = rw same at at in
+    let expired = expired-next (found a) b.node s is first in
     let long = ap (λ (ss : List State). length ss) expired in
     let room = so.room in
-    record { expired = expired; points = points-next b.node s is first; stands = first-stands b.node s is first; rest = purged-next b.node s is first; room = omega (arith, room, long) }
+    record {
+      expired = expired;
+      points = points-next (found a) b.node s is first;
+      stands = first-stands (found a) b.node s is first;
+      rest = purged-next (found a) b.node s is first;
+      room = omega (arith, room, long);
+    }
 
 assoc : (a b c : Bool) → ((a || b) || c) ≡ (a || (b || c))
 assoc true b c = refl
 assoc false b c = refl
 
-module _ (a b : Draft) (count : ℕ) (over : Bool) (so : IsPurged a b count over) (s : State) (next : IsNext b s) where
-  long : length (expired_states b.node) ≡ length (expired_states (deleted b.node s)) + 1
+module _ (a b : Draft) (count : ℕ) (over : Bool) (so : IsPurged a b count over) (s : State) (next : IsNext (found a) b s) where
+  long : length (expired_among (found a) b.node) ≡ length (expired_among (found a) (deleted b.node s)) + 1
   long = let more = ap (λ (ss : List State). length ss) next.expired in omega (arith, more)
 
   -- one is left less
-  pub fewer : length (expired_states (deleted b.node s)) < length (expired_states b.node)
+  pub fewer : length (expired_among (found a) (deleted b.node s)) < length (expired_among (found a) b.node)
   fewer = omega (arith, long)
 
   pub counted-few : count ≤ 65535
@@ -95,19 +129,19 @@ module _ (a b : Draft) (count : ℕ) (over : Bool) (so : IsPurged a b count over
       let spare = more.spare in
       let room = so.room in
       let all = so.all in
-      let left = ap (λ (v : Node). length (expired_states v)) same in
+      let left = ap (λ (v : Node). length (expired_among (found a) v)) same in
       record {
         room = omega (arith, room, long, spare, left);
         few = so.few;
-        rest = ap purged same ∙ (sym next.rest ∙ so.rest);
+        rest = ap (purged_among (found a)) same ∙ (sym next.rest ∙ so.rest);
         full =
-            ap (λ f. f || list_any is_overfull (purge_points d.node)) (sym fits)
-            ∙ (ap (λ (v : Node). is_overfull v || list_any is_overfull (purge_points v)) same
+            ap (λ f. f || list_any is_overfull (points_among (found a) d.node)) (sym fits)
+            ∙ (ap (λ (v : Node). is_overfull v || list_any is_overfull (points_among (found a) v)) same
             ∙ (ap (list_any is_overfull) (sym next.points) ∙ so.full));
         counted =
-            ap (λ f. (over || f) || list_any is_overcounted (purge_points d.node)) counts
-            ∙ (assoc over (is_overcounted d.node) (list_any is_overcounted (purge_points d.node))
-            ∙ (ap (λ (v : Node). over || (is_overcounted v || list_any is_overcounted (purge_points v))) same
+            ap (λ f. (over || f) || list_any is_overcounted (points_among (found a) d.node)) counts
+            ∙ (assoc over (is_overcounted d.node) (list_any is_overcounted (points_among (found a) d.node))
+            ∙ (ap (λ (v : Node). over || (is_overcounted v || list_any is_overcounted (points_among (found a) v))) same
             ∙ (ap (λ (ps : List Node). over || list_any is_overcounted ps) (sym next.points) ∙ so.counted)));
         all = omega (arith, all, long, left);
         writes = writes-more (5 * count + 5) (5 * (count + 1)) a d (omega arith) (writes-then (5 * count) 5 a b d so.writes more);
@@ -115,7 +149,7 @@ module _ (a b : Draft) (count : ℕ) (over : Bool) (so : IsPurged a b count over
 
   -- too much is pending after the next one
   pub purged-full : is_overfull (deleted b.node s) ≡ true → list_any is_overfull (purge_points a.node) ≡ true
-  purged-full e = sym so.full ∙ (ap (list_any is_overfull) next.points ∙ ap (λ f. f || list_any is_overfull (purge_points (deleted b.node s))) e)
+  purged-full e = sym so.full ∙ (ap (list_any is_overfull) next.points ∙ ap (λ f. f || list_any is_overfull (points_among (found a) (deleted b.node s))) e)
 
   -- and what was recorded till then
   pub purged-stops : (d : Draft) → Writes 5 b d → Writes (5 * length (expired_states a.node)) a d
@@ -139,14 +173,14 @@ or_false : (a : Bool) → a ≡ (a || false)
 or_false true = refl
 or_false false = refl
 
-pub purged-done : (a b : Draft) (count : ℕ) (over : Bool) → IsPurged a b count over → slice_get (expired_states b.node) 0 ≡ None → IsDone a b count over
-purged-done a b count over so none =
-    let empty = none_first (expired_states b.node) none in
+pub purged-done : (a b : Draft) (count : ℕ) (over : Bool) (k : ℕ) → IsPurged a b count over → k ≡ found a → slice_get (expired_among k b.node) 0 ≡ None → IsDone a b count over
+purged-done a b count over k so same at =
+    let empty = none_first (expired_among (found a) b.node) (rw same at at) in
     let long = ap (λ (ss : List State). length ss) empty in
     let all = so.all in
-    let points = points-none b.node empty in
+    let points = points-none (found a) b.node empty in
     record {
-      node = sym (purged-none b.node empty) ∙ so.rest;
+      node = sym (purged-none (found a) b.node empty) ∙ so.rest;
       full = sym so.full ∙ ap (list_any is_overfull) points;
       counted = or_false over ∙ (ap (λ (ps : List Node). over || list_any is_overcounted ps) (sym points) ∙ so.counted);
       all = omega (arith, all, long);

@@ -1,5 +1,5 @@
 -- What has expired is deleted (pf.conf(5), `interval`; the order is this project's profile).
-use Rattle.std.specs.Prelude.{Bool, ◌&&◌, ◌||◌, ◌==◌, nat_lt, List, filter, Option, length}
+use Rattle.std.specs.Prelude.{ℕ, Bool, ◌&&◌, ◌||◌, ◌==◌, nat_lt, List, filter, Option, length}
 use Rattle.std.specs.List.{fold}
 use Rattle.std.specs.Ordering.{is_lt}
 use Rattle.pfl_base.specs.Lists.{in_order, folds}
@@ -7,19 +7,32 @@ use Rattle.pfl_base.specs.declared.refusal.Refusal.{Refusal}
 use Rattle.pfl_base.specs.Names.{name_cmp}
 use Rattle.pfl_edits.specs.Maps as maps
 use Rattle.pfl_track.specs.declared.state.State.{State}
-use Rattle.pfl_track.specs.Tracking.{expired}
+use Rattle.pfl_track.specs.Tracking.{expiry, expired}
 use Rattle.pfl_language.specs.declared.node_event.NodeOutcome.TheVariants.{Purged}
-use Rattle.pfl_parts.specs.Nodes.{Node, timeout_of, expiry_at, points_refusal}
+use Rattle.pfl_parts.specs.Nodes.{Node, timeout_among, points_refusal}
 use Rattle.pfl_parts.specs.Changes.{deleted}
 use Rattle.pfl_node.specs.Meanings.{NodeMeaning}
 
--- by expiry, and then by name
-abbrev pub expires_before : Node → State → State → Bool
-expires_before n s t = nat_lt (expiry_at n s) (expiry_at n t) || ((expiry_at n s == expiry_at n t) && is_lt (name_cmp s.name t.name))
+-- the timeout of a state where the node has so many states, in seconds
+abbrev pub timeout_of : ℕ → Node → State → ℕ
+timeout_of states n s = timeout_among states n s.rule s.class
 
--- the states that have expired, the first to expire first
+-- when it then expires
+abbrev pub expiry_among : ℕ → Node → State → ℕ
+expiry_among states n s = expiry s (timeout_of states n s)
+
+-- by expiry, and then by name
+abbrev pub expires_before : ℕ → Node → State → State → Bool
+expires_before states n s t =
+    nat_lt (expiry_among states n s) (expiry_among states n t) || ((expiry_among states n s == expiry_among states n t) && is_lt (name_cmp s.name t.name))
+
+-- the states that have expired by such timeouts, the first to expire first
+abbrev pub expired_among : ℕ → Node → List State
+expired_among states n = in_order (expires_before states n) (filter (λ s. expired s (timeout_of states n s) n.clock) (maps.values n.states))
+
+-- those that a purge deletes: its timeouts are those of as many states as it finds, to its end
 abbrev pub expired_states : Node → List State
-expired_states n = in_order (expires_before n) (filter (λ s. expired s (timeout_of n s) n.clock) (maps.values n.states))
+expired_states n = expired_among (maps.len n.states) n
 
 -- all that has expired is deleted, in this order
 unfoldable pub purged : Node → Node

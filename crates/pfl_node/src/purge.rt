@@ -13,12 +13,14 @@ use crate::node::Node;
 use pfl_base::Refusal;
 use pfl_edits::Change;
 use pfl_parts::{Desk, NodeEdit, Overfull};
+use pfl_rules::scaled;
 use pfl_track::State;
 use std::alloc::Allocator;
 
 impl<A: Allocator + Copy> Node<A> {
-    /// Deletes all states that have expired, the first to expire first, and tells how many. It is refused where after one of
-    /// the deletions too much would be pending, and else where after one of them a number would be too high.
+    /// Deletes all states that have expired, the first to expire first, and tells how many; to its end, timeouts are those of as
+    /// many states as it finds (pf.conf(5), `adaptive.start`). It is refused where after one of the deletions too much would be
+    /// pending, and else where after one of them a number would be too high.
     pub fn purge(&mut self) -> Result<(usize, Change<NodeEdit, A>), Refusal>
         ensures refused { IfErr result (IsRefusal (points_refusal (event.purge_points self.old))) }
         ensures unchanged { OnErr result (self.new ≡ self.old) }
@@ -42,9 +44,10 @@ fn purge<A: Allocator>(desk: &mut Desk<A>) -> Result<(usize, bool), Overfull>
     ensures count { IfOk result (λ r. r.0 ≡ length (event.expired_states desk.old.node)) }
     ensures writes { Writes (5 * length (event.expired_states desk.old.node)) desk.old desk.new }
 {
+    let states = desk.states().len();
     let mut count = 0;
     let mut overcounted = false;
-    while let Some(state) = first_expired(desk) {
+    while let Some(state) = first_expired(desk, states) {
         desk.delete(&state)?;
         overcounted |= desk.is_overcounted();
         count += 1;
@@ -52,13 +55,16 @@ fn purge<A: Allocator>(desk: &mut Desk<A>) -> Result<(usize, bool), Overfull>
     Ok((count, overcounted))
 }
 
-/// Of the states that have expired, the first to expire.
-fn first_expired<A: Allocator>(desk: &Desk<A>) -> Option<State>
-    ensures first { result ≡ slice_get (event.expired_states desk.now.node) 0 }
+/// Of the states that have expired by the timeouts of so many states, the first to expire.
+fn first_expired<A: Allocator>(desk: &Desk<A>, states: usize) -> Option<State>
+    ensures first { result ≡ slice_get (event.expired_among states desk.now.node) 0 }
     ensures parts { AreParts desk.now.node }
 {
-    let row = desk.states().first_expiring()?;
-    if row.expires <= desk.clock() {
+    let table = desk.states();
+    let adaptive = desk.limits().adaptive();
+    let row = table.first_expiring(adaptive, states)?;
+    let timeout = scaled(row.timeout, adaptive, states);
+    if row.state.expired(timeout, desk.clock()) {
         Some(row.state)
     } else {
         None

@@ -1,12 +1,12 @@
--- What stands under a name among the states of a node, with the time at which it expires.
-use Rattle.std.specs.Prelude.{◌≡◌, ◌≤◌, ◌<◌, ◌^◌, ℕ, Bool, true, false, ◌||◌, nat_le, is_some, if◌then◌else◌, Option, Some, None, IfSome, refl}
+-- What stands under a name among the states of a node, with its timeout.
+use Rattle.std.specs.Prelude.{◌≡◌, ◌≤◌, ◌<◌, ℕ, Bool, true, false, ◌||◌, nat_le, is_some, if◌then◌else◌, Option, Some, None, IfSome, refl}
 use Rattle.std.specs.Option.{option_map}
 use Rattle.std.proofs.Common.{◌∙◌, ap, sym, subst, arith, inl, inr}
 use Rattle.pfl_base.specs.declared.state_name.StateName.{StateName}
 use Rattle.pfl_base.proofs.ForCallers.{names_total, names_exact}
 use Rattle.pfl_edits.specs.Maps as maps
 use Rattle.pfl_edits.specs.Maps.{set_at}
-use Rattle.pfl_edits.proofs.ForCallers.{get-set_at_same, get-set_at_cases}
+use Rattle.pfl_edits.proofs.ForCallers.{get-set_at_cases}
 use Rattle.pfl_rules.specs.Rules.{Rules}
 use Rattle.pfl_track.specs.declared.state.State.{State}
 use Rattle.pfl_table.specs.declared.row.Row.{Row}
@@ -15,20 +15,20 @@ use Rattle.pfl_table.proofs.ForCallers.{states_of-with_row, len-states_of}
 use Rattle.pfl_table.specs.declared.fault.PutFault.TheVariants.{Full, NameInUse, WireInUse, StackInUse}
 use Rattle.std.proofs.lemmas.Bool.Decides.{nat_tests}
 use Rattle.pfl_language.specs.declared.limits.Limits.{Limits}
-use Rattle.pfl_parts.specs.inner.Kept.{IsTimely, MayAdd, expires_by}
+use Rattle.pfl_parts.specs.inner.Kept.{IsTimely, MayAdd, timeout_by}
 use Rattle.pfl_parts.specs.Nodes.{Node, AreParts}
 
--- a state with the time at which it expires
+-- a state with its timeout
 abbrev pub row_by : Rules → Option State → Option Row
-row_by rules at = option_map (λ s. record { state = s; expires = expires_by rules s }) at
+row_by rules at = option_map (λ s. record { state = s; timeout = timeout_by rules s }) at
 
 abbrev timed : State → ℕ → Row
-timed s k = record { state = s; expires = k }
+timed s k = record { state = s; timeout = k }
 
--- with the time that follows from the rules, it is that row
-pub row-by : (rules : Rules) (at : Option State) (expires : ℕ) → IfSome at (λ s. expires ≡ expires_by rules s) → row_with at expires ≡ row_by rules at
-row-by rules None expires is = refl
-row-by rules (Some s) expires is = ap (λ (k : ℕ). Some (timed s k)) is
+-- with the timeout that follows from the rules, it is that row
+pub row-by : (rules : Rules) (at : Option State) (seconds : ℕ) → IfSome at (λ s. seconds ≡ timeout_by rules s) → row_with at seconds ≡ row_by rules at
+row-by rules None seconds is = refl
+row-by rules (Some s) seconds is = ap (λ (k : ℕ). Some (timed s k)) is
 
 state_of_row : (rules : Rules) (at : Option State) → option_map (λ (r : Row). r.state) (row_by rules at) ≡ at
 state_of_row rules None = refl
@@ -39,14 +39,6 @@ pub states-with : (t : Table) (rules : Rules) (name : StateName) (at : Option St
     → states_of (with_row t name row) ≡ set_at (states_of t) name at
 states-with t rules name at row is =
     states_of-with_row t name row ∙ ap (set_at (states_of t) name) (ap (option_map (λ (r : Row). r.state)) is ∙ state_of_row rules at)
-
--- what is set in a node was last used before its last millisecond
-pub set-past : (n : Node) (name : StateName) (at : Option State) → AreParts (record n { states = set_at n.states name at }) → IfSome at (λ s. s.last ≤ 2 ^ 63)
-set-past n name None is = tt
-set-past n name (Some s) is =
-    let past = (is.each name s (get-set_at_same names_total names_exact n.states name (Some s))).last in
-    let clock = is.clock in
-    omega arith
 
 -- the table with the row is a table
 pub set-table : (n : Node) (t : Table) (name : StateName) (at : Option State) (row : Option Row) → n.states ≡ states_of t → t.limit ≡ n.limits.states → row ≡ row_by n.rules at
@@ -60,33 +52,33 @@ set-table n t name at row states room is whole =
       states = subst AreStates (sym now) whole.states;
     }
 
-timely_row : (rules : Rules) (at : Option State) (row : Row) → row_by rules at ≡ Some row → row.expires ≡ expires_by rules row.state
+timely_row : (rules : Rules) (at : Option State) (row : Row) → row_by rules at ≡ Some row → row.timeout ≡ timeout_by rules row.state
 timely_row rules None row is = cc
 timely_row rules (Some s) row is =
-    let same : record { state = s; expires = expires_by rules s } ≡ row = cc in
-    subst (λ (r : Row). r.expires ≡ expires_by rules r.state) same refl
+    let same : record { state = s; timeout = timeout_by rules s } ≡ row = cc in
+    subst (λ (r : Row). r.timeout ≡ timeout_by rules r.state) same refl
 
--- each row of it has its time
+-- each row of it has its timeout
 pub set-timely : (limits : Limits) (rules : Rules) (t : Table) (name : StateName) (at : Option State) (row : Option Row) → IsTimely limits rules t → row ≡ row_by rules at
     → IsTimely limits rules (with_row t name row)
 set-timely limits rules t name at row timely is = record {
   room = timely.room;
-  expires = λ q r there. elim (get-set_at_cases names_total names_exact t.rows name row q r there) [
+  timeouts = λ q r there. elim (get-set_at_cases names_total names_exact t.rows name row q r there) [
     | inl here ↦ timely_row rules at r (sym is ∙ here.1)
-    | inr other ↦ timely.expires q r other.1
+    | inr other ↦ timely.timeouts q r other.1
   ];
 }
 
 -- the states of a table that was written
-pub written-states : (t u : Table) (name : StateName) (at : Option State) (expires : ℕ) → u ≡ with_row t name (row_with at expires) → states_of u ≡ set_at (states_of t) name at
-written-states t u name None expires is = ap states_of is ∙ states_of-with_row t name None
-written-states t u name (Some s) expires is = ap states_of is ∙ states_of-with_row t name (Some (timed s expires))
+pub written-states : (t u : Table) (name : StateName) (at : Option State) (seconds : ℕ) → u ≡ with_row t name (row_with at seconds) → states_of u ≡ set_at (states_of t) name at
+written-states t u name None seconds is = ap states_of is ∙ states_of-with_row t name None
+written-states t u name (Some s) seconds is = ap states_of is ∙ states_of-with_row t name (Some (timed s seconds))
 
--- where it is written with the time that follows from the rules, each row of it has its time
-pub written-timely : (limits : Limits) (rules : Rules) (t u : Table) (name : StateName) (at : Option State) (expires : ℕ) → IsTimely limits rules t
-    → IfSome at (λ s. expires ≡ expires_by rules s) → u ≡ with_row t name (row_with at expires) → IsTimely limits rules u
-written-timely limits rules t u name at expires timely by is =
-    subst (λ (v : Table). IsTimely limits rules v) (sym is) (set-timely limits rules t name at (row_with at expires) timely (row-by rules at expires by))
+-- where it is written with the timeout that follows from the rules, each row of it has its timeout
+pub written-timely : (limits : Limits) (rules : Rules) (t u : Table) (name : StateName) (at : Option State) (seconds : ℕ) → IsTimely limits rules t
+    → IfSome at (λ s. seconds ≡ timeout_by rules s) → u ≡ with_row t name (row_with at seconds) → IsTimely limits rules u
+written-timely limits rules t u name at seconds timely by is =
+    subst (λ (v : Table). IsTimely limits rules v) (sym is) (set-timely limits rules t name at (row_with at seconds) timely (row-by rules at seconds by))
 
 -- nothing keeps a state from being added that may be
 pub addable : (n : Node) (t : Table) (s : State) → n.states ≡ states_of t → t.limit ≡ n.limits.states → MayAdd n s → put_fault t s ≡ None

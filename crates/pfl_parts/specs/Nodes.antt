@@ -2,12 +2,14 @@
 use Rattle.std.specs.Prelude.{◌≡◌, ◌≤◌, ◌<◌, ℕ, Bool, false, nat_lt, List, [], ◌∷◌, length, find, Option, Some, None, Result, Ok, Err, IfSome, ◌↔◌}
 use Rattle.std.specs.List.{list_any, slice_get}
 use Rattle.std.specs.Option.{option_map}
+use Rattle.pfl_base.specs.declared.class.Class.{Class}
 use Rattle.pfl_base.specs.Numbers.{greatest}
 use Rattle.pfl_base.specs.declared.refusal.Refusal.{Refusal}
 use Rattle.pfl_base.specs.declared.refusal.Refusal.TheVariants.{QueueFull, CountFull, NoMemory}
 use Rattle.pfl_base.specs.declared.state_name.StateName.{StateName}
 use Rattle.pfl_edits.specs.Maps as maps
 use Rattle.pfl_rules.specs.Rules.{Rules, AreRules, timeout}
+use Rattle.pfl_rules.specs.Scaling.{scaled}
 use Rattle.pfl_track.specs.declared.state.State.{State}
 use Rattle.pfl_track.specs.States.{IsState}
 use Rattle.pfl_track.specs.Tracking.{expiry}
@@ -22,7 +24,7 @@ use Rattle.pfl_bulk.specs.declared.BulkServer.TheVariants as server
 use Rattle.pfl_bulk.specs.declared.BulkClient.{BulkClient}
 use Rattle.pfl_bulk.specs.declared.BulkClient.TheVariants as client
 use Rattle.pfl_language.specs.declared.limits.Limits.{Limits}
-use Rattle.pfl_language.specs.Limits.{AreLimits}
+use Rattle.pfl_language.specs.Limits.{AreLimits, adaptive}
 use Rattle.pfl_parts.specs.declared.counters.Counters.{Counters}
 
 -- a node: its limits and rules never change
@@ -65,13 +67,18 @@ new_node limits rules creator next clock = record {
 abbrev pub last_millisecond : ℕ
 last_millisecond = 1000000000000
 
--- the timeout of a state, in seconds
-abbrev pub timeout_of : Node → State → ℕ
-timeout_of n s = timeout n.rules.list s.rule s.class
+-- the timeout that the node gives the states of a rule and a class where it has so many states, in seconds (pf.conf(5), `timeout`,
+-- `adaptive.start`)
+abbrev pub timeout_among : ℕ → Node → Option ℕ → Class → ℕ
+timeout_among states n rule class = scaled (timeout n.rules.list rule class) (adaptive n.limits) states
 
--- when a state of the node expires
+-- the timeout that it gives them as it stands
+abbrev pub timeout_at : Node → Option ℕ → Class → ℕ
+timeout_at n = timeout_among (maps.len n.states) n
+
+-- when a state of the node expires, as it stands
 abbrev pub expiry_at : Node → State → ℕ
-expiry_at n s = expiry s (timeout_of n s)
+expiry_at n s = expiry s (timeout_at n s.rule s.class)
 
 -- ---- what limits an event
 

@@ -6,7 +6,7 @@ use pfl_defer::DeferEdit;
 use pfl_queue::QueueEdit;
 use pfl_track::{Motion, State};
 
-/// What stands under a name among the states of a node. When a state expires follows from the rules.
+/// What stands under a name among the states of a node. A state's timeout follows from the rules.
 #[derive(Clone, Copy, Debug)]
 pub struct StateEdit {
     pub name: StateName,

@@ -8,7 +8,6 @@ use Rattle.pfl_base.specs.Names.{is_name}
 use Rattle.pfl_base.specs.Packets.{is_tcp}
 use Rattle.pfl_edits.specs.Maps as maps
 use Rattle.pfl_edits.proofs.ForCallers.{len-insert, len-remove}
-use Rattle.pfl_rules.specs.Rules.{timeout}
 use Rattle.pfl_track.specs.declared.state.State.{State}
 use Rattle.pfl_table.specs.Tables.{States, AreStates}
 use Rattle.pfl_wire.specs.declared.message.Message.{Message}
@@ -20,7 +19,7 @@ use Rattle.pfl_merge.specs.Merging.{merged}
 use Rattle.pfl_bulk.specs.Bulk.{no_name}
 use Rattle.pfl_parts.specs.Changes.{put_state, is_held, is_untold, count_freed, lost, count_lost, without_held, released, not_waiting, changed, count_stale, count_bad, forgotten, ask}
 use Rattle.pfl_parts.specs.Drafts.{Draft, Writes}
-use Rattle.pfl_parts.specs.Nodes.{Node}
+use Rattle.pfl_parts.specs.Nodes.{Node, timeout_at}
 use Rattle.pfl_receive.specs.inner.Delivering.{IsPaid, paid_edits}
 use Rattle.pfl_receive.specs.Receiving.{insert_taken, can_import, imported, merge_taken, merged_into, bulk_taken, is_partly_told, request_taken, state_answered}
 use Rattle.pfl_receive.proofs.Cleared.{forgotten-states, known-some}
@@ -74,7 +73,7 @@ few-merged : (n : Node) (m : Merged) (k : ℕ) → maps.len n.states ≤ k → F
 few-merged n m k h = either (k + 1) (m.stale_src || m.stale_dst) _ _ (few-changed (count_stale n) (record m.state { ack_wanted = false }) k h) (few-put n (record m.state { ack_wanted = false }) k h)
 
 few-merge : (n : Node) (s : State) (t : Received) → Few (maps.len n.states + 1) (merge_taken n s t)
-few-merge n s t = few-merged (lost n s.name) (merged s t (timeout n.rules.list s.rule t.class) n.clock) (maps.len n.states) (few-lost n s.name)
+few-merge n s t = few-merged (lost n s.name) (merged s t (timeout_at n s.rule t.class) n.clock) (maps.len n.states) (few-lost n s.name)
 
 pub few-update : (n : Node) (b : Bool) (r : StateRecord) (t : Received) → Few (maps.len n.states + 1) (option_map_or (λ s. merge_taken n s t) (maps.get n.states r.name) (insert_taken n b r false))
 few-update n b r t = on-some _ (maps.get n.states r.name) (λ s. merge_taken n s t) (insert_taken n b r false) (λ s. few-merge n s t) (few-insert n b r false)

@@ -6,7 +6,6 @@ use Rattle.std.specs.Option.{option_map_or}
 use Rattle.pfl_base.specs.declared.state_name.StateName.{StateName}
 use Rattle.pfl_base.specs.Names.{is_name}
 use Rattle.pfl_edits.specs.Maps as maps
-use Rattle.pfl_rules.specs.Rules.{timeout}
 use Rattle.pfl_track.specs.declared.state.State.{State}
 use Rattle.pfl_table.specs.Tables.{key_in_use}
 use Rattle.pfl_wire.specs.declared.message.BulkStatus.{BulkStatus}
@@ -22,7 +21,7 @@ use Rattle.pfl_merge.specs.declared.received.Received.{Received}
 use Rattle.pfl_merge.specs.declared.merged.Merged.{Merged}
 use Rattle.pfl_merge.specs.Merging.{merged, last_use}
 use Rattle.pfl_bulk.specs.Bulk.{no_name, server_started, after_status}
-use Rattle.pfl_parts.specs.Nodes.{Node}
+use Rattle.pfl_parts.specs.Nodes.{Node, timeout_at}
 use Rattle.pfl_parts.specs.Changes.{put_state, mark, push_if, ask, tell_status, count_bad, count_stale, lost, released, changed, forgotten}
 
 -- the node has the state
@@ -62,7 +61,7 @@ imported n same_rules r =
       src = r.src;
       dst = r.dst;
       class = r.class;
-      last = last_use r.remaining (timeout n.rules.list rule r.class) n.clock;
+      last = last_use r.remaining (timeout_at n rule r.class) n.clock;
       rule = rule;
       no_sync = false;
       ack_wanted = false;
@@ -88,7 +87,7 @@ merged_into n m =
 
 -- the peer knows of the state, so that a held packet of it is dropped
 abbrev pub merge_taken : Node → State → Received → Node
-merge_taken n s r = merged_into (lost n s.name) (merged s r (timeout n.rules.list s.rule r.class) n.clock)
+merge_taken n s r = merged_into (lost n s.name) (merged s r (timeout_at n s.rule r.class) n.clock)
 
 -- what a whole record tells of a known state
 abbrev pub of_state : StateRecord → Received

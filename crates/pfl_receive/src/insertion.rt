@@ -85,7 +85,7 @@ fn imported<A: Allocator>(desk: &Desk<A>, sent: &StateRecord, same_rules: bool) 
     ensures known { IsState result }
 {
     let rule = kept_rule(desk, same_rules, sent.rule);
-    let timeout = desk.rules().timeout(rule, sent.class);
+    let timeout = desk.timeout(rule, sent.class);
     let now = desk.clock();
     let Some(state) = State::of(StateFields {
         name: sent.name,

@@ -62,7 +62,7 @@ fn take_merge<A: Allocator>(
     ensures node { OnOk result (desk.new.node ≡ receiving.merge_taken desk.old.node state.now received.now) }
     ensures writes { Writes 7 desk.old desk.new }
 {
-    let timeout = desk.rules().timeout(state.rule(), received.class);
+    let timeout = desk.timeout(state.rule(), received.class);
     let merged = merge(state, received, timeout, desk.clock());
     desk.drop_held(state.name());
     put_merged(desk, &merged)

@@ -21,6 +21,7 @@ pub fn scaled(timeout: u32, adaptive: Adaptive, states: usize) -> u32
     if states <= start || end <= start {
         return timeout;
     }
+    // From the end on nothing is left.
     let left = end.saturating_sub(states);
     (timeout as usize * left / (end - start)) as u32
 }

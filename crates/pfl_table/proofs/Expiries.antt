@@ -1,5 +1,5 @@
--- Tables whose rows expire when a function of their states says so (pf.conf(5): the last use and a timeout): their rows, and
--- the first to expire, follow from their states.
+-- Tables whose rows have the timeouts that a function says of their states: their rows, and the first to expire, follow from
+-- their states.
 use Rattle.std.specs.Prelude.{◌≡◌, ℕ, Some, Bool, ◌&&◌, ◌||◌, ◌==◌, nat_lt, true, false, List, [], ◌∷◌, map, refl, Option, None}
 use Rattle.std.specs.List.{slice_get}
 use Rattle.std.specs.Option.{option_map}
@@ -11,24 +11,27 @@ use Rattle.pfl_base.specs.Lists.{put_before, in_order}
 use Rattle.pfl_base.proofs.ForCallers.{names_total, names_exact}
 use Rattle.pfl_edits.specs.Maps as maps
 use Rattle.pfl_edits.proofs.ForCallers.{same_map}
+use Rattle.pfl_rules.specs.declared.adaptive.Adaptive.{Adaptive}
+use Rattle.pfl_rules.specs.Scaling.{scaled}
 use Rattle.pfl_track.specs.declared.state.State.{State}
+use Rattle.pfl_track.specs.Tracking.{expiry}
 use Rattle.pfl_table.specs.declared.row.Row.{Row}
 use Rattle.pfl_table.specs.Tables.{Table, states_of, row_before, first_expiring}
 use Rattle.pfl_table.specs.Mapped.{map_values}
 use Rattle.pfl_table.proofs.Tables.{get-states_of}
 use Rattle.pfl_table.proofs.Mapped.{get-map_values, values-map_values}
 
--- each row expires when the function says so of its state
-pub record ExpireBy (expiry : State → ℕ) (t : Table) : Type 0 where
-  pub each : (name : StateName) (r : Row) → maps.get t.rows name ≡ Some r → r.expires ≡ expiry r.state
+-- each row's timeout is what the function says of its state
+pub record TimedBy (timeout : State → ℕ) (t : Table) : Type 0 where
+  pub each : (name : StateName) (r : Row) → maps.get t.rows name ≡ Some r → r.timeout ≡ timeout r.state
 
 -- the row of a state
 abbrev pub row_of : (State → ℕ) → State → Row
-row_of expiry s = record { state = s; expires = expiry s }
+row_of timeout s = record { state = s; timeout = timeout s }
 
--- by expiry, then by name
+-- by what the function says, then by name
 abbrev pub state_before : (State → ℕ) → State → State → Bool
-state_before expiry s u = nat_lt (expiry s) (expiry u) || ((expiry s == expiry u) && is_lt (name_cmp s.name u.name))
+state_before due s u = nat_lt (due s) (due u) || ((due s == due u) && is_lt (name_cmp s.name u.name))
 
 module _ {X Y : Type 0} (f : X → Y) (before : Y → Y → Bool) where
   put_before-map : (x : X) (xs : List X) → put_before before (f x) (map f xs) ≡ map f (put_before (λ a b. before (f a) (f b)) x xs)
@@ -47,23 +50,24 @@ first-map : {X Y : Type 0} (f : X → Y) (xs : List X) → slice_get (map f xs) 
 first-map f [] = refl
 first-map f (x ∷ xs) = refl
 
-module _ (expiry : State → ℕ) (t : Table) (by : ExpireBy expiry t) where
+module _ (timeout : State → ℕ) (t : Table) (by : TimedBy timeout t) where
   -- under each name stands the row of the state there
-  pub get-row_of : (name : StateName) → maps.get t.rows name ≡ option_map (row_of expiry) (maps.get (states_of t) name)
-  get-row_of name = through (maps.get t.rows name) refl ∙ ap (option_map (row_of expiry)) (sym (get-states_of t name))
+  get-row_of : (name : StateName) → maps.get t.rows name ≡ option_map (row_of timeout) (maps.get (states_of t) name)
+  get-row_of name = through (maps.get t.rows name) refl ∙ ap (option_map (row_of timeout)) (sym (get-states_of t name))
     where
-      through : (at : Option Row) → maps.get t.rows name ≡ at → at ≡ option_map (row_of expiry) (option_map (λ r. r.state) at)
+      through : (at : Option Row) → maps.get t.rows name ≡ at → at ≡ option_map (row_of timeout) (option_map (λ r. r.state) at)
       through None is = refl
-      through (Some r) is = ap (λ n. Some (record { state = r.state; expires = n })) (by.each name r is)
+      through (Some r) is = ap (λ n. Some (record { state = r.state; timeout = n })) (by.each name r is)
 
   -- so its rows are those of its states
-  pub rows_of_states : t.rows ≡ map_values (row_of expiry) (states_of t)
-  rows_of_states = same_map names_total names_exact t.rows (map_values (row_of expiry) (states_of t)) (λ name. get-row_of name ∙ sym (get-map_values name_cmp (row_of expiry) (states_of t) name))
+  rows_of_states : t.rows ≡ map_values (row_of timeout) (states_of t)
+  rows_of_states = same_map names_total names_exact t.rows (map_values (row_of timeout) (states_of t)) (λ name. get-row_of name ∙ sym (get-map_values name_cmp (row_of timeout) (states_of t) name))
 
   -- the first row to expire is that of the first state
-  pub first_expiring-states : first_expiring t ≡ option_map (row_of expiry) (slice_get (in_order (state_before expiry) (maps.values (states_of t))) 0)
-  first_expiring-states =
-      ap (λ m. slice_get (in_order row_before (maps.values m)) 0) rows_of_states
-      ∙ (ap (λ rows. slice_get (in_order row_before rows) 0) (values-map_values name_cmp (row_of expiry) (states_of t))
-      ∙ (ap (λ rows. slice_get rows 0) (in_order-map (row_of expiry) row_before (maps.values (states_of t)))
-      ∙ first-map (row_of expiry) (in_order (state_before expiry) (maps.values (states_of t)))))
+  pub first_expiring-states : (a : Adaptive) (states : ℕ)
+      → first_expiring a states t ≡ option_map (row_of timeout) (slice_get (in_order (state_before (λ s. expiry s (scaled (timeout s) a states))) (maps.values (states_of t))) 0)
+  first_expiring-states a states =
+      ap (λ m. slice_get (in_order (row_before a states) (maps.values m)) 0) rows_of_states
+      ∙ (ap (λ rows. slice_get (in_order (row_before a states) rows) 0) (values-map_values name_cmp (row_of timeout) (states_of t))
+      ∙ (ap (λ rows. slice_get rows 0) (in_order-map (row_of timeout) (row_before a states) (maps.values (states_of t)))
+      ∙ first-map (row_of timeout) (in_order (state_before (λ s. expiry s (scaled (timeout s) a states))) (maps.values (states_of t)))))

@@ -30,7 +30,7 @@ IsBeforeAll before x (y ∷ ys) = (before x y ≡ true) × IsBeforeAll before x 
 true_is_false : {A : Type 0} → true ≡ false → A
 true_is_false e = absurd (subst T e tt)
 
-both_answers : {A : Type 0} (b : Bool) → b ≡ true → b ≡ false → A
+pub both_answers : {A : Type 0} (b : Bool) → b ≡ true → b ≡ false → A
 both_answers b t f = true_is_false (sym t ∙ f)
 
 put_first : {X : Type 0} (before : X → X → Bool) (x : X) (ys : List X) → IsBeforeAll before x ys → put_before before x ys ≡ x ∷ ys
@@ -57,7 +57,7 @@ put_failing before p x (y ∷ ys) fails = elim (before x y) as (λ b. filter p (
 module _ {X : Type 0} (before : X → X → Bool)
     (asymmetric : (x y : X) → before x y ≡ true → before y x ≡ false)
     (passed_on : (x y z : X) → before x y ≡ true → before x z ≡ false → before z y ≡ true) where
-  none_through : (x y : X) (zs : List X) → before x y ≡ true → NoneBefore before y zs → NoneBefore before x zs
+  pub none_through : (x y : X) (zs : List X) → before x y ≡ true → NoneBefore before y zs → NoneBefore before x zs
   none_through x y [] is none = tt
   none_through x y (z ∷ zs) is none = (
     elim (before z x) as (λ b. before z x ≡ b → b ≡ false) [
@@ -149,12 +149,18 @@ module _ {X : Type 0} (c : X → X → Ordering) (o : IsTotalOrder c) where
   pub less-asymmetric : (x y : X) → is_lt (c x y) ≡ true → is_lt (c y x) ≡ false
   less-asymmetric x y e = ap is_lt (o.antisymm y x ∙ ap ordering_reverse (less_is (c x y) e))
 
-  less-passed_on : (x y z : X) → is_lt (c x y) ≡ true → is_lt (c x z) ≡ false → is_lt (c z y) ≡ true
+  pub less-passed_on : (x y z : X) → is_lt (c x y) ≡ true → is_lt (c x z) ≡ false → is_lt (c z y) ≡ true
   less-passed_on x y z e f = elim (c x z) as (λ r. c x z ≡ r → is_lt r ≡ false → is_lt (c z y) ≡ true) [
     | Less ↦ λ is g. true_is_false g
     | Equal ↦ λ is g. ap is_lt (sym (o.congr x z y is)) ∙ e
     | Greater ↦ λ is g. ap is_lt (o.trans z x y (o.antisymm z x ∙ ap ordering_reverse is) (less_is (c x y) e))
   ] refl f
+
+-- the test of a comparison of two parts
+pub as_test : (a b : Bool) (r : Ordering) → (a || (b && is_lt r)) ≡ is_lt (ordering_then (cond a Less (cond b Equal Greater)) r)
+as_test true b r = refl
+as_test false true r = refl
+as_test false false r = refl
 
 -- by expiry, then by name, is an order
 module _ (expiry : State → ℕ) where
@@ -163,11 +169,6 @@ module _ (expiry : State → ℕ) where
 
   by_expiry_total : IsTotalOrder by_expiry
   by_expiry_total = then_total (on_total expiry nat_cmp_total) (on_total (λ s. s.name) names_total)
-
-  as_test : (a b : Bool) (r : Ordering) → (a || (b && is_lt r)) ≡ is_lt (ordering_then (cond a Less (cond b Equal Greater)) r)
-  as_test true b r = refl
-  as_test false true r = refl
-  as_test false false r = refl
 
   before_is : (s u : State) → state_before expiry s u ≡ is_lt (by_expiry s u)
   before_is s u = as_test (nat_lt (expiry s) (expiry u)) (expiry s == expiry u) (name_cmp s.name u.name)

@@ -1,6 +1,8 @@
 pub mod Apart
 pub mod Expiring
 pub mod Scanned
+pub mod Foremost
+pub mod Earliest
 pub mod Setting
 pub mod Mapped
 pub mod Tables

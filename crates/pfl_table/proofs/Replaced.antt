@@ -1,5 +1,5 @@
 -- A row that comes, goes or is changed does so in the table.
-use Rattle.std.specs.Prelude.{◌≡◌, ◌≢◌, ℕ, ◌+◌, List, [], ◌∷◌, ◌++◌, Option, Some, None}
+use Rattle.std.specs.Prelude.{◌≡◌, ◌≢◌, ℕ, List, [], ◌∷◌, ◌++◌, Option, Some, None}
 use Rattle.std.specs.Option.{option_map}
 use Rattle.std.proofs.Common.{◌∙◌, ap, sym, subst, arith}
 use Rattle.pfl_base.specs.declared.addr.Addr.{Addr}
@@ -21,10 +21,9 @@ use Rattle.pfl_track.specs.States.{IsState}
 use Rattle.pfl_table.specs.declared.row.Row.{Row}
 use Rattle.pfl_table.specs.declared.keys.ByName.{ByName}
 use Rattle.pfl_table.specs.declared.keys.Flow.{Flow}
-use Rattle.pfl_table.specs.declared.keys.Expiry.{Expiry}
 use Rattle.pfl_table.specs.Mapped.{map_values}
 use Rattle.pfl_table.proofs.Mapped.{map_values-set_at}
-use Rattle.pfl_table.specs.inner.Ordering.{number_of, version_of, flow_of, flow_cmp, flow_total, flow_exact, by_name, by_name_cmp, by_name_total, by_name_exact, expiry_of, expiry_cmp, expiry_total, expiry_exact}
+use Rattle.pfl_table.specs.inner.Ordering.{number_of, version_of, flow_of, flow_cmp, flow_total, flow_exact, by_name, by_name_cmp, by_name_total, by_name_exact, expiry_of, expiry_cmp, expiry_total, expiry_exact, name_in}
 use Rattle.pfl_table.specs.Tables.{Table, IsTable, AreStates, states_of, with_row}
 use Rattle.pfl_table.proofs.Tables.{get-states_of}
 use Rattle.pfl_table.specs.inner.Filed.{Filing, AreStated, HasNone, HasNoKey, OthersHaveNoKey, GainsRow, LosesRow, ChangesRow, key_of, name_of, wire_flow, stack_flow, rows_of, table_of, row_of_link}
@@ -165,7 +164,7 @@ module _ (limit : ℕ) (links : List (Link Row)) (r : Row) (none : HasNone name_
   no_expiry : (l : Link Row) → row_at expiry_cmp (key_of expiry_of) links (expiry_of r) ≡ Some l → ⊥
   no_expiry l found =
       let at = found-again expiry_cmp names_total names_exact name_of expiry_of links (expiry_of r) l names found in
-      other_name l at (ap (λ (e : Expiry). e.name) (key_of_row expiry_total expiry_exact (key_of expiry_of) links (expiry_of r) l found))
+      other_name l at (ap name_in (key_of_row expiry_total expiry_exact (key_of expiry_of) links (expiry_of r) l found))
 
   pub has_no_key : HasNoKey links r
   has_no_key = record {

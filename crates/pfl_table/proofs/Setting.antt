@@ -88,9 +88,9 @@ table_without t name is = record {
     less false n limit h = h
 
 -- the state of a row that was made of it
-pub state_of_row_with : (state : Option State) (expires : ℕ) → option_map (λ (r : Row). r.state) (row_with state expires) ≡ state
-state_of_row_with None expires = refl
-state_of_row_with (Some s) expires = refl
+pub state_of_row_with : (state : Option State) (timeout : ℕ) → option_map (λ (r : Row). r.state) (row_with state timeout) ≡ state
+state_of_row_with None timeout = refl
+state_of_row_with (Some s) timeout = refl
 
 -- what stood under the name of an edit
 pub state_before : (t : Table) (name : StateName) (at : Option Row) (e : TableEdit) → e ≡ edit_of t name at → maps.get (states_of t) name ≡ option_map (λ (r : Row). r.state) e.before

@@ -14,7 +14,10 @@ use Rattle.pfl_base.specs.Names.{name_cmp, coded_state_name}
 use Rattle.pfl_edits.specs.Changes.{LeadsBack}
 use Rattle.pfl_edits.specs.Maps as maps
 use Rattle.pfl_edits.specs.Maps.{Map, set_at}
+use Rattle.pfl_rules.specs.declared.adaptive.Adaptive.{Adaptive}
+use Rattle.pfl_rules.specs.Scaling.{scaled}
 use Rattle.pfl_track.specs.declared.state.State.{State}
+use Rattle.pfl_track.specs.Tracking.{expiry}
 use Rattle.pfl_table.specs.declared.row.Row.{Row}
 use Rattle.pfl_table.specs.declared.fault.PutFault.{PutFault}
 use Rattle.pfl_table.specs.declared.fault.PutFault.TheVariants.{Full, NameInUse, WireInUse, StackInUse}
@@ -53,7 +56,7 @@ key_in_use m wire stack = is_some (by_wire m wire) || is_some (by_stack m stack)
 abbrev pub count_of_rule : States → ℕ → ℕ
 count_of_rule m rule = count_by (λ s. option_map_or (λ r. r == rule) s.rule false) (maps.values m)
 
--- ---- the table keeps with each state when it expires
+-- ---- the table keeps with each state its timeout, in seconds
 
 -- what contracts see of the table
 pub record Table : Type 0 where
@@ -73,13 +76,19 @@ pub record IsTable (t : Table) : Type 0 where
   pub few : maps.len t.rows ≤ t.limit
   pub states : AreStates (states_of t)
 
--- by expiry, then by name
-abbrev pub row_before : Row → Row → Bool
-row_before r q = nat_lt r.expires q.expires || ((r.expires == q.expires) && is_lt (name_cmp r.state.name q.state.name))
+-- when a row expires where timeouts are scaled for so many states (pf.conf(5))
+abbrev pub row_expiry : Adaptive → ℕ → Row → ℕ
+row_expiry a states r = expiry r.state (scaled r.timeout a states)
 
--- the state that expires first
-abbrev pub first_expiring : Table → Option Row
-first_expiring t = slice_get (in_order row_before (maps.values t.rows)) 0
+-- by expiry, then by name
+abbrev pub row_before : Adaptive → ℕ → Row → Row → Bool
+row_before a states r q =
+    nat_lt (row_expiry a states r) (row_expiry a states q)
+    || ((row_expiry a states r == row_expiry a states q) && is_lt (name_cmp r.state.name q.state.name))
+
+-- the row that expires first
+abbrev pub first_expiring : Adaptive → ℕ → Table → Option Row
+first_expiring a states t = slice_get (in_order (row_before a states) (maps.values t.rows)) 0
 
 -- the row of the first name above this one
 abbrev pub row_after : Table → StateName → Option Row
@@ -113,9 +122,9 @@ put_fault_text StackInUse = codes "the stack key is in use"
 
 -- ---- edits: each names one place, that of a name
 
--- the row of a state that expires at this time, if there is a state
+-- the row of a state with this timeout, if there is a state
 abbrev pub row_with : Option State → ℕ → Option Row
-row_with state expires = option_map (λ s. record { state = s; expires = expires }) state
+row_with state timeout = option_map (λ s. record { state = s; timeout = timeout }) state
 
 -- the table with this under the name
 abbrev pub with_row : Table → StateName → Option Row → Table

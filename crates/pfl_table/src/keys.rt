@@ -1,12 +1,14 @@
 //! What the indexes of a table go by.
 
-ghost use Rattle.std.specs.Prelude.{◌≡◌};
-ghost use Rattle.pfl_table.specs.inner.Ordering.{by_name_cmp, by_name_hash, by_name_total, by_name_exact, flow_of, number_of as address_number, version_of as address_version, halves as halves_of, flow_cmp, flow_hash, flow_total, flow_exact, expiry_cmp, expiry_total, expiry_exact, expiry_of};
+ghost use Rattle.std.specs.Prelude.{◌≡◌, false};
+ghost use Rattle.std.specs.Ordering.{is_lt};
+ghost use Rattle.pfl_table.specs.inner.Ordering.{by_name_cmp, by_name_hash, by_name_total, by_name_exact, flow_of, number_of as address_number, version_of as address_version, halves as halves_of, flow_cmp, flow_hash, flow_total, flow_exact, expiry_cmp, expiry_total, expiry_exact, expiry_of, name_in, due_at, due_before, last_of_timeout as last_of_timeout_of};
 
 use crate::row::Row;
-use pfl_base::{Addr, Key, StateName};
+use pfl_base::{Addr, Key, Millis, StateName};
 use pfl_hash::{Hashed, mix};
 use pfl_order::Ordered;
+use pfl_rules::{Adaptive, scaled};
 use std::cmp::Ordering;
 
 /// How many ports there are.
@@ -125,21 +127,67 @@ fn halves(number: u128) -> (u64, u64)
     ((number >> 64) as u64, (number % (1 << 64)) as u64)
 }
 
-/// When a row expires, and its name.
+/// What says when a row expires: its timeout, its last use and its name. Rows of one timeout expire in this order, however timeouts
+/// are scaled. The two numbers of the name stand apart, so that a key is three words long.
 #[derive(Clone, Copy)]
 pub(crate) struct Expiry {
-    pub(crate) time: u64,
-    pub(crate) name: StateName,
+    timeout: u32,
+    creator: u32,
+    last: Millis,
+    id: u64,
 }
 
 impl Expiry {
-    /// The expiry of a row.
+    /// What says when this row expires.
     pub(crate) fn of(row: &Row) -> Expiry
         ensures { result ≡ expiry_of row.now }
     {
+        let name = row.state.name();
         Expiry {
-            time: row.expires,
-            name: row.state.name(),
+            timeout: row.timeout,
+            creator: name.creator,
+            last: row.state.last(),
+            id: name.id,
+        }
+    }
+
+    /// The name of the row.
+    fn name(self) -> StateName
+        ensures { result ≡ name_in self }
+    {
+        StateName {
+            creator: self.creator,
+            id: self.id,
+        }
+    }
+
+    /// When the row expires where timeouts are scaled for so many states, in milliseconds.
+    fn due(self, adaptive: Adaptive, states: usize) -> u128
+        ensures { result ≡ due_at adaptive states self }
+    {
+        let seconds = scaled(self.timeout, adaptive, states);
+        self.last as u128 + seconds as u128 * 1000
+    }
+
+    /// Whether the row expires before another one: by expiry, then by name.
+    pub(crate) fn is_before(self, other: Expiry, adaptive: Adaptive, states: usize) -> bool
+        ensures { result ≡ due_before adaptive states self other }
+    {
+        let due = self.due(adaptive, states);
+        let other_due = other.due(adaptive, states);
+        due < other_due || (due == other_due && self.name().compare(other.name()).is_lt())
+    }
+
+    /// What no key of a row with this timeout is above.
+    pub(crate) fn last_of_timeout(self) -> Expiry
+        ensures last { result ≡ last_of_timeout_of self }
+        ensures not_above { is_lt (expiry_cmp result self) ≡ false }
+    {
+        Expiry {
+            timeout: self.timeout,
+            creator: u32::MAX,
+            last: Millis::MAX,
+            id: u64::MAX,
         }
     }
 }
@@ -148,8 +196,11 @@ impl Ordered for Expiry {
     ghost order = { expiry_cmp };
 
     fn compare(self, other: Expiry) -> Ordering {
-        match self.time.cmp(&other.time) {
-            Ordering::Equal => self.name.compare(other.name),
+        match self.timeout.cmp(&other.timeout) {
+            Ordering::Equal => match self.last.cmp(&other.last) {
+                Ordering::Equal => self.name().compare(other.name()),
+                apart => apart,
+            },
             apart => apart,
         }
     }

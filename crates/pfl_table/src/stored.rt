@@ -17,6 +17,7 @@ ghost use Rattle.pfl_table.specs.inner.Counts.{has_rule};
 ghost use Rattle.pfl_table.specs.inner.Ordering.{by_name, by_name_cmp, flow_cmp, flow_of};
 
 use crate::counts::count_of;
+use crate::due::first_due;
 use crate::indexes::Indexes;
 use crate::keys::{ByName, Flow};
 use crate::row::Row;
@@ -24,6 +25,7 @@ use pfl_base::{Key, StateName};
 use pfl_chains::Chains;
 use pfl_edits::{InOrder, NoMemory};
 use pfl_order::OrderedMap;
+use pfl_rules::Adaptive;
 use std::alloc::Allocator;
 use std::marker::Model;
 
@@ -151,15 +153,12 @@ impl<A: Allocator> Stored<A> {
         }
     }
 
-    /// The row that expires first.
-    pub(crate) fn first_expiring(&self) -> Option<&Row>
-        ensures row { option_copied result ≡ slice_get (in_order row_before (map row_of_link self.now.links)) 0 }
+    /// The row that expires first where timeouts are scaled for so many states.
+    pub(crate) fn first_expiring(&self, adaptive: Adaptive, states: usize) -> Option<&Row>
+        ensures row { option_copied result ≡ slice_get (in_order (row_before adaptive states) (map row_of_link self.now.links)) 0 }
     {
         self.indexes.expiries.known();
-        match self.indexes.expiries.first() {
-            Some((_, slot)) => self.at(Some(slot)),
-            None => None,
-        }
+        self.at(first_due(&self.indexes.expiries, adaptive, states))
     }
 }
 

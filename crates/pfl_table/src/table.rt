@@ -12,6 +12,7 @@ use crate::row::{Row, row_with};
 use crate::stored::Stored;
 use pfl_base::{Dir, Key, StateName};
 use pfl_edits::{InOrder, NoMemory, Reversible};
+use pfl_rules::Adaptive;
 use pfl_track::State;
 use std::alloc::Allocator;
 use std::marker::Model;
@@ -135,12 +136,13 @@ impl<A: Allocator> StateTable<A> {
         self.stored.after(name)
     }
 
-    /// The row that expires first: the one of least expiry, and among those the one of least name.
-    pub fn first_expiring(&self) -> Option<&Row>
-        ensures row { option_copied result ≡ first_expiring self.now }
+    /// The row that expires first where timeouts are scaled for so many states (pf.conf(5), `adaptive.start`): the one of least
+    /// expiry, and among those the one of least name.
+    pub fn first_expiring(&self, adaptive: Adaptive, states: usize) -> Option<&Row>
+        ensures row { option_copied result ≡ first_expiring adaptive states self.now }
     {
         self.stored.known();
-        self.stored.first_expiring()
+        self.stored.first_expiring(adaptive, states)
     }
 
     /// How many states have the rule with this number.
@@ -151,13 +153,13 @@ impl<A: Allocator> StateTable<A> {
         self.stored.count_of_rule(rule)
     }
 
-    /// Adds a state that expires at this time, if nothing keeps it from being added. It takes no memory.
-    pub fn put(&mut self, state: State, expires: u64) -> Result<TableEdit, PutFault>
+    /// Adds a state with its timeout in seconds, if nothing keeps it from being added. It takes no memory.
+    pub fn put(&mut self, state: State, timeout: u32) -> Result<TableEdit, PutFault>
         ensures fault { IfErr result (λ f. put_fault self.old state ≡ Some f) }
         ensures unchanged { OnErr result (self.new ≡ self.old) }
         ensures no_fault { OnOk result (put_fault self.old state ≡ None) }
-        ensures put { OnOk result (self.new ≡ with_row self.old state.name (Some (record { state = state; expires = expires }))) }
-        ensures edit { IfOk result (λ e. e ≡ edit_of self.old state.name (Some (record { state = state; expires = expires }))) }
+        ensures put { OnOk result (self.new ≡ with_row self.old state.name (Some (record { state = state; timeout = timeout }))) }
+        ensures edit { IfOk result (λ e. e ≡ edit_of self.old state.name (Some (record { state = state; timeout = timeout }))) }
         ensures leads_back { IfOk result (λ e. TableLeadsBack (e ∷ []) self.old self.new) }
     {
         self.known();
@@ -165,7 +167,7 @@ impl<A: Allocator> StateTable<A> {
             return Err(fault);
         }
         let name = state.name();
-        Ok(self.set(name, Some(state), expires))
+        Ok(self.set(name, Some(state), timeout))
     }
 
     /// Why the state may not be put, if there is a reason: the first one.
@@ -187,22 +189,22 @@ impl<A: Allocator> StateTable<A> {
         None
     }
 
-    /// Gives a state of the table, whose keys stay, other parts and another expiry. `None`: no state has its name. It takes
-    /// no memory.
-    pub fn change(&mut self, state: State, expires: u64) -> Option<TableEdit>
+    /// Gives a state of the table, whose keys stay, other parts and another timeout, in seconds. `None`: no state has its name.
+    /// It takes no memory.
+    pub fn change(&mut self, state: State, timeout: u32) -> Option<TableEdit>
         requires wire { IfSome (maps.get (states_of self.old) state.name) (λ s. s.wire ≡ state.wire) }
         requires stack { IfSome (maps.get (states_of self.old) state.name) (λ s. s.stack ≡ state.stack) }
         ensures absent { IfNone result (maps.get (states_of self.old) state.name ≡ None) }
         ensures unchanged { IfNone result (self.new ≡ self.old) }
         ensures known { OnSome result (IsSome (maps.get (states_of self.old) state.name)) }
-        ensures changed { OnSome result (self.new ≡ with_row self.old state.name (Some (record { state = state; expires = expires }))) }
-        ensures edit { IfSome result (λ e. e ≡ edit_of self.old state.name (Some (record { state = state; expires = expires }))) }
+        ensures changed { OnSome result (self.new ≡ with_row self.old state.name (Some (record { state = state; timeout = timeout }))) }
+        ensures edit { IfSome result (λ e. e ≡ edit_of self.old state.name (Some (record { state = state; timeout = timeout }))) }
         ensures leads_back { IfSome result (λ e. TableLeadsBack (e ∷ []) self.old self.new) }
     {
         self.known();
         let name = state.name();
         self.by_name(name)?;
-        Some(self.set(name, Some(state), expires))
+        Some(self.set(name, Some(state), timeout))
     }
 
     /// Takes the state with the name out. `None`: there is none. It takes no memory.
@@ -222,15 +224,15 @@ impl<A: Allocator> StateTable<A> {
         }
     }
 
-    /// Sets what stands under a name: a state that expires at this time, or none, whatever stood there. It takes no memory.
-    pub fn set(&mut self, name: StateName, state: Option<State>, expires: u64) -> TableEdit
-        requires table { IsTable (with_row self.old name (row_with state expires)) }
-        ensures set { self.new ≡ with_row self.old name (row_with state expires) }
+    /// Sets what stands under a name: a state with its timeout in seconds, or none, whatever stood there. It takes no memory.
+    pub fn set(&mut self, name: StateName, state: Option<State>, timeout: u32) -> TableEdit
+        requires table { IsTable (with_row self.old name (row_with state timeout)) }
+        ensures set { self.new ≡ with_row self.old name (row_with state timeout) }
         ensures states { states_of self.new ≡ set_at (states_of self.old) name state }
-        ensures edit { result ≡ edit_of self.old name (row_with state expires) }
+        ensures edit { result ≡ edit_of self.old name (row_with state timeout) }
         ensures leads_back { TableLeadsBack (result ∷ []) self.old self.new }
     {
-        self.set_row(name, &row_with(state, expires))
+        self.set_row(name, &row_with(state, timeout))
     }
 
     /// Sets the row that stands under a name.

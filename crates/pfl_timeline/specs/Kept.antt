@@ -1,6 +1,6 @@
 -- How what is kept stands for a history, a branch and a timeline. M is the allocator of the frames in edits, of which nothing is
 -- said (this project's profile).
-use Rattle.std.specs.Prelude.{◌≡◌, ◌≤◌, ℕ, false, List, [], ◌∷◌, length, get_or, map, take, Option, Some, is_some, IsTrue, IfSome}
+use Rattle.std.specs.Prelude.{◌≡◌, ◌≤◌, ℕ, List, [], ◌∷◌, length, get_or, map, take, Option, Some, is_some, IsTrue, IfSome}
 use Rattle.std.specs.List.{AllByRecursion}
 use Rattle.std.specs.Map.{values_of}
 use Rattle.std.specs.Option.{option_map}
@@ -9,6 +9,7 @@ use Rattle.pfl_edits.specs.Tapes.{above}
 use Rattle.pfl_rules.specs.Rules.{Rules}
 use Rattle.pfl_language.specs.declared.event.Event.{Event}
 use Rattle.pfl_language.specs.BranchWords.{is_branch_name}
+use Rattle.pfl_language.specs.Limits.{default_limits}
 use Rattle.pfl_world.specs.declared.edit.WorldEdit.{WorldEdit}
 use Rattle.pfl_world.specs.Runs.{run}
 use Rattle.pfl_world.specs.WorldEdits.{Finds, put_back}
@@ -58,7 +59,7 @@ pub record IsNamed (name : List ℕ) (h : History) (former : Option History) : T
 abbrev nowhere : World
 nowhere =
     let rules : Rules = record { list = []; print = [] } in
-    new_world (record { states = 0; queue = 0; frames = 0; mtu = 0; held = 0; defer = false; defer_ms = 0; maxupd = 0; batch = 0; bulk_ms = 0 }) rules rules
+    new_world default_limits rules rules
 
 -- the opening is the one that the first branch begins from
 abbrev pub opening_of : List Rooted → World

@@ -24,6 +24,7 @@ use Rattle.pfl_queue.specs.declared.Kind.{Kind}
 use Rattle.pfl_queue.specs.declared.Entry.{Entry}
 use Rattle.pfl_queue.specs.declared.Entry.TheVariants.{Marked}
 use Rattle.pfl_language.specs.declared.limits.Limits.{Limits}
+use Rattle.pfl_language.specs.Limits.{default_limits}
 use Rattle.pfl_language.specs.declared.node_event.NodeEvent.TheVariants as own
 use Rattle.pfl_language.specs.declared.node_event.NodeOutcome.{NodeOutcome}
 use Rattle.pfl_language.specs.declared.node_event.NodeOutcome.TheVariants as given
@@ -71,7 +72,7 @@ use Rattle.pfl_node.specs.Retrying as retrying
 use Rattle.pfl_node.specs.Events as events
 
 abbrev pub limits : Limits
-limits = record { states = 64; queue = 256; frames = 64; mtu = 1500; held = 128; defer = false; defer_ms = 20; maxupd = 128; batch = 16; bulk_ms = 10000 }
+limits = default_limits
 
 abbrev pub pass_out : Rule
 pass_out = record {

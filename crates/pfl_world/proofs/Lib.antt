@@ -3,6 +3,7 @@ mod Packets
 mod Frames
 mod Bulk
 mod Refusals
+mod Timeouts
 pub mod NewWorlds
 pub mod Leads
 pub mod Stepping

@@ -27,6 +27,8 @@ fn limits(queue: u32) -> Limits {
         maxupd: 128,
         batch: 16,
         bulk_ms: 10_000,
+        astart: None,
+        aend: None,
     }
 }
 

@@ -24,6 +24,8 @@ fn limits() -> Limits {
         maxupd: 1,
         batch: 1,
         bulk_ms: 1,
+        astart: None,
+        aend: None,
     }
 }
 
@@ -59,6 +61,22 @@ fn limits_have_ranges(rt: HostRuntime) {
     assert!(rt; fault(rt.alloc(), large) == Some(WorldFault::TooLarge));
     let both = Limits { mtu: 147, ..large };
     assert!(rt; fault(rt.alloc(), both) == Some(WorldFault::TooSmall));
+    let late = Limits {
+        astart: Some(131073),
+        ..limits()
+    };
+    assert!(rt; fault(rt.alloc(), late) == Some(WorldFault::TooLarge));
+    let end = Limits {
+        aend: Some(131073),
+        ..limits()
+    };
+    assert!(rt; fault(rt.alloc(), end) == Some(WorldFault::TooLarge));
+    let greatest = Limits {
+        astart: Some(131072),
+        aend: Some(131072),
+        ..limits()
+    };
+    assert!(rt; fault(rt.alloc(), greatest) == None);
 }
 
 /// What the clock of node A shows.

@@ -26,6 +26,8 @@ pub(super) fn limits() -> Limits {
         maxupd: 128,
         batch: 64,
         bulk_ms: 10_000,
+        astart: None,
+        aend: None,
     }
 }
 

@@ -4,11 +4,15 @@ ghost use Rattle.std.specs.Prelude.{◌≡◌, OnOk};
 use linked_list_allocator::LocalHeap;
 use pfl_base::{Addr, Class, Dir, End, Key, Proto, StateName};
 use pfl_edits::Reversible;
+use pfl_rules::Adaptive;
 use pfl_table::{PutFault, Row, StateTable};
 use pfl_track::{Peer, State, StateFields};
 use std::alloc::{Allocator, Global};
 use std::test::*;
 use test_devices::Refusing;
+
+/// Timeouts shrink above 10 states, and are 0 from 20 on.
+const SHRINKING: Adaptive = Adaptive { start: 10, end: 20 };
 
 fn name(id: u64) -> StateName {
     StateName { creator: 1, id }
@@ -53,7 +57,7 @@ fn id_of(row: Option<&Row>) -> Option<u64> {
     Some(row?.state.name().id)
 }
 
-/// Puts three states: the first has other keys on the wire, and the second and third expire at one time.
+/// Puts three states: the first has other keys on the wire, and the second and third have one timeout.
 fn put_three<A: Allocator>(table: &mut StateTable<A>) -> Option<()> {
     table.put(state(3, 1003, 1003, 1)?, 100).ok()?;
     table.put(state(1, 4001, 1001, 0)?, 200).ok()?;
@@ -129,9 +133,9 @@ fn walks_by_rising_name(rt: HostRuntime) -> Result<(), Fail> {
     Ok(())
 }
 
-/// Takes out the state that expires first: its id.
-fn expired(table: &mut StateTable<Global>) -> Option<u64> {
-    let name = table.first_expiring()?.state.name();
+/// Takes out the state that expires first where there are so many: its id.
+fn expired(table: &mut StateTable<Global>, states: usize) -> Option<u64> {
+    let name = table.first_expiring(SHRINKING, states)?.state.name();
     let (state, _) = table.take(name)?;
     Some(state.name().id)
 }
@@ -140,7 +144,48 @@ fn expired(table: &mut StateTable<Global>) -> Option<u64> {
 fn expires_in_order(rt: HostRuntime) -> Result<(), Fail> {
     let mut table = three(rt.alloc()).ok_or("no table")?;
     for wanted in [Some(2), Some(3), Some(1), None] {
-        assert!(rt; expired(&mut table) == wanted);
+        assert!(rt; expired(&mut table, 3) == wanted);
+    }
+    Ok(())
+}
+
+/// A table of four states of three timeouts.
+fn four(alloc: Global) -> Option<StateTable<Global>> {
+    let mut table = StateTable::new(alloc, 4).ok()?;
+    for (port, timeout, last) in [
+        (1, 120, 0),
+        (2, 60, 50_000),
+        (3, 30, 85_000),
+        (4, 30, 50_000),
+    ] {
+        let state = state(port as u64, port, port, 0)?.refreshed(Class::UdpFirst, last);
+        table.put(state, timeout).ok()?;
+    }
+    Some(table)
+}
+
+/// Whether the states of these ids, and no others, expire in this order where there are so many.
+fn expire_so(table: &mut StateTable<Global>, states: usize, order: [u64; 4]) -> bool {
+    for id in order {
+        if expired(table, states) != Some(id) {
+            return false;
+        }
+    }
+    table.len() == 0
+}
+
+#[test]
+fn expires_as_timeouts_shrink(rt: HostRuntime) -> Result<(), Fail> {
+    for (states, order) in [
+        // At 80, 110, 115 and 120 seconds.
+        (10, [4, 2, 3, 1]),
+        // Each timeout is half: at 60, 65, 80 and 100 seconds.
+        (15, [1, 4, 2, 3]),
+        // Each timeout is 0: at 0, 50, 50 and 85 seconds.
+        (20, [1, 2, 4, 3]),
+    ] {
+        let mut table = four(rt.alloc()).ok_or("no table")?;
+        assert!(rt; expire_so(&mut table, states, order));
     }
     Ok(())
 }
@@ -149,26 +194,26 @@ fn expires_in_order(rt: HostRuntime) -> Result<(), Fail> {
 fn put_and_undo<A: Allocator>(
     table: &mut StateTable<A>,
     state: State,
-    expires: u64,
+    timeout: u32,
 ) -> Result<(), PutFault>
     ensures undone { table.new ≡ table.old }
 {
-    let edit = table.put(state, expires)?;
+    let edit = table.put(state, timeout)?;
     table.undo(edit);
     Ok(())
 }
 
-/// Lets a state expire at another time and takes that back.
+/// Gives a state another timeout and takes that back.
 fn change_and_undo<A: Allocator>(
     table: &mut StateTable<A>,
     name: StateName,
-    expires: u64,
+    timeout: u32,
 ) -> Option<()>
     ensures undone { table.new ≡ table.old }
 {
     table.known();
     let state = *table.by_name(name)?;
-    let edit = table.change(state, expires)?;
+    let edit = table.change(state, timeout)?;
     table.undo(edit);
     Some(())
 }
@@ -182,9 +227,9 @@ fn take_and_undo<A: Allocator>(table: &mut StateTable<A>, name: StateName) -> Op
     Some(state)
 }
 
-/// When the state of an id expires.
-fn expiry(table: &StateTable<Global>, id: u64) -> Option<u64> {
-    Some(table.row(name(id))?.expires)
+/// The timeout of the state of an id.
+fn timeout(table: &StateTable<Global>, id: u64) -> Option<u32> {
+    Some(table.row(name(id))?.timeout)
 }
 
 #[test]
@@ -193,10 +238,10 @@ fn takes_edits_back(rt: HostRuntime) -> Result<(), Fail> {
     let mut table = three(rt.alloc()).ok_or("no table")?;
     assert!(rt; take_and_undo(&mut table, name(2)).is_some());
     assert!(rt; change_and_undo(&mut table, name(2), 7).is_some());
-    assert!(rt; expiry(&table, 2) == Some(100));
+    assert!(rt; timeout(&table, 2) == Some(100));
     assert!(rt; table.take(name(2)).is_some());
     assert!(rt; put_and_undo(&mut table, fourth, 9).is_ok());
-    assert!(rt; (table.len(), expiry(&table, 4)) == (2, None));
+    assert!(rt; (table.len(), timeout(&table, 4)) == (2, None));
     Ok(())
 }
 

@@ -151,7 +151,7 @@ fn remaining<A: Allocator>(desk: &Desk<A>, state: &State) -> u32
     ensures seconds { result ≡ flushing.remaining desk.now.node state.now }
 {
     let now = desk.clock();
-    let timeout = desk.rules().timeout(state.rule(), state.class());
+    let timeout = desk.timeout(state.rule(), state.class());
     let left = state.expiry(timeout).saturating_sub(now);
     (left / 1000) as u32
 }

@@ -6,7 +6,6 @@ use Rattle.pfl_edits.specs.Maps as maps
 use Rattle.pfl_rules.specs.Rules.{Rules, timeout}
 use Rattle.pfl_track.specs.declared.state.State.{State}
 use Rattle.pfl_track.specs.Motions.{motion, with_motion}
-use Rattle.pfl_track.specs.Tracking.{expiry}
 use Rattle.pfl_track.specs.States.{IsState}
 use Rattle.pfl_table.specs.declared.row.Row.{Row}
 use Rattle.pfl_table.specs.declared.edit.TableEdit.{TableEdit}
@@ -40,14 +39,14 @@ node_of limits rules table queue held server client clock creator next_id push c
   counters = counters;
 }
 
--- when a state expires under the rules
-abbrev pub expires_by : Rules → State → ℕ
-expires_by rules s = expiry s (timeout rules.list s.rule s.class)
+-- the timeout of a state under the rules, in seconds
+abbrev pub timeout_by : Rules → State → ℕ
+timeout_by rules s = timeout rules.list s.rule s.class
 
--- the table has the node's room, and keeps with each state when it expires
+-- the table has the node's room, and keeps with each state its timeout
 pub record IsTimely (limits : Limits) (rules : Rules) (table : Table) : Type 0 where
   pub room : table.limit ≡ limits.states
-  pub expires : (name : StateName) (row : Row) → maps.get table.rows name ≡ Some row → row.expires ≡ expires_by rules row.state
+  pub timeouts : (name : StateName) (row : Row) → maps.get table.rows name ≡ Some row → row.timeout ≡ timeout_by rules row.state
 
 -- the state may take the place of one of the node, of its name and keys, and told of like it
 pub record MayReplace (n : Node) (s : State) : Type 0 where

@@ -3,18 +3,19 @@
 ghost use Rattle.std.specs.Prelude.{◌≡◌, ◌≤◌, Some, false};
 ghost use Rattle.pfl_base.specs.declared.state_name.StateName.{StateName};
 ghost use Rattle.pfl_edits.specs.Maps as maps;
-ghost use Rattle.pfl_parts.specs.Nodes.{AreParts, expiry_at, is_overcounted, is_overfull, last_millisecond};
+ghost use Rattle.pfl_parts.specs.Nodes.{AreParts, is_overcounted, is_overfull, last_millisecond, timeout_at};
+ghost use Rattle.pfl_rules.specs.Rules.{timeout as rule_timeout};
 ghost use Rattle.pfl_table.specs.Tables.{states_of};
 ghost use Rattle.pfl_table.specs.declared.row.Row.{Row};
 
 use crate::counters::Counters;
 use crate::desk::Desk;
-use pfl_base::Millis;
+use pfl_base::{Class, Millis};
 use pfl_bulk::{BulkClient, BulkServer};
 use pfl_defer::Deferrals;
 use pfl_language::Limits;
 use pfl_queue::Pending;
-use pfl_rules::RuleSet;
+use pfl_rules::{RuleSet, scaled};
 use pfl_table::StateTable;
 use std::alloc::Allocator;
 
@@ -33,14 +34,23 @@ impl<A: Allocator> Desk<A> {
         self.parts.rules()
     }
 
-    /// Its states, each with the time at which it expires, in milliseconds.
+    /// Its states, each with its timeout under the node's rules, in seconds.
     pub fn states(&self) -> &StateTable<A>
         ensures parts { AreParts self.now.node }
         ensures states { states_of result.now ≡ self.now.node.states }
         ensures limit { result.now.limit ≡ self.now.node.limits.states }
-        ensures expires { (name : StateName) (row : Row) → maps.get result.now.rows name ≡ Some row → row.expires ≡ expiry_at self.now.node row.state }
+        ensures timeouts { (name : StateName) (row : Row) → maps.get result.now.rows name ≡ Some row → row.timeout ≡ rule_timeout self.now.node.rules.list row.state.rule row.state.class }
     {
         self.parts.states()
+    }
+
+    /// The timeout that it gives the states of a rule and a class as it stands, in seconds (pf.conf(5), `adaptive.start`).
+    pub fn timeout(&self, rule: Option<u16>, class: Class) -> u32
+        ensures timeout { result ≡ timeout_at self.now.node rule class }
+    {
+        let states = self.states();
+        let seconds = self.rules().timeout(rule, class);
+        scaled(seconds, self.limits().adaptive(), states.len())
     }
 
     /// What it has to tell its peer.

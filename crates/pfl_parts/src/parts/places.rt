@@ -1,13 +1,13 @@
 //! The places of a node, each changed by itself. What changes is answered as an edit.
 
 ghost use Rattle.std.specs.Option.{option_map};
-ghost use Rattle.std.specs.Prelude.{◌≡◌, ◌≤◌, ◌<◌, ◌+◌, true, None, OnOk, OnErr, IfOk, length, Some, ◌∷◌, [], ◌^◌, IfSome, MatchOption, is_some};
+ghost use Rattle.std.specs.Prelude.{◌≡◌, ◌≤◌, ◌<◌, ◌+◌, true, None, OnOk, OnErr, IfOk, length, Some, ◌∷◌, [], IfSome, MatchOption, is_some};
 ghost use Rattle.pfl_defer.specs.Deferring.{held_of, with_held};
 ghost use Rattle.pfl_edits.specs.Maps.{set_at};
 ghost use Rattle.pfl_parts.specs.Changes as to;
 ghost use Rattle.pfl_parts.specs.Edits.{count_of, moved_at, total, with_count};
 ghost use Rattle.pfl_parts.specs.inner.Drafting.{Makes, MakesIf};
-ghost use Rattle.pfl_parts.specs.inner.Kept.{MayAdd, MayMark, MayReplace, Replaces, expires_by, written};
+ghost use Rattle.pfl_parts.specs.inner.Kept.{MayAdd, MayMark, MayReplace, Replaces, timeout_by, written};
 ghost use Rattle.pfl_parts.specs.Nodes.{Node as Whole, IsGiven, AreParts, AskedAt, ServesSince, is_overfull, last_millisecond};
 ghost use Rattle.pfl_queue.specs.Queues.{most_numbers};
 
@@ -29,8 +29,8 @@ impl<A: Allocator> Parts<A> {
         ensures node { self.new ≡ to.put_state self.old state }
         ensures makes { Makes (result ∷ []) self.old self.new }
     {
-        let expires = self.expiry(&state);
-        let Ok(edit) = self.table.put(state, expires) else {
+        let timeout = self.timeout(&state);
+        let Ok(edit) = self.table.put(state, timeout) else {
             unreachable!();
         };
         NodeEdit::OfState(state_edit(&edit))
@@ -66,8 +66,8 @@ impl<A: Allocator> Parts<A> {
         requires node { AreParts (record self.old { states = set_at self.old.states name at }) }
         ensures node { self.new ≡ record self.old { states = set_at self.old.states name at } }
     {
-        let expires = self.expiry_of(&at);
-        self.table.set(name, at, expires);
+        let timeout = self.timeout_of(&at);
+        self.table.set(name, at, timeout);
     }
 
     /// Moves the state of a name so, if there is one.
@@ -81,23 +81,21 @@ impl<A: Allocator> Parts<A> {
         self.set_state(name, Some(state.with_motion(motion)));
     }
 
-    /// When the state expires under the node's rules, if it is one.
-    fn expiry_of(&self, at: &Option<State>) -> Millis
-        requires past { IfSome at.now (λ s. s.last ≤ 2 ^ 63) }
-        ensures expires { IfSome at.now (λ s. result ≡ expires_by self.now.rules s) }
+    /// The timeout of the state under the node's rules, if it is one, in seconds.
+    fn timeout_of(&self, at: &Option<State>) -> u32
+        ensures timeout { IfSome at.now (λ s. result ≡ timeout_by self.now.rules s) }
     {
         match at {
-            Some(state) => self.expiry(state),
+            Some(state) => self.timeout(state),
             None => 0,
         }
     }
 
-    /// When a state expires under the node's rules.
-    fn expiry(&self, state: &State) -> Millis
-        requires past { state.now.last ≤ 2 ^ 63 }
-        ensures expiry { result ≡ expires_by self.now.rules state.now }
+    /// The timeout of a state under the node's rules, in seconds.
+    fn timeout(&self, state: &State) -> u32
+        ensures timeout { result ≡ timeout_by self.now.rules state.now }
     {
-        state.expiry(self.rules.timeout(state.rule(), state.class()))
+        self.rules.timeout(state.rule(), state.class())
     }
 
     /// Puts a name on a queue, with the next number.

@@ -3,7 +3,8 @@
 ghost use Rattle.std.specs.Prelude.{◌≡◌, ◌≤◌, Some};
 ghost use Rattle.pfl_base.specs.declared.state_name.StateName.{StateName};
 ghost use Rattle.pfl_edits.specs.Maps as maps;
-ghost use Rattle.pfl_parts.specs.Nodes.{AreParts, expiry_at, last_millisecond};
+ghost use Rattle.pfl_parts.specs.Nodes.{AreParts, last_millisecond};
+ghost use Rattle.pfl_rules.specs.Rules.{timeout};
 ghost use Rattle.pfl_table.specs.Tables.{states_of};
 ghost use Rattle.pfl_table.specs.declared.row.Row.{Row};
 
@@ -33,12 +34,12 @@ impl<A: Allocator> Parts<A> {
         &self.rules
     }
 
-    /// Its states, each with the time at which it expires, in milliseconds.
+    /// Its states, each with its timeout under the node's rules, in seconds.
     pub(crate) fn states(&self) -> &StateTable<A>
         ensures parts { AreParts self.now }
         ensures states { states_of result.now ≡ self.now.states }
         ensures limit { result.now.limit ≡ self.now.limits.states }
-        ensures expires { (name : StateName) (row : Row) → maps.get result.now.rows name ≡ Some row → row.expires ≡ expiry_at self.now row.state }
+        ensures timeouts { (name : StateName) (row : Row) → maps.get result.now.rows name ≡ Some row → row.timeout ≡ timeout self.now.rules.list row.state.rule row.state.class }
     {
         &self.table
     }

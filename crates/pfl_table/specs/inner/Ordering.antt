@@ -1,7 +1,7 @@
 -- What the indexes of a table go by, and in which order.
-use Rattle.std.specs.Prelude.{ℕ, ◌+◌, ◌*◌, ◌/◌, ◌%◌, ◌^◌, List, [], ◌∷◌, slice_index_or, if◌then◌else◌}
+use Rattle.std.specs.Prelude.{ℕ, ◌+◌, ◌*◌, ◌/◌, ◌%◌, ◌^◌, ◌==◌, ◌&&◌, ◌||◌, nat_lt, Bool, List, [], ◌∷◌, Option, Some, None, slice_index_or, if◌then◌else◌}
 use Rattle.std.specs.declared.cmp.Ordering.{Ordering}
-use Rattle.std.specs.Ordering.{nat_cmp, on, then_cmp}
+use Rattle.std.specs.Ordering.{is_lt, nat_cmp, on, then_cmp}
 use Rattle.std.specs.Cmp.{IsTotalOrder, nat_cmp_total}
 use Rattle.std.specs.Cmp.Lexicographic.{slice_cmp}
 use Rattle.std.specs.FinMap.{IsAntisymmetric, nat_cmp-IsAntisymmetric, slice_cmp-IsAntisymmetric}
@@ -15,6 +15,8 @@ use Rattle.pfl_base.specs.declared.state_name.StateName.{StateName}
 use Rattle.pfl_base.specs.Ends.{is_v4, proto_number}
 use Rattle.pfl_base.specs.Names.{name_cmp}
 use Rattle.pfl_base.proofs.ForCallers.{names_total, names_exact}
+use Rattle.pfl_rules.specs.declared.adaptive.Adaptive.{Adaptive}
+use Rattle.pfl_rules.specs.Scaling.{scaled}
 use Rattle.pfl_hash.specs.Hashes.{mixed}
 use Rattle.pfl_table.specs.declared.keys.ByName.{ByName}
 use Rattle.pfl_table.specs.declared.keys.Flow.{Flow}
@@ -93,16 +95,41 @@ flow_hash f =
 
 -- ---- expiries
 
+-- what says when a row expires
 abbrev pub expiry_of : Row → Expiry
-expiry_of r = record { time = r.expires; name = r.state.name }
+expiry_of r = record { timeout = r.timeout; creator = r.state.name.creator; last = r.state.last; id = r.state.name.id }
 
--- by expiry, then by name
+-- the name of the row
+abbrev pub name_in : Expiry → StateName
+name_in e = record { creator = e.creator; id = e.id }
+
+-- by timeout, then by last use, then by name
 abbrev pub expiry_cmp : Expiry → Expiry → Ordering
-expiry_cmp = then_cmp (on (λ e. e.time) nat_cmp) (on (λ e. e.name) name_cmp)
+expiry_cmp = then_cmp (on (λ e. e.timeout) nat_cmp) (then_cmp (on (λ e. e.last) nat_cmp) (on name_in name_cmp))
 
 pub expiry_total : IsTotalOrder expiry_cmp
-expiry_total = then_total (on_total (λ e. e.time) nat_cmp_total) (on_total (λ e. e.name) names_total)
+expiry_total = then_total (on_total (λ e. e.timeout) nat_cmp_total) (then_total (on_total (λ e. e.last) nat_cmp_total) (on_total name_in names_total))
 
 pub expiry_exact : IsAntisymmetric expiry_cmp
 expiry_exact a b e =
-    ap (λ (p : ℕ × StateName). record { time = p.0; name = p.1 }) (exact_pairs nat_cmp name_cmp exact_unsigned names_exact (a.time, a.name) (b.time, b.name) e)
+    ap (λ (p : ℕ × (ℕ × StateName)). record { timeout = p.0; creator = p.1.1.creator; last = p.1.0; id = p.1.1.id })
+    (exact_pairs nat_cmp (then_cmp (on (λ q. q.0) nat_cmp) (on (λ q. q.1) name_cmp)) exact_unsigned (exact_pairs nat_cmp name_cmp exact_unsigned names_exact)
+    (a.timeout, (a.last, name_in a)) (b.timeout, (b.last, name_in b)) e)
+
+-- when the row expires where timeouts are scaled for so many states
+abbrev pub due_at : Adaptive → ℕ → Expiry → ℕ
+due_at a states e = e.last + scaled e.timeout a states * 1000
+
+-- by this, then by name
+abbrev pub due_before : Adaptive → ℕ → Expiry → Expiry → Bool
+due_before a states e f =
+    nat_lt (due_at a states e) (due_at a states f) || ((due_at a states e == due_at a states f) && is_lt (name_cmp (name_in e) (name_in f)))
+
+-- what no key of a row with this timeout is above
+abbrev pub last_of_timeout : Expiry → Expiry
+last_of_timeout e = record { timeout = e.timeout; creator = 4294967295; last = 18446744073709551615; id = 18446744073709551615 }
+
+-- which of these entries is due first: the latter unless the former is due before it
+abbrev pub earlier : Adaptive → ℕ → Option (Expiry × ℕ) → Expiry × ℕ → Expiry × ℕ
+earlier a states None entry = entry
+earlier a states (Some first) entry = if due_before a states first.0 entry.0 then first else entry

@@ -1,38 +1,46 @@
-use Rattle.std.specs.Prelude.{nat_le, if◌then◌else◌}
-use Rattle.std.proofs.Common.{◌≡◌, None, Some, true, false, ◌∙◌, ap, sym, arith}
-use Rattle.std.proofs.lemmas.Bool.Decides.{nat_tests}
+use Rattle.std.specs.Prelude.{if◌then◌else◌}
+use Rattle.std.proofs.Common.{◌≡◌, None, Some, Option, true, false, Bool, ◌∙◌, ap, sym, ℕ}
 use Rattle.std.specs.List.{slice_get}
 use Rattle.std.specs.Option.{option_and_then}
+use Rattle.pfl_rules.specs.declared.adaptive.Adaptive.{Adaptive}
+use Rattle.pfl_rules.specs.Scaling.{scaled}
+use Rattle.pfl_language.specs.declared.limits.Limits.{Limits}
+use Rattle.pfl_language.specs.Limits.{adaptive}
+use Rattle.pfl_track.specs.Tracking.{expired}
 use Rattle.pfl_table.specs.declared.row.Row.{Row}
-use Rattle.pfl_table.proofs.ForCallers.{ExpireBy}
-use Rattle.pfl_node.specs.Purging.{expired_states}
-use Rattle.pfl_parts.specs.inner.Kept.{expires_by}
-use Rattle.pfl_table.specs.Tables.{States}
-use Rattle.pfl_node.proofs.Expired.{first-row}
+use Rattle.pfl_table.specs.Tables.{Table, States, states_of, first_expiring}
+use Rattle.pfl_table.proofs.ForCallers.{TimedBy}
+use Rattle.pfl_parts.specs.Nodes.{Node}
+use Rattle.pfl_parts.specs.inner.Kept.{timeout_by}
+use Rattle.pfl_node.specs.Purging.{expired_among}
+use Rattle.pfl_node.proofs.Expired.{due_state, first-row}
 use Rattle.pfl_node.proofs.purge.first_expired.Goals as goal
 
-pub returns-in_err-row : goal.returns-in_err-row
-returns-in_err-row g c =
-    let n = c.args.desk.now.node in
-    let by : ExpireBy (expires_by n.rules) c.states.result.now = record { each = c.states.ensures.expires } in
-    let first = first-row (expires_by n.rules) n.clock c.states.result.now by ∙ ap (option_and_then (λ (r : Row). if nat_le r.expires n.clock then Some r.state else None)) (sym c.in_err-row.ensures.row) in
-    let whole = ap (λ (states : States). slice_get (expired_states (record n { states = states })) 0) c.states.ensures.states in
-    record { first = c.from_residual.ensures ∙ (sym first ∙ whole); parts = c.states.ensures.parts }
+-- the first that has expired is the state of the table's first row, if that has expired
+first-due : (n : Node) (l : Limits) (a : Adaptive) (k : ℕ) (t : Table) (row : Option Row) → TimedBy (timeout_by n.rules) t → states_of t ≡ n.states → l ≡ n.limits → a ≡ adaptive l → row ≡ first_expiring a k t
+    → option_and_then (due_state a k n.clock) row ≡ slice_get (expired_among k n) 0
+first-due n l a k t row by states limits is first =
+    ap (option_and_then (due_state a k n.clock)) first
+    ∙ (ap (λ (b : Adaptive). option_and_then (due_state b k n.clock) (first_expiring b k t)) (is ∙ ap adaptive limits)
+    ∙ (sym (first-row (timeout_by n.rules) (adaptive n.limits) k n.clock t by)
+    ∙ ap (λ (m : States). slice_get (expired_among k (record n { states = m })) 0) states))
 
-pub returns-then-row-clock : goal.returns-then-row-clock
-returns-then-row-clock g c =
-    let n = c.args.desk.now.node in
-    let by : ExpireBy (expires_by n.rules) c.states.result.now = record { each = c.states.ensures.expires } in
-    let first = first-row (expires_by n.rules) n.clock c.states.result.now by ∙ ap (option_and_then (λ (r : Row). if nat_le r.expires n.clock then Some r.state else None)) (sym c.in_ok-row.ensures.row) in
-    let whole = ap (λ (states : States). slice_get (expired_states (record n { states = states })) 0) c.states.ensures.states in
-    let due : nat_le c.in_ok-row.row.now.expires n.clock ≡ true = grind (arith, nat_tests, c.clock.ensures.clock, c.if-row-clock.true) in
-    record { first = sym (first ∙ ap (λ b. if b then Some c.in_ok-row.row.now.state else None) due) ∙ whole; parts = c.states.ensures.parts }
+-- whether a row's state has expired
+due-is : (a : Adaptive) (k clock seconds now : ℕ) (r : Row) (has : Bool) → seconds ≡ scaled r.timeout a k → now ≡ clock → has ≡ expired r.state seconds now
+    → (if has then Some r.state else None) ≡ due_state a k clock r
+due-is a k clock seconds now r has left at is = ap (λ b. if b then Some r.state else None) (is ∙ (λ i. expired r.state (left i) (at i)))
 
-pub returns-else-row-clock : goal.returns-else-row-clock
-returns-else-row-clock g c =
-    let n = c.args.desk.now.node in
-    let by : ExpireBy (expires_by n.rules) c.states.result.now = record { each = c.states.ensures.expires } in
-    let first = first-row (expires_by n.rules) n.clock c.states.result.now by ∙ ap (option_and_then (λ (r : Row). if nat_le r.expires n.clock then Some r.state else None)) (sym c.in_ok-row.ensures.row) in
-    let whole = ap (λ (states : States). slice_get (expired_states (record n { states = states })) 0) c.states.ensures.states in
-    let late : nat_le c.in_ok-row.row.now.expires n.clock ≡ false = grind (arith, nat_tests, c.clock.ensures.clock, c.if-row-clock.false) in
-    record { first = sym (first ∙ ap (λ b. if b then Some c.in_ok-row.row.now.state else None) late) ∙ whole; parts = c.states.ensures.parts }
+pub returns-in_err-row-clause-first : goal.returns-in_err-row-clause-first
+returns-in_err-row-clause-first g c =
+    c.from_residual.ensures
+    ∙ first-due c.args.desk.now.node c.limits.result c.adaptive-adaptive.result c.args.states c.states-table.result.now None (record { each = c.states-table.ensures.timeouts }) c.states-table.ensures.states c.limits.ensures.limits c.adaptive-adaptive.ensures c.in_err-row.ensures.row
+
+pub returns-then-expired-clause-first : goal.returns-then-expired-clause-first
+returns-then-expired-clause-first g c =
+    due-is c.adaptive-adaptive.result c.args.states c.args.desk.now.node.clock c.scaled-timeout.result c.clock.result c.in_ok-row.row.now true c.scaled-timeout.ensures c.clock.ensures.clock (sym c.if-expired.true ∙ c.expired.ensures)
+    ∙ first-due c.args.desk.now.node c.limits.result c.adaptive-adaptive.result c.args.states c.states-table.result.now (Some c.in_ok-row.row.now) (record { each = c.states-table.ensures.timeouts }) c.states-table.ensures.states c.limits.ensures.limits c.adaptive-adaptive.ensures c.in_ok-row.ensures.row
+
+pub returns-else-expired-clause-first : goal.returns-else-expired-clause-first
+returns-else-expired-clause-first g c =
+    due-is c.adaptive-adaptive.result c.args.states c.args.desk.now.node.clock c.scaled-timeout.result c.clock.result c.in_ok-row.row.now false c.scaled-timeout.ensures c.clock.ensures.clock (sym c.if-expired.false ∙ c.expired.ensures)
+    ∙ first-due c.args.desk.now.node c.limits.result c.adaptive-adaptive.result c.args.states c.states-table.result.now (Some c.in_ok-row.row.now) (record { each = c.states-table.ensures.timeouts }) c.states-table.ensures.states c.limits.ensures.limits c.adaptive-adaptive.ensures c.in_ok-row.ensures.row

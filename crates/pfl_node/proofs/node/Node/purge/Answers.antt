@@ -1,4 +1,5 @@
 use Rattle.std.proofs.Common.{◌≡◌, ◌*◌, length, arith}
+use Rattle.pfl_edits.specs.Maps as maps
 use Rattle.pfl_node.specs.Purging.{purged, purge_points, expired_states}
 use Rattle.pfl_node.proofs.Expired.{expired-few}
 use Rattle.pfl_node.proofs.Purged.{purged-ends}
@@ -11,7 +12,7 @@ purge-tried-requires-clause-parts g c = c.self.invariant.0.parts
 pub purge-tried-requires-clause-room : goal.purge-tried-requires-clause-room
 purge-tried-requires-clause-room g c =
     let b = begins c.self.inside.desk c.self.invariant.1 in
-    let few = expired-few c.self.inside.desk.node in
+    let few = expired-few (maps.len c.self.inside.desk.node.states) c.self.inside.desk.node in
     let states = c.self.invariant.0.parts.few in
     let room = b.room in
     omega (arith, few, states, room)

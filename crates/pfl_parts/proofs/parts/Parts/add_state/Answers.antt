@@ -9,14 +9,11 @@ use Rattle.pfl_table.specs.Tables.{states_of, row_with, edit_of}
 use Rattle.pfl_table.proofs.ForCallers.{get-states_of}
 use Rattle.pfl_parts.specs.declared.edit.NodeEdit.TheVariants.{OfState}
 use Rattle.pfl_parts.specs.inner.Drafting.{Makes}
-use Rattle.pfl_parts.specs.inner.Kept.{expires_by, written}
+use Rattle.pfl_parts.specs.inner.Kept.{timeout_by, written}
 use Rattle.pfl_parts.specs.Nodes.{Node, AreParts}
 use Rattle.pfl_parts.proofs.Recording.{makes_as}
-use Rattle.pfl_parts.proofs.Stating.{addable, set-past, written-states, written-timely, whole-with}
+use Rattle.pfl_parts.proofs.Stating.{addable, written-states, written-timely, whole-with}
 use Rattle.pfl_parts.proofs.parts.Parts.add_state.Goals as goal
-
-pub expiry-expires-requires : goal.expiry-expires-requires
-expiry-expires-requires g c = record { past = set-past c.args.self.now c.args.state.name (Some c.args.state) c.requires.parts }
 
 pub unreachable-requires : goal.unreachable-requires
 unreachable-requires g c =
@@ -29,9 +26,9 @@ invariant_of-self g c =
     let n = c.args.self.now in
     let s = c.args.state in
     let t = c.self.inside.table in
-    let now = written-states t c.put.new.self s.name (Some s) c.expiry-expires.result c.in-Ok.ensures.put ∙ ap (λ (m : Node). set_at m.states s.name (Some s)) c.self.view_is in (
-      written-timely c.self.inside.limits c.self.inside.rules t c.put.new.self s.name (Some s) c.expiry-expires.result c.self.invariant.0
-          (c.expiry-expires.ensures.expiry ∙ ap (λ (m : Node). expires_by m.rules s) (sym c.self.view_is)) c.in-Ok.ensures.put,
+    let now = written-states t c.put.new.self s.name (Some s) c.timeout-timeout.result c.in-Ok.ensures.put ∙ ap (λ (m : Node). set_at m.states s.name (Some s)) c.self.view_is in (
+      written-timely c.self.inside.limits c.self.inside.rules t c.put.new.self s.name (Some s) c.timeout-timeout.result c.self.invariant.0
+          (c.timeout-timeout.ensures.timeout ∙ ap (λ (m : Node). timeout_by m.rules s) (sym c.self.view_is)) c.in-Ok.ensures.put,
       subst AreParts (sym (whole-with _ n (states_of c.put.new.self) (set_at n.states s.name (Some s)) c.self.view_is now)) c.requires.parts,
     )
 
@@ -39,7 +36,7 @@ pub returns-clause-node : goal.returns-clause-node
 returns-clause-node g c =
     let n = c.args.self.now in
     let s = c.args.state in
-    let now = written-states c.self.inside.table c.put.new.self s.name (Some s) c.expiry-expires.result c.in-Ok.ensures.put ∙ ap (λ (m : Node). set_at m.states s.name (Some s)) c.self.view_is in
+    let now = written-states c.self.inside.table c.put.new.self s.name (Some s) c.timeout-timeout.result c.in-Ok.ensures.put ∙ ap (λ (m : Node). set_at m.states s.name (Some s)) c.self.view_is in
     whole-with _ n (states_of c.put.new.self) (set_at n.states s.name (Some s)) c.self.view_is now
 
 pub returns-clause-makes : goal.returns-clause-makes
@@ -47,9 +44,9 @@ returns-clause-makes g c =
     let n = c.args.self.now in
     let s = c.args.state in
     let t = c.self.inside.table in
-    let now = written-states t c.put.new.self s.name (Some s) c.expiry-expires.result c.in-Ok.ensures.put ∙ ap (λ (m : Node). set_at m.states s.name (Some s)) c.self.view_is in
+    let now = written-states t c.put.new.self s.name (Some s) c.timeout-timeout.result c.in-Ok.ensures.put ∙ ap (λ (m : Node). set_at m.states s.name (Some s)) c.self.view_is in
     let whole = whole-with _ n (states_of c.put.new.self) (set_at n.states s.name (Some s)) c.self.view_is now in
     let former : maps.get n.states s.name ≡ option_map (λ (r : Row). r.state) (maps.get t.rows s.name) = ap (λ (m : Node). maps.get m.states s.name) (sym c.self.view_is) ∙ get-states_of t s.name in
-    let wrote = OfState (written (edit_of t s.name (row_with (Some s) c.expiry-expires.result))) in
+    let wrote = OfState (written (edit_of t s.name (row_with (Some s) c.timeout-timeout.result))) in
     subst (λ (m : Node). Makes (OfState c.state_edit.result ∷ []) n m) (sym whole)
     (makes_as n (OfState c.state_edit.result) wrote (ap OfState (c.state_edit.ensures ∙ ap written c.in-Ok.ensures.edit)) (subst AreParts c.self.view_is c.self.invariant.1) former tt)
