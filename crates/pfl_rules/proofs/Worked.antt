@@ -5,7 +5,6 @@ use Rattle.pfl_rules.specs.declared.action.Action.TheVariants.{Pass}
 use Rattle.pfl_base.specs.declared.addr.Addr.TheVariants.{V4}
 use Rattle.pfl_rules.specs.declared.rule_dir.RuleDir.TheVariants.{Out, Any}
 use Rattle.pfl_rules.specs.declared.fault.RuleFault.TheVariants.{TooMany, NatNotOut, ZeroMax}
-use Rattle.pfl_rules.specs.declared.adaptive.Adaptive.{Adaptive}
 use Rattle.pfl_rules.specs.Rules.{rule_fault}
 use Rattle.pfl_rules.specs.Scaling.{scaled}
 use Rattle.pfl_rules.specs.Texts.{canonical_text}
