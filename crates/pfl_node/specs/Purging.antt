@@ -1,4 +1,5 @@
--- What has expired is deleted (pf.conf(5), `interval`; the order is this project's profile).
+-- What has expired is deleted (pf.conf(5), `interval` and `adaptive.start`; the order, and that the number of states counts which the
+-- purge finds, is this project's profile).
 use Rattle.std.specs.Prelude.{ℕ, Bool, ◌&&◌, ◌||◌, ◌==◌, nat_lt, List, filter, Option, length}
 use Rattle.std.specs.List.{fold}
 use Rattle.std.specs.Ordering.{is_lt}

@@ -78,7 +78,7 @@ impl<A: Allocator> RuleSet<A> {
         verdict
     }
 
-    /// Seconds after which a state of the class expires that the rule with the number made.
+    /// The timeout of a state of the class that the rule with the number made, in seconds; `scaled` may shorten it.
     pub fn timeout(&self, rule: Option<u16>, class: Class) -> u32
         ensures { result ≡ timeout self.now.list rule class }
     {
