@@ -48,8 +48,10 @@ use Rattle.pfl_node.specs.Packets.{handled, handled_by, followed, accepted}
 use Rattle.pfl_node.proofs.ForCallers.{handled-apart}
 use Rattle.pfl_world.specs.Events.{step}
 use Rattle.pfl_world.specs.Runs.{run, world_after}
-use Rattle.pfl_world.specs.Worlds.{World, IsWorld, node_at, with_node, new_world}
-use Rattle.pfl_laws.specs.Laws.{waits_for_ack, IsTied, OpeningsAreTied, EventsKeepTied, EventsKeepTiedAlong}
+use Rattle.pfl_rules.specs.Rules.{Rules}
+use Rattle.pfl_language.specs.declared.limits.Limits.{Limits}
+use Rattle.pfl_world.specs.Worlds.{World, IsWorld, node_at, with_node, opening_world}
+use Rattle.pfl_laws.specs.Laws.{waits_for_ack, IsTied, AreTied, OpeningsAreTied, LaterOpeningsAreTied, EventsKeepTied, EventsKeepTiedAlong}
 use Rattle.pfl_laws.proofs.Following.{Alike, Follows, Filed}
 use Rattle.pfl_laws.proofs.Keeping.{deleted-keeps}
 use Rattle.pfl_laws.proofs.Handling.{filed-without, accepted-keeps}
@@ -223,13 +225,19 @@ tied-along w es v is tied ran id =
     let last : Sound (node_at v id) = subst (λ (at : Option World). IfSome at (λ u. Sound (node_at u id))) ran (all id (Some w) es (begins w id is (tied id))) in
     last.tied
 
-pub tied-opening : OpeningsAreTied
-tied-opening l a b id name = by id
+tied-fresh : (l : Limits) (a b : Rules) (next next_boot : ℕ) → AreTied (opening_world l a b next next_boot)
+tied-fresh l a b next next_boot id name = by id
   where
     none : (o : Option State) → o ≡ None → false ≡ waits o
     none None e = refl
     none (Some s) e = absurd (some_is_none s e)
 
-    by : (id : NodeId) → is_held (node_at (new_world l a b) id) name ≡ waits_for_ack (node_at (new_world l a b) id) name
+    by : (id : NodeId) → is_held (node_at (opening_world l a b next next_boot) id) name ≡ waits_for_ack (node_at (opening_world l a b next next_boot) id) name
     by A = none _ (get-empty name_cmp name)
     by B = none _ (get-empty name_cmp name)
+
+pub tied-opening : OpeningsAreTied
+tied-opening l a b = tied-fresh l a b 1 3
+
+pub tied-later_opening : LaterOpeningsAreTied
+tied-later_opening l a b start = tied-fresh l a b start start

@@ -221,6 +221,10 @@ AreTied w = (id : NodeId) → IsTied (node_at w id)
 abbrev pub OpeningsAreTied : Type 0
 OpeningsAreTied = (l : Limits) (a b : Rules) → AreTied (new_world l a b)
 
+-- also where its numbers begin later
+abbrev pub LaterOpeningsAreTied : Type 0
+LaterOpeningsAreTied = (l : Limits) (a b : Rules) (start : ℕ) → AreTied (new_world_at l a b start)
+
 -- it stays so by each event,
 abbrev pub EventsKeepTied : Type 0
 EventsKeepTied = (w : World) (e : Event) (v : World) → IsWorld w → AreTied w → world_after (step w e) ≡ Some v → AreTied v

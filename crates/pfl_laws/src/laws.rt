@@ -3,7 +3,7 @@
 ghost use Rattle.pfl_laws.specs.Laws.{LevelsNeverFall, RecordsLowerNoLevel, LevelsNeverFallAlong, StatesStayApart, StatesStayApartAlong};
 ghost use Rattle.pfl_laws.specs.Laws.{OpeningsAreBoots, LaterOpeningsAreBoots, EventsKeepBoots, NewStatesAreNamed, NoNameIsGivenTwice, NoTicketIsGivenTwice, NoBootIsGivenTwice};
 ghost use Rattle.pfl_laws.specs.Laws.{EventsSendOnlySo, FramesWereSent};
-ghost use Rattle.pfl_laws.specs.Laws.{OpeningsAreTied, EventsKeepTied, RecordsKeepTied, EventsKeepTiedAlong, HeldPacketsLeaveOnlySo, RecordsLetGoOnlySo};
+ghost use Rattle.pfl_laws.specs.Laws.{OpeningsAreTied, LaterOpeningsAreTied, EventsKeepTied, RecordsKeepTied, EventsKeepTiedAlong, HeldPacketsLeaveOnlySo, RecordsLetGoOnlySo};
 
 /// An event lowers the level of no end of a state at either node (pf.c) that is not removed in it, and neither does a record of
 /// the peer's; nor do events, one after the other, where the state was not removed in between.
@@ -46,6 +46,7 @@ pub fn frames_were_sent()
 /// after each event, and after each record of the peer's; hence along all events.
 pub fn held_packets_have_waiting_states()
     ensures opening { OpeningsAreTied }
+    ensures later_opening { LaterOpeningsAreTied }
     ensures event { EventsKeepTied }
     ensures taken { RecordsKeepTied }
     ensures along { EventsKeepTiedAlong }

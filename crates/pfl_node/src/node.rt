@@ -43,12 +43,27 @@ impl<A: Allocator> Model for Node<A> {
 }
 
 impl<A: Allocator + Copy> Node<A> {
-    /// A node that has seen nothing. Its creator is the number of its boot.
+    /// A node that has seen nothing. Its creator is the number of its boot, and its ids and queueing numbers begin with 1.
     pub fn new(alloc: A, limits: Limits, rules: RuleSet<A>, creator: u32) -> Result<Self, NoMemory>
         requires limits { AreLimits limits }
         ensures new { IfOk result (λ n. n ≡ new_node limits rules creator 1 0) }
     {
-        let desk = Desk::new(alloc, limits, rules, creator, most_edits(&limits))?;
+        Node::new_at(alloc, limits, rules, creator, 1)
+    }
+
+    /// A node that has seen nothing, whose next id and next queueing number are `next`. Its creator is the number of its boot.
+    pub fn new_at(
+        alloc: A,
+        limits: Limits,
+        rules: RuleSet<A>,
+        creator: u32,
+        next: u32,
+    ) -> Result<Self, NoMemory>
+        requires limits { AreLimits limits }
+        ensures new { IfOk result (λ n. n ≡ new_node limits rules creator next 0) }
+    {
+        let room = most_edits(&limits);
+        let desk = Desk::new(alloc, limits, rules, creator, next, room)?;
         Ok(Node { alloc, desk })
     }
 

@@ -25,7 +25,8 @@ impl<A: Allocator + Copy> Node<A> {
     {
         let limits = self.desk.limits();
         let rules = self.desk.rules().copy()?;
-        let mut desk = Desk::new(self.alloc, limits, rules, boot, most_edits(&limits))?;
+        let room = most_edits(&limits);
+        let mut desk = Desk::new(self.alloc, limits, rules, boot, 1, room)?;
         ask_first(&mut desk, self.clock());
         desk.give_up_edits();
         Ok(Node {

@@ -21,7 +21,7 @@ use Rattle.pfl_language.specs.declared.limits.Limits.{Limits}
 use Rattle.pfl_parts.specs.Laws.{NewNodesAreNodes}
 use Rattle.pfl_parts.specs.declared.counters.Counters.{Counters}
 use Rattle.pfl_parts.specs.inner.Kept.{node_of}
-use Rattle.pfl_parts.specs.Nodes.{new_node, no_counts}
+use Rattle.pfl_parts.specs.Nodes.{is_overcounted, new_node, no_counts}
 
 -- an empty map has nothing at a name
 nothing : {X : Type 0} {A : Type 0} (n : StateName) (x : X) → maps.get (maps.empty {R = name_cmp}) n ≡ Some x → A
@@ -56,6 +56,12 @@ none_held limit = record {
 neither : (a b : Bool) → a ≡ false → b ≡ false → (a || b) ≡ false
 neither a b p q = ap (λ c. c || b) p ∙ q
 
+-- a node that has seen nothing has no number past the greatest
+pub new_node-counts : (l : Limits) (r : Rules) (creator next clock : ℕ) → next ≤ greatest → is_overcounted (new_node l r creator next clock) ≡ false
+new_node-counts l r creator next clock low =
+    let high : nat_lt greatest next ≡ false = le-ltb greatest next low in
+    neither (nat_lt greatest next) _ high (neither (nat_lt greatest next) false high refl)
+
 pub new_node-is : NewNodesAreNodes
 new_node-is l r creator next clock limits rules low on_time = record {
   parts = record {
@@ -74,13 +80,11 @@ new_node-is l r creator next clock limits rules low on_time = record {
     waiting = tt;
     clock = on_time;
   };
-  counted =
-      let high : nat_lt greatest next ≡ false = le-ltb greatest next low in
-      neither (nat_lt greatest next) _ high (neither (nat_lt greatest next) false high refl);
+  counted = new_node-counts l r creator next clock low;
 }
 
 -- empty parts make a node that has seen nothing
-pub made_new : (l : Limits) (r : Rules) (t : Table) (q : Queue) (d : Deferrals) (c : Counters) (creator : ℕ)
-    → t.rows ≡ maps.empty → q ≡ empty_queue l.queue 1 → d ≡ no_deferrals l.held → c ≡ no_counts
-    → node_of l r t q d server.Idle client.Idle 0 creator 1 false c ≡ new_node l r creator 1 0
-made_new l r t q d c creator rows queue held counts = rw (states_of-empty t rows, queue, held, counts) refl
+pub made_new : (l : Limits) (r : Rules) (t : Table) (q : Queue) (d : Deferrals) (c : Counters) (creator next : ℕ)
+    → t.rows ≡ maps.empty → q ≡ empty_queue l.queue next → d ≡ no_deferrals l.held → c ≡ no_counts
+    → node_of l r t q d server.Idle client.Idle 0 creator next false c ≡ new_node l r creator next 0
+made_new l r t q d c creator next rows queue held counts = rw (states_of-empty t rows, queue, held, counts) refl

@@ -50,22 +50,24 @@ impl<A: Allocator> Model for Desk<A> {
 }
 
 impl<A: Allocator + Copy> Desk<A> {
-    /// A desk with a node that has seen nothing, and with room for so many edits. The node's creator is the number of its boot.
+    /// A desk with a node that has seen nothing, and with room for so many edits. The node's creator is the number of its boot, and
+    /// its next id and its next queueing number are `next`.
     pub fn new(
         alloc: A,
         limits: Limits,
         rules: RuleSet<A>,
         creator: u32,
+        next: u32,
         room: usize,
     ) -> Result<Self, NoMemory>
         requires limits { AreLimits limits }
         requires room { room ≤ most_room }
-        ensures new { IfOk result (λ d. d.node ≡ new_node limits rules creator 1 0) }
+        ensures new { IfOk result (λ d. d.node ≡ new_node limits rules creator next 0) }
         ensures none { IfOk result (λ d. d.edits.list ≡ []) }
         ensures room { IfOk result (λ d. d.edits.spare ≡ room) }
         ensures parts { IfOk result (λ d. AreParts d.node) }
     {
-        let parts = Parts::new(alloc, limits, rules, creator)?;
+        let parts = Parts::new(alloc, limits, rules, creator, next)?;
         let edits = Change::with_room(alloc, room)?;
         Ok(Desk { parts, edits })
     }

@@ -78,20 +78,21 @@ impl<A: Allocator> Model for Parts<A> {
 }
 
 impl<A: Allocator + Copy> Parts<A> {
-    /// The parts of a node that has seen nothing.
+    /// The parts of a node that has seen nothing. Its next id and its next queueing number are `next`.
     pub(crate) fn new(
         alloc: A,
         limits: Limits,
         rules: RuleSet<A>,
         creator: u32,
+        next: u32,
     ) -> Result<Self, NoMemory>
         requires limits { AreLimits limits }
-        ensures new { IfOk result (λ n. n ≡ new_node limits rules creator 1 0) }
+        ensures new { IfOk result (λ n. n ≡ new_node limits rules creator next 0) }
         ensures parts { IfOk result (λ n. AreParts n) }
     {
         rules.known();
         let table = StateTable::new(alloc, limits.states as usize)?;
-        let queue = Pending::new(alloc, limits.queue as usize)?;
+        let queue = Pending::new_at(alloc, limits.queue as usize, next)?;
         let held = Deferrals::new(alloc, limits.held as usize)?;
         Ok(Parts {
             limits,
@@ -103,7 +104,7 @@ impl<A: Allocator + Copy> Parts<A> {
             client: BulkClient::Idle,
             clock: 0,
             creator,
-            next_id: 1,
+            next_id: next as u64,
             push: false,
             counters: Counters::none(),
         })

@@ -60,23 +60,22 @@ with_node w id n = record w { a = of_name id n w.a; b = of_name id w.b n }
 abbrev pub with_link : World → Link → World
 with_link w l = record w { link = l }
 
--- the pair before any event; the nodes are boots 1 and 2
-abbrev pub new_world : Limits → Rules → Rules → World
-new_world limits rules_a rules_b = record {
-  a = new_node limits rules_a 1 1 0;
-  b = new_node limits rules_b 2 1 0;
-  link = empty_link limits.frames limits.mtu 1;
-  next_boot = 3;
+-- the pair before any event, with these next numbers: of ids, queueing numbers and tickets, and of boots; the nodes are boots 1 and 2
+abbrev pub opening_world : Limits → Rules → Rules → ℕ → ℕ → World
+opening_world limits rules_a rules_b next next_boot = record {
+  a = new_node limits rules_a 1 next 0;
+  b = new_node limits rules_b 2 next 0;
+  link = empty_link limits.frames limits.mtu next;
+  next_boot = next_boot;
 }
 
--- the same with all numbers from `start` on
+-- the pair before any event: each next number is the first that was not given
+abbrev pub new_world : Limits → Rules → Rules → World
+new_world limits rules_a rules_b = opening_world limits rules_a rules_b 1 3
+
+-- the same with all next numbers `start`
 abbrev pub new_world_at : Limits → Rules → Rules → ℕ → World
-new_world_at limits rules_a rules_b start = record {
-  a = new_node limits rules_a 1 start 0;
-  b = new_node limits rules_b 2 start 0;
-  link = empty_link limits.frames limits.mtu start;
-  next_boot = start;
-}
+new_world_at limits rules_a rules_b start = opening_world limits rules_a rules_b start start
 
 -- the fault of a pair with limits that have this one
 abbrev pub from_limits : LimitFault → WorldFault

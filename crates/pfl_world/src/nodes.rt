@@ -33,19 +33,21 @@ impl<A: Allocator> Model for Nodes<A> {
 }
 
 impl<A: Allocator + Copy> Nodes<A> {
-    /// The nodes of a pair before any event, with a rule set each. Their first boots have the numbers 1 and 2.
+    /// The nodes of a pair before any event, with a rule set each. Their first boots have the numbers 1 and 2; their next ids and
+    /// queueing numbers are `next`.
     pub(crate) fn new(
         alloc: A,
         limits: Limits,
         rules_a: RuleSet<A>,
         rules_b: RuleSet<A>,
+        next: u32,
     ) -> Result<Self, NoMemory>
         requires limits { AreLimits limits }
-        ensures a { IfOk result (λ ns. ns.a ≡ new_node limits rules_a 1 1 0) }
-        ensures b { IfOk result (λ ns. ns.b ≡ new_node limits rules_b 2 1 0) }
+        ensures a { IfOk result (λ ns. ns.a ≡ new_node limits rules_a 1 next 0) }
+        ensures b { IfOk result (λ ns. ns.b ≡ new_node limits rules_b 2 next 0) }
     {
-        let a = Node::new(alloc, limits, rules_a, 1)?;
-        let b = Node::new(alloc, limits, rules_b, 2)?;
+        let a = Node::new_at(alloc, limits, rules_a, 1, next)?;
+        let b = Node::new_at(alloc, limits, rules_b, 2, next)?;
         Ok(Nodes { a, b })
     }
 

@@ -1,8 +1,8 @@
 //! The pair of nodes.
 
-ghost use Rattle.std.specs.Prelude.{◌≡◌, None, IfOk, IfErr, OnOk};
+ghost use Rattle.std.specs.Prelude.{◌≡◌, ◌≤◌, None, IfOk, IfErr, OnOk};
 ghost use Rattle.pfl_language.specs.Limits.{AreLimits};
-ghost use Rattle.pfl_world.specs.Worlds.{IsWorld, IsFault, new_world, node_at, world_fault};
+ghost use Rattle.pfl_world.specs.Worlds.{IsWorld, IsFault, new_world, new_world_at, node_at, opening_world, world_fault};
 
 use crate::fault::{WorldFault, fault_of};
 use crate::nodes::Nodes;
@@ -63,7 +63,27 @@ impl<A: Allocator + Copy> World<A> {
         if let Some(fault) = fault_of(&limits) {
             return Err(fault);
         }
-        Ok(World::opening(alloc, limits, rules_a, rules_b)?)
+        Ok(World::opening(alloc, limits, rules_a, rules_b, 1, 3)?)
+    }
+
+    /// The pair before any event, the nodes with a rule set each. The next id and queueing number of both nodes, the next ticket and
+    /// the number of the next boot are all `start`.
+    pub fn new_at(
+        alloc: A,
+        limits: Limits,
+        rules_a: RuleSet<A>,
+        rules_b: RuleSet<A>,
+        start: u32,
+    ) -> Result<Self, WorldFault>
+        requires later { 3 ≤ start }
+        ensures refused { IfErr result (IsFault (world_fault limits)) }
+        ensures not_refused { OnOk result (world_fault limits ≡ None) }
+        ensures new { IfOk result (λ w. w ≡ new_world_at limits rules_a rules_b start) }
+    {
+        if let Some(fault) = fault_of(&limits) {
+            return Err(fault);
+        }
+        Ok(World::opening(alloc, limits, rules_a, rules_b, start, start)?)
     }
 
     /// The pair before any event, within these limits.
@@ -72,18 +92,20 @@ impl<A: Allocator + Copy> World<A> {
         limits: Limits,
         rules_a: RuleSet<A>,
         rules_b: RuleSet<A>,
+        next: u32,
+        next_boot: u32,
     ) -> Result<Self, NoMemory>
         requires limits { AreLimits limits }
-        ensures new { IfOk result (λ w. w ≡ new_world limits rules_a rules_b) }
+        ensures new { IfOk result (λ w. w ≡ opening_world limits rules_a rules_b next next_boot) }
     {
         // The link comes first: where the nodes find no memory, it is all that has to be given back.
-        let link = Link::new(alloc, limits.frames as usize, limits.mtu as usize)?;
-        let nodes = Nodes::new(alloc, limits, rules_a, rules_b)?;
+        let link = Link::new_at(alloc, limits.frames as usize, limits.mtu as usize, next)?;
+        let nodes = Nodes::new(alloc, limits, rules_a, rules_b, next)?;
         Ok(World {
             alloc,
             nodes,
             link,
-            next_boot: 3,
+            next_boot,
         })
     }
 

@@ -11,7 +11,7 @@ use Rattle.pfl_node.proofs.node.Node.restarted.Goals as goal
 pub new-requires : goal.new-requires
 new-requires g c =
     let limits : AreLimits c.limits-limits.result = subst AreLimits (sym c.limits-limits.ensures.limits) c.self.invariant.0.parts.limits in
-    record { limits = limits; room = rw c.most_edits.ensures.most (most-few c.limits-limits.result limits) }
+    record { limits = limits; room = rw c.most_edits-room.ensures.most (most-few c.limits-limits.result limits) }
 
 pub ask_first-requires : goal.ask_first-requires
 ask_first-requires g c =
@@ -19,7 +19,7 @@ ask_first-requires g c =
     let fresh : c.in_ok-desk.desk.node.clock ≡ 0 = ap (λ (n : Node). n.clock) c.in_ok-desk.ensures.new in
     let least : 1 ≤ c.self.inside.desk.node.limits.queue = is.limits.1.0.0 in
     let room = c.in_ok-desk.ensures.room in
-    let most = c.most_edits.ensures.most in
+    let most = c.most_edits-room.ensures.most in
     record {
       room = omega (arith, room, most);
       later = omega (arith, fresh);
@@ -42,11 +42,11 @@ invariant_of-result g c =
     let none = ap (λ (es : List NodeEdit). length es) c.in_ok-desk.ensures.none in
     let given = c.give_up_edits.ensures.room in
     let kept = c.ask_first.ensures.writes.room in
-    let room : c.give_up_edits.new.self.edits.spare ≡ c.most_edits.result = omega (arith, given, kept, none, c.in_ok-desk.ensures.room) in (
+    let room : c.give_up_edits.new.self.edits.spare ≡ c.most_edits-room.result = omega (arith, given, kept, none, c.in_ok-desk.ensures.room) in (
       record { parts = subst AreParts (sym c.give_up_edits.ensures.node) c.ask_first.ensures.parts; counted = ap is_overcounted is ∙ anew-counts c.args.self.now c.args.boot },
       record {
         none = c.give_up_edits.ensures.none;
-        room = room ∙ (c.most_edits.ensures.most ∙ ap most_edits (limits ∙ sym (ap (λ (n : Node). n.limits) is ∙ anew-limits c.args.self.now c.args.boot)));
+        room = room ∙ (c.most_edits-room.ensures.most ∙ ap most_edits (limits ∙ sym (ap (λ (n : Node). n.limits) is ∙ anew-limits c.args.self.now c.args.boot)));
       },
     )
 
