@@ -46,7 +46,7 @@ THEOREM = r"^{name} :"
 FUNCTION = r"^ *(?:pub(?:\(crate\))? )?(?:const )?fn {name}[(<]"
 CLAUSE = re.compile(r" *(?:ensures|requires)\b")
 # What a change is looked for in: the crates, and what stands around the program.
-WITH_SOURCES = ("crates/*/src", "crates/*/specs", "crates/*/proofs", "shell")
+WITH_SOURCES = ("crates/*/src", "crates/*/specs", "crates/*/proofs", "shell", "oracle", "fuzzing")
 SOURCES = (".rt", ".antt", ".py")
 
 

@@ -24,6 +24,8 @@ _COMMANDS: Dict[str, Tuple[Form, ...]] = {
     "names": (),
     "excise": (form.BRANCH, _K),
     "restore": (form.BRANCH,),
+    # (no word of `COMMANDS`: the shell has a word of its own in its place)
+    "log": (form.BRANCH,),
 }
 _EVENTS: Dict[str, Tuple[Form, ...]] = {
     **{word: (form.NODE,) for word in OF_NODE},
@@ -122,7 +124,7 @@ def check_line(line: str, of_setup: bool) -> None:
 
 
 def _check_command(reader: _Reader) -> None:
-    word = reader.known("command", COMMANDS, ": it belongs to the setup, before `open`" if reader.next in SETUP else "")
+    word = reader.known("command", tuple(_COMMANDS), ": it belongs to the setup, before `open`" if reader.next in SETUP else "")
     for wanted in _COMMANDS[word]:
         reader.take(wanted)
     if word != "step":

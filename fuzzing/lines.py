@@ -1,0 +1,71 @@
+"""Changes of single lines by chance, after which many are still right."""
+from __future__ import annotations
+
+import random
+import re
+from typing import Callable, List
+
+from shell.names import CLASSES, NODES
+
+from .vocabulary import ALIKE, EDGES, ENDS, LENGTHS, NETS, PROTOCOLS
+
+
+def change_some(chance: random.Random, lines: List[str], change: Callable[[random.Random, str], str]) -> None:
+    """Changes one line, or now and then some."""
+    for _ in range(chance.choice((1, 1, 1, 3)) if lines else 0):
+        at = chance.randrange(len(lines))
+        lines[at] = change(chance, lines[at])
+
+
+def with_other_word(chance: random.Random, line: str) -> str:
+    """A word is exchanged, mostly for one that can stand in its place, or it goes or stands twice."""
+    words = line.split(" ")
+    at = chance.randrange(len(words))
+    alike = [it for it in ALIKE if words[at] in it]
+    chosen = chance.choice(alike) if alike and chance.random() < 0.85 else chance.choice(ALIKE)
+    how = chance.random()
+    words[at : at + 1] = [chance.choice(chosen)] if how < 0.9 else [] if how < 0.95 else [words[at]] * 2
+    return " ".join(words)
+
+
+def with_other_number(chance: random.Random, line: str) -> str:
+    """A number is exchanged for one near to it or at an edge, or gets more digits."""
+    # (Python reads no number of more than 4300 digits)
+    found = [*re.finditer("[0-9]{1,500}", line)]
+    if not found:
+        return line
+    it = chance.choice(found)
+    digits, how = it[0], chance.random()
+    if how < 0.5:
+        other = str(max(0, int(digits) + chance.choice((-2, -1, 1, 1, 2))))
+    elif how < 0.8:
+        other = str(chance.choice(EDGES))
+    else:
+        zeros = "0" * chance.choice((1, 1, chance.randint(2, 400)))
+        other = chance.choice((f"{zeros}{digits}", f"{digits}{digits}", f"{digits}0", f"{digits}000"))
+    return line[: it.start()] + other + line[it.end() :]
+
+
+def spread(chance: random.Random, line: str) -> str:
+    """Blanks between, before and behind the words, a CR at the end, or a line that is as long as one can be."""
+    words = line.split()
+    blanks = [chance.choice((" ", " ", "\t", "  ", " \t ")) for _ in words]
+    wide = chance.choice(("", " ", "\t")) + "".join(it + blank for it, blank in zip(words, blanks))
+    if chance.random() < 0.2:
+        return wide.ljust(chance.choice(LENGTHS[:5]))
+    return wide + chance.choice(("", "", "\r", "\r\r"))
+
+
+def rule(chance: random.Random) -> str:
+    """A rule with some of its options, mostly in their order."""
+    one, two, seconds = (chance.choice((0, 1, 2, 53, 80, 1000, 65535)) for _ in range(3))
+    options = [
+        *("quick", f"proto {chance.choice(PROTOCOLS)}", f"from {chance.choice(NETS)}", f"fport {one}"),
+        *(f"to {chance.choice(NETS)}", f"tport {two}", "flags any", "no-sync", f"max {chance.choice((1, 1, 2, 3, 0))}"),
+        *(f"nat {chance.choice(ENDS)}", f"timeout {chance.choice(CLASSES)[0]} {seconds}"),
+    ]
+    taken = [it for it in options if chance.random() < 0.15]
+    if chance.random() < 0.1:
+        chance.shuffle(taken)
+    action, direction = chance.choice(("pass", "pass", "block")), chance.choice(("in", "out", "any"))
+    return " ".join(["rule", chance.choice(NODES), action, direction, *taken])

@@ -1,0 +1,21 @@
+"""Scripts that are changed by chance."""
+from __future__ import annotations
+
+import random
+from typing import Sequence
+
+from .corpora import Script
+from .drafts import Draft
+from .texts import OF_TEXTS
+
+
+def mutated(chance: random.Random, scripts: Sequence[Script]) -> str:
+    """A script of the corpus whose lines are changed, and now and then its bytes, each of which is one character."""
+    draft = Draft(chance, chance.choice(scripts), scripts)
+    draft.change_setup()
+    draft.change_commands(chance.choice((1, 2, 3, 5, 8, 13, 30)))
+    text = draft.text()
+    if chance.random() < 0.3:
+        for _ in range(chance.choice((1, 1, 1, 2, 3, 5, 20))):
+            text = chance.choice(OF_TEXTS)(chance, text)
+    return text

@@ -1,0 +1,126 @@
+"""The branches of a run: their events, and what each has to show."""
+from __future__ import annotations
+
+import contextlib
+from typing import ContextManager, Iterator, List, Optional, Sequence, Tuple
+
+from shell.pair import Node, read_shown
+from shell.setups import Setup
+from shell.words import expires_at
+
+from .laboratory import Differs, Laboratory
+
+WITHOUT = "without"
+# Where an event can be tried: a run, and a branch of it that is for nothing else.
+Room = Tuple[Laboratory, str]
+
+
+class Branch:
+    """The events of a branch, and what it has to show: one text behind each that stands or was undone, the opening's first."""
+
+    def __init__(self, events: List[str], shown: List[List[str]], cursor: int):
+        self.events, self.shown, self.cursor = events, shown, cursor
+        self.former: Optional[Tuple[List[str], List[List[str]], int]] = None
+
+    def take(self, lab: Laboratory, name: str, event: str, reply: str) -> None:
+        """An event was answered so: it stands now, or has changed nothing."""
+        if not reply.startswith("step "):
+            self.compare(lab, name, f"{event}: {reply}")
+            return
+        undone = len(self.events) - self.cursor
+        if reply.split()[-2:] != ["dropped", str(undone)]:
+            raise Differs(f"{event}: {reply}, and {undone} events were undone")
+        self.events[self.cursor :] = [event]
+        self.cursor += 1
+        self.shown[self.cursor :] = [lab.shown(name, self.cursor, self.cursor)]
+        self.former = None
+        if event.startswith("purge "):
+            compare_purge(lab.setup, event.split()[1], self.shown[self.cursor - 1], self.now())
+
+    def go(self, lab: Laboratory, name: str, n: int) -> None:
+        """The cursor moves by so many events."""
+        self.cursor += n
+        self.order(lab, name, f"{'back' if n < 0 else 'forward'} {name} {abs(n)}", f"at {self.cursor}")
+
+    def end(self, lab: Laboratory, name: str) -> None:
+        """All events happen again, then all are taken back, and then they happen once more."""
+        self.go(lab, name, len(self.events) - self.cursor)
+        self.go(lab, name, -self.cursor)
+        self.go(lab, name, len(self.events))
+
+    def excise(self, room: ContextManager[Room], place: int) -> str:
+        """An event is taken out: the reply that is wanted. The room has the events in front of it."""
+        former = self.events, self.shown, self.cursor
+        with room as (lab, name):
+            fallen = self.leave_out(lab, name, place)
+        self.former = former
+        return " ".join(["excised", *map(str, fallen)])
+
+    def leave_out(self, lab: Laboratory, name: str, place: int) -> List[int]:
+        """Becomes what it has to be without the event at the place, and gives the places of those that fall out."""
+        events, fallen, standing = self.events, [], min(self.cursor, place - 1)
+        self.events, self.shown = events[: place - 1], self.shown[:place]
+        for at, line in enumerate(events[place:], place + 1):
+            if not lab.ask(f"step {name} {line}").startswith("step "):
+                fallen.append(at)
+                continue
+            self.events.append(line)
+            self.shown.append(lab.shown(name, len(self.events), len(self.events)))
+            standing += at <= self.cursor
+        self.cursor = standing
+        return fallen
+
+    def restore(self) -> str:
+        """What was there before the newest excision is back, where that can be brought back: the reply that is wanted."""
+        if not self.former:
+            return "refused 10 NothingExcised"
+        self.events, self.shown, self.cursor = self.former
+        self.former = None
+        return f"restored {self.cursor}"
+
+    def order(self, lab: Laboratory, name: str, line: str, wanted: str) -> None:
+        """A command that has to be answered so, and then the branch has to show what it has to show."""
+        lab.need(line, wanted)
+        self.compare(lab, name, line)
+        self.compare_log(lab, name, line)
+
+    def log(self, name: str) -> List[str]:
+        """The log that the branch has to have: its events, each as its line."""
+        first = f"log {name} events {len(self.events)} cursor {self.cursor}"
+        return [first, *(f"event {at} step {name} {line}" for at, line in enumerate(self.events, 1)), "end"]
+
+    def compare_log(self, lab: Laboratory, name: str, after: str) -> None:
+        compare(f"after {after}", self.log(name), lab.answer(f"log {name}"), "came")
+
+    def now(self) -> List[str]:
+        return self.shown[self.cursor]
+
+    def compare(self, lab: Laboratory, name: str, after: str) -> None:
+        compare(f"after {after}", self.now(), lab.shown(name, len(self.events), self.cursor), "shown")
+
+
+def compare(where: str, wanted: Sequence[str], came: Sequence[str], how: str) -> None:
+    if list(came) != list(wanted):
+        raise Differs("\n".join([where, "wanted:", *wanted, f"{how}:", *came]))
+
+
+@contextlib.contextmanager
+def fork_for(lab: Laboratory, name: str, events: int, spare: str = WITHOUT) -> Iterator[Room]:
+    """A fork that has the first events of a branch, for a while."""
+    lab.need(f"fork {name} {events} {spare}", "forked")
+    yield lab, spare
+    lab.need(f"drop {spare}", "removed")
+
+
+def left_by_purge(setup: Setup, node: Node) -> List[str]:
+    """The names of the states that have time left, which a purge leaves."""
+    return [str(name) for name, it in sorted(node.states.items()) if expires_at(setup, node, it) > node.clock]
+
+
+def compare_purge(setup: Setup, name: str, before: Sequence[str], after: Sequence[str]) -> None:
+    """A node has to have those states behind a purge that had time left before it."""
+    was, now = (read_shown(["branch main events 0 cursor 0", *it]).nodes[name] for it in (before, after))
+    wanted, left = left_by_purge(setup, was), [str(it) for it in sorted(now.states)]
+    if left != wanted:
+        names = [", ".join(it) or "none" for it in (wanted, left)]
+        raise Differs("\n".join([f"after purge {name}", *before, f"wanted: {names[0]}", f"left: {names[1]}"]))

@@ -1,0 +1,13 @@
+"""How often what was seen."""
+from __future__ import annotations
+
+from typing import Counter, Tuple
+
+
+class Seen(Counter[Tuple[str, str]]):
+    """How often each kind of event, command or line went how."""
+
+
+def tell(seen: Seen) -> None:
+    for kind in dict.fromkeys(kind for kind, _ in seen):
+        print(f"{kind}:", ", ".join(f"{many} {how}" for (it, how), many in sorted(seen.items()) if it == kind))
