@@ -6,7 +6,7 @@ use Rattle.std.specs.Io.KnownBytes.{Keeps, Appends}
 use Rattle.pfl_timeline.specs.Timelines.{Timeline}
 use Rattle.pfl_script.specs.declared.fault.EngineFault.{EngineFault}
 use Rattle.pfl_script.specs.declared.fault.EngineFault.TheVariants as engine
-use Rattle.pfl_script.specs.Answers.{RunsPart}
+use Rattle.pfl_script.specs.Answers.{RunsUntil}
 use Rattle.pfl_reader.specs.Readers.{Source}
 use Rattle.pfl_script.specs.Readers.{IsRunFault}
 use Rattle.pfl_run.specs.Faults.{of_engine}
@@ -18,12 +18,19 @@ keeps_same None = tt
 keeps_same (Some xs) = refl
 
 -- a run that stops behind its setup
-pub stops_engine : (e : EngineFault) (old mid : Option (List ℕ)) (n : ℕ) (t u : Timeline) (w v : Option (List ℕ)) →
-    SetsUp old mid n t → RunsPart mid t u w v → IsStop (of_engine e) old w v
-stops_engine engine.Write old mid n t u w v sets runs = record { mid = mid; number = n; first = t; last = u; sets_up = sets; runs = runs }
-stops_engine engine.Read old mid n t u w v sets runs = inr (record { mid = mid; number = n; first = t; last = u; sets_up = sets; runs = runs })
-stops_engine engine.TooManyTurns old mid n t u w v sets runs = inr (record { mid = mid; number = n; first = t; last = u; sets_up = sets; runs = runs })
-stops_engine engine.NoMemory old mid n t u w v sets runs = inr (record { mid = mid; number = n; first = t; last = u; sets_up = sets; runs = runs })
+pub stops_engine : (e : EngineFault) (old mid new : Option (List ℕ)) (n : ℕ) (t u : Timeline) (w v : Option (List ℕ)) →
+    SetsUp old mid n t → RunsUntil e mid new t u w v → IsStop (of_engine e) old w v
+stops_engine e old mid new n t u w v sets runs = inr (record {
+  why = e;
+  fault_is = refl;
+  mid = mid;
+  new = new;
+  number = n;
+  first = t;
+  last = u;
+  sets_up = sets;
+  until = runs;
+})
 
 -- its devices
 pub device_engine : (e : EngineFault) (s : Source) (failed : Bool) → IsRunFault e s failed → IsDeviceFault (of_engine e) s failed

@@ -8,11 +8,12 @@ use Rattle.pfl_world.specs.declared.fault.WorldFault.{WorldFault}
 use Rattle.pfl_world.specs.Worlds.{new_world, world_fault}
 use Rattle.pfl_timeline.specs.Timelines.{Timeline, new_timeline}
 use Rattle.pfl_reader.specs.Readers.{Source}
-use Rattle.pfl_script.specs.Answers.{RunsWhole, RunsPart}
+use Rattle.pfl_script.specs.Answers.{RunsWhole, RunsUntil}
 use Rattle.pfl_script.specs.Setups.{IsFaultyAt, IsUnopened, HasRuleFault, ReadsSetupTo}
 use Rattle.pfl_run.specs.declared.fault.LabFault.{LabFault}
 use Rattle.pfl_run.specs.declared.fault.LabFault.TheVariants as fault
-use Rattle.pfl_run.specs.Faults.{fault_text, fault_status}
+use Rattle.pfl_script.specs.declared.fault.EngineFault.{EngineFault}
+use Rattle.pfl_run.specs.Faults.{fault_text, fault_status, of_engine}
 
 -- the lines up to number n are a setup whose limits have no fault
 abbrev pub IsSetup : Option (List ℕ) → Option (List ℕ) → ℕ → Limits → Rules → Rules → Type 0
@@ -36,14 +37,17 @@ pub record RunsToEnd (old new : Option (List ℕ)) (w v : Option (List ℕ)) (ba
   pub sets_up : SetsUp old mid number first
   pub runs : RunsWhole mid new first last w v lines bad
 
--- a pair was set up, and first lines behind the setup were executed
-pub record RunsFirst (old : Option (List ℕ)) (w v : Option (List ℕ)) : Type 0 where
+-- a pair was set up, and first lines behind the setup were executed, up to this fault
+pub record RunsToFault (fault : LabFault) (old : Option (List ℕ)) (w v : Option (List ℕ)) : Type 0 where
+  pub why : EngineFault
+  pub fault_is : fault ≡ of_engine why
   pub mid : Option (List ℕ)
+  pub new : Option (List ℕ)
   pub number : ℕ
   pub first : Timeline
   pub last : Timeline
   pub sets_up : SetsUp old mid number first
-  pub runs : RunsPart mid first last w v
+  pub until : RunsUntil why mid new first last w v
 
 -- the lines up to number n set up limits that are none, for this reason
 pub record HasWorldFault (old : Option (List ℕ)) (n : ℕ) (why : WorldFault) : Type 0 where
@@ -69,20 +73,9 @@ IsSetupStop fault.Network old = ⊥
 IsSetupStop fault.NoThread old = ⊥
 IsSetupStop _ old = Unit {0}
 
--- nothing was written, or the text of first lines behind the setup but for a part of the last one's
-abbrev pub WritesFirst : Option (List ℕ) → Option (List ℕ) → Option (List ℕ) → Type 0
-WritesFirst old w v = Keeps w v ⊎ RunsFirst old w v
-
--- why a run stopped; the first four come before any command, and want of memory at any time
+-- why a run stopped: no pair was set up, and nothing was written; or it stopped behind the setup
 abbrev pub IsStop : LabFault → Option (List ℕ) → Option (List ℕ) → Option (List ℕ) → Type 0
-IsStop (fault.Line n why) old w v = IsFaultyAt old n why × Keeps w v
-IsStop (fault.Rule n why) old w v = HasRuleFaultAt old n why × Keeps w v
-IsStop (fault.World n why) old w v = HasWorldFault old n why × Keeps w v
-IsStop (fault.NoOpen n) old w v = IsUnopened old n × Keeps w v
-IsStop fault.Write old w v = RunsFirst old w v
-IsStop fault.Network old w v = ⊥
-IsStop fault.NoThread old w v = ⊥
-IsStop _ old w v = WritesFirst old w v
+IsStop fault old w v = (IsSetupStop fault old × Keeps w v) ⊎ RunsToFault fault old w v
 
 -- reader and writer have failed where a fault says so
 abbrev pub IsDeviceFault : LabFault → Source → Bool → Type 0

@@ -1,13 +1,22 @@
 -- Texts of lists, element by element.
-use Rattle.std.proofs.Common.{◌≡◌, ℕ, ◌+◌, ◌<◌, List, [], ◌∷◌, ◌++◌, length, take, get_or, ap, sym, ◌∙◌, append_assoc}
+use Rattle.std.proofs.Common.{◌≡◌, ℕ, ◌+◌, ◌<◌, List, [], ◌∷◌, ◌++◌, length, take, drop, get_or, ap, sym, ◌∙◌, append_assoc}
 use Rattle.std.specs.List.{flat_map}
-use Rattle.std.proofs.lemmas.List.{take_more, flat_map_more}
+use Rattle.std.proofs.lemmas.List.{take_more, flat_map_more, take-append-drop}
+use Rattle.std.proofs.lemmas.List.Concat.{flat_map-append}
 
 -- one element more
 pub text_more : {X : Type 0} (text : X → List ℕ) (xs : List X) (i : ℕ) (x d : X) → x ≡ get_or xs i d → i < length xs →
     flat_map text (take i xs) ++ text x ≡ flat_map text (take (i + 1) xs)
 text_more text xs i x d here within =
     flat_map_more text [] (take i xs) x ∙ ap (flat_map text) (ap (λ y. take i xs ++ y ∷ []) here ∙ sym (take_more xs i d within))
+
+-- the text of all elements goes on behind that of the first ones
+pub text_split : {X : Type 0} (text : X → List ℕ) (xs : List X) (i : ℕ) (first last : List ℕ) →
+    first ++ (flat_map text xs ++ last) ≡ (first ++ flat_map text (take i xs)) ++ (flat_map text (drop i xs) ++ last)
+text_split text xs i first last =
+    ap (λ t. first ++ (t ++ last)) (sym (ap (flat_map text) (take-append-drop i xs)) ∙ flat_map-append text (take i xs) (drop i xs))
+    ∙ (ap (λ t. first ++ t) (append_assoc (flat_map text (take i xs)) (flat_map text (drop i xs)) last)
+    ∙ sym (append_assoc first (flat_map text (take i xs)) (flat_map text (drop i xs) ++ last)))
 
 -- the text of one element more is put behind a text
 pub pushed_more : {X : Type 0} (line : X → List ℕ) (xs : List X) (i : ℕ) (x d : X) (first so_far now : List ℕ) →

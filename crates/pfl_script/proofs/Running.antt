@@ -8,7 +8,7 @@ use Rattle.pfl_timeline.specs.Timelines.{Timeline}
 use Rattle.pfl_reader.specs.Lines.{lines_of}
 use Rattle.pfl_reader.specs.Scans.{Kept, Keeps, ReadsLine, TakesLine, TakesLines, IsOver}
 use Rattle.pfl_reader.specs.Saids.{kept_said}
-use Rattle.pfl_script.specs.Answers.{Answer, line_answer, is_bad, is_command, kept_answer, kept_bad, kept_command, text, timeline_after, bad_lines, one_if, IsAfter, AreLines, AreFirst, Drains, RunsWhole, RunsPart, RunsLines, RunsUnanswered, RunsUntil}
+use Rattle.pfl_script.specs.Answers.{Answer, line_answer, is_bad, is_command, kept_answer, kept_bad, kept_command, text, timeline_after, bad_lines, one_if, AreLines, AreFirst, Drains, RunsWhole, RunsPart, RunsLines, RunsUnanswered, RunsUntil}
 use Rattle.pfl_script.specs.inner.Answers.{Breaks}
 use Rattle.pfl_script.specs.declared.fault.EngineFault.{EngineFault}
 use Rattle.pfl_script.specs.declared.fault.EngineFault.TheVariants as engine
@@ -210,23 +210,16 @@ Ran-lines old mid t u w v n bad ran = record {
   written = ran.written;
 }
 
--- the timeline after a command without an answer
-after-kept : (k : Kept) (line : List ℕ) (t u s : Timeline) → Keeps k line → u ≡ t → IsAfter (kept_answer k u) u s → IsAfter (line_answer line t) t s
-after-kept k line t u s keeps e (inl h) =
-    let answer : kept_answer k u ≡ line_answer line t = answer-kept k line u keeps ∙ ap (line_answer line) e in
-    inl (h.0 ∙ ap (λ (a : Answer). a.timeline) answer, sym (ap (λ (a : Answer). a.memory) answer) ∙ h.1)
-after-kept k line t u s keeps e (inr h) = inr (h ∙ e)
-
 -- the last line, a command, has no answer
 pub Ran-unanswered : (old mid new : Option (List ℕ)) (t u s : Timeline) (w v x : Option (List ℕ)) (n bad : ℕ) (k : Kept) →
-    Ran old mid t u w v n bad → ReadsLine k mid new → kept_command k ≡ true → x ≡ v → IsAfter (kept_answer k u) u s →
+    Ran old mid t u w v n bad → ReadsLine k mid new → kept_command k ≡ true → x ≡ v → s ≡ u →
     RunsUnanswered old new t s w x
-Ran-unanswered old mid new t u s w v x n bad k ran reads command same moved = record {
+Ran-unanswered old mid new t u s w v x n bad k ran reads command same unchanged = record {
   lines = ran.lines;
   last = reads.body;
   taken = taken-line old mid new ran.lines reads.body ran.left reads.takes;
   command = sym (command-kept k reads.body reads.keeps) ∙ command;
-  timeline = after-kept k reads.body (timeline_after ran.lines t) u s reads.keeps ran.timeline moved;
+  timeline = unchanged ∙ ran.timeline;
   written = rw same ran.written;
 }
 
@@ -244,14 +237,14 @@ run-read read.TooManyTurns new failed why = why
 -- the last line's answer failed, for this reason
 pub until-answer : (e : EngineFault) (failed : Bool) (old mid new : Option (List ℕ)) (t u s : Timeline) (w v x : Option (List ℕ)) (n bad : ℕ) (k : Kept) →
     Ran old mid t u w v n bad → ReadsLine k mid new → IsWriteFault e failed → Breaks (kept_answer k u) u s v x →
-    (e ≡ engine.NoMemory → kept_command k ≡ true) → (e ≡ engine.NoMemory → x ≡ v) → (e ≡ engine.NoMemory → IsAfter (kept_answer k u) u s) →
+    (e ≡ engine.NoMemory → kept_command k ≡ true) → (e ≡ engine.NoMemory → x ≡ v) → (e ≡ engine.NoMemory → s ≡ u) →
     RunsUntil e old new t s w x
-until-answer engine.Write failed old mid new t u s w v x n bad k ran reads why breaks command same moved =
+until-answer engine.Write failed old mid new t u s w v x n bad k ran reads why breaks command same unchanged =
     Ran-broken old mid new t u s w v x n bad k ran reads breaks
-until-answer engine.NoMemory failed old mid new t u s w v x n bad k ran reads why breaks command same moved =
-    Ran-unanswered old mid new t u s w v x n bad k ran reads (command refl) (same refl) (moved refl)
-until-answer engine.Read failed old mid new t u s w v x n bad k ran reads why breaks command same moved = absurd why
-until-answer engine.TooManyTurns failed old mid new t u s w v x n bad k ran reads why breaks command same moved = absurd why
+until-answer engine.NoMemory failed old mid new t u s w v x n bad k ran reads why breaks command same unchanged =
+    Ran-unanswered old mid new t u s w v x n bad k ran reads (command refl) (same refl) (unchanged refl)
+until-answer engine.Read failed old mid new t u s w v x n bad k ran reads why breaks command same unchanged = absurd why
+until-answer engine.TooManyTurns failed old mid new t u s w v x n bad k ran reads why breaks command same unchanged = absurd why
 
 -- one line is at most one faulty line
 pub one_if-le : (b : Bool) → one_if b ≤ 1

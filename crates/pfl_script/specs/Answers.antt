@@ -1,5 +1,5 @@
 -- What lines do to a timeline, and the text of their replies.
-use Rattle.std.specs.Prelude.{◌≡◌, ◌≤◌, ℕ, ◌+◌, Bool, true, false, not, ◌&&◌, is_err, List, [], ◌∷◌, ◌++◌, length, take, if◌then◌else◌, Option, Some, None, ⊤, ◌⊎◌, Result, Ok, Err}
+use Rattle.std.specs.Prelude.{◌≡◌, ◌≤◌, ℕ, ◌+◌, Bool, true, false, not, ◌&&◌, is_err, List, [], ◌∷◌, ◌++◌, length, take, if◌then◌else◌, Option, Some, None, ⊤, Result, Ok, Err}
 use Rattle.std.specs.Io.KnownBytes.{Appends}
 use Rattle.pfl_language.specs.declared.command.Command.{Command}
 use Rattle.pfl_lines.specs.declared.fault.LineFault.{LineFault}
@@ -12,24 +12,23 @@ use Rattle.pfl_script.specs.declared.fault.EngineFault.{EngineFault}
 use Rattle.pfl_script.specs.declared.fault.EngineFault.TheVariants as engine
 use Rattle.pfl_timeline.specs.Commands.{command_step}
 use Rattle.pfl_script.specs.Texts.{bad_text}
-use Rattle.pfl_script.specs.Replies.{reply_text, takes_memory}
+use Rattle.pfl_script.specs.Replies.{reply_text}
 
--- what a line writes, the timeline after it, and whether the text takes memory
+-- what a line writes, and the timeline after it
 pub record Answer : Type 0 where
   pub text : List ℕ
   pub timeline : Timeline
-  pub memory : Bool
 
 -- the answer to what a line says
 abbrev pub answer_to : Result Command LineFault → Timeline → Answer
-answer_to (Err fault) t = record { text = bad_text fault; timeline = t; memory = false }
+answer_to (Err fault) t = record { text = bad_text fault; timeline = t }
 answer_to (Ok command) t =
     let replied = command_step t command in
-    record { text = reply_text replied.reply; timeline = replied.timeline; memory = takes_memory replied.reply }
+    record { text = reply_text replied.reply; timeline = replied.timeline }
 
 -- the answer to a line: none to a line without a word and to a comment
 unfoldable pub line_answer : List ℕ → Timeline → Answer
-line_answer line t = if has_word (head_of line) then answer_to (parsed line) t else record { text = []; timeline = t; memory = false }
+line_answer line t = if has_word (head_of line) then answer_to (parsed line) t else record { text = []; timeline = t }
 
 -- the line is faulty
 unfoldable pub is_bad : List ℕ → Bool
@@ -61,7 +60,7 @@ bad_lines (line ∷ lines) = one_if (is_bad line) + bad_lines lines
 
 -- the answer to a line of which this is kept
 unfoldable pub kept_answer : Kept → Timeline → Answer
-kept_answer k t = if has_word k.head then answer_to (kept_said k) t else record { text = []; timeline = t; memory = false }
+kept_answer k t = if has_word k.head then answer_to (kept_said k) t else record { text = []; timeline = t }
 
 -- the line of which this is kept is faulty
 unfoldable pub kept_bad : Kept → Bool
@@ -70,10 +69,6 @@ kept_bad k = has_word k.head && is_err (kept_said k)
 -- the line of which this is kept is a command
 unfoldable pub kept_command : Kept → Bool
 kept_command k = has_word k.head && not (is_err (kept_said k))
-
--- the timeline is as it was, or that of an answer whose text takes memory
-abbrev pub IsAfter : Answer → Timeline → Timeline → Type 0
-IsAfter answer t u = ((u ≡ answer.timeline) × (answer.memory ≡ true)) ⊎ (u ≡ t)
 
 -- the lines of known bytes are these
 abbrev pub AreLines : Option (List ℕ) → List (List ℕ) → Type 0
@@ -118,14 +113,14 @@ pub record RunsLines (old : Option (List ℕ)) (t u : Timeline) (w v : Option (L
   pub timeline : u ≡ timeline_after lines t
   pub written : Appends w v (text lines t)
 
--- First lines were read, the last of them a command: it was not executed, but for one whose reply takes memory, and the whole text
--- of those before it was written.
+-- First lines were read, the last of them a command: the timeline is the one that the lines before it give, and their whole text
+-- was written.
 pub record RunsUnanswered (old new : Option (List ℕ)) (t u : Timeline) (w v : Option (List ℕ)) : Type 0 where
   pub lines : List (List ℕ)
   pub last : List ℕ
   pub taken : TakesLines old new (lines ++ last ∷ [])
   pub command : is_command last ≡ true
-  pub timeline : IsAfter (line_answer last (timeline_after lines t)) (timeline_after lines t) u
+  pub timeline : u ≡ timeline_after lines t
   pub written : Appends w v (text lines t)
 
 -- what a run did before this fault

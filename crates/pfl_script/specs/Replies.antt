@@ -28,10 +28,10 @@ reply_text (Restored cursor) = codes "restored " ++ decimal cursor ++ codes "\n"
 reply_text (Logged name events cursor) = log_text name events cursor
 reply_text (Refused why) = codes "refused " ++ refused_text why ++ codes "\n"
 
--- the text of the reply takes memory, since no number bounds its length
+-- the text of the reply takes memory, since it is made at one time and no number bounds its length; a command that has such a
+-- reply changes nothing
 abbrev pub takes_memory : Reply → Bool
 takes_memory (Shown name events cursor world) = true
 takes_memory (Names names) = true
-takes_memory (Excised places) = true
 takes_memory (Logged name events cursor) = true
 takes_memory _ = false

@@ -2,7 +2,7 @@
 
 ghost use Rattle.std.specs.Prelude.{◌≡◌, ℕ, true, take, IfOk, OnOk, OnErr, IfErr};
 ghost use Rattle.std.specs.Io.KnownBytes.{Appends};
-ghost use Rattle.pfl_script.specs.Answers.{answer_to, kept_answer, kept_bad, kept_command, IsAfter};
+ghost use Rattle.pfl_script.specs.Answers.{answer_to, kept_answer, kept_bad, kept_command};
 ghost use Rattle.pfl_script.specs.inner.Answers.{Breaks};
 ghost use Rattle.pfl_script.specs.Readers.{IsWriteFault};
 ghost use Rattle.pfl_script.specs.Replies.{reply_text};
@@ -40,7 +40,7 @@ fn answer_show<A: Allocator, B: Allocator + Copy, W: Output>(
     }
 }
 
-/// Executes a command and writes its reply.
+/// Executes a command and writes its reply. Where memory is wanting, be it for the reply, nothing has changed.
 fn answer_command<A: Allocator, B: Allocator + Copy, W: Output>(
     alloc: A,
     command: Command,
@@ -52,7 +52,7 @@ fn answer_command<A: Allocator, B: Allocator + Copy, W: Output>(
     ensures stays { OnOk result (W.has_failed writer.new ≡ W.has_failed writer.old) }
     ensures breaks { OnErr result (Breaks (answer_to (Ok command) timeline.old) timeline.old timeline.new (W.written writer.old) (W.written writer.new)) }
     ensures untouched { IfErr result (λ e. e ≡ EngineFault.NoMemory → writer.new ≡ writer.old) }
-    ensures after { IfErr result (λ e. e ≡ EngineFault.NoMemory → IsAfter (answer_to (Ok command) timeline.old) timeline.old timeline.new) }
+    ensures unchanged { IfErr result (λ e. e ≡ EngineFault.NoMemory → timeline.new ≡ timeline.old) }
     ensures fault { IfErr result (λ e. IsWriteFault e (W.has_failed writer.new)) }
 {
     if let Command::Show { branch } = command {
@@ -64,7 +64,8 @@ fn answer_command<A: Allocator, B: Allocator + Copy, W: Output>(
     write_reply(alloc, &reply, writer)
 }
 
-/// Executes a line, if it has a word and is no comment, writes its reply, and says whether it is faulty.
+/// Executes a line, if it has a word and is no comment, writes its reply, and says whether it is faulty. Where memory is wanting,
+/// nothing has changed.
 #[tactic(auto, unfolding(crate::specs::Answers::kept_answer, crate::specs::Answers::kept_bad, crate::specs::Answers::kept_command))]
 pub fn answer_line<A: Allocator, B: Allocator + Copy, W: Output>(
     alloc: A,
@@ -79,7 +80,7 @@ pub fn answer_line<A: Allocator, B: Allocator + Copy, W: Output>(
     ensures breaks { OnErr result (Breaks (kept_answer line.now timeline.old) timeline.old timeline.new (W.written writer.old) (W.written writer.new)) }
     ensures command { IfErr result (λ e. e ≡ EngineFault.NoMemory → kept_command line.now ≡ true) }
     ensures untouched { IfErr result (λ e. e ≡ EngineFault.NoMemory → writer.new ≡ writer.old) }
-    ensures after { IfErr result (λ e. e ≡ EngineFault.NoMemory → IsAfter (kept_answer line.now timeline.old) timeline.old timeline.new) }
+    ensures unchanged { IfErr result (λ e. e ≡ EngineFault.NoMemory → timeline.new ≡ timeline.old) }
     ensures fault { IfErr result (λ e. IsWriteFault e (W.has_failed writer.new)) }
 {
     if !line.has_word() {

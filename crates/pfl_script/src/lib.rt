@@ -12,6 +12,7 @@ mod node_lines;
 mod optional;
 mod outcomes;
 mod output;
+mod places;
 mod refusals;
 mod replies;
 mod reply_text;

@@ -34,7 +34,7 @@ pub fn write_text<W: Output>(writer: &mut W, text: &[u8]) -> Result<(), EngineFa
 }
 
 /// Writes the lines of a reply, or the first part of them. Without memory for them nothing is written; none is wanted but
-/// where the reply lists branches, places or events, or shows a branch.
+/// where the reply lists branches or events, or shows a branch.
 pub fn write_reply<A: Allocator, B: Allocator + Copy, W: Output>(
     alloc: A,
     reply: &Reply<B>,
@@ -48,7 +48,7 @@ pub fn write_reply<A: Allocator, B: Allocator + Copy, W: Output>(
     ensures fault { IfErr result (λ e. IsWriteFault e (W.has_failed writer.new)) }
 {
     match reply_text(alloc, reply) {
-        Ok(text) => write_text(writer, text.bytes()),
+        Ok(text) => text.write(writer),
         Err(_) => Err(EngineFault::NoMemory),
     }
 }

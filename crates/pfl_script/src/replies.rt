@@ -3,12 +3,11 @@
 ghost use Rattle.std.specs.Prelude.{◌≡◌, ◌++◌, true, codes, IfOk, OnOk, OnErr};
 ghost use Rattle.std.specs.List.{flat_map};
 ghost use Rattle.std.specs.Fmt.{decimal};
-ghost use Rattle.pfl_timeline.specs.Replies.{Stepped, At, Names, Excised, Restored, Refused as Refusing, reply_of};
+ghost use Rattle.pfl_timeline.specs.Replies.{Stepped, At, Names, Restored, Refused as Refusing, reply_of};
 ghost use Rattle.pfl_script.specs.Texts.{bad_text};
-ghost use Rattle.pfl_script.specs.Replies.{named, placed, reply_text, takes_memory};
+ghost use Rattle.pfl_script.specs.Replies.{named, reply_text, takes_memory};
 ghost use Rattle.pfl_script.specs.inner.Texts.{bytes_of};
 
-use crate::listed::push_shown;
 use crate::logged::logged_text;
 use crate::outcomes::push_outcome;
 use crate::refusals::push_refused;
@@ -100,33 +99,12 @@ fn names_line<A: Allocator>(alloc: A, names: &[BranchWord]) -> Result<Vec<u8, A>
     Ok(text)
 }
 
-/// Puts places behind a text, each behind a space.
-fn push_places<A: Allocator>(text: &mut Vec<u8, A>, places: &[usize]) -> Result<(), NoMemory>
-    ensures { OnOk result (text.new.items ≡ text.old.items ++ flat_map placed places.now) }
-{
-    for place in places {
-        text.extend_from_slice(b" ")?;
-        push_shown(text, *place)?;
-    }
-    Ok(())
-}
-
-/// The line of an event that is taken out.
-fn excised_line<A: Allocator>(alloc: A, places: &[usize]) -> Result<Vec<u8, A>, NoMemory>
-    ensures { IfOk result (λ text. text.items ≡ reply_text (Excised places.now)) }
-{
-    let mut text = Vec::new(alloc);
-    text.extend_from_slice(b"excised")?;
-    push_places(&mut text, places)?;
-    text.extend_from_slice(b"\n")?;
-    Ok(text)
-}
-
-/// The text of a reply. Memory is taken only for one that lists branches, places or events, or shows a branch.
-pub fn reply_text<A: Allocator, B: Allocator + Copy>(
+/// The text of a reply. Memory is taken only for one that lists branches or events, or shows a branch: no such reply is that of
+/// a command which changes something.
+pub fn reply_text<'a, A: Allocator, B: Allocator + Copy>(
     alloc: A,
-    reply: &Reply<B>,
-) -> Result<ReplyText<A>, NoMemory>
+    reply: &'a Reply<B>,
+) -> Result<ReplyText<'a, A>, NoMemory>
     ensures text { IfOk result (λ text. bytes_of text ≡ reply_text (reply_of reply.now)) }
     ensures memory { OnErr result (takes_memory (reply_of reply.now) ≡ true) }
 {
@@ -142,7 +120,7 @@ pub fn reply_text<A: Allocator, B: Allocator + Copy>(
             cursor,
             world,
         } => ReplyText::Long(shown_text(alloc, name.bytes(), *events, *cursor, world)?),
-        Reply::Excised(places) => ReplyText::Long(excised_line(alloc, places.as_slice())?),
+        Reply::Excised(places) => ReplyText::Excised(places.as_slice()),
         Reply::Restored(cursor) => ReplyText::Short(restored_line(*cursor)),
         Reply::Logged {
             name,

@@ -11,7 +11,7 @@ use Rattle.pfl_session.specs.Passes.{Seen, seen_in, GoesOn, HasSeenJournal, Adds
 use Rattle.pfl_lines.specs.declared.fault.LineFault.{LineFault}
 use Rattle.pfl_lines.specs.declared.session.SessionLine.{SessionLine}
 use Rattle.pfl_reader.specs.Saids.{kept_session}
-use Rattle.pfl_script.specs.Replies.{reply_text}
+use Rattle.pfl_script.specs.Replies.{reply_text, takes_memory}
 use Rattle.pfl_reader.specs.Scans.{Kept, has_word}
 use Rattle.pfl_script.specs.declared.fault.EngineFault.{EngineFault}
 use Rattle.pfl_script.specs.declared.fault.EngineFault.TheVariants as engine
@@ -50,8 +50,8 @@ module _ {M : Type 0} (opening : Timeline) (n limit : ℕ) (old new : Seen M) (c
   replied : IsReplied opening n limit old new command (reply_text reply)
   replied = record { asked = asked; told = inl (record { reply = reply; called = called; told = refl }) }
 
-  unanswered : IsUnanswered opening n limit old new command
-  unanswered = record { asked = asked; done = inl (reply, called) }
+  unanswered : takes_memory reply ≡ true → IsUnanswered opening n limit old new command
+  unanswered memory = record { asked = asked; done = inl (reply, called, memory) }
 
   -- the reply to a call was written whole
   pub whole-reply : {X D : Type 0} (r : Result X EngineFault) (written : D → Option (List ℕ)) (before after : D) →
@@ -62,9 +62,10 @@ module _ {M : Type 0} (opening : Timeline) (n limit : ℕ) (old new : Seen M) (c
   -- the reply to a call was written in part, or for want of memory not at all
   pub breaks-reply : {X D : Type 0} (r : Result X EngineFault) (written : D → Option (List ℕ)) (before after : D) (failed : Bool) →
       IfErr r (λ e. IsWriteFault e failed) → OnErr r ((part : ℕ) × Appends (written before) (written after) (take part (reply_text reply))) → IfErr r (λ e. e ≡ engine.NoMemory → after ≡ before) →
+      IfErr r (λ e. e ≡ engine.NoMemory → takes_memory reply ≡ true) →
       IfErr r (λ e. Breaks (IsReplied opening n limit old new command) (IsUnanswered opening n limit old new command) e (written before) (written after))
-  breaks-reply (Ok x) written before after failed fault part same = tt
-  breaks-reply (Err engine.Write) written before after failed fault part same = (reply_text reply, replied, part)
-  breaks-reply (Err engine.NoMemory) written before after failed fault part same = (unanswered, keeps-same (written before) (written after) (ap written (same refl)))
-  breaks-reply (Err engine.Read) written before after failed fault part same = absurd fault
-  breaks-reply (Err engine.TooManyTurns) written before after failed fault part same = absurd fault
+  breaks-reply (Ok x) written before after failed fault part same memory = tt
+  breaks-reply (Err engine.Write) written before after failed fault part same memory = (reply_text reply, replied, part)
+  breaks-reply (Err engine.NoMemory) written before after failed fault part same memory = (unanswered (memory refl), keeps-same (written before) (written after) (ap written (same refl)))
+  breaks-reply (Err engine.Read) written before after failed fault part same memory = absurd fault
+  breaks-reply (Err engine.TooManyTurns) written before after failed fault part same memory = absurd fault

@@ -1,5 +1,5 @@
 -- What serving a session does, line by line (this project's profile).
-use Rattle.std.specs.Prelude.{◌≡◌, ◌≤◌, ◌<◌, ℕ, ◌+◌, Bool, false, is_err, List, [], ◌∷◌, ◌++◌, length, take, slice_index, if◌then◌else◌, Option, Some, None, Result, Ok, Err, ◌⊎◌}
+use Rattle.std.specs.Prelude.{◌≡◌, ◌≤◌, ◌<◌, ℕ, ◌+◌, Bool, true, false, is_err, List, [], ◌∷◌, ◌++◌, length, take, slice_index, if◌then◌else◌, Option, Some, None, Result, Ok, Err, ◌⊎◌}
 use Rattle.std.specs.Io.KnownBytes.{Appends}
 use Rattle.pfl_language.specs.declared.command.Command.{Command}
 use Rattle.pfl_publish.specs.Seats.{IsRead, IsOvertaken, MakesTries}
@@ -13,7 +13,7 @@ use Rattle.pfl_lines.specs.declared.session.SessionLine.{SessionLine}
 use Rattle.pfl_lines.specs.declared.session.SessionLine.TheVariants.{View, Ask}
 use Rattle.pfl_lines.specs.Session.{parsed_session}
 use Rattle.pfl_script.specs.Answers.{AreLines, AreFirst, Drains, one_if}
-use Rattle.pfl_script.specs.Replies.{reply_text}
+use Rattle.pfl_script.specs.Replies.{reply_text, takes_memory}
 use Rattle.pfl_reader.specs.Scans.{head_of, has_word, TakesLines}
 use Rattle.pfl_script.specs.Texts.{bad_text}
 use Rattle.pfl_script.specs.declared.fault.EngineFault.{EngineFault}
@@ -93,10 +93,10 @@ module _ {M : Type 0} where
     pub asked : HasAsked opening n old new
     pub told : TellsReply old new command text ⊎ TellsFull limit old new text
 
-  -- no answer to a command, for want of memory: it was called, or the journal has room
+  -- no answer to a command, for want of memory: it was called and its reply takes memory, or the journal has room
   pub record IsUnanswered (opening : Timeline) (n limit : ℕ) (old new : Seen M) (command : Command) : Type 0 where
     pub asked : HasAsked opening n old new
-    pub done : ((reply : Reply) × IsCalled old new command reply) ⊎ (IsNotCalled old new × (length (seen_in new) < limit))
+    pub done : ((reply : Reply) × IsCalled old new command reply × (takes_memory reply ≡ true)) ⊎ (IsNotCalled old new × (length (seen_in new) < limit))
 
   -- the answer to what a line says
   abbrev pub IsAnswer : Timeline → ℕ → ℕ → Option (Result SessionLine LineFault) → Seen M → Seen M → List ℕ → Type 0

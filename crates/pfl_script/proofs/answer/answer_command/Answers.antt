@@ -1,15 +1,16 @@
-use Rattle.std.proofs.Common.{◌≡◌, true, ◌∙◌, ℕ, List, take, ap, sym, subst, inl}
+use Rattle.std.proofs.Common.{◌≡◌, ◌∙◌, ℕ, List, take, ap, sym, subst, inl}
 use Rattle.std.proofs.lemmas.Result.{on_ok_weaker, on_err_weaker}
 use Rattle.pfl_language.specs.declared.command.Command.{Command}
 use Rattle.pfl_language.specs.declared.command.Command.TheVariants.{Show}
 use Rattle.pfl_timeline.specs.Commands.{command_step, show_command}
 use Rattle.pfl_timeline.specs.Timelines.{Timeline}
+use Rattle.pfl_script.proofs.Listing.{listing-keeps}
 use Rattle.pfl_script.proofs.Showing.{show-step}
 use Rattle.std.specs.Io.KnownBytes.{Appends}
 use Rattle.std.proofs.lemmas.Result.{IfErr-weaker}
 use Rattle.pfl_script.proofs.Pieces.{any-ok}
 use Rattle.pfl_timeline.specs.Replies.{Replied, Reply}
-use Rattle.pfl_script.specs.Replies.{reply_text, takes_memory}
+use Rattle.pfl_script.specs.Replies.{reply_text}
 use Rattle.pfl_script.proofs.answer.answer_command.Goals as goal
 
 pub returns-clause-timeline : goal.returns-clause-timeline
@@ -23,10 +24,9 @@ returns-clause-breaks g c = IfErr-weaker c.write_reply.result _ _ (λ _ part.
       (part.0, subst (λ (r : Reply). Appends (g.W.Output.written c.args.writer.now) (g.W.Output.written c.write_reply.new.writer) (take part.0 (reply_text r))) reply part.1),
     )) c.write_reply.ensures.part
 
-pub returns-clause-after : goal.returns-clause-after
-returns-clause-after g c = IfErr-weaker c.write_reply.result _ _ (λ _ memory none.
-    let reply = sym (ap (λ r. r.reply) c.in-Ok.ensures.step) in
-    inl (sym (ap (λ r. r.timeline) c.in-Ok.ensures.step), subst (λ (r : Reply). takes_memory r ≡ true) reply (memory none))) c.write_reply.ensures.memory
+-- a command whose reply takes memory has changed nothing
+pub returns-clause-unchanged : goal.returns-clause-unchanged
+returns-clause-unchanged g c = IfErr-weaker c.write_reply.result _ _ (λ _ memory none. listing-keeps _ _ _ _ c.in-Ok.ensures.step (memory none)) c.write_reply.ensures.memory
 
 -- the command is the one that shows a branch
 same : (t : Timeline) (command : Command) (name : List ℕ) → command ≡ Show name → command_step t command ≡ show_command t name
