@@ -65,6 +65,8 @@ def instrumented(top: str, room: str) -> str:
     """The proved program as the kit compiles it, but for one flag of its clang; the libraries have to be built."""
     page = subprocess.run(["rt", "doc"], stdout=subprocess.PIPE, text=True, check=True).stdout.strip()
     kit, program = os.path.dirname(page), f"{room}/{NAME}"
+    if is_newer(program, f"{top}/crates/{NAME}/out/{NAME}"):
+        return program
     write_toolchain(f"{kit}/toolchain", f"{room}/toolchain")
     words = [f"{kit}/bin/rattle", "build", *build_words(kit, f"{top}/crates"), "--toolchain", f"{room}/toolchain"]
     with open(f"{room}/build.log", "w", encoding="utf-8") as log:
@@ -75,6 +77,11 @@ def instrumented(top: str, room: str) -> str:
     if ran.returncode:
         raise Missing(f"the program could not be built for AFL++; what the compilers said is in {room}/build.log")
     return program
+
+
+def is_newer(program: str, proved: str) -> bool:
+    """Whether the program was built since the proved one was; the kit takes minutes to read what was proved."""
+    return all(map(os.path.isfile, (program, proved))) and os.stat(program).st_mtime > os.stat(proved).st_mtime
 
 
 def write_toolchain(kit: str, folder: str) -> None:

@@ -145,7 +145,7 @@ class Draft:
         other = self.chance.choice((self.setup, self.chance.choice(self.scripts).setup))
         at = self.chance.randint(0, len(self.setup))
         self.setup[at:at] = self.chance.sample(other, min(len(other), self.chance.choice((1, 2, 3))))
-        if self.chance.random() < 0.2:
+        if self.setup and self.chance.random() < 0.2:
             del self.setup[self.chance.randrange(len(self.setup))]
 
     def add_rule(self) -> None:

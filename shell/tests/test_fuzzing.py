@@ -10,7 +10,7 @@ from typing import Iterator, List
 from unittest import mock
 
 from fuzzing import mutator, trials
-from fuzzing.corpora import corpus
+from fuzzing.corpora import Script, corpus
 from fuzzing.mutations import mutated
 from fuzzing.readings import read
 from fuzzing.timelines import replies_to
@@ -128,6 +128,10 @@ class Scripts(unittest.TestCase):
         self.assertEqual(one, same)
         self.assertEqual(len({*one}), len(one))
         self.assertGreater(sum(not read(it).fault for it in one), 30)
+
+    def test_scripts_without_lines_can_be_changed(self) -> None:
+        empty = [Script([], [])]
+        self.assertEqual(len([mutated(random.Random(seed), empty) for seed in range(500)]), 500)
 
     def test_afl_is_given_scripts(self) -> None:
         mutator.init(7)
