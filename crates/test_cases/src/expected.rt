@@ -13,7 +13,7 @@ pub struct Expected<'a> {
 }
 
 /// The program passes over a line without a word, and over one whose first word begins with `#`.
-fn is_passed_over(line: &str) -> bool {
+pub fn is_passed_over(line: &str) -> bool {
     match line.split_whitespace().next() {
         Some(word) => word.starts_with('#'),
         None => true,

@@ -4,23 +4,36 @@
 
 mod difference;
 mod expected;
+mod opening;
+mod script;
+mod standing;
 mod trial;
+mod wanting;
 
 use anyhow::{Context, Result};
 use difference::Difference;
 use std::process::ExitCode;
 use std::{env, fs};
 use trial::{Action, Trial};
+use wanting::{Unlike, first_unlike};
 
 /// Tells the first difference of a case, and answers whether there is none.
 fn passes(rt: &HostRuntime, path: &str) -> Result<bool> {
     let script = fs::read_to_string(rt, path).context(format_args!("reading {path}"))?;
-    let run = Trial::of(rt.alloc(), Action::Run, script.as_str())?;
-    let check = Trial::of(rt.alloc(), Action::Check, script.as_str())?;
-    match Difference::first(rt.alloc(), script.as_str(), &run, &check)? {
+    let run = Trial::of(rt.alloc(), rt.alloc(), Action::Run, script.as_str())?;
+    let check = Trial::of(rt.alloc(), rt.alloc(), Action::Check, script.as_str())?;
+    if let Some(difference) = Difference::first(rt.alloc(), script.as_str(), &run, &check)? {
+        eprintln!(rt; "{path}{difference}")?;
+        return Ok(false);
+    }
+    match first_unlike(rt.alloc(), script.as_str(), &run) {
         None => Ok(true),
-        Some(difference) => {
-            eprintln!(rt; "{path}{difference}")?;
+        Some(Unlike::Run(n)) => {
+            eprintln!(rt; "{path}: its run without request {n} of memory")?;
+            Ok(false)
+        }
+        Some(Unlike::Line(line)) => {
+            eprintln!(rt; "{path}:{line}: without one of its requests of memory")?;
             Ok(false)
         }
     }

@@ -30,9 +30,10 @@ impl io::Read for Bytewise {
     }
 }
 
-/// Gives one `#` a call, without end, and counts the calls.
+/// Gives one byte a call, without end: the first ones, and then only `#`. It counts the calls.
 #[derive(Drop)]
 pub struct Endless {
+    pub first: &'static [u8],
     pub calls: u64,
 }
 
@@ -46,7 +47,13 @@ impl Input for Endless {
         if buf.is_empty() {
             return Ok(0);
         }
-        buf[0] = b'#';
+        buf[0] = match self.first.split_first() {
+            Some((byte, rest)) => {
+                self.first = rest;
+                *byte
+            }
+            None => b'#',
+        };
         Ok(1)
     }
 

@@ -1,10 +1,9 @@
-//! Checks of scripts over memory, over devices that fail, and without memory.
+//! Checks of scripts over memory, and without memory.
 
 use pfl_base::Std;
 use pfl_reader::LineReader;
 use pfl_run::check_lab;
-use std::alloc::Global;
-use test_devices::{Bytewise, Narrow, Refusing};
+use test_devices::Refusing;
 
 /// The numbers of lines count those of the setup, comments, and lines without a word.
 #[test]
@@ -32,39 +31,6 @@ fn a_script_without_commands(rt: HostRuntime) {
     assert!(rt; status == 0);
     assert!(rt; writer.into_inner().as_slice() == b"good 0\n".as_slice());
     assert!(rt; faults.into_inner().is_empty());
-}
-
-#[test]
-fn a_reader_fails(rt: HostRuntime) {
-    let mut writer = Std::new(Vec::new(rt.alloc()));
-    let mut faults = Std::new(Vec::new(rt.alloc()));
-    let mut reader = LineReader::new(Std::new(Bytewise {
-        bytes: b"open\nback\nback main 0\n",
-        good: 16,
-    }));
-    let status = check_lab(rt.alloc(), &mut reader, &mut writer, &mut faults);
-    assert!(rt; status == 1);
-    assert!(rt; writer.into_inner().as_slice() == b"line 2 bad 4 Missing\n".as_slice());
-    assert!(rt; faults.into_inner().as_slice() == b"pfl_lab: read\n".as_slice());
-}
-
-/// A check by a writer that takes so many bytes writes no more, and tells that.
-fn fails_after(alloc: Global, room: usize) -> bool {
-    let mut writer = Std::new(Narrow::new(room));
-    let mut faults = Std::new(Vec::new(alloc));
-    let mut reader = LineReader::new(Std::new(b"open\nback\nback main 0\n".as_slice()));
-    let status = check_lab(alloc, &mut reader, &mut writer, &mut faults);
-    let told = faults.into_inner();
-    status == 1
-        && writer.into_inner().len == room
-        && told.as_slice() == b"pfl_lab: write\n".as_slice()
-}
-
-/// The writer fails in a line that is told, and in the last one of the check.
-#[test]
-fn a_writer_fails(rt: HostRuntime) {
-    assert!(rt; fails_after(rt.alloc(), 7));
-    assert!(rt; fails_after(rt.alloc(), 25));
 }
 
 #[test]

@@ -7,6 +7,8 @@ mod blocks;
 #[cfg(test)]
 mod checks;
 #[cfg(test)]
+mod failing;
+#[cfg(test)]
 mod lines;
 #[cfg(test)]
 mod replies;

@@ -1,9 +1,9 @@
-//! Runs over devices that fail and without memory, and a script that is empty.
+//! Runs without memory, and a script that is empty.
 
 use pfl_base::Std;
 use pfl_reader::LineReader;
 use pfl_run::run_lab;
-use test_devices::{Bytewise, Narrow, Refusing};
+use test_devices::Refusing;
 
 /// Nothing is read, so not even a setup.
 #[test]
@@ -15,31 +15,6 @@ fn an_empty_script(rt: HostRuntime) {
     assert!(rt; status == 1);
     assert!(rt; writer.into_inner().is_empty());
     assert!(rt; faults.into_inner().as_slice() == b"pfl_lab: setup line 0: no open\n".as_slice());
-}
-
-#[test]
-fn a_reader_fails(rt: HostRuntime) {
-    let mut writer = Std::new(Vec::new(rt.alloc()));
-    let mut faults = Std::new(Vec::new(rt.alloc()));
-    let mut reader = LineReader::new(Std::new(Bytewise {
-        bytes: b"open\nback main 0\n",
-        good: 16,
-    }));
-    let status = run_lab(rt.alloc(), &mut reader, &mut writer, &mut faults);
-    assert!(rt; status == 1);
-    assert!(rt; writer.into_inner().is_empty());
-    assert!(rt; faults.into_inner().as_slice() == b"pfl_lab: read\n".as_slice());
-}
-
-#[test]
-fn a_writer_fails(rt: HostRuntime) {
-    let mut writer = Std::new(Narrow::new(3));
-    let mut faults = Std::new(Vec::new(rt.alloc()));
-    let mut reader = LineReader::new(Std::new(b"open\nback main 0\nback main 0\n".as_slice()));
-    let status = run_lab(rt.alloc(), &mut reader, &mut writer, &mut faults);
-    assert!(rt; status == 1);
-    assert!(rt; writer.into_inner().len == 3);
-    assert!(rt; faults.into_inner().as_slice() == b"pfl_lab: write\n".as_slice());
 }
 
 #[test]

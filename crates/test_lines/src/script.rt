@@ -103,7 +103,10 @@ fn faulty_setups(rt: HostRuntime) -> Result<(), Fail> {
 
 #[test]
 fn a_line_without_end(rt: HostRuntime) {
-    let mut reader = LineReader::new(Endless { calls: 0 });
+    let mut reader = LineReader::new(Endless {
+        first: b"",
+        calls: 0,
+    });
     let setup = read_setup(rt.alloc(), &mut reader);
     assert!(rt; matches!(setup, Err(SetupFault::TooManyTurns)));
     assert!(rt; reader.turns() == 16777216);
