@@ -13,7 +13,7 @@ use std::alloc::Global;
 use std::marker::Brand;
 use std::sync::Wait;
 use std::test::*;
-use test_devices::{Bytewise, Narrow};
+use test_devices::{Bytewise, Endless, Narrow};
 
 /// The first session's line, and its answer.
 const STEP: &[u8] = b"step main packet a out udp 10.0.0.1:1000 192.0.2.9:53 40\n";
@@ -111,6 +111,23 @@ fn sessions_survive_a_failed_read(rt: HostRuntime) -> Result<(), Fail> {
     let mut writer = Std::new(Vec::new(rt.alloc()));
     let fault = survived::<Brand, _, _, _>(&rt, rt.alloc(), opened, &mut reader, &mut writer);
     assert!(rt; fault == Some(EngineFault::Read));
+    assert!(rt; writer.into_inner().as_slice() == STEPPED);
+    Ok(())
+}
+
+/// The reader gives a byte a call, and no end of the line behind the first one: the reply is there, and a session makes only so many
+/// calls.
+#[test]
+fn sessions_survive_a_line_without_end(rt: HostRuntime) -> Result<(), Fail> {
+    let opened = opened(rt.alloc(), 2, 1_000_000)?;
+    let mut reader = LineReader::new(Endless {
+        first: STEP,
+        calls: 0,
+    });
+    let mut writer = Std::new(Vec::new(rt.alloc()));
+    let fault = survived::<Brand, _, _, _>(&rt, rt.alloc(), opened, &mut reader, &mut writer);
+    assert!(rt; fault == Some(EngineFault::TooManyTurns));
+    assert!(rt; reader.into_inner().calls == 16777216);
     assert!(rt; writer.into_inner().as_slice() == STEPPED);
     Ok(())
 }
