@@ -1,4 +1,5 @@
 pub mod Lists
 pub mod Keeps
+pub mod KeepsCount
 mod Tries
 pub mod ForCallers

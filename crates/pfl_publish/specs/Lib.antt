@@ -4,3 +4,5 @@ pub mod Views
 pub mod Rule
 pub mod Steps
 pub mod SeatInvariants
+pub mod Count
+pub mod Counted

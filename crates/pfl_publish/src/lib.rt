@@ -7,8 +7,11 @@
 //! A viewer loads the number n, the eight words of n's bank, and the number again. The bank is first overwritten when the
 //! writer begins revision n + 4, hence after it has stored the number n + 3. So where the number has moved by two at most,
 //! no word was overwritten, and the words are whole.
+//!
+//! Beside it stands the exact count of one session (`count.rt`), over a table of one word.
 #![tactic(auto)]
 
+mod count;
 mod names;
 mod no_memory;
 mod publisher;
@@ -18,6 +21,7 @@ mod steps;
 mod view;
 mod words;
 
+pub use count::{Half, Tally};
 pub use names::Naming;
 pub use no_memory::NoMemory;
 pub use publisher::Publisher;

@@ -4,7 +4,7 @@ use Rattle.std.specs.Prelude.{slice_get, slice_set}
 use Rattle.std.proofs.lemmas.Option.{slice_get_within}
 use Rattle.atomic_table.specs.Seated.{TableId}
 use Rattle.pfl_language.specs.declared.command.Command.{Command}
-use Rattle.pfl_count.specs.Count.{Count}
+use Rattle.pfl_publish.specs.Count.{Count}
 use Rattle.pfl_publish.specs.Revisions.{Log, StartsWith}
 use Rattle.pfl_timeline.specs.Commands.{command_step, replied}
 use Rattle.pfl_timeline.specs.Replies.{Reply, Replied, reply_of}

@@ -4,7 +4,7 @@ use Rattle.std.specs.Prelude.{nat_eq, slice_get, slice_index}
 use Rattle.std.proofs.lemmas.List.{append_assoc, take-append-drop}
 use Rattle.atomic_table.specs.Seated.{TableId}
 use Rattle.pfl_language.specs.declared.command.Command.{Command}
-use Rattle.pfl_count.specs.Count.{Count}
+use Rattle.pfl_publish.specs.Count.{Count}
 use Rattle.pfl_publish.specs.declared.view.Published.{Published}
 use Rattle.pfl_publish.proofs.ForCallers.{begun_since}
 use Rattle.pfl_publish.specs.Revisions.{Log, published, StartsWith}

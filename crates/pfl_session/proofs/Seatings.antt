@@ -4,7 +4,7 @@ use Rattle.std.specs.List.{AllByRecursion}
 use Rattle.std.proofs.lemmas.Bool.{ltb-false}
 use Rattle.std.proofs.Common.{sym, ◌∙◌, ap, subst, arith}
 use Rattle.atomic_table.specs.Seated.{TableId}
-use Rattle.pfl_count.specs.Count.{Count}
+use Rattle.pfl_publish.specs.Count.{Count}
 use Rattle.pfl_publish.specs.Revisions.{Log}
 use Rattle.pfl_session.specs.declared.entry.Entry.{Entry}
 use Rattle.pfl_session.specs.declared.mark.Mark.{Mark}

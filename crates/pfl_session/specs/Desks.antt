@@ -1,7 +1,7 @@
 -- What lies under the lock (this project's profile).
 use Rattle.std.specs.Prelude.{◌≡◌, ◌≤◌, ℕ, ◌+◌, List, [], ◌∷◌, ◌++◌, length}
 use Rattle.pfl_language.specs.declared.command.Command.{Command}
-use Rattle.pfl_count.specs.Count.{Count}
+use Rattle.pfl_publish.specs.Count.{Count}
 use Rattle.pfl_timeline.specs.Replies.{Reply, reply_of}
 use Rattle.pfl_timeline.specs.Timelines.{Timeline}
 use Rattle.pfl_session.specs.declared.entry.Entry.{Entry}

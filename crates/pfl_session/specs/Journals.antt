@@ -2,7 +2,7 @@
 use Rattle.std.specs.Prelude.{◌≡◌, ◌≤◌, ℕ, suc, ◌+◌, List, [], ◌∷◌, ◌++◌, cond, nat_eq, ⊤}
 use Rattle.std.specs.List.{fold, AllByRecursion}
 use Rattle.atomic_table.specs.Seated.{TableId}
-use Rattle.pfl_count.specs.Count.{Count}
+use Rattle.pfl_publish.specs.Count.{Count}
 use Rattle.pfl_publish.specs.Revisions.{Log, published}
 use Rattle.pfl_timeline.specs.Commands.{command_step}
 use Rattle.pfl_timeline.specs.Replies.{reply_of}

@@ -2,7 +2,7 @@
 use Rattle.std.specs.Prelude.{◌≡◌, ◌≤◌, ℕ, suc, nat_lt, false, ◌||◌, List, [], ◌∷◌, length, refl, Option, Some, None, if◌then◌else◌, ⊤}
 use Rattle.std.specs.Coded.{Coded, Coded-set, code_by, coded×, coded_ℕ, coded_list}
 use Rattle.atomic_table.specs.Seated.{TableId, table_id_coded}
-use Rattle.pfl_count.specs.Count.{Count}
+use Rattle.pfl_publish.specs.Count.{Count}
 use Rattle.pfl_publish.specs.Revisions.{Log, StartsWith}
 use Rattle.pfl_publish.specs.Seats.{Writer, Viewer}
 use Rattle.pfl_timeline.specs.Codes.{coded_timeline}

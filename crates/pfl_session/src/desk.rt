@@ -1,7 +1,7 @@
 //! What lies under the lock.
 
 ghost use Rattle.std.specs.Prelude.{◌≡◌, ◌-◌, ◌<◌, false, [], ◌∷◌, ◌++◌, length, slice_get, slice_set, Some, IfOk, IfErr, OnOk, OnErr, IsTrue, IsFalse, vec_len, vec_capacity};
-ghost use Rattle.pfl_count.specs.Count.{Count};
+ghost use Rattle.pfl_publish.specs.Count.{Count};
 ghost use Rattle.pfl_publish.specs.Revisions.{StartsWith};
 ghost use Rattle.pfl_timeline.specs.Replies.{reply_of};
 ghost use Rattle.pfl_session.specs.Totals.{HasFewEvents};
@@ -17,10 +17,9 @@ use crate::mark::{Called, Mark};
 use crate::pass::Pass;
 use crate::revision::revision_of;
 use crate::which::Which;
-use pfl_count::{Half, Tally};
 use pfl_edits::NoMemory;
 use pfl_language::Command;
-use pfl_publish::{Publisher, ViewerSeat, WriterSeat};
+use pfl_publish::{Half, Publisher, Tally, ViewerSeat, WriterSeat};
 use pfl_timeline::{Reply, Timeline};
 use std::alloc::Allocator;
 use std::marker::{Model, PhantomData};

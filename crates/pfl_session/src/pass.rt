@@ -4,8 +4,7 @@ ghost use Rattle.std.specs.Prelude.{◌≡◌, ◌≤◌, ◌+◌, length};
 ghost use Rattle.pfl_session.specs.Journals.{calls_in, count_of};
 
 use crate::mark::Mark;
-use pfl_count::Half;
-use pfl_publish::{Told, ViewerSeat};
+use pfl_publish::{Half, Told, ViewerSeat};
 use std::alloc::Allocator;
 use std::marker::Model;
 
@@ -30,7 +29,7 @@ impl<A: Allocator> Drop for Pass<A> {
 
 impl<A: Allocator> Model for Pass<A> {
     ghost use Rattle.std.specs.Prelude.{◌≡◌, ◌≤◌, Some, false};
-    ghost use Rattle.pfl_count.specs.Count.{Count};
+    ghost use Rattle.pfl_publish.specs.Count.{Count};
     ghost use Rattle.pfl_publish.specs.Seats.{Viewer};
     ghost use Rattle.pfl_session.specs.declared.mark.Mark.{Mark};
     ghost use Rattle.pfl_session.specs.Journals.{calls_in, count_of};

@@ -1,6 +1,6 @@
 use Rattle.std.proofs.Common.{◌≡◌, ◌+◌, ◌-◌, ◌≤◌, ℕ, List, Some, refl, ap, sym, ◌∙◌, arith}
 use Rattle.std.specs.Prelude.{slice_get}
-use Rattle.pfl_count.specs.Count.{Count}
+use Rattle.pfl_publish.specs.Count.{Count}
 use Rattle.pfl_session.specs.Journals.{count_of}
 use Rattle.pfl_session.specs.Passes.{Seen, half_in}
 use Rattle.pfl_session.proofs.Replays.{some_same, counts-get, set-same}

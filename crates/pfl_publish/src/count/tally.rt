@@ -1,9 +1,9 @@
 //! The halves and what they do together.
 ghost use Rattle.std.specs.Prelude.{◌≡◌, ◌+◌, [], IfOk};
-ghost use Rattle.pfl_count.specs.Counted.{whole};
+ghost use Rattle.pfl_publish.specs.Counted.{whole};
 
-use crate::rule::{Compares, CountRule, Counts, Cuts, Unites};
-use crate::view::View;
+use crate::count::rule::{Compares, CountRule, Counts, Cuts, Unites};
+use crate::count::view::View;
 use atomic_table::{Seat, Table};
 use std::alloc::{AllocError, Allocator};
 use std::marker::Model;
@@ -35,7 +35,7 @@ pub struct Half {
 
 impl Model for Half {
     ghost use Rattle.std.specs.Prelude.{◌≡◌, []};
-    ghost use Rattle.pfl_count.specs.Count.{Count};
+    ghost use Rattle.pfl_publish.specs.Count.{Count};
 
     ghost Value = { Count };
 

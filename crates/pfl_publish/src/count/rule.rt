@@ -1,12 +1,12 @@
 //! The rule of a count, and what each step tells.
-use crate::view::View;
+use crate::count::view::View;
 use atomic_table::{Join, Play, Split, TableRule};
 
 /// What holds of all seats, between any two steps of any threads.
 pub(crate) struct CountRule;
 
 impl TableRule<(), View, ()> for CountRule {
-    ghost use Rattle.pfl_count.specs.Counted.{IsCounted, whole};
+    ghost use Rattle.pfl_publish.specs.Counted.{IsCounted, whole};
 
     ghost holds = { λ _. IsCounted };
 
@@ -17,7 +17,7 @@ impl TableRule<(), View, ()> for CountRule {
 pub(crate) struct Compares;
 
 impl Play<(), View> for Compares {
-    ghost use Rattle.pfl_count.specs.Counted.{Agrees};
+    ghost use Rattle.pfl_publish.specs.Counted.{Agrees};
 
     ghost then = { Agrees };
 }
@@ -26,7 +26,7 @@ impl Play<(), View> for Compares {
 pub(crate) struct Counts;
 
 impl Play<(), View> for Counts {
-    ghost use Rattle.pfl_count.specs.Counted.{GoesOn};
+    ghost use Rattle.pfl_publish.specs.Counted.{GoesOn};
 
     ghost then = { GoesOn };
 }
@@ -35,7 +35,7 @@ impl Play<(), View> for Counts {
 pub(crate) struct Cuts;
 
 impl Split<View> for Cuts {
-    ghost use Rattle.pfl_count.specs.Counted.{left_half, right_half};
+    ghost use Rattle.pfl_publish.specs.Counted.{left_half, right_half};
 
     ghost left = { left_half };
 
@@ -46,7 +46,7 @@ impl Split<View> for Cuts {
 pub(crate) struct Unites;
 
 impl Join<View> for Unites {
-    ghost use Rattle.pfl_count.specs.Counted.{united, idle};
+    ghost use Rattle.pfl_publish.specs.Counted.{united, idle};
 
     ghost both = { united };
 

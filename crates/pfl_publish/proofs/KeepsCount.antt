@@ -5,8 +5,8 @@ use lib.ListN.{get_elem?}
 use lib.Seq.{set-get_or}
 use Rattle.atomic_table.proofs.Lists.{at_set, at_snoc, set_else}
 use Rattle.atomic_table.specs.Table.{Me, step, keeps, Allows, Splits, Joins, opening}
-use Rattle.pfl_count.specs.declared.view.View.{View}
-use Rattle.pfl_count.specs.Counted.{kept, whole, idle, left_half, right_half, united, total, IsCounted, Agrees, GoesOn}
+use Rattle.pfl_publish.specs.declared.count.view.View.{View}
+use Rattle.pfl_publish.specs.Counted.{kept, whole, idle, left_half, right_half, united, total, IsCounted, Agrees, GoesOn}
 
 total_set : (vs : List View) (i : ℕ) (v w : View) → get_elem? vs i ≡ some v → total (set vs i w) + v.parts ≡ total vs + w.parts
 total_set [] i v w e = absurd (some-ne-none v (sym e))

@@ -3,7 +3,7 @@ use Rattle.std.specs.Prelude.{◌≡◌, ℕ, ◌+◌, ◌<◌, List, [], ◌∷
 use mathlib.Core.Option.{some}
 use lib.ListN.{get_elem?}
 use Rattle.atomic_table.specs.Table.{State, Me, Step}
-use Rattle.pfl_count.specs.declared.view.View.{View}
+use Rattle.pfl_publish.specs.declared.count.view.View.{View}
 
 abbrev pub kept : ℕ → ℕ → ℕ → View
 kept parts left right = record { parts = parts; left = left; right = right }
