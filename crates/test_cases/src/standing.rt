@@ -14,7 +14,7 @@ use pfl_timeline::Timeline;
 use std::alloc::{Allocator, Global};
 use std::cell::Cell;
 use std::fmt::Write;
-use test_memory::{RefusesOne, Try, requests_of};
+use test_devices::{RefusesOne, Try, requests_of};
 
 /// The lines whose replies tell all that stands: the names, and of each branch what it shows and its log, and what it shows with all
 /// its events taken back, which then happen again.

@@ -4,7 +4,7 @@
 use crate::standing::unlike_line;
 use crate::trial::{Action, Trial};
 use std::alloc::Global;
-use test_memory::{RefusesOne, Try, requests_of};
+use test_devices::{RefusesOne, Try, requests_of};
 
 /// What a run says for want of memory.
 const NO_MEMORY: &str = "pfl_lab: no memory\n";

@@ -12,7 +12,7 @@ use std::alloc::Global;
 use std::marker::Brand;
 use std::sync::Wait;
 use std::test::*;
-use test_memory::{RefusesOne, Try, requests_of};
+use test_devices::{RefusesOne, Try, requests_of};
 
 /// The first session's lines.
 const LINES: &[u8] =

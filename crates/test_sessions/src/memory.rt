@@ -15,7 +15,7 @@ use std::alloc::Allocator;
 use std::marker::Brand;
 use std::sync::Wait;
 use std::test::*;
-use test_memory::{RefusesOne, Requests, Try, requests_of};
+use test_devices::{RefusesOne, Requests, Try, requests_of};
 
 /// Opens a lab of eight sessions while the `n`-th request is refused.
 fn open_without(memory: &RefusesOne, n: u64) -> Option<Try> {

@@ -1,8 +1,8 @@
-//! Memory that is wanting at one request, for tests of what is answered then and of what stands after it.
-#![tactic(auto)]
+//! Memory that is wanting, at each request or at one.
 
 ghost use Rattle.std.specs.Prelude.{◌≡◌, Err};
 ghost use Rattle.std.specs.Allocator.{alloc_error};
+ghost use Rattle.std.specs.Borrow.{ffalse};
 ghost use Rattle.std.specs.contracts.impls.GlobalAllocator.TheImpl.{ghosts};
 
 #[cfg(test)]
@@ -12,6 +12,20 @@ mod tries;
 use std::alloc::{AllocError, Allocator, Global};
 use std::cell::Cell;
 pub use tries::{Requests, Try, requests_of};
+
+/// Refuses each request.
+#[derive(Clone, Copy)]
+pub struct Refusing;
+
+unsafe impl Allocator for Refusing {
+    ghost dealloc_token = { λ _ _ _. ffalse };
+
+    fn allocate(&self, _size: usize, _align: usize) -> Result<*mut u8, AllocError> {
+        Err(AllocError)
+    }
+
+    unsafe fn deallocate(&self, _ptr: *mut u8, _size: usize, _align: usize) {}
+}
 
 /// Passes each request on to the heap, but refuses the one that it is told of. What grows or shrinks makes a request too. A
 /// reference to it is an allocator that can be copied.

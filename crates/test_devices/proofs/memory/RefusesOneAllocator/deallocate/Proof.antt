@@ -1,10 +1,10 @@
 -- The block goes back to the heap that gave it, by the same right.
-use Rattle.test_memory.proofs.RefusesOneAllocator.deallocate.Statement.{statement}
-use Rattle.test_memory.specs.contracts.RefusesOneAllocator.deallocate as f
-use Rattle.test_memory.proofs.RefusesOneAllocator.deallocate.Code as code
-use Rattle.test_memory.specs.contracts.RefusesOne.{the_row as R}
-use Rattle.test_memory.specs.contracts.RefusesOne.heap as heap
-use Rattle.test_memory.proofs.RefusesOne.heap.Met as heap_met
+use Rattle.test_devices.proofs.memory.RefusesOneAllocator.deallocate.Statement.{statement}
+use Rattle.test_devices.specs.contracts.memory.RefusesOneAllocator.deallocate as f
+use Rattle.test_devices.proofs.memory.RefusesOneAllocator.deallocate.Code as code
+use Rattle.test_devices.specs.contracts.memory.RefusesOne.{the_row as R}
+use Rattle.test_devices.specs.contracts.memory.RefusesOne.heap as heap
+use Rattle.test_devices.proofs.memory.RefusesOne.heap.Met as heap_met
 use Rattle.std.specs.contracts.impls.GlobalAllocator.deallocate as passed
 use Rattle.std.proofs.impls.GlobalAllocator.deallocate.Met as passed_met
 use Rattle.std.specs.contracts.impls.GlobalAllocator.TheImpl.{ghosts}
@@ -64,7 +64,7 @@ deallocate_spec 𝓤 𝓛 𝓜 𝓡 w =
     let lending : Lends.Ghost = ((κs, qs, tt, (self, tt), (vs, tt)), tt) in
     nothing ! $ move ! (1 ∷ 0 ∷ []) $ join ! $ nothing ! $ move ! (2 ∷ 0 ∷ []) $ join ! $ join ! $
     nothing ! $ move ! (1 ∷ 0 ∷ []) $ use2 𝓛 (raw (Lends.pre lending)) (id⊢ 𝓤 _) $
-    calls_at ! called Lends (heap_met.met 𝓤 𝓛 𝓜 𝓡 (code.calls-test_memory::RefusesOne::heap 𝓡.env w)) lending
+    calls_at ! called Lends (heap_met.met 𝓤 𝓛 𝓜 𝓡 (code.calls-test_devices::memory::RefusesOne::heap 𝓡.env w)) lending
     (and_then ! (get ! refl) (no_more !)) (λ v.
     use1 𝓛 (later (some (λ (h : Bor G.Denot). ((‵ (flft κ q) ⊛ ‵ ftrue) ⊛ ‵ ((ShrRef (named 0) κ G).own_val h (v ∷ []))) ⊛
     some (λ (ws : Unit {0} × Unit {0}). ‵ (lasts heap.ended κs (self, tt) ws) ⊛ ‵ ftrue)))) (id⊢ 𝓤 _) $

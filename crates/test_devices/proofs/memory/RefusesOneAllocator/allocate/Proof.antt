@@ -1,16 +1,16 @@
 -- The refused request is answered by `Err`, and owns nothing; any other one gets what the heap gives. The walk borrows `self` twice, for
 -- `counts` and for `heap`, and hands the heap the layout that it was given.
-use Rattle.test_memory.proofs.RefusesOneAllocator.allocate.Statement.{statement}
-use Rattle.test_memory.specs.contracts.RefusesOneAllocator.allocate as f
-use Rattle.test_memory.proofs.RefusesOneAllocator.allocate.Code as code
-use Rattle.test_memory.specs.contracts.RefusesOne.{the_row as R}
-use Rattle.test_memory.proofs.RefusesOne.TheLaws as laws
-use Rattle.test_memory.specs.contracts.RefusesOne.counts as counts
-use Rattle.test_memory.proofs.RefusesOne.counts.Met as counts_met
-use Rattle.test_memory.specs.contracts.refused as refused
-use Rattle.test_memory.proofs.refused.Met as refused_met
-use Rattle.test_memory.specs.contracts.RefusesOne.heap as heap
-use Rattle.test_memory.proofs.RefusesOne.heap.Met as heap_met
+use Rattle.test_devices.proofs.memory.RefusesOneAllocator.allocate.Statement.{statement}
+use Rattle.test_devices.specs.contracts.memory.RefusesOneAllocator.allocate as f
+use Rattle.test_devices.proofs.memory.RefusesOneAllocator.allocate.Code as code
+use Rattle.test_devices.specs.contracts.memory.RefusesOne.{the_row as R}
+use Rattle.test_devices.proofs.memory.RefusesOne.TheLaws as laws
+use Rattle.test_devices.specs.contracts.memory.RefusesOne.counts as counts
+use Rattle.test_devices.proofs.memory.RefusesOne.counts.Met as counts_met
+use Rattle.test_devices.specs.contracts.memory.refused as refused
+use Rattle.test_devices.proofs.memory.refused.Met as refused_met
+use Rattle.test_devices.specs.contracts.memory.RefusesOne.heap as heap
+use Rattle.test_devices.proofs.memory.RefusesOne.heap.Met as heap_met
 use Rattle.std.specs.contracts.impls.GlobalAllocator.allocate as passed
 use Rattle.std.proofs.impls.GlobalAllocator.allocate.Met as passed_met
 use Rattle.std.specs.contracts.impls.GlobalAllocator.TheImpl.{ghosts}
@@ -79,7 +79,7 @@ allocate_spec 𝓤 𝓛 𝓜 𝓡 w =
     let counting : Counts.Ghost = ((κs, qs, tt, (self, tt), (vs, tt)), tt) in
     nothing ! $ move ! (1 ∷ 0 ∷ []) $ join ! $ nothing ! $ move ! (3 ∷ 0 ∷ []) $ join ! $ join ! $
     nothing ! $ move ! (1 ∷ 0 ∷ []) $ use2 𝓛 (raw (Counts.pre counting)) (id⊢ 𝓤 _) $
-    calls_at ! called Counts (counts_met.met 𝓤 𝓛 𝓜 𝓡 (code.calls-test_memory::RefusesOne::counts 𝓡.env w)) counting
+    calls_at ! called Counts (counts_met.met 𝓤 𝓛 𝓜 𝓡 (code.calls-test_devices::memory::RefusesOne::counts 𝓡.env w)) counting
     (and_then ! (get ! refl) (no_more !)) (λ v.
     use1 𝓛 (later (some (λ (u : Bool). ((‵ (flft κ q) ⊛ ‵ ftrue) ⊛ ‵ (bool.own_val u (v ∷ []))) ⊛
     some (λ (ws : Unit {0} × Unit {0}). ‵ (lasts counts.ended κs (self, tt) ws) ⊛ ‵ ftrue)))) (id⊢ 𝓤 _) $
@@ -92,7 +92,7 @@ allocate_spec 𝓤 𝓛 𝓜 𝓡 w =
     let Refuses = triple_of 𝓛 refused.signature (refused.spec 𝓛 𝓜.mem 𝓡.returns) in
     let refusing : Refuses.Ghost = ((tt, tt, tt, tt, tt), tt) in
     nothing ! $ nothing ! $ join ! $ nothing ! $ move ! (1 ∷ 0 ∷ []) $ use2 𝓛 (raw (Refuses.pre refusing)) (id⊢ 𝓤 _) $
-    calls_at ! called Refuses (refused_met.met 𝓤 𝓛 𝓜 𝓡 (code.calls-test_memory::refused 𝓡.env w)) refusing (no_more !) (λ v'.
+    calls_at ! called Refuses (refused_met.met 𝓤 𝓛 𝓜 𝓡 (code.calls-test_devices::memory::refused 𝓡.env w)) refusing (no_more !) (λ v'.
     use1 𝓛 (later (some (λ (r : Answer.Denot). (‵ ftrue ⊛ ‵ (Answer.own_val r (v' ∷ []))) ⊛
     some (λ (ws : Unit {0}). ‵ (lasts refused.ended tt tt ws) ⊛ raw (fact 𝓤 (r ≡ Err alloc_error)))))) (id⊢ 𝓤 _) $
     await ! tt $ pick ! (λ r. split ! $ split ! $ drop ! $ move ! (1 ∷ []) $ pick ! (λ ws. split ! $ drop ! $ heard ! _ (λ is_err.
@@ -109,7 +109,7 @@ allocate_spec 𝓤 𝓛 𝓜 𝓡 w =
     let lending : Lends.Ghost = ((κs, qs, tt, (self, tt), (vs, tt)), tt) in
     nothing ! $ move ! (2 ∷ 0 ∷ []) $ join ! $ nothing ! $ move ! (2 ∷ 0 ∷ []) $ join ! $ join ! $
     nothing ! $ move ! (1 ∷ 0 ∷ []) $ use2 𝓛 (raw (Lends.pre lending)) (id⊢ 𝓤 _) $
-    calls_at ! called Lends (heap_met.met 𝓤 𝓛 𝓜 𝓡 (code.calls-test_memory::RefusesOne::heap 𝓡.env w)) lending
+    calls_at ! called Lends (heap_met.met 𝓤 𝓛 𝓜 𝓡 (code.calls-test_devices::memory::RefusesOne::heap 𝓡.env w)) lending
     (and_then ! (get ! refl) (no_more !)) (λ v'.
     use1 𝓛 (later (some (λ (h : Bor G.Denot). ((‵ (flft κ q) ⊛ ‵ ftrue) ⊛ ‵ ((ShrRef (named 0) κ G).own_val h (v' ∷ []))) ⊛
     some (λ (ws : Unit {0} × Unit {0}). ‵ (lasts heap.ended κs (self, tt) ws) ⊛ ‵ ftrue)))) (id⊢ 𝓤 _) $
