@@ -1,1 +1,5 @@
+pub mod Broken
+pub mod ServedLines
+pub mod Told
+pub mod ServedSeats
 pub mod Settled

@@ -8,10 +8,10 @@ use Rattle.pfl_script.specs.declared.engine.Ended.{Ended}
 use Rattle.pfl_script.specs.declared.fault.EngineFault.{EngineFault}
 use Rattle.pfl_session.specs.Passes.{IsPassOf}
 use Rattle.pfl_session.specs.declared.which.Which as Which
-use Rattle.pfl_serve.specs.Seats.{AreServed}
-use Rattle.pfl_serve.specs.declared.seat.Seat.{Seat}
-use Rattle.pfl_serve.specs.declared.seat.Served.{Served}
-use Rattle.pfl_host.specs.Serves.{fault_in, first_of, first_fault}
+use Rattle.pfl_host.specs.Seats.{AreServed}
+use Rattle.pfl_host.specs.declared.seat.Seat.{Seat}
+use Rattle.pfl_host.specs.declared.seat.Served.{Served}
+use Rattle.pfl_host.specs.Servers.{fault_in, first_of, first_fault}
 
 -- one more was taken
 pub taken-more : {X Y : Type 0} (f : X → Y) (ys : List Y) (x : X) (left : List X) (all : List Y) → ys ++ map f (x ∷ left) ≡ all → (ys ++ f x ∷ []) ++ map f left ≡ all

@@ -15,7 +15,7 @@ use Rattle.pfl_run.specs.Checks.{ChecksToEnd, IsCheckStop}
 use Rattle.pfl_run.specs.Faults.{fault_text}
 use Rattle.pfl_run.specs.Modes.{lab_app, mode_word, subcommand_name, words_status, HasNumbers, IsWordsFault}
 use Rattle.pfl_run.specs.Runs.{Ends, IsStop, IsTold, RunsToEnd, Stops}
-use Rattle.pfl_host.specs.Serves.{IsServeStop, HostServes, ServesToEnd}
+use Rattle.pfl_host.specs.Servers.{IsServeStop, HostServes, ServesToEnd}
 
 -- a device that is written to, before and after; what was written to it, where that is known; whether a call of it has failed
 pub record Device (D : Type 0) : Type 0 where

@@ -1,6 +1,6 @@
 //! The gate of sessions that are served over connections.
 
-use pfl_serve::Gate;
+use crate::gate::Gate;
 use std::net::{Shutdown, TcpStream};
 use std::sync::Wait;
 

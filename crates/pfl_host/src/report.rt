@@ -3,14 +3,12 @@
 ghost use Rattle.std.specs.Prelude.{◌≡◌, ◌<◌, IfSome, length, string_bytes};
 ghost use Rattle.clap.specs.Values.{kind_of};
 ghost use Rattle.pfl_run.specs.Modes.{words_status};
-ghost use Rattle.pfl_run.specs.Runs.{IsTold};
 ghost use Rattle.pfl_host.specs.Obeys.{seen, TellsKind, TellsNoMemory, TellsWords};
 
 use clap::Error;
 use clap::error::ErrorKind;
 use pfl_base::Output;
-use pfl_run::{LabFault, WordsFault, tell};
-use pfl_script::write_text;
+use pfl_run::{LabFault, WordsFault, tell, tell_text};
 use std::alloc::Global;
 
 /// The text of `clap`'s error, where there is memory for it. None of its texts is empty.
@@ -21,13 +19,6 @@ fn text_of(alloc: Global, error: &Error) -> Option<String>
         Ok(text) if !text.is_empty() => Some(text),
         _ => None,
     }
-}
-
-/// Writes a text as far as the device takes it.
-fn tell_text<D: Output>(device: &mut D, text: &[u8])
-    ensures { IsTold text.now (D.written device.old) (D.written device.new) (D.has_failed device.new) }
-{
-    let _ = write_text(device, text);
 }
 
 /// Tells want of memory.

@@ -5,10 +5,9 @@
 ghost use Rattle.std.specs.Prelude.{◌≡◌};
 
 use pfl_base::Std;
-use pfl_host::obey;
+use pfl_host::{Open, obey};
 use pfl_reader::LineReader;
 use pfl_run::{LabFault, tell};
-use pfl_serve::Open;
 use std::env;
 use std::io::{self, ErrorKind};
 use std::process::ExitCode;

@@ -2,4 +2,3 @@ pub mod Passing
 pub mod Numbers
 pub mod Modes
 pub mod Runs
-pub mod ForCallers

@@ -72,11 +72,11 @@ pub fn run_whole<A: Allocator + Copy, R: Input, W: Output>(
     }
 }
 
-/// Writes a text as far as the writer takes it.
-fn tell_text<F: Output>(faults: &mut F, text: &[u8])
-    ensures { IsTold text.now (F.written faults.old) (F.written faults.new) (F.has_failed faults.new) }
+/// Writes a text as far as the device takes it.
+pub fn tell_text<D: Output>(device: &mut D, text: &[u8])
+    ensures { IsTold text.now (D.written device.old) (D.written device.new) (D.has_failed device.new) }
 {
-    let _ = write_text(faults, text);
+    let _ = write_text(device, text);
 }
 
 /// Tells a fault by its line, and answers the program's exit status.

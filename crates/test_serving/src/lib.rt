@@ -1,4 +1,4 @@
-//! Worked sessions that are served by lines, through the public calls of pfl_serve.
+//! Worked sessions that are served by lines, through the public calls of pfl_host.
 #![tactic(auto)]
 
 #[cfg(test)]

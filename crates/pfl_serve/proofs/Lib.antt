@@ -1,4 +1,0 @@
-pub mod Broken
-pub mod ServedLines
-pub mod Told
-pub mod ServedSeats

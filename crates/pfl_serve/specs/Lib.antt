@@ -1,5 +1,0 @@
-pub mod Texts
-pub mod Services
-pub mod Seats
-pub mod Laws
-pub mod inner
