@@ -13,13 +13,13 @@ use Rattle.pfl_base.proofs.ForCallers.{names_total, is_name-same, apart}
 use Rattle.pfl_edits.specs.Maps as maps
 use Rattle.pfl_edits.specs.Maps.{Map}
 use Rattle.pfl_edits.proofs.ForCallers.{row_at, Distinct, Distinct-without}
-use Rattle.pfl_hash.proofs.ForCallers.{entry_map-none}
-use Rattle.pfl_queue.specs.declared.marks.ByName.{ByName}
+use Rattle.pfl_containers.specs.declared.by_name.ByName.{ByName}
+use Rattle.pfl_containers.specs.NameKeys.{by_name_cmp}
+use Rattle.pfl_containers.specs.SlotIndexes.{IsIndexOf}
+use Rattle.pfl_containers.specs.inner.NameOrder.{by_name_total, by_name_exact}
+use Rattle.pfl_containers.proofs.ForCallers.{entry_map-none, made-get, made-len, made-empty, made-with, made-without}
 use Rattle.pfl_queue.specs.inner.Asked.{as_key}
-use Rattle.pfl_queue.specs.inner.Marked.{by_name_cmp, by_name_total, by_name_exact}
-use Rattle.pfl_queue.specs.inner.Slots.{IsIndexOf}
 use Rattle.pfl_queue.proofs.Keeping.{same_other_way}
-use Rattle.pfl_queue.proofs.Linked.{made-get, made-len, made-empty, made-with, made-without}
 
 -- keys are the same where names are
 pub same_keys : (a b : StateName) → eq_by_cmp by_name_cmp (as_key a) (as_key b) ≡ is_name a b

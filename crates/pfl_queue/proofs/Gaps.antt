@@ -1,9 +1,9 @@
 -- Links in the order of a number, when one comes or goes.
 use Rattle.std.specs.Prelude.{◌≡◌, ℕ, ◌<◌, List, [], ◌∷◌, ◌++◌, length, Option, Some, None}
 use Rattle.std.proofs.Common.{◌∙◌, ap, sym, subst, arith, refl}
-use Rattle.pfl_chains.specs.Lists.{Link, link, Lists, Place, links_of, with_links, last_from, last_slot}
+use Rattle.pfl_containers.specs.Lists.{Link, link, Lists, Place, links_of, with_links, last_from, last_slot}
+use Rattle.pfl_containers.proofs.ForCallers.{links_of-same}
 use Rattle.pfl_edits.proofs.ForCallers.{some_is_none}
-use Rattle.pfl_chains.proofs.ForCallers.{links_of-same}
 use Rattle.pfl_queue.specs.inner.Rising.{IsAbove, IsBelow, IsRising, InsertsInOrder, OrderedGap}
 
 module _ {V : Type 0} (number : V → ℕ) where

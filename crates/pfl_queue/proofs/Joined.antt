@@ -2,8 +2,8 @@
 use Rattle.std.specs.Prelude.{◌≡◌, ◌⊎◌, ℕ, zero, suc, ◌<◌, List, [], ◌∷◌, ◌++◌, length, get_or, set, refl}
 use Rattle.std.proofs.Common.{inl, inr, ◌∙◌, ap, sym, subst, arith, length-append, append_assoc}
 use Rattle.std.proofs.lemmas.Bool.{cases_eq}
-use Rattle.pfl_chains.specs.Lists.{Link, link, Lists, Place, links_of, with_links, count_of}
-use Rattle.pfl_chains.proofs.ForCallers.{Stands, links_of-same, links_of-other}
+use Rattle.pfl_containers.specs.Lists.{Link, link, Lists, Place, links_of, with_links, count_of}
+use Rattle.pfl_containers.proofs.ForCallers.{Stands, links_of-same, links_of-other}
 use Rattle.pfl_queue.specs.inner.Marked.{all_links}
 
 module _ {V : Type 0} where

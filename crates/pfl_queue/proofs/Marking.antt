@@ -12,22 +12,22 @@ use Rattle.pfl_edits.specs.Maps as maps
 use Rattle.pfl_edits.specs.Maps.{Map, set_at}
 use Rattle.pfl_edits.proofs.ForCallers.{len-insert, get-set_at_same, get-set_at_other, set_at-set_at, set_at-same, row_at, Distinct, get-map_of, len-map_of, map_of-between, map_of-without, some_is_none}
 use Rattle.pfl_edits.specs.Rows.{map_of}
-use Rattle.pfl_chains.specs.Lists.{Link, link, Lists, Place, links_of, with_links, count_of}
-use Rattle.pfl_chains.proofs.ForCallers.{length-with_links}
-use Rattle.pfl_hash.specs.Entries.{EntryList}
-use Rattle.pfl_order.specs.Entries.{EntryList as TurnList}
+use Rattle.pfl_containers.specs.declared.by_name.ByName.{ByName}
+use Rattle.pfl_containers.specs.HashEntries.{EntryList}
+use Rattle.pfl_containers.specs.OrderEntries.{EntryList as TurnList}
+use Rattle.pfl_containers.specs.Lists.{Link, link, Lists, Place, links_of, with_links, count_of}
+use Rattle.pfl_containers.specs.NameKeys.{by_name_cmp}
+use Rattle.pfl_containers.specs.SlotIndexes.{IsIndex, HasNone, key_of}
+use Rattle.pfl_containers.specs.inner.NameOrder.{by_name_total, by_name_exact}
+use Rattle.pfl_containers.proofs.ForCallers.{length-with_links, key_of_row, found-stands, stands-found, others-none, index-get, index-new, gained, lost}
 use Rattle.pfl_queue.specs.declared.Kind.{Kind}
 use Rattle.pfl_queue.specs.declared.Kind.TheVariants.{Insert, InsertAck, Update, UpdateShort, Delete}
 use Rattle.pfl_queue.specs.declared.Mark.{Mark}
-use Rattle.pfl_queue.specs.declared.marks.ByName.{ByName}
 use Rattle.pfl_queue.specs.declared.marks.Turn.{Turn}
 use Rattle.pfl_queue.specs.inner.Rising.{IsRising, HasNone as NoNumber, InsertsInOrder, OrderedGap}
-use Rattle.pfl_queue.specs.inner.Slots.{IsIndex, HasNone, key_of}
-use Rattle.pfl_queue.specs.inner.Marked.{by_name, by_name_cmp, by_name_total, by_name_exact, slot_of_link, mark_of_link, mark_name, mark_number, turn_of, turn_cmp, turn_total, turn_exact, all_links, listed, marks_of, AreOfKind, AreInTurn, AreOrdered, AreMarked, IsNew, AreApart}
+use Rattle.pfl_queue.specs.inner.Marked.{by_name, slot_of_link, mark_of_link, mark_name, mark_number, turn_of, turn_cmp, turn_total, turn_exact, all_links, listed, marks_of, AreOfKind, AreInTurn, AreOrdered, AreMarked, IsNew, AreApart}
 use Rattle.pfl_queue.specs.Taking.{kind_place}
 use Rattle.pfl_queue.proofs.Gaps.{IsRising-without, gap-ordered}
-use Rattle.pfl_queue.proofs.Linked.{key_of_row, found-stands, stands-found, others-none, index-get}
-use Rattle.pfl_queue.proofs.Indexed.{index-new, gained, lost}
 use Rattle.pfl_queue.proofs.Joined.{count-all, around, place, each_list}
 
 -- ---- the marks by their names

@@ -13,17 +13,17 @@ use Rattle.pfl_edits.specs.Maps as maps
 use Rattle.pfl_edits.proofs.ForCallers.{entries-from_sorted, filed, entries-map_of, some_is_none}
 use Rattle.pfl_edits.specs.Ordered.{IsBelow as IsLower, IsRising as Rise}
 use Rattle.pfl_edits.specs.Rows.{map_of}
-use Rattle.pfl_chains.specs.Lists.{Link, link, Lists, Place, links_of, last_slot}
-use Rattle.pfl_order.specs.Entries.{EntryList as TurnList}
+use Rattle.pfl_containers.specs.OrderEntries.{EntryList as TurnList}
+use Rattle.pfl_containers.specs.Lists.{Link, link, Lists, Place, links_of, last_slot}
+use Rattle.pfl_containers.specs.Mapped.{at_value}
+use Rattle.pfl_containers.specs.SlotIndexes.{key_of}
+use Rattle.pfl_containers.proofs.ForCallers.{entries-map_values}
 use Rattle.pfl_queue.specs.declared.Mark.{Mark}
 use Rattle.pfl_queue.specs.declared.marks.Turn.{Turn}
-use Rattle.pfl_queue.specs.inner.Mapped.{at_value}
 use Rattle.pfl_queue.specs.inner.Marked.{mark_number, slot_of_link, turn_of, turn_cmp, turn_total, all_links, AreOfKind, AreOrdered}
 use Rattle.pfl_queue.specs.inner.Rising.{IsAbove, IsBelow, IsRising, HasNone, OrderedGap}
-use Rattle.pfl_queue.specs.inner.Slots.{key_of}
 use Rattle.pfl_queue.specs.Taking.{kind_place}
 use Rattle.pfl_queue.proofs.Gaps.{above_lower}
-use Rattle.pfl_queue.proofs.Mapped.{entries-map_values}
 
 -- ---- turns compared
 

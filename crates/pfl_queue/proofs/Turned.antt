@@ -13,7 +13,7 @@ use Rattle.pfl_edits.specs.Maps as maps
 use Rattle.pfl_edits.specs.Maps.{Map}
 use Rattle.pfl_edits.proofs.ForCallers.{entries-empty, get-set_at_same, set_at-back, Distinct, get-map_of, some_is_none}
 use Rattle.pfl_edits.specs.Rows.{map_of}
-use Rattle.pfl_chains.specs.Lists.{Link, link, Lists, Place, links_of, first_slot}
+use Rattle.pfl_containers.specs.Lists.{Link, link, Lists, Place, links_of, first_slot}
 use Rattle.pfl_queue.specs.declared.Mark.{Mark}
 use Rattle.pfl_queue.specs.inner.Marked.{mark_of_link, mark_name, mark_number, all_links, listed, marks_of, AreOfKind, AreInTurn}
 use Rattle.pfl_queue.specs.inner.Rising.{IsAbove, IsRising}

@@ -1,7 +1,7 @@
 -- How the fields of the pending queues stand for them. This project's profile.
 use Rattle.std.specs.Prelude.{◌≡◌, ◌≤◌, ℕ, List}
 use Rattle.pfl_base.specs.declared.state_name.StateName.{StateName}
-use Rattle.pfl_chains.specs.Lists.{Link}
+use Rattle.pfl_containers.specs.Lists.{Link}
 use Rattle.pfl_wire.specs.declared.message.BulkStatus.{BulkStatus}
 use Rattle.pfl_queue.specs.declared.Mark.{Mark}
 use Rattle.pfl_queue.specs.declared.Cleared.{Cleared}

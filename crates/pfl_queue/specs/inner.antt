@@ -3,8 +3,6 @@
 pub mod Asked
 pub mod BothWays
 pub mod Fitting
-pub mod Mapped
 pub mod Marked
 pub mod Parts
 pub mod Rising
-pub mod Slots

@@ -1,6 +1,6 @@
 //! Marks at slots: a list of each kind, in the order of the numbers, and the slot of each name and of each turn.
 ghost use Rattle.std.specs.Prelude.{◌≡◌, [], ◌++◌, ◌<◌, ◌≤◌, IfOk, IfSome, IsTrue, None, OnOk, length, map, take};
-ghost use Rattle.pfl_chains.specs.Lists.{count_of, link, links_of, with_links};
+ghost use Rattle.pfl_containers.specs.Lists.{count_of, link, links_of, with_links};
 ghost use Rattle.pfl_edits.specs.Maps as maps;
 ghost use Rattle.pfl_edits.specs.Maps.{set_at};
 ghost use Rattle.pfl_queue.specs.inner.Marked.{AreApart, AreInTurn, AreOrdered, IsNew, listed, mark_number, mark_of_link, marks_of};
@@ -8,12 +8,10 @@ ghost use Rattle.pfl_queue.specs.inner.Rising.{HasNone, InsertsInOrder, IsAbove,
 ghost use Rattle.pfl_queue.specs.Taking.{kind_place};
 
 use crate::Mark;
-use crate::marks::{ByName, Turn};
+use crate::marks::Turn;
 use pfl_base::StateName;
-use pfl_chains::Chains;
+use pfl_containers::{ByName, Chains, HashIndex, OrderedMap};
 use pfl_edits::NoMemory;
-use pfl_hash::HashIndex;
-use pfl_order::OrderedMap;
 use std::alloc::{AllocError, Allocator};
 use std::marker::Model;
 
@@ -33,7 +31,7 @@ pub(crate) struct Marks<A: Allocator> {
 }
 
 impl<A: Allocator> Model for Marks<A> {
-    ghost use Rattle.pfl_chains.specs.Lists.{Lists};
+    ghost use Rattle.pfl_containers.specs.Lists.{Lists};
     ghost use Rattle.pfl_queue.specs.declared.Mark.{Mark};
     ghost use Rattle.pfl_queue.specs.inner.Marked.{AreMarked};
 

@@ -1,34 +1,10 @@
-//! What marks are found by: their names, and their turns in a frame.
+//! The turns of marks in a frame, by which they are found.
 ghost use Rattle.std.specs.Prelude.{◌≡◌};
-ghost use Rattle.pfl_queue.specs.inner.Marked.{by_name_cmp, by_name_hash, by_name_total, by_name_exact, turn_cmp, turn_total, turn_exact, turn_of};
+ghost use Rattle.pfl_queue.specs.inner.Marked.{turn_cmp, turn_total, turn_exact, turn_of};
 
 use crate::{Kind, Mark};
-use pfl_base::StateName;
-use pfl_hash::{Hashed, mix};
-use pfl_order::Ordered;
+use pfl_containers::Ordered;
 use std::cmp::Ordering;
-
-/// A name, by which a mark is found.
-#[derive(Clone, Copy)]
-pub(crate) struct ByName(pub(crate) StateName);
-
-impl Hashed for ByName {
-    ghost order = { by_name_cmp };
-
-    ghost hash_of = { by_name_hash };
-
-    fn same(&self, other: &ByName) -> bool {
-        self.0 == other.0
-    }
-
-    fn hash(&self) -> u64 {
-        mix(mix(0, self.0.creator as u64), self.0.id)
-    }
-
-    ghost total = { by_name_total };
-
-    ghost exact = { by_name_exact };
-}
 
 /// A mark's turn in a frame: by the place of its kind, and then by its number.
 #[derive(Clone, Copy)]

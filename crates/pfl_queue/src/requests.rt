@@ -6,10 +6,9 @@ ghost use Rattle.pfl_base.specs.Names.{is_name};
 ghost use Rattle.pfl_edits.specs.Places.{StandsAt, with_position};
 
 use crate::lists::{copied, first, in_order};
-use crate::marks::ByName;
 use pfl_base::StateName;
+use pfl_containers::{ByName, HashIndex};
 use pfl_edits::{InOrder, NoMemory};
-use pfl_hash::HashIndex;
 use std::alloc::Allocator;
 use std::collections::VecDeque;
 use std::collections::vec_deque::Iter;

@@ -11,7 +11,7 @@ use Rattle.std.proofs.lemmas.List.Recursion.{is_count_by}
 use Rattle.pfl_edits.specs.Maps as maps
 use Rattle.pfl_edits.specs.Maps.{Map}
 use Rattle.pfl_edits.proofs.ForCallers.{same_map, get-empty, get-insert, len-empty, len-insert, set_at-back, get-set_at_same, own_key, same_key}
-use Rattle.pfl_chains.specs.Lists.{Link}
+use Rattle.pfl_containers.specs.Lists.{Link}
 use Rattle.pfl_table.specs.declared.row.Row.{Row}
 use Rattle.pfl_table.specs.inner.Counts.{count_at, one_more, one_less, counts_of, has_rule}
 use Rattle.pfl_table.specs.inner.Filed.{row_of_link}

@@ -13,7 +13,7 @@ use Rattle.std.proofs.lemmas.List.{append_assoc}
 use Rattle.pfl_base.specs.Names.{name_cmp}
 use Rattle.pfl_base.proofs.ForCallers.{names_exact, names_total}
 use Rattle.pfl_edits.proofs.ForCallers.{some_is_none}
-use Rattle.pfl_order.specs.Entries.{behind}
+use Rattle.pfl_containers.specs.OrderEntries.{behind}
 use Rattle.pfl_rules.specs.declared.adaptive.Adaptive.{Adaptive}
 use Rattle.pfl_rules.specs.Scaling.{scaled}
 use Rattle.pfl_table.specs.declared.keys.Expiry.{Expiry}

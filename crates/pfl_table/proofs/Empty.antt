@@ -5,8 +5,8 @@ use Rattle.pfl_base.specs.Names.{name_cmp}
 use Rattle.pfl_edits.specs.Maps as maps
 use Rattle.pfl_edits.specs.Maps.{Map}
 use Rattle.pfl_edits.proofs.ForCallers.{len-empty, get-empty, some_is_none}
+use Rattle.pfl_containers.proofs.ForCallers.{map_values-empty}
 use Rattle.pfl_table.specs.declared.row.Row.{Row}
-use Rattle.pfl_table.proofs.Mapped.{map_values-empty}
 use Rattle.pfl_table.specs.Tables.{IsTable, AreStates}
 use Rattle.pfl_table.proofs.Tables.{states_of-empty}
 use Rattle.pfl_table.specs.inner.Filed.{Filing, rows_of, table_of, row_of_link}

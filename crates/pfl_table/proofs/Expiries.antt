@@ -15,11 +15,11 @@ use Rattle.pfl_rules.specs.declared.adaptive.Adaptive.{Adaptive}
 use Rattle.pfl_rules.specs.Scaling.{scaled}
 use Rattle.pfl_track.specs.declared.state.State.{State}
 use Rattle.pfl_track.specs.Tracking.{expiry}
+use Rattle.pfl_containers.specs.Mapped.{map_values}
+use Rattle.pfl_containers.proofs.ForCallers.{get-map_values, values-map_values}
 use Rattle.pfl_table.specs.declared.row.Row.{Row}
 use Rattle.pfl_table.specs.Tables.{Table, states_of, row_before, first_expiring}
-use Rattle.pfl_table.specs.Mapped.{map_values}
 use Rattle.pfl_table.proofs.Tables.{get-states_of}
-use Rattle.pfl_table.proofs.Mapped.{get-map_values, values-map_values}
 
 -- each row's timeout is what the function says of its state
 pub record TimedBy (timeout : State → ℕ) (t : Table) : Type 0 where

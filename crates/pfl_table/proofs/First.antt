@@ -9,19 +9,18 @@ use Rattle.pfl_base.specs.Names.{name_cmp}
 use Rattle.pfl_base.proofs.ForCallers.{names_total, names_exact}
 use Rattle.pfl_edits.specs.Maps as maps
 use Rattle.pfl_edits.proofs.ForCallers.{len-entries, entries-from_sorted, row_at, Distinct, own_key, same_key, some_is_none}
-use Rattle.pfl_order.proofs.ForCallers.{get-map_of}
+use Rattle.pfl_containers.specs.Lists.{Link}
+use Rattle.pfl_containers.specs.SlotIndexes.{IsIndex, key_of}
+use Rattle.pfl_containers.proofs.ForCallers.{get-map_of, key_of_row, found-stands, stands-found, index-get, index-len, index-has}
 use Rattle.pfl_rules.specs.declared.adaptive.Adaptive.{Adaptive}
-use Rattle.pfl_chains.specs.Lists.{Link}
 use Rattle.pfl_table.specs.declared.row.Row.{Row}
 use Rattle.pfl_table.specs.declared.keys.Expiry.{Expiry}
-use Rattle.pfl_table.specs.inner.Filed.{IsIndex, FoundAt, key_of, name_of, row_of_link, slot_of_link}
+use Rattle.pfl_table.specs.inner.Filed.{FoundAt, name_of, row_of_link, slot_of_link}
 use Rattle.pfl_table.specs.inner.Ordering.{due_before, expiry_of, expiry_cmp, expiry_total, expiry_exact}
 use Rattle.pfl_table.specs.Tables.{row_before}
 use Rattle.pfl_table.proofs.Earliest.{both, entry_before, entry_before-asymmetric, entry_before-passed_on, is_true, level_name}
 use Rattle.pfl_table.proofs.Expiring.{NoneBefore, less-asymmetric}
 use Rattle.pfl_table.proofs.Foremost.{Has, first_is, foremost, foremost-has, foremost-none, foremost-none_before, none-has, same_inside}
-use Rattle.pfl_table.proofs.Keyed.{key_of_row}
-use Rattle.pfl_table.proofs.Linked.{found-stands, stands-found, index-get, index-len, index-has}
 use Rattle.pfl_table.proofs.Viewed.{found-again}
 
 -- ---- entries that a key finds

@@ -1,43 +1,23 @@
--- Rows by keys, and the first value of a map that passes a test.
-use Rattle.std.specs.Prelude.{◌≡◌, Bool, true, false, List, [], ◌∷◌, ◌++◌, find, Some, None, refl}
-use Rattle.std.specs.Cmp.{IsTotalOrder, eq_by_cmp_equiv}
+-- A name as a key of indexes, and the first value of a map that passes a test.
+use Rattle.std.specs.Prelude.{◌≡◌, Bool, true, false, List, [], ◌∷◌, find, Some, None, refl}
+use Rattle.std.specs.Cmp.{IsTotalOrder}
 use Rattle.std.specs.FinMap.{IsAntisymmetric}
-use Rattle.std.specs.Ordering.{eq_by_cmp}
 use Rattle.std.specs.declared.cmp.Ordering.{Ordering}
 use Rattle.std.proofs.Common.{cond, T, ◌∙◌, ap, sym, subst}
+use Rattle.pfl_base.specs.declared.state_name.StateName.{StateName}
 use Rattle.pfl_edits.specs.Maps as maps
 use Rattle.pfl_edits.specs.Maps.{Map}
-use Rattle.pfl_edits.proofs.ForCallers.{row_at, Distinct, same_key, row_at-between, some_is_none, first_value, first_value-stands, no_value_passes}
+use Rattle.pfl_edits.proofs.ForCallers.{some_is_none, first_value, first_value-stands, no_value_passes}
+use Rattle.pfl_containers.specs.declared.by_name.ByName.{ByName}
+use Rattle.pfl_table.specs.declared.row.Row.{Row}
+use Rattle.pfl_table.specs.inner.Ordering.{by_name}
 
 true_is_false : {A : Type 0} → true ≡ false → A
 true_is_false e = absurd (subst T e tt)
 
-module _ {K X : Type 0} {R : K → K → Ordering} (o : IsTotalOrder R) (exact : IsAntisymmetric R) (key : X → K) where
-  -- a row is found under its own key
-  pub key_of_row : (xs : List X) (q : K) (x : X) → row_at R key xs q ≡ Some x → key x ≡ q
-  key_of_row [] q x e = absurd (some_is_none x (sym e))
-  key_of_row (y ∷ xs) q x e =
-      elim (eq_by_cmp R q (key y)) as (λ b. eq_by_cmp R q (key y) ≡ b → cond b (Some y) (row_at R key xs q) ≡ Some x → key x ≡ q) [
-        | true ↦ λ t s. let same : y ≡ x = cc in ap key (sym same) ∙ sym (same_key o exact key q (key y) t)
-        | false ↦ λ t s. key_of_row xs q x s
-      ] refl e
-
-  -- a key that no row has is neither that of the first nor of another one
-  none_of_both : (x : X) (xs : List X) (q : K) → row_at R key (x ∷ xs) q ≡ None → (eq_by_cmp R q (key x) ≡ false) × (row_at R key xs q ≡ None)
-  none_of_both x xs q none = elim (eq_by_cmp R q (key x)) as (λ b. cond b (Some x) (row_at R key xs q) ≡ None → (b ≡ false) × (row_at R key xs q ≡ None)) [
-    | true ↦ λ is. absurd (some_is_none x is)
-    | false ↦ λ is. (refl, is)
-  ] none
-
-  -- a new row between others keeps the keys apart
-  pub Distinct-between : (front : List X) (y : X) (rest : List X) → Distinct R key (front ++ rest) → row_at R key (front ++ rest) (key y) ≡ None → Distinct R key (front ++ y ∷ rest)
-  Distinct-between [] y rest d none = (none, d)
-  Distinct-between (x ∷ front) y rest d none =
-      let not = none_of_both x (front ++ rest) (key y) none in
-      let apart = (eq_by_cmp_equiv o).symm (key x) (key y) ∙ not.0 in (
-        row_at-between o exact key front y rest (key x) not.1 ∙ (ap (λ b. cond b (Some y) (row_at R key (front ++ rest) (key x))) apart ∙ d.0),
-        Distinct-between front y rest d.1 not.1,
-      )
+-- a name as a key of indexes
+pub named : (name : StateName) (r : Row) → name ≡ r.state.name → ◌≡◌ {A = ByName} (record { 0 = name }) (by_name r)
+named name r same = ap (λ (n : StateName). record { 0 = n }) same
 
 module _ {K X : Type 0} {R : K → K → Ordering} (o : IsTotalOrder R) (exact : IsAntisymmetric R) (p : X → Bool) where
   passes : (v : X) (xs : List X) → find p xs ≡ Some v → p v ≡ true

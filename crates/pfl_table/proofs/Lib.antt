@@ -4,12 +4,9 @@ pub mod Scanned
 pub mod Foremost
 pub mod Earliest
 pub mod Setting
-pub mod Mapped
 pub mod Tables
 pub mod Expiries
 pub mod Keyed
-pub mod Linked
-pub mod Indexed
 pub mod Ranked
 pub mod Flows
 pub mod Viewed

@@ -12,14 +12,16 @@ use Rattle.pfl_edits.specs.Maps as maps
 use Rattle.pfl_edits.proofs.ForCallers.{entries-from_sorted, filed, entries-map_of, some_is_none}
 use Rattle.pfl_edits.specs.Ordered.{IsBelow, IsRising}
 use Rattle.pfl_edits.specs.Rows.{map_of}
-use Rattle.pfl_chains.specs.Lists.{Link, link, Lists, Place, links_of, last_slot}
-use Rattle.pfl_chains.proofs.ForCallers.{Stands}
+use Rattle.pfl_containers.specs.declared.by_name.ByName.{ByName}
+use Rattle.pfl_containers.specs.Lists.{Link, link, Lists, Place, links_of, last_slot}
+use Rattle.pfl_containers.specs.NameKeys.{by_name_cmp}
+use Rattle.pfl_containers.specs.Mapped.{at_value}
+use Rattle.pfl_containers.specs.SlotIndexes.{IsIndex, HasNone, key_of}
+use Rattle.pfl_containers.specs.inner.NameOrder.{by_name_total}
+use Rattle.pfl_containers.proofs.ForCallers.{Stands, entries-map_values}
 use Rattle.pfl_table.specs.declared.row.Row.{Row}
-use Rattle.pfl_table.specs.declared.keys.ByName.{ByName}
-use Rattle.pfl_table.specs.Mapped.{at_value}
-use Rattle.pfl_table.proofs.Mapped.{entries-map_values}
-use Rattle.pfl_table.specs.inner.Ordering.{by_name, by_name_cmp, by_name_total}
-use Rattle.pfl_table.specs.inner.Filed.{IsIndex, HasNone, FoundAt, NameGap, key_of, name_of, slot_of_link}
+use Rattle.pfl_table.specs.inner.Ordering.{by_name}
+use Rattle.pfl_table.specs.inner.Filed.{FoundAt, NameGap, name_of, slot_of_link}
 use Rattle.pfl_table.proofs.Ranked.{Parts, parts}
 use Rattle.pfl_table.proofs.Scanned.{find-map}
 
@@ -41,7 +43,7 @@ entries-of (l ∷ links) = ap (λ (es : List (ByName × ℕ)). entry_of l ∷ es
 listed : (list : List (ByName × ℕ)) (links : List (Link Row)) → T (is_sorted by_name_cmp list) → IsIndex by_name_cmp by_name links (maps.from_sorted list) → IsRising name_cmp (key_of name_of) links → list ≡ map entry_of links
 listed list links sorted i r =
     sym (entries-from_sorted by_name_cmp list sorted)
-    ∙ (ap maps.entries i.slots
+    ∙ (ap maps.entries i.is
     ∙ (entries-map_values by_name_cmp slot_of_link (map_of by_name_cmp (key_of by_name) links)
     ∙ (ap (map (at_value slot_of_link)) (entries-map_of by_name_total (key_of by_name) links (rising-by_name links r)) ∙ entries-of links)))
 

@@ -7,11 +7,12 @@ use Rattle.pfl_base.specs.Names.{name_cmp}
 use Rattle.pfl_base.proofs.ForCallers.{names_total, names_exact}
 use Rattle.pfl_edits.specs.Maps as maps
 use Rattle.pfl_edits.proofs.ForCallers.{len-insert, Distinct-rising, row_at, Distinct, some_is_none}
-use Rattle.pfl_table.proofs.Keyed.{key_of_row}
-use Rattle.pfl_chains.specs.Lists.{Link}
+use Rattle.pfl_containers.specs.Lists.{Link}
+use Rattle.pfl_containers.specs.SlotIndexes.{HasNone, key_of}
+use Rattle.pfl_containers.proofs.ForCallers.{key_of_row}
 use Rattle.pfl_table.specs.declared.row.Row.{Row}
 use Rattle.pfl_table.specs.Tables.{IsTable, with_row}
-use Rattle.pfl_table.specs.inner.Filed.{Filing, AreFiled, HasNone, GainsRow, LosesRow, ChangesRow, key_of, name_of, rows_of, table_of, row_of_link}
+use Rattle.pfl_table.specs.inner.Filed.{Filing, AreFiled, GainsRow, LosesRow, ChangesRow, name_of, rows_of, table_of, row_of_link}
 use Rattle.pfl_table.proofs.Replaced.{table-gains, table-loses, table-changes}
 use Rattle.pfl_table.proofs.Setting.{without_none}
 use Rattle.pfl_table.proofs.Viewed.{get-rows_of, len-rows_of}

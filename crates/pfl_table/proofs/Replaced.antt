@@ -14,20 +14,21 @@ use Rattle.pfl_edits.specs.Maps as maps
 use Rattle.pfl_edits.specs.Maps.{Map, set_at}
 use Rattle.pfl_edits.proofs.ForCallers.{get-set_at_same, get-set_at_other, set_at-set_at, row_at, Distinct, Distinct-without, map_of-between, map_of-without, some_is_none}
 use Rattle.pfl_edits.specs.Rows.{map_of}
-use Rattle.pfl_table.proofs.Keyed.{key_of_row}
-use Rattle.pfl_chains.specs.Lists.{Link, link}
+use Rattle.pfl_containers.specs.declared.by_name.ByName.{ByName}
+use Rattle.pfl_containers.specs.Lists.{Link, link}
+use Rattle.pfl_containers.specs.NameKeys.{by_name_cmp}
+use Rattle.pfl_containers.specs.Mapped.{map_values}
+use Rattle.pfl_containers.specs.SlotIndexes.{HasNone, key_of}
+use Rattle.pfl_containers.specs.inner.NameOrder.{by_name_total, by_name_exact}
+use Rattle.pfl_containers.proofs.ForCallers.{key_of_row, map_values-set_at, found-stands, has_none}
 use Rattle.pfl_track.specs.declared.state.State.{State}
 use Rattle.pfl_track.specs.States.{IsState}
 use Rattle.pfl_table.specs.declared.row.Row.{Row}
-use Rattle.pfl_table.specs.declared.keys.ByName.{ByName}
 use Rattle.pfl_table.specs.declared.keys.Flow.{Flow}
-use Rattle.pfl_table.specs.Mapped.{map_values}
-use Rattle.pfl_table.proofs.Mapped.{map_values-set_at}
-use Rattle.pfl_table.specs.inner.Ordering.{number_of, version_of, flow_of, flow_cmp, flow_total, flow_exact, by_name, by_name_cmp, by_name_total, by_name_exact, expiry_of, expiry_cmp, expiry_total, expiry_exact, name_in}
+use Rattle.pfl_table.specs.inner.Ordering.{number_of, version_of, flow_of, flow_cmp, flow_total, flow_exact, by_name, expiry_of, expiry_cmp, expiry_total, expiry_exact, name_in}
 use Rattle.pfl_table.specs.Tables.{Table, IsTable, AreStates, states_of, with_row}
 use Rattle.pfl_table.proofs.Tables.{get-states_of}
-use Rattle.pfl_table.specs.inner.Filed.{Filing, AreStated, HasNone, HasNoKey, OthersHaveNoKey, GainsRow, LosesRow, ChangesRow, key_of, name_of, wire_flow, stack_flow, rows_of, table_of, row_of_link}
-use Rattle.pfl_table.proofs.Linked.{found-stands, has_none}
+use Rattle.pfl_table.specs.inner.Filed.{Filing, AreStated, HasNoKey, OthersHaveNoKey, GainsRow, LosesRow, ChangesRow, name_of, wire_flow, stack_flow, rows_of, table_of, row_of_link}
 use Rattle.pfl_table.proofs.Viewed.{found-again, get-rows_of}
 
 -- ---- flows of states are keys

@@ -12,16 +12,17 @@ use Rattle.pfl_base.proofs.ForCallers.{names_total, names_exact}
 use Rattle.pfl_edits.specs.Maps as maps
 use Rattle.pfl_edits.specs.Maps.{Map}
 use Rattle.pfl_edits.specs.Ordered.{IsRising}
-use Rattle.pfl_table.proofs.Keyed.{key_of_row}
+use Rattle.pfl_containers.specs.Lists.{Link, link, Lists, Place, links_of, with_links, count_of}
+use Rattle.pfl_containers.specs.NameKeys.{by_name_cmp}
+use Rattle.pfl_containers.specs.SlotIndexes.{IsIndex, key_of}
+use Rattle.pfl_containers.specs.inner.NameOrder.{by_name_total, by_name_exact}
+use Rattle.pfl_containers.proofs.ForCallers.{key_of_row, Stands, length-with_links, links_of-same, found-stands, index-get}
 use Rattle.pfl_edits.proofs.ForCallers.{row_at, some_is_none}
-use Rattle.pfl_chains.specs.Lists.{Link, link, Lists, Place, links_of, with_links, count_of}
-use Rattle.pfl_chains.proofs.ForCallers.{Stands, length-with_links, links_of-same}
 use Rattle.pfl_track.specs.States.{IsState}
 use Rattle.pfl_table.specs.declared.row.Row.{Row}
 use Rattle.pfl_table.specs.declared.indexes.Indexes.{Indexes}
-use Rattle.pfl_table.specs.inner.Ordering.{by_name, by_name_cmp, by_name_total, by_name_exact}
-use Rattle.pfl_table.specs.inner.Filed.{IsIndex, AreIndexes, AreStated, IsStored, FoundAt, HasNoKey, Gains, Loses, MayChange, Changes, NameGap, GainsRow, LosesRow, ChangesRow, key_of, name_of, slot_of_link}
-use Rattle.pfl_table.proofs.Linked.{found-stands, index-get}
+use Rattle.pfl_table.specs.inner.Ordering.{by_name}
+use Rattle.pfl_table.specs.inner.Filed.{AreIndexes, AreStated, IsStored, FoundAt, HasNoKey, Gains, Loses, MayChange, Changes, NameGap, GainsRow, LosesRow, ChangesRow, name_of, slot_of_link}
 use Rattle.pfl_table.proofs.Ranked.{rising-with, rising-without, rising-changed}
 use Rattle.pfl_table.proofs.Replaced.{stated-with, stated-without}
 

@@ -8,10 +8,10 @@ use Rattle.pfl_base.proofs.ForCallers.{names_total, names_exact}
 use Rattle.pfl_edits.specs.Maps.{set_at}
 use Rattle.pfl_edits.specs.Maps as maps
 use Rattle.pfl_edits.proofs.ForCallers.{LeadsBack-one, get-set_at_same, set_at-back}
+use Rattle.pfl_containers.specs.Mapped.{map_values}
+use Rattle.pfl_containers.proofs.ForCallers.{get-map_values, map_values-set_at, len-map_values, values-map_values, keys-map_values, map_values-empty}
 use Rattle.pfl_table.specs.declared.row.Row.{Row}
 use Rattle.pfl_table.specs.Tables.{Table, IsTable, with_row, edit_of, Finds, put_back, TableLeadsBack, states_of}
-use Rattle.pfl_table.specs.Mapped.{map_values}
-use Rattle.pfl_table.proofs.Mapped.{get-map_values, map_values-set_at, len-map_values, values-map_values, keys-map_values, map_values-empty}
 
 -- the edit of what was set under a name leads back
 pub edit_of-leads_back : (t : Table) (name : StateName) (at : Option Row) → IsTable t → TableLeadsBack (edit_of t name at ∷ []) t (with_row t name at)

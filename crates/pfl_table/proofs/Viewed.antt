@@ -15,19 +15,18 @@ use Rattle.pfl_edits.specs.Maps as maps
 use Rattle.pfl_edits.specs.Ordered.{IsRising}
 use Rattle.pfl_edits.proofs.ForCallers.{Distinct-rising, values-map_of, keys-map_of, row_at, Distinct, own_key, same_key, get-map_of, len-map_of, some_is_none}
 use Rattle.pfl_edits.specs.Rows.{map_of}
-use Rattle.pfl_table.proofs.Keyed.{key_of_row}
+use Rattle.pfl_containers.specs.Lists.{Link}
+use Rattle.pfl_containers.specs.SlotIndexes.{key_of, HasNone}
+use Rattle.pfl_containers.proofs.ForCallers.{key_of_row, get-map_values, values-map_values, keys-map_values, len-map_values, found-stands, not_its_key, stands-found}
 use Rattle.pfl_table.proofs.Keyed.{first_value-none, first_value-some}
-use Rattle.pfl_chains.specs.Lists.{Link}
 use Rattle.pfl_track.specs.declared.state.State.{State}
 use Rattle.pfl_table.specs.declared.row.Row.{Row}
 use Rattle.pfl_table.specs.declared.keys.Flow.{Flow}
-use Rattle.pfl_table.proofs.Mapped.{get-map_values, values-map_values, keys-map_values, len-map_values}
 use Rattle.pfl_table.specs.inner.Ordering.{flow_of, flow_cmp, flow_total, flow_exact}
 use Rattle.pfl_table.specs.Tables.{states_of}
 use Rattle.pfl_table.proofs.Tables.{get-states_of}
-use Rattle.pfl_table.specs.inner.Filed.{Filing, key_of, name_of, rows_of, table_of, row_of_link, HasNone}
+use Rattle.pfl_table.specs.inner.Filed.{Filing, name_of, rows_of, table_of, row_of_link}
 use Rattle.pfl_table.proofs.Flows.{key_is}
-use Rattle.pfl_table.proofs.Linked.{found-stands, not_its_key, stands-found}
 
 -- an option mapped twice
 pub mapped_twice : {X Y Z : Type 0} (f : Y → Z) (g : X → Y) (o : Option X) → option_map f (option_map g o) ≡ option_map (λ x. f (g x)) o

@@ -18,12 +18,12 @@ use Rattle.pfl_rules.specs.declared.adaptive.Adaptive.{Adaptive}
 use Rattle.pfl_rules.specs.Scaling.{scaled}
 use Rattle.pfl_track.specs.declared.state.State.{State}
 use Rattle.pfl_track.specs.Tracking.{expiry}
+use Rattle.pfl_containers.specs.Mapped.{map_values}
 use Rattle.pfl_table.specs.declared.row.Row.{Row}
 use Rattle.pfl_table.specs.declared.fault.PutFault.{PutFault}
 use Rattle.pfl_table.specs.declared.fault.PutFault.TheVariants.{Full, NameInUse, WireInUse, StackInUse}
 use Rattle.pfl_table.specs.declared.edit.TableEdit.{TableEdit}
 use Rattle.pfl_table.specs.contracts.row.Row as row
-use Rattle.pfl_table.specs.Mapped.{map_values}
 
 -- states by name
 abbrev pub States : Type 0

@@ -4,10 +4,10 @@ ghost use Rattle.std.specs.Prelude.{◌≡◌, ◌<◌, ◌==◌, ℕ, true, fal
 ghost use Rattle.std.specs.Option.{option_map_or};
 ghost use Rattle.std.specs.Ordering.{nat_cmp};
 ghost use Rattle.pfl_edits.specs.Maps as maps;
-ghost use Rattle.pfl_order.specs.Entries.{map_of};
+ghost use Rattle.pfl_containers.specs.OrderEntries.{map_of};
 ghost use Rattle.pfl_table.specs.inner.Counts.{count_at, one_less, one_more};
 
-use pfl_order::OrderedMap;
+use pfl_containers::OrderedMap;
 use std::alloc::Allocator;
 
 /// How many rows a rule has.

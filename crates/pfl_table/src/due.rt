@@ -4,11 +4,11 @@ ghost use Rattle.std.specs.List.{slice_get};
 ghost use Rattle.std.specs.Option.{option_map};
 ghost use Rattle.std.specs.Prelude.{◌≡◌, Some};
 ghost use Rattle.pfl_base.specs.Lists.{in_order};
-ghost use Rattle.pfl_order.specs.Entries.{AreEntries};
+ghost use Rattle.pfl_containers.specs.OrderEntries.{AreEntries};
 ghost use Rattle.pfl_table.specs.inner.Ordering.{due_before, earlier as earlier_of, expiry_cmp};
 
 use crate::keys::Expiry;
-use pfl_order::OrderedMap;
+use pfl_containers::OrderedMap;
 use pfl_rules::Adaptive;
 use std::alloc::Allocator;
 

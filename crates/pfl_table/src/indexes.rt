@@ -2,16 +2,15 @@
 
 ghost use Rattle.std.specs.Prelude.{◌≡◌, [], IfOk, Some};
 ghost use Rattle.pfl_edits.specs.Maps as maps;
-ghost use Rattle.pfl_order.specs.Entries.{map_of};
+ghost use Rattle.pfl_containers.specs.OrderEntries.{map_of};
 ghost use Rattle.pfl_table.specs.inner.Ordering.{expiry_cmp};
 ghost use Rattle.pfl_table.specs.inner.Filed.{AreIndexes, MayGain, Gains, Loses, MayChange, Changes};
 
 use crate::counts::{count_less, count_more, recount};
-use crate::keys::{ByName, Expiry, Flow};
+use crate::keys::{Expiry, Flow};
 use crate::row::Row;
+use pfl_containers::{ByName, HashIndex, Ordered, OrderedMap};
 use pfl_edits::NoMemory;
-use pfl_hash::HashIndex;
-use pfl_order::{Ordered, OrderedMap};
 use std::alloc::Allocator;
 
 /// The slots of rows, by each of their keys, and how many of them each rule has.

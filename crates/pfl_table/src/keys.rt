@@ -2,12 +2,11 @@
 
 ghost use Rattle.std.specs.Prelude.{◌≡◌, false};
 ghost use Rattle.std.specs.Ordering.{is_lt};
-ghost use Rattle.pfl_table.specs.inner.Ordering.{by_name_cmp, by_name_hash, by_name_total, by_name_exact, flow_of, number_of as address_number, version_of as address_version, halves as halves_of, flow_cmp, flow_hash, flow_total, flow_exact, expiry_cmp, expiry_total, expiry_exact, expiry_of, name_in, due_at, due_before, last_of_timeout as last_of_timeout_of};
+ghost use Rattle.pfl_table.specs.inner.Ordering.{flow_of, number_of as address_number, version_of as address_version, halves as halves_of, flow_cmp, flow_hash, flow_total, flow_exact, expiry_cmp, expiry_total, expiry_exact, expiry_of, name_in, due_at, due_before, last_of_timeout as last_of_timeout_of};
 
 use crate::row::Row;
 use pfl_base::{Addr, Key, Millis, StateName};
-use pfl_hash::{Hashed, mix};
-use pfl_order::Ordered;
+use pfl_containers::{Hashed, Ordered, mix};
 use pfl_rules::{Adaptive, scaled};
 use std::cmp::Ordering;
 
@@ -16,40 +15,6 @@ const PORTS: u64 = 1 << 16;
 
 /// How many protocols there are.
 const PROTOS: u64 = 1 << 8;
-
-/// A name, by which a row is filed.
-#[derive(Clone, Copy)]
-pub(crate) struct ByName(pub(crate) StateName);
-
-impl Hashed for ByName {
-    ghost order = { by_name_cmp };
-
-    ghost hash_of = { by_name_hash };
-
-    fn same(&self, other: &ByName) -> bool {
-        self.0 == other.0
-    }
-
-    fn hash(&self) -> u64 {
-        mix(mix(0, self.0.creator as u64), self.0.id)
-    }
-
-    ghost total = { by_name_total };
-
-    ghost exact = { by_name_exact };
-}
-
-impl Ordered for ByName {
-    ghost order = { by_name_cmp };
-
-    fn compare(self, other: ByName) -> Ordering {
-        self.0.compare(other.0)
-    }
-
-    ghost total = { by_name_total };
-
-    ghost exact = { by_name_exact };
-}
 
 /// The numbers that make a flow, in no more room than they need.
 #[derive(Clone, Copy, PartialEq, Eq)]

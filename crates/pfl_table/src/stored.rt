@@ -5,26 +5,27 @@ ghost use Rattle.std.specs.List.{count_by, slice_get};
 ghost use Rattle.std.specs.Ordering.{is_lt};
 ghost use Rattle.pfl_base.specs.Lists.{in_order};
 ghost use Rattle.pfl_base.specs.Names.{name_cmp};
+ghost use Rattle.pfl_containers.specs.Lists.{links_of as links_in};
+ghost use Rattle.pfl_containers.specs.NameKeys.{by_name_cmp};
+ghost use Rattle.pfl_containers.specs.SlotIndexes.{HasNone, IsIndex, key_of};
 ghost use Rattle.pfl_table.specs.Tables.{IsTable, row_before, with_row};
 ghost use Rattle.std.specs.Option.{option_copied, option_map};
-ghost use Rattle.pfl_chains.specs.Lists.{links_of as links_in};
 ghost use Rattle.pfl_edits.specs.Maps as maps;
 ghost use Rattle.pfl_edits.specs.Ordered.{IsRising};
 ghost use Rattle.pfl_edits.proofs.ForCallers.{row_at};
 ghost use Rattle.pfl_track.specs.States.{IsState};
-ghost use Rattle.pfl_table.specs.inner.Filed.{AreFiled, FoundAt, GainsRow, LosesRow, ChangesRow, HasNone, HasNoKey, OthersHaveNoKey, IsIndex, NameGap, key_of, name_of, wire_flow, stack_flow, row_of_link, rows_of, table_of};
+ghost use Rattle.pfl_table.specs.inner.Filed.{AreFiled, FoundAt, GainsRow, LosesRow, ChangesRow, HasNoKey, OthersHaveNoKey, NameGap, name_of, wire_flow, stack_flow, row_of_link, rows_of, table_of};
 ghost use Rattle.pfl_table.specs.inner.Counts.{has_rule};
-ghost use Rattle.pfl_table.specs.inner.Ordering.{by_name, by_name_cmp, flow_cmp, flow_of};
+ghost use Rattle.pfl_table.specs.inner.Ordering.{by_name, flow_cmp, flow_of};
 
 use crate::counts::count_of;
 use crate::due::first_due;
 use crate::indexes::Indexes;
-use crate::keys::{ByName, Flow};
+use crate::keys::Flow;
 use crate::row::Row;
 use pfl_base::{Key, StateName};
-use pfl_chains::Chains;
+use pfl_containers::{ByName, Chains, OrderedMap};
 use pfl_edits::{InOrder, NoMemory};
-use pfl_order::OrderedMap;
 use pfl_rules::Adaptive;
 use std::alloc::Allocator;
 use std::marker::Model;
@@ -40,7 +41,7 @@ pub(crate) struct Stored<A: Allocator> {
 }
 
 impl<A: Allocator> Model for Stored<A> {
-    ghost use Rattle.pfl_chains.specs.Lists.{links_of};
+    ghost use Rattle.pfl_containers.specs.Lists.{links_of};
     ghost use Rattle.pfl_table.specs.inner.Filed.{Filing, IsStored};
 
     ghost Value = { Filing };

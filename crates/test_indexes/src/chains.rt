@@ -1,9 +1,9 @@
 //! Lists linked by slots: each call once, a link that goes back to its place, and want of memory.
 ghost use Rattle.std.specs.Prelude.{◌≡◌, ◌∷◌, ◌++◌};
-ghost use Rattle.pfl_chains.specs.Lists.{Place, link, with_links};
+ghost use Rattle.pfl_containers.specs.Lists.{Place, link, with_links};
 
 use linked_list_allocator::LocalHeap;
-use pfl_chains::Chains;
+use pfl_containers::Chains;
 use std::alloc::{Allocator, Global};
 use std::test::*;
 use test_devices::Refusing;

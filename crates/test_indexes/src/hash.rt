@@ -6,12 +6,12 @@ ghost use Rattle.std.specs.FinMap.{nat_cmp-IsAntisymmetric, slice_cmp-IsAntisymm
 ghost use Rattle.std.proofs.Common.{ap};
 ghost use Rattle.std.proofs.lemmas.Cmp.{nat_cmp_total, nat_list_cmp_total};
 ghost use Rattle.pfl_edits.specs.Maps as maps;
-ghost use Rattle.pfl_hash.specs.Entries.{entry_map};
-ghost use Rattle.pfl_hash.specs.Hashes.{mixed};
+ghost use Rattle.pfl_containers.specs.HashEntries.{entry_map};
+ghost use Rattle.pfl_containers.specs.Hashes.{mixed};
 
 use linked_list_allocator::LocalHeap;
+use pfl_containers::{HashIndex, Hashed, mix};
 use pfl_edits::NoMemory;
-use pfl_hash::{HashIndex, Hashed, mix};
 use std::alloc::{Allocator, Global};
 use std::process::Abort;
 use std::test::*;

@@ -1,4 +1,4 @@
-//! Worked entries and lists, through the public calls of pfl_hash, pfl_order and pfl_chains, and want of memory.
+//! Worked entries and lists, through the public calls of pfl_containers, and want of memory.
 #![tactic(auto)]
 
 #[cfg(test)]

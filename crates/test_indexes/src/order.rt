@@ -1,8 +1,8 @@
 //! Maps in the order of their keys: set, searched, gone through, with many keys; want of memory.
 
 use linked_list_allocator::LocalHeap;
+use pfl_containers::{Ordered, OrderedMap};
 use pfl_edits::NoMemory;
-use pfl_order::{Ordered, OrderedMap};
 use std::alloc::{Allocator, Global};
 use std::test::*;
 use test_devices::Refusing;

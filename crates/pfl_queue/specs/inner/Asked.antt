@@ -2,10 +2,10 @@
 use Rattle.std.specs.Prelude.{◌≤◌, ℕ, List}
 use Rattle.pfl_base.specs.declared.state_name.StateName.{StateName}
 use Rattle.pfl_edits.specs.Maps as maps
-use Rattle.pfl_hash.specs.Entries.{EntryList}
-use Rattle.pfl_queue.specs.declared.marks.ByName.{ByName}
-use Rattle.pfl_queue.specs.inner.Marked.{by_name_cmp}
-use Rattle.pfl_queue.specs.inner.Slots.{IsIndexOf}
+use Rattle.pfl_containers.specs.declared.by_name.ByName.{ByName}
+use Rattle.pfl_containers.specs.HashEntries.{EntryList}
+use Rattle.pfl_containers.specs.NameKeys.{by_name_cmp}
+use Rattle.pfl_containers.specs.SlotIndexes.{IsIndexOf}
 
 -- the names in the order in which they were listed, and how many there is room for
 pub record Asked : Type 0 where

@@ -10,20 +10,19 @@ use Rattle.std.proofs.lemmas.Cmp.{on_total, then_total}
 use Rattle.std.proofs.lemmas.Map.Lookups.{exact_pairs, exact_unsigned}
 use Rattle.pfl_base.specs.declared.state_name.StateName.{StateName}
 use Rattle.pfl_base.specs.Names.{name_cmp}
-use Rattle.pfl_base.proofs.ForCallers.{names_total, names_exact}
 use Rattle.pfl_edits.specs.Maps as maps
 use Rattle.pfl_edits.specs.Maps.{Map}
 use Rattle.pfl_edits.specs.Rows.{map_of}
 use Rattle.pfl_edits.proofs.ForCallers.{Distinct}
-use Rattle.pfl_chains.specs.Lists.{Link, Lists, links_of}
-use Rattle.pfl_hash.specs.Entries.{EntryList}
-use Rattle.pfl_hash.specs.Hashes.{mixed}
-use Rattle.pfl_order.specs.Entries.{EntryList as TurnList}
+use Rattle.pfl_containers.specs.declared.by_name.ByName.{ByName}
+use Rattle.pfl_containers.specs.HashEntries.{EntryList}
+use Rattle.pfl_containers.specs.OrderEntries.{EntryList as TurnList}
+use Rattle.pfl_containers.specs.Lists.{Link, Lists, links_of}
+use Rattle.pfl_containers.specs.NameKeys.{by_name_cmp}
+use Rattle.pfl_containers.specs.SlotIndexes.{IsIndex}
 use Rattle.pfl_queue.specs.declared.Mark.{Mark}
-use Rattle.pfl_queue.specs.declared.marks.ByName.{ByName}
 use Rattle.pfl_queue.specs.declared.marks.Turn.{Turn}
 use Rattle.pfl_queue.specs.inner.Rising.{IsRising}
-use Rattle.pfl_queue.specs.inner.Slots.{IsIndex}
 use Rattle.pfl_queue.specs.Taking.{kind_place}
 
 -- ---- what the indexes go by
@@ -31,22 +30,6 @@ use Rattle.pfl_queue.specs.Taking.{kind_place}
 -- the key that a mark stands under: its name
 abbrev pub by_name : Mark → ByName
 by_name m = record { 0 = m.name }
-
--- the order of these keys is that of names
-abbrev pub by_name_cmp : ByName → ByName → Ordering
-by_name_cmp = on (λ n. n.0) name_cmp
-
--- the hash of a name mixes its creator and its id
-abbrev pub by_name_hash : ByName → ℕ
-by_name_hash n = mixed (mixed 0 n.0.creator) n.0.id
-
--- the order is total,
-pub by_name_total : IsTotalOrder by_name_cmp
-by_name_total = on_total (λ n. n.0) names_total
-
--- and names that compare as equal are one
-pub by_name_exact : IsAntisymmetric by_name_cmp
-by_name_exact a b e = ap (λ (n : StateName). record { 0 = n }) (names_exact a.0 b.0 e)
 
 -- the turn of a mark: the place of its kind, and its number
 abbrev pub turn_of : Mark → Turn

@@ -1,7 +1,7 @@
 -- Links in the order of a number that each value has, and where a number belongs among them. No contract of a public call cites
 -- this.
 use Rattle.std.specs.Prelude.{◌≡◌, ◌≢◌, ◌<◌, ℕ, List, [], ◌∷◌, ◌++◌, Option}
-use Rattle.pfl_chains.specs.Lists.{Link, Lists, links_of, last_slot}
+use Rattle.pfl_containers.specs.Lists.{Link, Lists, links_of, last_slot}
 
 -- each link's number is above n
 abbrev pub IsAbove : {V : Type 0} → (V → ℕ) → ℕ → List (Link V) → Type 0

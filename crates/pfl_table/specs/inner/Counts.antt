@@ -4,7 +4,7 @@ use Rattle.std.specs.Option.{option_map_or, unwrap_or}
 use Rattle.std.specs.Ordering.{nat_cmp}
 use Rattle.pfl_edits.specs.Maps as maps
 use Rattle.pfl_edits.specs.Maps.{Map}
-use Rattle.pfl_chains.specs.Lists.{Link}
+use Rattle.pfl_containers.specs.Lists.{Link}
 use Rattle.pfl_table.specs.declared.row.Row.{Row}
 
 -- how often the map counts a rule

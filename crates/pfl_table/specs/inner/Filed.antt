@@ -1,7 +1,6 @@
 -- Rows at slots, in the order of their names, and what the indexes have of them.
-use Rattle.std.specs.Prelude.{◌≡◌, ℕ, ◌<◌, ◌≤◌, List, [], ◌∷◌, ◌++◌, length, Option, None, IfSome}
+use Rattle.std.specs.Prelude.{◌≡◌, ℕ, ◌<◌, ◌≤◌, List, [], ◌∷◌, ◌++◌, length, Option, IfSome}
 use Rattle.std.specs.Option.{option_map}
-use Rattle.std.specs.declared.cmp.Ordering.{Ordering}
 use Rattle.pfl_base.specs.declared.state_name.StateName.{StateName}
 use Rattle.pfl_base.specs.Names.{name_cmp}
 use Rattle.pfl_edits.specs.Maps as maps
@@ -9,15 +8,17 @@ use Rattle.pfl_edits.specs.Maps.{Map}
 use Rattle.pfl_edits.specs.Ordered.{IsRising, IsBelow}
 use Rattle.pfl_edits.specs.inner.Ordered.{IsAbove}
 use Rattle.pfl_edits.specs.Rows.{map_of}
-use Rattle.pfl_edits.proofs.ForCallers.{row_at, Distinct}
-use Rattle.pfl_chains.specs.Lists.{Link, link, Lists, Gap, links_of}
-use Rattle.pfl_chains.proofs.ForCallers.{Stands}
+use Rattle.pfl_edits.proofs.ForCallers.{Distinct}
+use Rattle.pfl_containers.specs.Lists.{Link, link, Lists, Gap, links_of}
+use Rattle.pfl_containers.specs.NameKeys.{by_name_cmp}
+use Rattle.pfl_containers.specs.Mapped.{map_values}
+use Rattle.pfl_containers.specs.SlotIndexes.{key_of, IsIndex, HasNone}
+use Rattle.pfl_containers.proofs.ForCallers.{Stands}
 use Rattle.pfl_track.specs.States.{IsState}
 use Rattle.pfl_table.specs.declared.row.Row.{Row}
 use Rattle.pfl_table.specs.declared.keys.Flow.{Flow}
 use Rattle.pfl_table.specs.declared.indexes.Indexes.{Indexes}
-use Rattle.pfl_table.specs.Mapped.{map_values}
-use Rattle.pfl_table.specs.inner.Ordering.{by_name, by_name_cmp, flow_of, flow_cmp, expiry_of, expiry_cmp}
+use Rattle.pfl_table.specs.inner.Ordering.{by_name, flow_of, flow_cmp, expiry_of, expiry_cmp}
 use Rattle.pfl_table.specs.inner.Counts.{counts_of}
 use Rattle.pfl_table.specs.Tables.{Table}
 
@@ -41,17 +42,9 @@ slot_of_link l = l.slot
 abbrev pub row_of_link : Link Row → Row
 row_of_link l = l.value
 
--- the key of a link is that of its row
-abbrev pub key_of : {K : Type 0} → (Row → K) → Link Row → K
-key_of key l = key l.value
-
 -- the row of a name
 abbrev pub name_of : Row → StateName
 name_of r = r.state.name
-
--- the slots, by a key of the row at each
-abbrev pub slots_of : {K : Type 0} (R : K → K → Ordering) → (Row → K) → List (Link Row) → Map R ℕ
-slots_of R key links = map_values (λ l. l.slot) (map_of R (key_of key) links)
 
 -- the rows, by their names
 abbrev pub rows_of : List (Link Row) → Map name_cmp Row
@@ -60,15 +53,6 @@ rows_of links = map_values (λ l. l.value) (map_of name_cmp (key_of name_of) lin
 -- the table that they stand for
 abbrev pub table_of : Filing → Table
 table_of f = record { limit = f.limit; rows = rows_of f.links }
-
--- the map has the slot of each row under the row's key, and no two rows have one
-pub record IsIndex {K : Type 0} (R : K → K → Ordering) (key : Row → K) (links : List (Link Row)) (m : Map R ℕ) : Type 0 where
-  pub slots : m ≡ slots_of R key links
-  pub apart : Distinct R (key_of key) links
-
--- no row has this key
-abbrev pub HasNone : {K : Type 0} (R : K → K → Ordering) → (Row → K) → List (Link Row) → K → Type 0
-HasNone R key links q = row_at R (key_of key) links q ≡ None
 
 -- ---- the indexes of rows
 

@@ -17,8 +17,8 @@ use Rattle.pfl_base.specs.Names.{name_cmp}
 use Rattle.pfl_base.proofs.ForCallers.{names_total, names_exact}
 use Rattle.pfl_rules.specs.declared.adaptive.Adaptive.{Adaptive}
 use Rattle.pfl_rules.specs.Scaling.{scaled}
-use Rattle.pfl_hash.specs.Hashes.{mixed}
-use Rattle.pfl_table.specs.declared.keys.ByName.{ByName}
+use Rattle.pfl_containers.specs.declared.by_name.ByName.{ByName}
+use Rattle.pfl_containers.specs.Hashes.{mixed}
 use Rattle.pfl_table.specs.declared.keys.Flow.{Flow}
 use Rattle.pfl_table.specs.declared.keys.Expiry.{Expiry}
 use Rattle.pfl_table.specs.declared.row.Row.{Row}
@@ -27,18 +27,6 @@ use Rattle.pfl_table.specs.declared.row.Row.{Row}
 
 abbrev pub by_name : Row → ByName
 by_name r = record { 0 = r.state.name }
-
-abbrev pub by_name_cmp : ByName → ByName → Ordering
-by_name_cmp = on (λ n. n.0) name_cmp
-
-abbrev pub by_name_hash : ByName → ℕ
-by_name_hash n = mixed (mixed 0 n.0.creator) n.0.id
-
-pub by_name_total : IsTotalOrder by_name_cmp
-by_name_total = on_total (λ n. n.0) names_total
-
-pub by_name_exact : IsAntisymmetric by_name_cmp
-by_name_exact a b e = ap (λ (n : StateName). record { 0 = n }) (names_exact a.0 b.0 e)
 
 -- ---- flows
 

@@ -1,8 +1,8 @@
 use Rattle.std.proofs.Common.{◌∙◌, sym}
 use Rattle.std.specs.Ordering.{nat_cmp}
 use Rattle.std.specs.Cmp.{nat_cmp_total}
-use Rattle.pfl_order.specs.Entries.{map_of}
-use Rattle.pfl_order.proofs.ForCallers.{room_to_change}
+use Rattle.pfl_containers.specs.OrderEntries.{map_of}
+use Rattle.pfl_containers.proofs.ForCallers.{room_to_change}
 use Rattle.pfl_table.proofs.Counted.{is_counted, few_less, many_less}
 use Rattle.pfl_table.proofs.counts.count_one_less.Goals as goal
 

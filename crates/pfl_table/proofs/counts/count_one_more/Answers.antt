@@ -1,7 +1,7 @@
 use Rattle.std.proofs.Common.{◌+◌, ◌∙◌, ap, arith}
 use Rattle.std.specs.Ordering.{nat_cmp}
 use Rattle.pfl_edits.specs.Maps as maps
-use Rattle.pfl_order.specs.Entries.{map_of}
+use Rattle.pfl_containers.specs.OrderEntries.{map_of}
 use Rattle.pfl_table.proofs.counts.count_one_more.Goals as goal
 
 pub prove-unreachable-requires : goal.prove-unreachable-requires

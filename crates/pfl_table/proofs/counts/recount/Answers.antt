@@ -2,7 +2,7 @@ use Rattle.std.proofs.Common.{ℕ, Option, ◌∙◌, ap, sym, arith}
 use Rattle.std.specs.Ordering.{nat_cmp}
 use Rattle.pfl_edits.specs.Maps as maps
 use Rattle.pfl_edits.specs.Maps.{Map}
-use Rattle.pfl_order.specs.Entries.{map_of}
+use Rattle.pfl_containers.specs.OrderEntries.{map_of}
 use Rattle.pfl_table.specs.inner.Counts.{count_at, one_less, one_more}
 use Rattle.pfl_table.proofs.counts.recount.Goals as goal
 

@@ -2,9 +2,8 @@ use Rattle.std.proofs.Common.{Some, None, ◌∙◌, ap, sym, arith}
 use Rattle.std.specs.Ordering.{is_eq}
 use Rattle.pfl_edits.specs.Maps as maps
 use Rattle.pfl_edits.proofs.ForCallers.{equal_is, set_at-back}
-use Rattle.pfl_hash.proofs.ForCallers.{shorter}
-use Rattle.pfl_order.specs.Entries.{map_of}
-use Rattle.pfl_order.proofs.ForCallers.{len-map_of}
+use Rattle.pfl_containers.specs.OrderEntries.{map_of}
+use Rattle.pfl_containers.proofs.ForCallers.{shorter, len-map_of}
 use Rattle.pfl_table.specs.inner.Ordering.{expiry_cmp, expiry_total, expiry_exact}
 use Rattle.pfl_table.proofs.indexes.move_expiry.Goals as goal
 

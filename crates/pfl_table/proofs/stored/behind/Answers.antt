@@ -1,5 +1,5 @@
 use Rattle.std.proofs.Common.{◌∙◌}
-use Rattle.pfl_chains.specs.Lists.{links_of}
+use Rattle.pfl_containers.specs.Lists.{links_of}
 use Rattle.pfl_table.proofs.Listed.{find-listed, some_row, no_row, next-at, last-gap}
 use Rattle.pfl_table.proofs.stored.behind.Goals as goal
 

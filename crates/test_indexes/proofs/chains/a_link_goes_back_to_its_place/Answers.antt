@@ -1,6 +1,6 @@
 use Rattle.std.proofs.Common.{◌≡◌, [], ◌∷◌, refl, sym, subst, arith}
-use Rattle.pfl_chains.specs.Lists.{Lists, Place, link, links_of, with_links}
-use Rattle.pfl_chains.proofs.ForCallers.{Place-new, length-with_links, links_of-same}
+use Rattle.pfl_containers.specs.Lists.{Lists, Place, link, links_of, with_links}
+use Rattle.pfl_containers.proofs.ForCallers.{Place-new, length-with_links, links_of-same}
 use Rattle.test_indexes.specs.declared.chains.Entry.{Entry}
 use Rattle.test_indexes.proofs.chains.a_link_goes_back_to_its_place.Goals as goal
 

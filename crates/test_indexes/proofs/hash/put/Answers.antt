@@ -1,6 +1,6 @@
 use Rattle.std.proofs.Common.{◌<◌, length, arith}
 use Rattle.std.proofs.lemmas.Grind.{common_steps}
-use Rattle.pfl_hash.proofs.ForCallers.{room_for_one}
+use Rattle.pfl_containers.proofs.ForCallers.{room_for_one}
 use Rattle.test_indexes.proofs.hash.put.Goals as goal
 
 pub set-requires : goal.set-requires

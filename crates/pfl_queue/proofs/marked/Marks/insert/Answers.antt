@@ -1,10 +1,11 @@
 use Rattle.std.proofs.Common.{◌≡◌, ◌<◌, None, length, refl, sym, subst, arith}
 use Rattle.pfl_edits.specs.Maps as maps
-use Rattle.pfl_chains.specs.Lists.{Lists}
+use Rattle.pfl_containers.specs.Lists.{Lists}
+use Rattle.pfl_containers.specs.inner.NameOrder.{by_name_total, by_name_exact}
+use Rattle.pfl_containers.proofs.ForCallers.{index-room}
 use Rattle.pfl_queue.specs.declared.Mark.{Mark}
-use Rattle.pfl_queue.specs.inner.Marked.{marks_of, all_links, by_name, by_name_total, by_name_exact, turn_of, turn_total, turn_exact, IsNew}
+use Rattle.pfl_queue.specs.inner.Marked.{marks_of, all_links, by_name, turn_of, turn_total, turn_exact, IsNew}
 use Rattle.pfl_queue.specs.Taking.{kind_place}
-use Rattle.pfl_queue.proofs.Indexed.{index-room}
 use Rattle.pfl_queue.proofs.Joined.{count-all}
 use Rattle.pfl_queue.proofs.Marking.{len-marks, new-number, marked-more, marks-more, kind-within}
 use Rattle.pfl_queue.proofs.marked.Marks.insert.Goals as goal

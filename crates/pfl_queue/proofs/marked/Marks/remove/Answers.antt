@@ -1,5 +1,5 @@
 use Rattle.std.proofs.Common.{rules, ◌∙◌, ap, sym}
-use Rattle.pfl_chains.specs.Lists.{Lists}
+use Rattle.pfl_containers.specs.Lists.{Lists}
 use Rattle.pfl_queue.specs.declared.Mark.{Mark}
 use Rattle.pfl_queue.specs.inner.Marked.{turn_of}
 use Rattle.pfl_queue.proofs.Marking.{name-place, removed-none, none-less, marked-less, marks-less}

@@ -1,15 +1,16 @@
 use Rattle.std.proofs.Common.{◌≡◌, ℕ, Option, ◌∷◌, ◌++◌, ◌∙◌, ap, sym, arith, length-append}
 use Rattle.std.specs.Ordering.{nat_cmp}
+use Rattle.pfl_containers.specs.OrderEntries.{map_of}
+use Rattle.pfl_containers.specs.Lists.{link}
+use Rattle.pfl_containers.specs.inner.NameOrder.{by_name_total, by_name_exact}
+use Rattle.pfl_containers.proofs.ForCallers.{index-has, index-kept, moved, renamed_to}
 use Rattle.pfl_table.specs.inner.Counts.{count_at, counts_of, one_less, one_more}
 use Rattle.pfl_table.proofs.Counted.{count-few, len-counts, counts-with, counts-without}
 use Rattle.pfl_edits.specs.Maps as maps
 use Rattle.pfl_edits.specs.Maps.{Map}
-use Rattle.pfl_chains.specs.Lists.{link}
-use Rattle.pfl_order.specs.Entries.{map_of}
-use Rattle.pfl_table.specs.inner.Ordering.{by_name, by_name_total, by_name_exact, flow_of, flow_total, flow_exact, expiry_of, expiry_total, expiry_exact}
+use Rattle.pfl_table.specs.inner.Ordering.{by_name, flow_of, flow_total, flow_exact, expiry_of, expiry_total, expiry_exact}
 use Rattle.pfl_table.specs.inner.Filed.{wire_flow, stack_flow}
-use Rattle.pfl_table.proofs.Linked.{index-has, index-kept}
-use Rattle.pfl_table.proofs.Indexed.{moved, renamed_to, named}
+use Rattle.pfl_table.proofs.Keyed.{named}
 use Rattle.pfl_table.proofs.indexes.Indexes.change.Goals as goal
 
 pub move_expiry-requires : goal.move_expiry-requires

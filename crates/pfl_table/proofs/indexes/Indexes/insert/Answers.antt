@@ -2,13 +2,15 @@ use Rattle.std.proofs.Common.{ℕ, Option, ◌++◌, ◌∙◌, ap, sym, arith}
 use Rattle.std.specs.Ordering.{nat_cmp}
 use Rattle.pfl_edits.specs.Maps as maps
 use Rattle.pfl_edits.specs.Maps.{Map}
-use Rattle.pfl_chains.specs.Lists.{link}
-use Rattle.pfl_order.specs.Entries.{map_of}
+use Rattle.pfl_containers.specs.OrderEntries.{map_of}
+use Rattle.pfl_containers.specs.Lists.{link}
+use Rattle.pfl_containers.specs.inner.NameOrder.{by_name_total, by_name_exact}
+use Rattle.pfl_containers.proofs.ForCallers.{index-room, gained}
 use Rattle.pfl_table.specs.inner.Counts.{count_at, one_more}
 use Rattle.pfl_table.proofs.Counted.{count-few, len-counts, counts-with}
-use Rattle.pfl_table.specs.inner.Ordering.{by_name, by_name_total, by_name_exact, flow_of, flow_total, flow_exact, expiry_of, expiry_total, expiry_exact}
+use Rattle.pfl_table.specs.inner.Ordering.{by_name, flow_of, flow_total, flow_exact, expiry_of, expiry_total, expiry_exact}
 use Rattle.pfl_table.specs.inner.Filed.{wire_flow, stack_flow}
-use Rattle.pfl_table.proofs.Indexed.{index-room, gained, named}
+use Rattle.pfl_table.proofs.Keyed.{named}
 use Rattle.pfl_table.proofs.indexes.Indexes.insert.Goals as goal
 
 pub insert-requires : goal.insert-requires

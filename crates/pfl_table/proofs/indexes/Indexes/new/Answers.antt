@@ -1,10 +1,10 @@
 use Rattle.std.proofs.Common.{ℕ, List, ◌∙◌, ap}
 use Rattle.std.specs.Ordering.{nat_cmp}
-use Rattle.pfl_table.specs.inner.Ordering.{by_name, by_name_total, by_name_exact, flow_total, flow_exact, expiry_of, expiry_total, expiry_exact}
+use Rattle.pfl_containers.specs.inner.NameOrder.{by_name_total, by_name_exact}
+use Rattle.pfl_containers.proofs.ForCallers.{entry_map-none, index-new}
+use Rattle.pfl_table.specs.inner.Ordering.{by_name, flow_total, flow_exact, expiry_of, expiry_total, expiry_exact}
 use Rattle.pfl_table.specs.inner.Filed.{wire_flow, stack_flow}
 use Rattle.pfl_edits.specs.Maps as maps
-use Rattle.pfl_hash.proofs.ForCallers.{entry_map-none}
-use Rattle.pfl_table.proofs.Indexed.{index-new}
 use Rattle.pfl_table.proofs.indexes.Indexes.new.Goals as goal
 
 pub returns : goal.returns

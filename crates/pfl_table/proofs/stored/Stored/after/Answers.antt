@@ -4,9 +4,11 @@ use Rattle.std.specs.Ordering.{is_lt}
 use Rattle.pfl_base.specs.Names.{name_cmp}
 use Rattle.pfl_edits.specs.Maps as maps
 use Rattle.pfl_edits.specs.Ordered.{IsRising}
+use Rattle.pfl_containers.specs.NameKeys.{by_name_cmp}
+use Rattle.pfl_containers.specs.SlotIndexes.{IsIndex, key_of}
 use Rattle.pfl_table.specs.declared.row.Row.{Row}
-use Rattle.pfl_table.specs.inner.Ordering.{by_name, by_name_cmp}
-use Rattle.pfl_table.specs.inner.Filed.{Filing, IsIndex, key_of, name_of, row_of_link}
+use Rattle.pfl_table.specs.inner.Ordering.{by_name}
+use Rattle.pfl_table.specs.inner.Filed.{Filing, name_of, row_of_link}
 use Rattle.pfl_table.proofs.Listed.{find-listed, some_row, no_row, above-found}
 use Rattle.pfl_table.proofs.Scanned.{find-map}
 use Rattle.pfl_table.proofs.stored.Stored.after.Goals as goal

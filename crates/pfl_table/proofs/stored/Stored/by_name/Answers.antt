@@ -1,8 +1,11 @@
 use Rattle.std.proofs.Common.{◌∙◌, ap, subst}
 use Rattle.std.specs.Option.{option_map}
 use Rattle.pfl_edits.specs.Maps as maps
-use Rattle.pfl_table.specs.inner.Ordering.{by_name, by_name_cmp, by_name_total, by_name_exact}
-use Rattle.pfl_table.specs.inner.Filed.{Filing, IsIndex, row_of_link}
+use Rattle.pfl_containers.specs.NameKeys.{by_name_cmp}
+use Rattle.pfl_containers.specs.SlotIndexes.{IsIndex}
+use Rattle.pfl_containers.specs.inner.NameOrder.{by_name_total, by_name_exact}
+use Rattle.pfl_table.specs.inner.Ordering.{by_name}
+use Rattle.pfl_table.specs.inner.Filed.{Filing, row_of_link}
 use Rattle.pfl_table.proofs.Storing.{index-found, by_name-found}
 use Rattle.pfl_table.proofs.stored.Stored.by_name.Goals as goal
 

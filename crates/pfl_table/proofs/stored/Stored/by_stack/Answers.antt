@@ -2,9 +2,10 @@ use Rattle.std.proofs.Common.{◌∙◌, ap, subst}
 use Rattle.std.specs.Option.{option_map}
 use Rattle.pfl_edits.specs.Maps as maps
 use Rattle.pfl_edits.proofs.ForCallers.{row_at}
+use Rattle.pfl_containers.specs.SlotIndexes.{IsIndex, key_of}
 use Rattle.pfl_table.specs.declared.keys.Flow.{Flow}
 use Rattle.pfl_table.specs.inner.Ordering.{flow_cmp, flow_total, flow_exact}
-use Rattle.pfl_table.specs.inner.Filed.{Filing, IsIndex, key_of, stack_flow, row_of_link}
+use Rattle.pfl_table.specs.inner.Filed.{Filing, stack_flow, row_of_link}
 use Rattle.pfl_table.proofs.Storing.{index-found}
 use Rattle.pfl_table.proofs.stored.Stored.by_stack.Goals as goal
 

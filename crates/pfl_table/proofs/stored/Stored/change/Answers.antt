@@ -2,8 +2,9 @@ use Rattle.std.proofs.Common.{Some, ◌∙◌, ap, sym, arith}
 use Rattle.std.specs.Option.{option_map}
 use Rattle.pfl_base.specs.Names.{name_cmp}
 use Rattle.pfl_edits.proofs.ForCallers.{row_at}
-use Rattle.pfl_chains.specs.Lists.{links_of}
-use Rattle.pfl_table.specs.inner.Filed.{Filing, key_of, name_of, row_of_link}
+use Rattle.pfl_containers.specs.Lists.{links_of}
+use Rattle.pfl_containers.specs.SlotIndexes.{key_of}
+use Rattle.pfl_table.specs.inner.Filed.{Filing, name_of, row_of_link}
 use Rattle.pfl_table.proofs.Storing.{name-place, name-none, one-counted, stored-changes, changes-row, may-change}
 use Rattle.pfl_table.proofs.stored.Stored.change.Goals as goal
 

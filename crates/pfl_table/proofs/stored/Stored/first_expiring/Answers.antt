@@ -3,8 +3,9 @@ use Rattle.pfl_base.specs.Names.{name_cmp}
 use Rattle.pfl_edits.specs.Maps as maps
 use Rattle.pfl_edits.specs.Ordered.{IsRising}
 use Rattle.pfl_edits.proofs.ForCallers.{Distinct-rising}
+use Rattle.pfl_containers.specs.SlotIndexes.{IsIndex, key_of}
 use Rattle.pfl_table.specs.inner.Ordering.{expiry_of, expiry_cmp}
-use Rattle.pfl_table.specs.inner.Filed.{Filing, IsIndex, key_of, name_of}
+use Rattle.pfl_table.specs.inner.Filed.{Filing, name_of}
 use Rattle.pfl_table.proofs.First.{first-found}
 use Rattle.pfl_table.proofs.stored.Stored.first_expiring.Goals as goal
 

@@ -2,9 +2,11 @@ use Rattle.std.proofs.Common.{◌∙◌, ap, sym, subst}
 use Rattle.pfl_base.specs.declared.state_name.StateName.{StateName}
 use Rattle.pfl_base.specs.Names.{name_cmp}
 use Rattle.pfl_edits.proofs.ForCallers.{row_at}
-use Rattle.pfl_chains.specs.Lists.{links_of}
-use Rattle.pfl_table.specs.inner.Ordering.{by_name, by_name_cmp}
-use Rattle.pfl_table.specs.inner.Filed.{Filing, HasNone, HasNoKey, NameGap, key_of, name_of}
+use Rattle.pfl_containers.specs.Lists.{links_of}
+use Rattle.pfl_containers.specs.NameKeys.{by_name_cmp}
+use Rattle.pfl_containers.specs.SlotIndexes.{HasNone, key_of}
+use Rattle.pfl_table.specs.inner.Ordering.{by_name}
+use Rattle.pfl_table.specs.inner.Filed.{Filing, HasNoKey, NameGap, name_of}
 use Rattle.pfl_table.proofs.Storing.{by_name-found, stored-gains, gains-row}
 use Rattle.pfl_table.proofs.stored.Stored.insert.Goals as goal
 

@@ -1,9 +1,0 @@
-use Rattle.std.proofs.Common.{◌≡◌, length}
-use Rattle.pfl_chains.specs.inner.Rings.{AreAlone}
-use Rattle.pfl_chains.proofs.rings.Rings.new.Given as goal
-
-abbrev pub invariant-loop-node : goal.invariant-loop-node
-invariant-loop-node g l = record {
-  count : length l.nodes.items ≡ l.node;
-  alone : AreAlone l.nodes.items;
-}

@@ -1,0 +1,190 @@
+-- What each call of an arena leaves in it.
+use Rattle.std.proofs.Common.{◌≡◌, ◌<◌, ◌-◌, ◌+◌, inl, inr, ℕ, zero, suc, cond, T, List, [], ◌∷◌, ◌++◌, length, length-append, set, Option, Some, None, is_some, refl, sym, ap, subst, ◌∙◌, arith, vec_len, vec_capacity}
+use Rattle.std.specs.Prelude.{slice_get}
+use Rattle.std.specs.Option.{option_map}
+use Rattle.std.specs.Vec.{with_items}
+use Rattle.std.proofs.lemmas.List.{with_items_is}
+use Rattle.std.specs.declared.vec.Vec.{Vec}
+use Rattle.std.specs.declared.cmp.Ordering.{Ordering}
+use Rattle.std.specs.Cmp.{IsTotalOrder}
+use Rattle.std.specs.FinMap.Entries.{put, find, is_sorted, is_sorted-put, is_sorted-where_key, length-put, length_without}
+use Rattle.pfl_containers.specs.declared.order.node.Node.{Node}
+use Rattle.pfl_containers.specs.declared.order.changes.Parted.{Parted}
+use Rattle.pfl_containers.specs.declared.order.arena.Arena.{Arena}
+use Rattle.pfl_containers.specs.inner.Trees.{Tree, leaf, fork_of, once, entries, uses, Holds, Makes, Joins}
+use Rattle.pfl_containers.specs.inner.Searches.{under, Finds}
+use Rattle.pfl_containers.specs.inner.Changes.{without, Inserts, Parts, Removes}
+use Rattle.pfl_containers.specs.inner.Arenas.{Fills, none_held, Stores, HasRoom, TakesPlace, Locates, Changes, Gains, Loses}
+use Rattle.pfl_containers.proofs.Standing.{Holds-kept, uses_within, used_within, one_or_other, once_same, once_other}
+use Rattle.pfl_containers.proofs.Searching.{find-under, fork_of-under}
+use Rattle.pfl_containers.proofs.Changing.{changed}
+
+slice_get-front : {A : Type 0} (xs ys : List A) (j : ℕ) → j < length xs → slice_get (xs ++ ys) j ≡ slice_get xs j
+slice_get-front [] ys j h = absurd (omega arith)
+slice_get-front (x ∷ xs) ys zero h = refl
+slice_get-front (x ∷ xs) ys (suc j) h = slice_get-front xs ys j (omega arith)
+
+module _ {K V : Type 0} {limit capacity : ℕ} {nodes : List (Node K V)} {root free : Option ℕ} {t : Tree K V} {held : ℕ → ℕ} {count : ℕ} (f : Fills limit capacity nodes root free t held count)
+    {new : List (Node K V)} {es : List (K × V)} {u : ℕ → ℕ} {link : Option ℕ} (m : Makes nodes new es u link) (hold : ℕ → ℕ) (more : ℕ) where
+  -- the tree is made anew,
+  pub fills_made : ((j : ℕ) → hold j + u j ≡ held j + uses t j) → more + length es ≡ count + length (entries t) → Fills limit capacity new link free m.tree hold more
+  fills_made places counts = record {
+    spare = f.spare;
+    holds = m.holds;
+    spare_holds = Holds-kept nodes new f.spare free f.spare_holds (λ j p. m.keeps j (omega (arith, places j, f.apart j)));
+    apart = λ j. omega (arith, places j, f.apart j, m.takes j);
+    counted = omega (arith, counts, f.counted, ap length m.lists, m.long);
+    few = omega (arith, f.few, m.long);
+    room = f.room;
+    short = f.short;
+  }
+
+  -- or that of the free places
+  pub fills_spared : ((j : ℕ) → hold j + u j ≡ held j + uses f.spare j) → more + length es ≡ count + length (entries f.spare) → Fills limit capacity new root link t hold more
+  fills_spared places counts = record {
+    spare = m.tree;
+    holds = Holds-kept nodes new t root f.holds (λ j p. m.keeps j (omega (arith, places j, f.apart j)));
+    spare_holds = m.holds;
+    apart = λ j. omega (arith, places j, f.apart j, m.takes j);
+    counted = omega (arith, counts, f.counted, ap length m.lists, m.long);
+    few = omega (arith, f.few, m.long);
+    room = f.room;
+    short = f.short;
+  }
+
+module _ {K V A : Type 0} {R : K → K → Ordering} (o : IsTotalOrder R) where
+  -- what is written back to the nodes is what they are then
+  pub written : (v : Vec (Node K V) A) (xs : List (Node K V)) → length xs ≡ length v.items → (with_items v xs).items ≡ xs
+  written v xs same = with_items_is v xs (same ∙ sym v.ok.0)
+
+  stored : (v : Vec (Node K V) A) (xs : List (Node K V)) → length xs ≡ length v.items → {limit len : ℕ} {root free : Option ℕ} {es : List (K × V)} {t : Tree K V} → Fills limit (vec_capacity v) xs root free t none_held 0
+      → entries t ≡ es → T (is_sorted R es) → len ≡ length es → Stores R limit (record { nodes = with_items v xs; root = root; free = free; len = len }) es
+  stored v xs same {limit} {len} {root} {free} {es} {t} f lists sorted long = record {
+    tree = t;
+    fills = subst (λ (ns : List (Node K V)). Fills limit (vec_capacity v) ns root free t none_held 0) (sym (written v xs same)) f;
+    lists = lists;
+    sorted = sorted;
+    long = long;
+  }
+
+  -- what is known of the tree of an arena
+  module _ {limit : ℕ} {a : Arena K V A} {es : List (K × V)} (s : Stores R limit a es) where
+    tree_sorted : T (is_sorted R (entries s.tree))
+    tree_sorted = subst (λ (fs : List (K × V)). T (is_sorted R fs)) (sym s.lists) s.sorted
+
+    found_some : (q : K) (place : ℕ) (node : Node K V) → under R s.tree q ≡ Some (place, node) → find R q (entries s.tree) ≡ Some node.value
+    found_some q place node is = find-under o s.tree q tree_sorted ∙ ap (option_map (λ p. p.1.value)) is
+
+    -- an arena in which a search finds a node is not empty
+    pub some_entry : (q : K) (place : ℕ) (node : Node K V) → under R s.tree q ≡ Some (place, node) → 0 < a.len
+    some_entry q place node is = let l = not_empty (entries s.tree) (found_some q place node is) in omega (arith, l, s.long, ap length s.lists)
+      where
+        not_empty : (fs : List (K × V)) → find R q fs ≡ Some node.value → 0 < length fs
+        not_empty [] e = absurd (cc)
+        not_empty (x ∷ fs) e = omega arith
+
+  pub changes : (old : Arena K V A) (place : ℕ) (node : Node K V) (v : V) (xs : List (Node K V)) → xs ≡ set old.nodes.items place (record node { value = v })
+      → Changes R old (record { nodes = with_items old.nodes xs; root = old.root; free = old.free; len = old.len }) place node v
+  changes old place node v xs is = record {
+    stores = λ limit es s q at.
+        let m = changed o old.nodes.items s.tree old.root s.fills.holds (λ j. omega (arith, s.fills.apart j)) (tree_sorted s) q v place node at in
+        let same = length-put R o q v (entries s.tree) (tree_sorted s) ∙ ap (λ (found : Option V). cond (is_some found) (length (entries s.tree)) (length (entries s.tree) + 1)) (found_some s q place node at) in
+        stored old.nodes xs (ap length is ∙ m.long)
+        (subst (λ (ns : List (Node K V)). Fills limit (vec_capacity old.nodes) ns old.root old.free m.tree none_held 0) (sym is) (fills_made s.fills m none_held 0 (λ j. refl) (omega (arith, same))))
+        (m.lists ∙ ap (put R q v) s.lists) (is_sorted-put R o q v es s.sorted) (omega (arith, s.long, same, ap (λ (fs : List (K × V)). length (put R q v fs)) s.lists, ap length s.lists));
+  }
+
+  pub gains : (old mid : Arena K V A) (place : ℕ) (item : Node K V) (xs : List (Node K V)) (link : Option ℕ) → TakesPlace R old mid place → Inserts R mid.nodes.items xs mid.root place item mid.len link → item.left ≡ None → item.right ≡ None
+      → Gains R old (record { nodes = with_items mid.nodes xs; root = link; free = mid.free; len = mid.len + 1 }) item.key item.value
+  gains old mid place item xs link takes inserts left right = record {
+    stores = λ limit es s less absent.
+        let f = takes.holding limit es s less in
+        let none : find R item.key (entries s.tree) ≡ None = ap (find R item.key) s.lists ∙ absent in
+        let m = inserts.makes s.tree (record {
+          holds = f.holds;
+          left = left;
+          right = right;
+          within = takes.within;
+          apart = λ j. omega (arith, f.apart j);
+          sorted = tree_sorted s;
+          absent = none;
+          deep = omega (arith, takes.long, s.long, ap length s.lists);
+        }) in
+        let more = length-put R o item.key item.value (entries s.tree) (tree_sorted s) ∙ ap (λ (found : Option V). cond (is_some found) (length (entries s.tree)) (length (entries s.tree) + 1)) none in
+        stored mid.nodes xs m.long (fills_made f m none_held 0 (λ j. omega arith) (omega (arith, more)))
+        (m.lists ∙ ap (put R item.key item.value) s.lists) (is_sorted-put R o item.key item.value es s.sorted)
+        (omega (arith, takes.long, s.long, more, ap (λ (fs : List (K × V)). length (put R item.key item.value fs)) s.lists, ap length s.lists));
+  }
+
+  pub loses : (old : Arena K V A) (q : K) (place : ℕ) (node freed : Node K V) (mid xs : List (Node K V)) (link free : Option ℕ) → Removes R old.nodes.items mid old.root q old.len link → Joins mid xs place freed free → freed.left ≡ None → freed.right ≡ old.free
+      → Loses R old (record { nodes = with_items old.nodes xs; root = link; free = free; len = old.len - 1 }) q place node
+  loses old q place node freed mid xs link free removes joins left right = record {
+    stores = λ limit es s at.
+        let f = s.fills in
+        let sheds = removes.makes s.tree f.holds (λ j. omega (arith, f.apart j)) (tree_sorted s) (omega (arith, s.long, ap length s.lists)) place node at in
+        let less = ap (λ (found : Option V). cond (is_some found) 1 0 + length (without R q (entries s.tree))) (sym (found_some s q place node at)) ∙ length_without R o q (entries s.tree) (tree_sorted s) in
+        let pending = fills_made f sheds.made (once place) 1 (λ j. omega (arith, sheds.takes j)) (omega (arith, less)) in
+        let within = used_within old.nodes.items s.tree old.root f.holds place (omega (arith, sheds.takes place, once_same place place refl)) in
+        let m = joins.makes leaf pending.spare (record {
+          left = left;
+          right = subst (Holds mid pending.spare) (sym right) pending.spare_holds;
+          within = omega (arith, within, sheds.made.long);
+          apart = λ j. omega (arith, pending.apart j);
+        }) in
+        stored old.nodes xs (m.long ∙ sheds.made.long) (fills_spared pending m none_held 0 (λ j. omega arith) (omega arith))
+        (sheds.made.lists ∙ ap (without R q) s.lists) (is_sorted-where_key R _ es s.sorted)
+        (omega (arith, s.long, less, ap (λ (fs : List (K × V)). length (without R q fs)) s.lists, ap length s.lists));
+  }
+
+  pub takes_free : (old : Arena K V A) (first : Parted K V) (xs : List (Node K V)) (steps : ℕ) → HasRoom R old → steps ≡ vec_len old.nodes → Parts old.nodes.items xs old.free steps (Some first)
+      → TakesPlace R old (record { nodes = with_items old.nodes xs; root = old.root; free = first.rest; len = old.len }) first.place
+  takes_free old first xs steps room is_len parts =
+      let all = is_len ∙ old.nodes.ok.0 in
+      let parted = λ (limit : ℕ) (es : List (K × V)) (s : Stores R limit old es). parts.makes s.fills.spare s.fills.spare_holds (λ j. omega (arith, s.fills.apart j)) (omega (arith, all, s.fills.counted)) in
+      let own = parted room.limit room.es room.stores in
+      let same = written old.nodes xs own.sheds.made.long in
+      record {
+        holding = λ limit es s less.
+            let p = parted limit es s in
+            subst (λ (ns : List (Node K V)). Fills limit (vec_capacity old.nodes) ns old.root first.rest s.tree (once first.place) 1) (sym same)
+            (fills_spared s.fills p.sheds.made (once first.place) 1 (λ j. omega (arith, p.sheds.takes j)) (omega (arith, ap length p.lists)));
+        within = omega (arith, own.within, own.sheds.made.long, ap length same);
+        long = refl;
+      }
+
+  pub takes_new : (old : Arena K V A) (item : Node K V) (xs : List (Node K V)) (steps : ℕ) → HasRoom R old → steps ≡ vec_len old.nodes → Parts old.nodes.items xs old.free steps None
+      → (v : Vec (Node K V) A) → v.items ≡ (with_items old.nodes xs).items ++ item ∷ [] → vec_capacity v ≡ vec_capacity old.nodes
+      → TakesPlace R old (record { nodes = v; root = old.root; free = old.free; len = old.len }) steps
+  takes_new old item xs steps room is_len parts v items capacity =
+      let all = is_len ∙ old.nodes.ok.0 in
+      let none = λ (limit : ℕ) (es : List (K × V)) (s : Stores R limit old es). parts.makes s.fills.spare s.fills.spare_holds (λ j. omega (arith, s.fills.apart j)) (omega (arith, all, s.fills.counted)) in
+      let own = none room.limit room.es room.stores in
+      let is : v.items ≡ old.nodes.items ++ item ∷ [] = items ∙ ap (λ (ns : List (Node K V)). ns ++ item ∷ []) (written old.nodes xs (ap length own.1) ∙ own.1) in
+      let longer = ap length is ∙ length-append old.nodes.items (item ∷ []) in
+      record {
+        holding = λ limit es s less.
+            let f = s.fills in
+            let kept = λ (t : Tree K V) (link : Option ℕ) (h : Holds old.nodes.items t link). Holds-kept old.nodes.items v.items t link h (λ j p. ap (λ (ns : List (Node K V)). slice_get ns j) is ∙ slice_get-front old.nodes.items (item ∷ []) j (used_within old.nodes.items t link h j p)) in
+            let spare = ap (λ (u : Tree K V). length (entries u)) (none limit es s).0 in
+            record {
+              spare = f.spare;
+              holds = kept s.tree old.root f.holds;
+              spare_holds = kept f.spare old.free f.spare_holds;
+              apart = λ j. elim (one_or_other steps j) [
+                | inl e ↦ omega (arith, once_same steps j e, uses_within old.nodes.items s.tree old.root f.holds j (omega (arith, e, all)), uses_within old.nodes.items f.spare old.free f.spare_holds j (omega (arith, e, all)))
+                | inr e ↦ omega (arith, once_other steps j e, f.apart j)
+              ];
+              counted = omega (arith, f.counted, longer);
+              few = omega (arith, f.counted, longer, spare, less, ap length s.lists);
+              room = omega (arith, f.room, capacity);
+              short = f.short;
+            };
+        within = omega (arith, all, longer);
+        long = refl;
+      }
+
+  pub locates : (a : Arena K V A) (q : K) (place : Option ℕ) (found : Option (ℕ × Node K V)) → Finds R a.nodes.items a.root q a.len place → found ≡ fork_of a.nodes.items place → Locates R a q found
+  locates a q place found finds is = record {
+    is = λ limit es s.
+        is ∙ (ap (fork_of a.nodes.items) (finds.is s.tree s.fills.holds (omega (arith, s.long, ap length s.lists))) ∙ fork_of-under R a.nodes.items s.tree a.root s.fills.holds q);
+  }

@@ -1,0 +1,32 @@
+-- maps by hash
+pub mod HashEntries
+pub mod Found
+pub mod Free
+pub mod Reached
+pub mod Sound
+pub mod Closing
+pub mod Fields
+-- maps in the order of their keys
+pub mod OrderEntries
+pub mod Sorted
+pub mod Searching
+pub mod Standing
+pub mod Changing
+pub mod Filling
+pub mod Mapping
+-- lists linked by slots
+pub mod Links
+pub mod Paths
+pub mod Walked
+pub mod Unlinked
+pub mod Inserted
+pub mod Kept
+pub mod Valued
+pub mod WalkEntries
+pub mod Views
+pub mod Made
+pub mod Places
+-- finite maps whose values are replaced, and maps of slots by the keys of values
+pub mod Mapped
+pub mod SlotIndexes
+pub mod ForCallers

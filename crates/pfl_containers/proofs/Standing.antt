@@ -1,0 +1,253 @@
+-- What a write leaves of the trees in an array, and how trees are joined.
+use Rattle.std.proofs.Common.{◌≡◌, ◌≢◌, ℕ, zero, suc, ◌+◌, ◌-◌, ◌≤◌, ◌<◌, ◌⊎◌, inl, inr, true, false, cond, List, [], ◌∷◌, ◌++◌, length, set, append_assoc, Option, Some, None, refl, sym, ap, subst, ◌∙◌, arith}
+use Rattle.std.specs.Prelude.{slice_get, ◌==◌}
+use Rattle.std.proofs.lemmas.List.{length-set}
+use Rattle.std.proofs.lemmas.Option.{slice_get_within}
+use borrow.Author.Tests.{eqb-true, eq-eqb}
+use Rattle.pfl_containers.specs.declared.order.node.Node.{Node}
+use Rattle.pfl_containers.specs.inner.Trees.{Tree, leaf, fork, fork_of, once, entries, uses, Holds, Makes, CanJoin, Joins, Steadies}
+
+get-set_same : {X : Type 0} (xs : List X) (i : ℕ) (x : X) → i < length xs → slice_get (set xs i x) i ≡ Some x
+get-set_same [] i x h = absurd (omega arith)
+get-set_same (y ∷ ys) zero x h = refl
+get-set_same (y ∷ ys) (suc i) x h = get-set_same ys i x (omega arith)
+
+get-set_other : {X : Type 0} (xs : List X) (i j : ℕ) (x : X) → i ≢ j → slice_get (set xs i x) j ≡ slice_get xs j
+get-set_other [] i j x apart = refl
+get-set_other (y ∷ ys) zero zero x apart = absurd (apart refl)
+get-set_other (y ∷ ys) zero (suc j) x apart = refl
+get-set_other (y ∷ ys) (suc i) zero x apart = refl
+get-set_other (y ∷ ys) (suc i) (suc j) x apart = get-set_other ys i j x (λ e. apart (ap suc e))
+
+-- a place is its own,
+pub once_same : (i j : ℕ) → i ≡ j → once i j ≡ 1
+once_same i j e = ap (λ b. cond b 1 0) (eq-eqb i j e)
+
+-- and no other
+pub once_apart : (i j : ℕ) → once i j ≡ 0 → i ≢ j
+once_apart i j z e = absurd (omega (arith, z, once_same i j e))
+
+pub one_or_other : (i j : ℕ) → (i ≡ j) ⊎ (i ≢ j)
+one_or_other i j = elim (i == j) as (λ b. (i == j) ≡ b → (i ≡ j) ⊎ (i ≢ j)) [
+  | true ↦ λ e. inl (eqb-true i j e)
+  | false ↦ λ e. inr (λ same. absurd (omega (arith, once_same i j same, ap {B = ℕ} (λ b. cond b 1 0) e)))
+] refl
+
+pub once_other : (i j : ℕ) → i ≢ j → once i j ≡ 0
+once_other i j apart = elim (i == j) as (λ b. (i == j) ≡ b → ◌≡◌ {A = ℕ} (cond b 1 0) 0) [ true ↦ λ e. absurd (apart (eqb-true i j e)) | false ↦ λ e. refl ] refl
+
+module _ {K V : Type 0} where
+  -- a tree stands as long as its nodes do
+  pub Holds-kept : (nodes new : List (Node K V)) (t : Tree K V) (link : Option ℕ) → Holds nodes t link → ((j : ℕ) → 0 < uses t j → slice_get new j ≡ slice_get nodes j) → Holds new t link
+  Holds-kept nodes new leaf link h same = h
+  Holds-kept nodes new (fork l i n r) link h same = (
+    h.0,
+    same i (omega (arith, once_same i i refl)) ∙ h.1,
+    Holds-kept nodes new l n.left h.2 (λ j p. same j (omega arith)),
+    Holds-kept nodes new r n.right h.3 (λ j p. same j (omega arith)),
+  )
+
+  -- a tree takes no place past the end
+  pub uses_within : (nodes : List (Node K V)) (t : Tree K V) (link : Option ℕ) → Holds nodes t link → (j : ℕ) → length nodes ≤ j → uses t j ≡ 0
+  uses_within nodes leaf link h j past = refl
+  uses_within nodes (fork l i n r) link h j past =
+      let within = slice_get_within nodes i n h.1 in
+      omega (arith, uses_within nodes l n.left h.2 j past, uses_within nodes r n.right h.3 j past, once_other i j (λ e. omega (arith, e, within, past)))
+
+  pub used_within : (nodes : List (Node K V)) (t : Tree K V) (link : Option ℕ) → Holds nodes t link → (j : ℕ) → 0 < uses t j → j < length nodes
+  used_within nodes t link h j used =
+      elim (one_or_other (length nodes - j) 0) [
+        | inl e ↦ absurd (omega (arith, used, uses_within nodes t link h j (omega (arith, e))))
+        | inr e ↦ omega (arith, e)
+      ]
+
+  -- the same, said of other entries and counts
+  pub Makes-as : {nodes new : List (Node K V)} {es fs : List (K × V)} {u v : ℕ → ℕ} {link : Option ℕ} → Makes nodes new es u link → es ≡ fs → ((j : ℕ) → u j ≡ v j) → Makes nodes new fs v link
+  Makes-as m lists takes = record {
+    tree = m.tree;
+    holds = m.holds;
+    lists = m.lists ∙ lists;
+    takes = λ j. m.takes j ∙ takes j;
+    keeps = λ j z. m.keeps j (takes j ∙ z);
+    long = m.long;
+  }
+
+  -- what a node at a link says of the tree there
+  pub record Stands (nodes : List (Node K V)) (t : Tree K V) (place : ℕ) (node : Node K V) : Type 0 where
+    pub l : Tree K V
+    pub r : Tree K V
+    pub is : t ≡ fork l place node r
+    pub left : Holds nodes l node.left
+    pub right : Holds nodes r node.right
+    pub at : slice_get nodes place ≡ Some node
+    pub within : place < length nodes
+
+  pub stands : (nodes : List (Node K V)) (t : Tree K V) (link : Option ℕ) → Holds nodes t link → (place : ℕ) (node : Node K V) → Some (place, node) ≡ fork_of nodes link → Stands nodes t place node
+  stands nodes leaf link h place node is = let no : Some (place, node) ≡ None = is ∙ ap (fork_of nodes) h in absurd (cc)
+  stands nodes (fork l i n r) link h place node is =
+      let both : Some (place, node) ≡ Some (i, n) = is ∙ (ap (fork_of nodes) h.0 ∙ ap (λ (o : Option (Node K V)). elim o [ None ↦ None | Some n ↦ Some (i, n) ]) h.1) in
+      let pair : (i, n) ≡ (place, node) = cc in
+      subst (λ (p : ℕ × Node K V). Stands nodes (fork l i n r) p.0 p.1) pair (record { l = l; r = r; is = refl; left = h.2; right = h.3; at = h.1; within = slice_get_within nodes i n h.1 })
+
+  -- and what no node says
+  pub stands_not : (nodes : List (Node K V)) (t : Tree K V) (link : Option ℕ) → Holds nodes t link → None ≡ fork_of nodes link → t ≡ leaf
+  stands_not nodes leaf link h is = refl
+  stands_not nodes (fork l i n r) link h is =
+      let no : None ≡ Some (i, n) = is ∙ (ap (fork_of nodes) h.0 ∙ ap (λ (o : Option (Node K V)). elim o [ None ↦ None | Some n ↦ Some (i, n) ]) h.1) in absurd (cc)
+
+  -- a node in its place joins the trees that it names
+  pub linked_joins : (nodes new : List (Node K V)) (place : ℕ) (node : Node K V) (height : ℕ) → new ≡ set nodes place (record node { height = height }) → Joins nodes new place node (Some place)
+  linked_joins nodes new place node height is = subst (λ (ns : List (Node K V)). Joins nodes ns place node (Some place)) (sym is) (record {
+    makes = λ l r can.
+        let n : Node K V = record node { height = height } in
+        let others : (j : ℕ) → once place j ≡ 0 → slice_get (set nodes place n) j ≡ slice_get nodes j = λ j z. get-set_other nodes place j n (once_apart place j z) in
+        record {
+          tree = fork l place n r;
+          holds = (
+            refl,
+            get-set_same nodes place n can.within,
+            Holds-kept nodes _ l node.left can.left (λ j p. others j (omega (arith, can.apart j))),
+            Holds-kept nodes _ r node.right can.right (λ j p. others j (omega (arith, can.apart j))),
+          );
+          lists = refl;
+          takes = λ j. refl;
+          keeps = λ j z. others j (omega (arith, z));
+          long = length-set nodes place n;
+        };
+  })
+
+  -- a node whose left tree was made joins it
+  pub join_left : {nodes mid new : List (Node K V)} {place : ℕ} (node : Node K V) {es : List (K × V)} {u : ℕ → ℕ} {part link : Option ℕ}
+      → Makes nodes mid es u part → (r : Tree K V) → Holds nodes r node.right → place < length nodes → ((j : ℕ) → u j + (once place j + uses r j) ≤ 1)
+      → Joins mid new place (record node { left = part }) link → Makes nodes new (es ++ (node.key, node.value) ∷ entries r) (λ j. u j + (once place j + uses r j)) link
+  join_left {nodes} {mid} {new} {place} node {es} {u} {part} {link} m r right within apart joins =
+      let n : Node K V = record node { left = part } in
+      let can : CanJoin mid m.tree r place n = record {
+        left = m.holds;
+        right = Holds-kept nodes mid r node.right right (λ j p. m.keeps j (omega (arith, apart j)));
+        within = omega (arith, within, m.long);
+        apart = λ j. omega (arith, m.takes j, apart j);
+      } in
+      let all = joins.makes m.tree r can in
+      record {
+        tree = all.tree;
+        holds = all.holds;
+        lists = all.lists ∙ ap (λ (fs : List (K × V)). fs ++ (node.key, node.value) ∷ entries r) m.lists;
+        takes = λ j. all.takes j ∙ ap (λ n. n + (once place j + uses r j)) (m.takes j);
+        keeps = λ j z. all.keeps j (omega (arith, m.takes j, z)) ∙ m.keeps j (omega (arith, z));
+        long = all.long ∙ m.long;
+      }
+
+  -- and one that stands where it did keeps it
+  pub stay_left : {nodes new : List (Node K V)} {place : ℕ} {node : Node K V} {es : List (K × V)} {u : ℕ → ℕ} {link : Option ℕ}
+      → Makes nodes new es u node.left → slice_get nodes place ≡ Some node → link ≡ Some place → (r : Tree K V) → Holds nodes r node.right → ((j : ℕ) → u j + (once place j + uses r j) ≤ 1)
+      → Makes nodes new (es ++ (node.key, node.value) ∷ entries r) (λ j. u j + (once place j + uses r j)) link
+  stay_left {nodes} {new} {place} {node} {es} {u} m at link_is r right apart = record {
+    tree = fork m.tree place node r;
+    holds = (
+      link_is,
+      m.keeps place (omega (arith, apart place, once_same place place refl)) ∙ at,
+      m.holds,
+      Holds-kept nodes new r node.right right (λ j p. m.keeps j (omega (arith, apart j))),
+    );
+    lists = ap (λ (fs : List (K × V)). fs ++ (node.key, node.value) ∷ entries r) m.lists;
+    takes = λ j. ap (λ n. n + (once place j + uses r j)) (m.takes j);
+    keeps = λ j z. m.keeps j (omega (arith, z));
+    long = m.long;
+  }
+
+  pub stay_right : {nodes new : List (Node K V)} {place : ℕ} {node : Node K V} {es : List (K × V)} {u : ℕ → ℕ} {link : Option ℕ}
+      → Makes nodes new es u node.right → slice_get nodes place ≡ Some node → link ≡ Some place → (l : Tree K V) → Holds nodes l node.left → ((j : ℕ) → uses l j + (once place j + u j) ≤ 1)
+      → Makes nodes new (entries l ++ (node.key, node.value) ∷ es) (λ j. uses l j + (once place j + u j)) link
+  stay_right {nodes} {new} {place} {node} {es} {u} m at link_is l left apart = record {
+    tree = fork l place node m.tree;
+    holds = (
+      link_is,
+      m.keeps place (omega (arith, apart place, once_same place place refl)) ∙ at,
+      Holds-kept nodes new l node.left left (λ j p. m.keeps j (omega (arith, apart j))),
+      m.holds,
+    );
+    lists = ap (λ (fs : List (K × V)). entries l ++ (node.key, node.value) ∷ fs) m.lists;
+    takes = λ j. ap (λ n. uses l j + (once place j + n)) (m.takes j);
+    keeps = λ j z. m.keeps j (omega (arith, z));
+    long = m.long;
+  }
+
+  -- and likewise on the right
+  pub join_right : {nodes mid new : List (Node K V)} {place : ℕ} (node : Node K V) {es : List (K × V)} {u : ℕ → ℕ} {part link : Option ℕ}
+      → Makes nodes mid es u part → (l : Tree K V) → Holds nodes l node.left → place < length nodes → ((j : ℕ) → uses l j + (once place j + u j) ≤ 1)
+      → Joins mid new place (record node { right = part }) link → Makes nodes new (entries l ++ (node.key, node.value) ∷ es) (λ j. uses l j + (once place j + u j)) link
+  join_right {nodes} {mid} {new} {place} node {es} {u} {part} {link} m l left within apart joins =
+      let n : Node K V = record node { right = part } in
+      let can : CanJoin mid l m.tree place n = record {
+        left = Holds-kept nodes mid l node.left left (λ j p. m.keeps j (omega (arith, apart j)));
+        right = m.holds;
+        within = omega (arith, within, m.long);
+        apart = λ j. omega (arith, m.takes j, apart j);
+      } in
+      let all = joins.makes l m.tree can in
+      record {
+        tree = all.tree;
+        holds = all.holds;
+        lists = all.lists ∙ ap (λ (fs : List (K × V)). entries l ++ (node.key, node.value) ∷ fs) m.lists;
+        takes = λ j. all.takes j ∙ ap (λ n. uses l j + (once place j + n)) (m.takes j);
+        keeps = λ j z. all.keeps j (omega (arith, m.takes j, z)) ∙ m.keeps j (omega (arith, z));
+        long = all.long ∙ m.long;
+      }
+
+  -- the tree of the left tree's node, with the node below it to the right
+  pub turn_right : {nodes mid new : List (Node K V)} {place top : ℕ} {node left : Node K V} {part link : Option ℕ}
+      → Some (top, left) ≡ fork_of nodes node.left → Joins nodes mid place (record node { left = left.right }) part → Joins mid new top (record left { right = part }) link
+      → Joins nodes new place node link
+  turn_right {nodes} {mid} {new} {place} {top} {node} {left} {part} {link} at first second = record {
+    makes = λ l r can.
+        let s = stands nodes l node.left can.left top left at in
+        let apart : (j : ℕ) → (uses s.l j + (once top j + uses s.r j)) + (once place j + uses r j) ≤ 1 =
+        λ j. subst (λ (t : Tree K V). uses t j + (once place j + uses r j) ≤ 1) s.is (can.apart j) in
+        let below = first.makes s.r r (record { left = s.right; right = can.right; within = can.within; apart = λ j. omega (arith, apart j) }) in
+        let all = join_right left below s.l s.left s.within (λ j. omega (arith, apart j)) second in
+        subst (λ (t : Tree K V). Makes nodes new (entries t ++ (node.key, node.value) ∷ entries r) (λ j. uses t j + (once place j + uses r j)) link) (sym s.is)
+        (Makes-as all (sym (append_assoc (entries s.l) ((left.key, left.value) ∷ entries s.r) ((node.key, node.value) ∷ entries r))) (λ j. omega arith));
+  }
+
+  -- and of the right tree's node, with the node below it to the left
+  pub turn_left : {nodes mid new : List (Node K V)} {place top : ℕ} {node right : Node K V} {part link : Option ℕ}
+      → Some (top, right) ≡ fork_of nodes node.right → Joins nodes mid place (record node { right = right.left }) part → Joins mid new top (record right { left = part }) link
+      → Joins nodes new place node link
+  turn_left {nodes} {mid} {new} {place} {top} {node} {right} {part} {link} at first second = record {
+    makes = λ l r can.
+        let s = stands nodes r node.right can.right top right at in
+        let apart : (j : ℕ) → uses l j + (once place j + (uses s.l j + (once top j + uses s.r j))) ≤ 1 =
+        λ j. subst (λ (t : Tree K V). uses l j + (once place j + uses t j) ≤ 1) s.is (can.apart j) in
+        let below = first.makes l s.l (record { left = can.left; right = s.left; within = can.within; apart = λ j. omega (arith, apart j) }) in
+        let all = join_left right below s.r s.right s.within (λ j. omega (arith, apart j)) second in
+        subst (λ (t : Tree K V). Makes nodes new (entries l ++ (node.key, node.value) ∷ entries t) (λ j. uses l j + (once place j + uses t j)) link) (sym s.is)
+        (Makes-as all (append_assoc (entries l) ((node.key, node.value) ∷ entries s.l) ((right.key, right.value) ∷ entries s.r)) (λ j. omega arith));
+  }
+
+  -- a tree that is left alone
+  pub left_alone : (nodes : List (Node K V)) (link : Option ℕ) → Steadies nodes nodes link link
+  left_alone nodes link = record {
+    makes = λ t h apart. record { tree = t; holds = h; lists = refl; takes = λ j. refl; keeps = λ j z. refl; long = refl };
+  }
+
+  -- a tree that is joined anew
+  pub joined_anew : {nodes new : List (Node K V)} {place : ℕ} {node : Node K V} {from link : Option ℕ} → Some (place, node) ≡ fork_of nodes from → Joins nodes new place node link → Steadies nodes new from link
+  joined_anew {nodes} {new} {place} {node} {from} {link} at joins = record {
+    makes = λ t h apart.
+        let s = stands nodes t from h place node at in
+        subst (λ (u : Tree K V). Makes nodes new (entries u) (uses u) link) (sym s.is)
+        (joins.makes s.l s.r (record { left = s.left; right = s.right; within = s.within; apart = λ j. subst (λ (u : Tree K V). uses u j ≤ 1) s.is (apart j) }));
+  }
+
+  -- a node whose left tree was steadied joins it
+  pub join_steady_left : {nodes mid new : List (Node K V)} {place : ℕ} (node : Node K V) {part link : Option ℕ} → Steadies nodes mid node.left part → Joins mid new place (record node { left = part }) link → Joins nodes new place node link
+  join_steady_left node steady joins = record {
+    makes = λ l r can. join_left node (steady.makes l can.left (λ j. omega (arith, can.apart j))) r can.right can.within can.apart joins;
+  }
+
+  -- and likewise on the right
+  pub join_steady_right : {nodes mid new : List (Node K V)} {place : ℕ} (node : Node K V) {part link : Option ℕ} → Steadies nodes mid node.right part → Joins mid new place (record node { right = part }) link → Joins nodes new place node link
+  join_steady_right node steady joins = record {
+    makes = λ l r can. join_right node (steady.makes r can.right (λ j. omega (arith, can.apart j))) l can.left can.within can.apart joins;
+  }

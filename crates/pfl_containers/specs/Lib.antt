@@ -1,0 +1,8 @@
+pub mod HashEntries
+pub mod Hashes
+pub mod OrderEntries
+pub mod Lists
+pub mod NameKeys
+pub mod Mapped
+pub mod SlotIndexes
+pub mod inner

@@ -1,0 +1,11 @@
+-- What only contracts of private functions and what a type keeps cite, and the proofs that an impl names: no public call says any of
+-- it. First what maps by hash have of it, then maps in order, then lists, and then names as keys.
+pub mod Homes
+pub mod HashSlots
+pub mod Arenas
+pub mod Changes
+pub mod Searches
+pub mod Trees
+pub mod Views
+pub mod Rings
+pub mod NameOrder

@@ -1,6 +1,0 @@
-use Rattle.std.proofs.Common.{sym, ◌∙◌}
-use Rattle.pfl_order.proofs.Entries.{len-map_of}
-use Rattle.pfl_order.proofs.map.OrderedMap.len.Goals as goal
-
-pub returns-clause-map : goal.returns-clause-map
-returns-clause-map g c = rw (← c.self.view_is) (c.self.invariant.long ∙ sym (len-map_of _ _ c.self.invariant.sorted))
