@@ -35,7 +35,7 @@ TOP = Path(__file__).resolve().parent.parent
 # Crates that are one to a page, so that it need not know in which of them a name stands.
 FAMILIES = {
     "pfl_lab": ("pfl_lab", "pfl_host", "pfl_run"),
-    "pfl_node": ("pfl_node", "pfl_parts", "pfl_receive"),
+    "pfl_node": ("pfl_node", "pfl_desk", "pfl_receive"),
     "test_publish": ("test_publish", "pfl_publish_tests"),
     "test_states": ("test_states", "pfl_state_tests"),
 }

@@ -7,8 +7,8 @@ use Rattle.pfl_queue.specs.declared.Kind.TheVariants.{Update}
 use Rattle.pfl_bulk.specs.Bulk.{no_name, asks_again, is_last_turn}
 use Rattle.pfl_defer.specs.declared.Held.{Held}
 use Rattle.pfl_defer.specs.Deferring.{Deferrals}
-use Rattle.pfl_parts.specs.Nodes.{Node}
-use Rattle.pfl_parts.specs.Changes.{mark, ask}
+use Rattle.pfl_desk.specs.Nodes.{Node}
+use Rattle.pfl_desk.specs.Changes.{mark, ask}
 use Rattle.pfl_node.specs.Retrying.{retried_client}
 use Rattle.pfl_node.specs.Turning.{queued, ended, turn_of, turned, eligible_names}
 use Rattle.pfl_laws.specs.Laws.{IsTied, Holds}

@@ -9,8 +9,8 @@ use Rattle.pfl_edits.proofs.ForCallers.{key_cases}
 use Rattle.pfl_track.specs.declared.state.State.{State}
 use Rattle.pfl_table.specs.Tables.{AreStates}
 use Rattle.pfl_defer.specs.declared.Held.{Held}
-use Rattle.pfl_parts.specs.Nodes.{Node}
-use Rattle.pfl_parts.specs.Changes.{deleted, forgotten}
+use Rattle.pfl_desk.specs.Nodes.{Node}
+use Rattle.pfl_desk.specs.Changes.{deleted, forgotten}
 use Rattle.pfl_node.specs.Clearing.{cleared}
 use Rattle.pfl_node.specs.Killing.{killed}
 use Rattle.pfl_node.specs.Purging.{purged, expired_states}

@@ -27,8 +27,8 @@ use Rattle.pfl_queue.specs.declared.Kind.TheVariants.{Update}
 use Rattle.pfl_queue.specs.Queues.{kind_of}
 use Rattle.pfl_bulk.specs.Bulk.{no_name}
 use Rattle.pfl_defer.specs.declared.Held.{Held}
-use Rattle.pfl_parts.specs.Nodes.{Node, timeout_at}
-use Rattle.pfl_parts.specs.Changes.{put_state, mark, push_if, count_bad, count_broken, count_stale, count_freed, count_lost, without_held, is_held, is_untold, freed, lost, released, changed, forgotten, ask}
+use Rattle.pfl_desk.specs.Nodes.{Node, timeout_at}
+use Rattle.pfl_desk.specs.Changes.{put_state, mark, push_if, count_bad, count_broken, count_stale, count_freed, count_lost, without_held, is_held, is_untold, freed, lost, released, changed, forgotten, ask}
 use Rattle.pfl_receive.specs.Receiving.{taken, insert_taken, can_import, merge_taken, merged_into, bulk_taken, state_answered, is_partly_told, ack_taken, delete_taken, is_known, cleared_names, of_state, of_update}
 use Rattle.pfl_node.proofs.ForCallers.{taken-apart}
 use Rattle.pfl_receive.specs.Delivering.{same_rules}

@@ -23,8 +23,8 @@ use Rattle.pfl_merge.specs.Merging.{merged, refreshed, stale_src, stale_dst}
 use Rattle.pfl_queue.specs.declared.Kind.TheVariants.{InsertAck, Update}
 use Rattle.pfl_queue.specs.Queues.{kind_of}
 use Rattle.pfl_bulk.specs.Bulk.{no_name}
-use Rattle.pfl_parts.specs.Nodes.{Node, timeout_at}
-use Rattle.pfl_parts.specs.Changes.{put_state, mark, push_if, count_bad, lost, released, changed, forgotten, count_stale, ask}
+use Rattle.pfl_desk.specs.Nodes.{Node, timeout_at}
+use Rattle.pfl_desk.specs.Changes.{put_state, mark, push_if, count_bad, lost, released, changed, forgotten, count_stale, ask}
 use Rattle.pfl_receive.specs.Receiving.{taken, insert_taken, can_import, imported, merge_taken, merged_into, bulk_taken, state_answered, is_partly_told, request_taken, ack_taken, delete_taken, is_known, cleared_names, of_state, of_update}
 use Rattle.pfl_receive.proofs.ForCallers.{may-import}
 use Rattle.pfl_laws.proofs.Following.{Alike, Filed, inner, waiting-is}

@@ -11,8 +11,8 @@ use Rattle.pfl_queue.specs.Taking.{next_frame, left_by}
 use Rattle.pfl_table.specs.Tables.{AreStates}
 use Rattle.pfl_table.proofs.ForCallers.{OwnsKeys-known, AreStates-with}
 use Rattle.pfl_track.specs.declared.state.State.{State}
-use Rattle.pfl_parts.specs.Nodes.{Node}
-use Rattle.pfl_parts.specs.Changes.{put_state}
+use Rattle.pfl_desk.specs.Nodes.{Node}
+use Rattle.pfl_desk.specs.Changes.{put_state}
 use Rattle.pfl_node.specs.Flushing.{update_count_cleared, flushed}
 use Rattle.pfl_laws.proofs.Following.{Alike, Alike-itself, Filed}
 use Rattle.pfl_laws.proofs.Keeping.{Keeps, keeps-itself, alike-then, on_some, put-keeps}

@@ -21,8 +21,8 @@ use Rattle.pfl_table.specs.Tables.{States, AreStates, found, key_in_use}
 use Rattle.pfl_table.proofs.ForCallers.{found-stands}
 use Rattle.pfl_queue.specs.declared.Kind.TheVariants.{Insert}
 use Rattle.pfl_defer.specs.Deferring.{pushed_out}
-use Rattle.pfl_parts.specs.Nodes.{Node, IsGiven}
-use Rattle.pfl_parts.specs.Changes.{mark, freed, changed, deleted}
+use Rattle.pfl_desk.specs.Nodes.{Node, IsGiven}
+use Rattle.pfl_desk.specs.Changes.{mark, freed, changed, deleted}
 use Rattle.pfl_node.specs.Starting.{Handled, started, judged, by_rule, announced, hold, with_room, with_new, new_state, next_name, is_at_max, is_deferred}
 use Rattle.pfl_node.specs.Packets.{handled, handled_by, followed, accepted}
 use Rattle.pfl_laws.proofs.Following.{Alike, Alike-itself, Follows, alike-follows, alike-follows-then, moved-follows, comes-removed, Filed, filed-put}

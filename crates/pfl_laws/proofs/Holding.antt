@@ -6,8 +6,8 @@ use Rattle.pfl_base.specs.Names.{is_name}
 use Rattle.pfl_edits.proofs.ForCallers.{some_is_none}
 use Rattle.pfl_defer.specs.declared.Held.{Held}
 use Rattle.pfl_defer.specs.Deferring.{Deferrals, held_of}
-use Rattle.pfl_parts.specs.Nodes.{Node}
-use Rattle.pfl_parts.specs.Changes.{freed, released}
+use Rattle.pfl_desk.specs.Nodes.{Node}
+use Rattle.pfl_desk.specs.Changes.{freed, released}
 use Rattle.pfl_laws.specs.Laws.{Holds}
 use Rattle.pfl_laws.proofs.Tied.{without, others-stay, freed-held, not_waiting-held}
 

@@ -8,9 +8,9 @@ use Rattle.pfl_edits.specs.Maps as maps
 use Rattle.pfl_track.specs.declared.state.State.{State}
 use Rattle.pfl_table.specs.Tables.{States}
 use Rattle.pfl_queue.specs.Queues.{kind_of}
-use Rattle.pfl_parts.specs.Nodes.{Node, IsGiven}
-use Rattle.pfl_parts.specs.Changes.{put_state, is_held, is_untold, freed, not_waiting, released, changed, deleted, count_freed, without_held}
-use Rattle.pfl_parts.proofs.ForCallers.{Rest, deleted-rest}
+use Rattle.pfl_desk.specs.Nodes.{Node, IsGiven}
+use Rattle.pfl_desk.specs.Changes.{put_state, is_held, is_untold, freed, not_waiting, released, changed, deleted, count_freed, without_held}
+use Rattle.pfl_desk.proofs.ForCallers.{Rest, deleted-rest}
 use Rattle.pfl_laws.proofs.Following.{Alike, Alike-itself, Alike-then, From, Comes, comes-then, comes-same, comes-put, comes-removed, Filed}
 
 -- the creator stays, ids go on, and what stands under the name comes from what stood there

@@ -37,8 +37,8 @@ use Rattle.pfl_queue.specs.declared.Kind.TheVariants.{Insert}
 use Rattle.pfl_queue.specs.Taking.{next_frame, left_by}
 use Rattle.pfl_defer.specs.declared.Held.{Held}
 use Rattle.pfl_defer.specs.Deferring.{Deferrals, pushed_out}
-use Rattle.pfl_parts.specs.Nodes.{Node, IsNode, IsGiven}
-use Rattle.pfl_parts.specs.Changes.{put_state, mark, freed, changed, deleted, released}
+use Rattle.pfl_desk.specs.Nodes.{Node, IsNode, IsGiven}
+use Rattle.pfl_desk.specs.Changes.{put_state, mark, freed, changed, deleted, released}
 use Rattle.pfl_node.specs.Stepping.{node_after}
 use Rattle.pfl_node.specs.Events.{restarted}
 use Rattle.pfl_node.specs.Turning as turning

@@ -11,7 +11,7 @@ use Rattle.pfl_language.specs.declared.event.Event.{Event}
 use Rattle.pfl_language.specs.declared.event.Event.TheVariants as event
 use Rattle.pfl_language.specs.declared.event.FrameEvent.TheVariants as frame
 use Rattle.pfl_link.specs.Links.{InFlight}
-use Rattle.pfl_parts.specs.Nodes.{Node, IsGiven}
+use Rattle.pfl_desk.specs.Nodes.{Node, IsGiven}
 use Rattle.pfl_node.specs.Events.{restarted}
 use Rattle.pfl_world.specs.Events.{step}
 use Rattle.pfl_world.specs.Runs.{run, world_after}

@@ -21,8 +21,8 @@ use Rattle.pfl_merge.specs.Merging.{merged, stale_src, stale_dst, stale_source, 
 use Rattle.pfl_queue.specs.declared.Kind.TheVariants.{InsertAck, Update}
 use Rattle.pfl_queue.specs.Queues.{kind_of}
 use Rattle.pfl_bulk.specs.Bulk.{no_name}
-use Rattle.pfl_parts.specs.Nodes.{Node, timeout_at}
-use Rattle.pfl_parts.specs.Changes.{put_state, push_if, mark, count_bad, is_held, lost, count_lost, without_held, released, changed, forgotten, count_stale, ask}
+use Rattle.pfl_desk.specs.Nodes.{Node, timeout_at}
+use Rattle.pfl_desk.specs.Changes.{put_state, push_if, mark, count_bad, is_held, lost, count_lost, without_held, released, changed, forgotten, count_stale, ask}
 use Rattle.pfl_receive.specs.Receiving.{taken, insert_taken, can_import, imported, merge_taken, merged_into, bulk_taken, state_answered, is_partly_told, request_taken, ack_taken, delete_taken, status_taken, is_known, cleared_names, of_state, of_update}
 use Rattle.pfl_laws.specs.Laws.{HasRisen, LevelsRise, RecordsLowerNoLevel}
 use Rattle.pfl_laws.proofs.Following.{Alike, Alike-then, From, Comes, comes-then, comes-removed, inner, Filed}

@@ -15,8 +15,8 @@ use Rattle.pfl_table.specs.Tables.{AreStates}
 use Rattle.pfl_table.proofs.ForCallers.{OwnsKeys-known, AreStates-with}
 use Rattle.pfl_defer.specs.declared.Held.{Held}
 use Rattle.pfl_defer.specs.Deferring.{due}
-use Rattle.pfl_parts.specs.Nodes.{Node, IsNode}
-use Rattle.pfl_parts.specs.Changes.{put_state, freed, released}
+use Rattle.pfl_desk.specs.Nodes.{Node, IsNode}
+use Rattle.pfl_desk.specs.Changes.{put_state, freed, released}
 use Rattle.pfl_node.specs.Releasing.{due_names, released_due}
 use Rattle.pfl_laws.specs.Laws.{IsTied, Holds}
 use Rattle.pfl_laws.proofs.Following.{Alike, Alike-itself, inner}

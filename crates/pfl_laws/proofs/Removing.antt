@@ -10,9 +10,9 @@ use Rattle.pfl_track.specs.declared.state.State.{State}
 use Rattle.pfl_table.specs.Tables.{States, AreStates}
 use Rattle.pfl_table.proofs.ForCallers.{AreStates-without}
 use Rattle.pfl_defer.specs.declared.Held.{Held}
-use Rattle.pfl_parts.specs.Nodes.{Node}
-use Rattle.pfl_parts.specs.Changes.{is_held, count_lost, without_held, deleted, forgotten}
-use Rattle.pfl_parts.proofs.ForCallers.{Rest, deleted-rest}
+use Rattle.pfl_desk.specs.Nodes.{Node}
+use Rattle.pfl_desk.specs.Changes.{is_held, count_lost, without_held, deleted, forgotten}
+use Rattle.pfl_desk.proofs.ForCallers.{Rest, deleted-rest}
 use Rattle.pfl_laws.specs.Laws.{IsTied, Holds}
 use Rattle.pfl_laws.proofs.Following.{Alike, Alike-itself, comes-removed}
 use Rattle.pfl_laws.proofs.Keeping.{Keeps, alike-then, keeps-itself, deleted-states}

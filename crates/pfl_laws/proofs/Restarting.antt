@@ -7,7 +7,7 @@ use Rattle.pfl_edits.specs.Maps as maps
 use Rattle.pfl_edits.proofs.ForCallers.{get-empty, some_is_none}
 use Rattle.pfl_track.specs.declared.state.State.{State}
 use Rattle.pfl_table.specs.Tables.{AreStates}
-use Rattle.pfl_parts.specs.Nodes.{Node}
+use Rattle.pfl_desk.specs.Nodes.{Node}
 use Rattle.pfl_node.specs.Events.{restarted}
 use Rattle.pfl_laws.specs.Laws.{HasState, IsTied}
 use Rattle.pfl_laws.proofs.Tied.{waits}

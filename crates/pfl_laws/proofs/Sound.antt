@@ -32,8 +32,8 @@ use Rattle.pfl_link.specs.Links.{InFlight}
 use Rattle.pfl_queue.specs.declared.Entry.{Entry}
 use Rattle.pfl_queue.specs.declared.Entry.TheVariants.{Marked, Request, Status, Clear}
 use Rattle.pfl_queue.specs.Taking.{next_frame, left_by}
-use Rattle.pfl_parts.specs.Nodes.{Node}
-use Rattle.pfl_parts.specs.Changes.{put_state, count_blocked, is_held, deleted}
+use Rattle.pfl_desk.specs.Nodes.{Node}
+use Rattle.pfl_desk.specs.Changes.{put_state, count_blocked, is_held, deleted}
 use Rattle.pfl_node.specs.Stepping.{node_after}
 use Rattle.pfl_node.specs.Ticking.{ticked}
 use Rattle.pfl_node.specs.Purging.{purged}

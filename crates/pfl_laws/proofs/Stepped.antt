@@ -19,8 +19,8 @@ use Rattle.pfl_language.specs.declared.event.FrameEvent.TheVariants as frame
 use Rattle.pfl_language.specs.declared.outcome.Outcome.TheVariants as outcome
 use Rattle.pfl_language.specs.declared.outcome.Outcome.{Outcome}
 use Rattle.pfl_link.specs.Links.{Link, InFlight, is_full, is_counted_out, sent, without_frame, with_frame, cut_to}
-use Rattle.pfl_parts.specs.Nodes.{refused_by, full_tests, unless_refused}
-use Rattle.pfl_parts.specs.Changes.{count_broken}
+use Rattle.pfl_desk.specs.Nodes.{refused_by, full_tests, unless_refused}
+use Rattle.pfl_desk.specs.Changes.{count_broken}
 use Rattle.pfl_receive.specs.Receiving.{taken}
 use Rattle.pfl_node.specs.Flushing.{flushed}
 use Rattle.pfl_node.specs.Events.{restarted}

@@ -25,8 +25,8 @@ use Rattle.pfl_language.specs.declared.outcome.Outcome.{Outcome}
 use Rattle.pfl_link.specs.Links.{Link, InFlight, is_full, is_counted_out, sent, without_frame, with_frame, cut_to}
 use Rattle.pfl_track.specs.declared.state.State.{State}
 use Rattle.pfl_table.specs.Tables.{AreStates}
-use Rattle.pfl_parts.specs.Nodes.{Node, IsGiven, refused_by, full_tests, unless_refused}
-use Rattle.pfl_parts.specs.Changes.{count_broken}
+use Rattle.pfl_desk.specs.Nodes.{Node, IsGiven, refused_by, full_tests, unless_refused}
+use Rattle.pfl_desk.specs.Changes.{count_broken}
 use Rattle.pfl_node.specs.Stepping.{NodeStepped, node_refusal, node_after}
 use Rattle.pfl_node.specs.Flushing.{flushed}
 use Rattle.pfl_node.specs.Purging.{purged}

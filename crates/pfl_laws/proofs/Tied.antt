@@ -16,8 +16,8 @@ use Rattle.pfl_queue.specs.declared.Kind.TheVariants.{UpdateShort}
 use Rattle.pfl_queue.specs.Queues.{kind_of}
 use Rattle.pfl_defer.specs.declared.Held.{Held}
 use Rattle.pfl_defer.specs.Deferring.{Deferrals, held_of, let_go, with_held}
-use Rattle.pfl_parts.specs.Nodes.{Node}
-use Rattle.pfl_parts.specs.Changes.{put_state, mark, push_if, counted, told, is_recent, is_held, is_untold, is_insert, freed, lost, not_waiting, released, changed, deleted, forgotten, count_freed, count_lost, without_held}
+use Rattle.pfl_desk.specs.Nodes.{Node}
+use Rattle.pfl_desk.specs.Changes.{put_state, mark, push_if, counted, told, is_recent, is_held, is_untold, is_insert, freed, lost, not_waiting, released, changed, deleted, forgotten, count_freed, count_lost, without_held}
 use Rattle.pfl_laws.specs.Laws.{IsTied}
 use Rattle.pfl_laws.proofs.Following.{Filed}
 use Rattle.pfl_laws.proofs.Keeping.{freed-states, deleted-states}

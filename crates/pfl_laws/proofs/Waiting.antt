@@ -25,8 +25,8 @@ use Rattle.pfl_queue.specs.declared.Kind.TheVariants.{Insert, InsertAck, Update}
 use Rattle.pfl_queue.specs.Queues.{kind_of}
 use Rattle.pfl_bulk.specs.Bulk.{no_name}
 use Rattle.pfl_defer.specs.Deferring.{pushed_out}
-use Rattle.pfl_parts.specs.Nodes.{Node, IsGiven, timeout_at}
-use Rattle.pfl_parts.specs.Changes.{put_state, mark, push_if, count_bad, count_passed, count_blocked, is_held, freed, lost, changed, forgotten, released, count_stale, ask}
+use Rattle.pfl_desk.specs.Nodes.{Node, IsGiven, timeout_at}
+use Rattle.pfl_desk.specs.Changes.{put_state, mark, push_if, count_bad, count_passed, count_blocked, is_held, freed, lost, changed, forgotten, released, count_stale, ask}
 use Rattle.pfl_node.specs.Packets.{accepted}
 use Rattle.pfl_receive.specs.Receiving.{taken, insert_taken, can_import, imported, merge_taken, merged_into, bulk_taken, state_answered, is_partly_told, request_taken, ack_taken, delete_taken, status_taken, is_known, cleared_names, of_state, of_update}
 use Rattle.pfl_node.specs.Starting.{Handled, pass, started, judged, by_rule, announced, hold, with_room, with_new, new_state, next_name, is_at_max, is_deferred}

@@ -27,8 +27,8 @@ use Rattle.pfl_language.specs.declared.event.FrameEvent.TheVariants as frame
 use Rattle.pfl_link.specs.Links.{InFlight}
 use Rattle.pfl_defer.specs.declared.Held.{Held}
 use Rattle.pfl_defer.specs.Deferring.{Deferrals, held_of, pushed_out}
-use Rattle.pfl_parts.specs.Nodes.{Node}
-use Rattle.pfl_parts.specs.Changes.{is_held}
+use Rattle.pfl_desk.specs.Nodes.{Node}
+use Rattle.pfl_desk.specs.Changes.{is_held}
 use Rattle.pfl_node.specs.Packets.{handled, before_rules}
 use Rattle.pfl_receive.specs.Receiving.{taken}
 use Rattle.pfl_world.specs.Events.{points_at, step}

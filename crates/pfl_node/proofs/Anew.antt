@@ -9,8 +9,8 @@ use Rattle.pfl_edits.proofs.ForCallers.{len-empty}
 use Rattle.pfl_queue.specs.declared.Mark.{Mark}
 use Rattle.pfl_rules.specs.Rules.{Rules}
 use Rattle.pfl_language.specs.declared.limits.Limits.{Limits}
-use Rattle.pfl_parts.specs.Changes.{ask}
-use Rattle.pfl_parts.specs.Nodes.{Node, new_node, is_overfull, is_overcounted}
+use Rattle.pfl_desk.specs.Changes.{ask}
+use Rattle.pfl_desk.specs.Nodes.{Node, new_node, is_overfull, is_overcounted}
 use Rattle.pfl_node.specs.Events.{restarted}
 
 -- one entry is not too much

@@ -8,10 +8,10 @@ use Rattle.pfl_edits.proofs.ForCallers.{len-insert}
 use Rattle.pfl_track.specs.declared.state.State.{State}
 use Rattle.pfl_table.proofs.ForCallers.{OwnsKeys-unused}
 use Rattle.pfl_queue.specs.declared.Mark.{Mark}
-use Rattle.pfl_parts.specs.inner.Kept.{MayStart, MayAdd}
-use Rattle.pfl_parts.specs.Nodes.{Node, AreParts, IsGiven}
+use Rattle.pfl_desk.specs.inner.Kept.{MayStart, MayAdd}
+use Rattle.pfl_desk.specs.Nodes.{Node, AreParts, IsGiven}
 use Rattle.pfl_node.specs.Starting.{with_new}
-use Rattle.pfl_parts.proofs.ForCallers.{keeps_next_id, put-node}
+use Rattle.pfl_desk.proofs.ForCallers.{keeps_next_id, put-node}
 
 -- its name was on no queue
 pub fresh-name : (n : Node) (name : StateName) → AreParts n → name.creator ≡ n.creator → name.id ≡ n.next_id → (k : Mark) → maps.get n.queue.marks name ≡ Some k → ⊥

@@ -14,10 +14,10 @@ use Rattle.pfl_edits.specs.Maps.{entries_sorted}
 use Rattle.pfl_edits.proofs.ForCallers.{len-entries}
 use Rattle.pfl_table.specs.Tables.{States}
 use Rattle.pfl_track.specs.declared.state.State.{State}
-use Rattle.pfl_parts.specs.Changes.{count_lost, without_held, is_held, forgotten, tell_clear}
-use Rattle.pfl_parts.specs.Drafts.{Draft, Writes}
-use Rattle.pfl_parts.specs.Nodes.{Node}
-use Rattle.pfl_parts.proofs.ForCallers.{writes-none, writes-then, writes-more}
+use Rattle.pfl_desk.specs.Changes.{count_lost, without_held, is_held, forgotten, tell_clear}
+use Rattle.pfl_desk.specs.Drafts.{Draft, Writes}
+use Rattle.pfl_desk.specs.Nodes.{Node}
+use Rattle.pfl_desk.proofs.ForCallers.{writes-none, writes-then, writes-more}
 use Rattle.pfl_node.specs.Clearing.{cleared}
 use Rattle.pfl_node.proofs.Expired.{Entries, left, right, less_is}
 

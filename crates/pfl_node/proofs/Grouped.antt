@@ -27,7 +27,7 @@ use Rattle.pfl_queue.specs.declared.Kind.TheVariants.{Insert, InsertAck, Update,
 use Rattle.pfl_queue.specs.inner.Fitting.{entry_bytes}
 use Rattle.pfl_queue.specs.Taking.{entry_action, one_action, bytes_of}
 use Rattle.pfl_node.specs.Flushing.{state_record, update_record, messages_of}
-use Rattle.pfl_parts.specs.Nodes.{Node, AreParts}
+use Rattle.pfl_desk.specs.Nodes.{Node, AreParts}
 use Rattle.pfl_node.specs.inner.Sending.{IsTold, run_of, groups_of}
 
 abbrev pub like : Message → Message → Bool

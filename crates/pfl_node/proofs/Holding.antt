@@ -16,11 +16,11 @@ use Rattle.pfl_defer.specs.declared.Held.{Held}
 use Rattle.pfl_defer.specs.Deferring as deferring
 use Rattle.pfl_defer.specs.Deferring.{Deferrals, IsDeferrals, held_of, let_go, pushed_out}
 use Rattle.pfl_defer.proofs.ForCallers.{with_room-has_room, found_place}
-use Rattle.pfl_parts.specs.Changes.{put_state, mark, is_held, freed, count_freed, without_held, not_waiting, released}
-use Rattle.pfl_parts.specs.inner.Kept.{MayReplace, MayStart}
-use Rattle.pfl_parts.specs.Nodes.{Node, AreParts, IsGiven}
+use Rattle.pfl_desk.specs.Changes.{put_state, mark, is_held, freed, count_freed, without_held, not_waiting, released}
+use Rattle.pfl_desk.specs.inner.Kept.{MayReplace, MayStart}
+use Rattle.pfl_desk.specs.Nodes.{Node, AreParts, IsGiven}
 use Rattle.pfl_node.specs.Starting.{announced, with_room, is_deferred, pass, hold}
-use Rattle.pfl_parts.proofs.ForCallers.{state_still}
+use Rattle.pfl_desk.proofs.ForCallers.{state_still}
 
 -- ---- a full list lets its oldest go
 

@@ -18,8 +18,8 @@ use Rattle.pfl_merge.specs.declared.received.Received.{Received}
 use Rattle.pfl_merge.specs.declared.merged.Merged.{Merged}
 use Rattle.pfl_language.specs.declared.limits.Limits.{Limits}
 use Rattle.pfl_node.specs.Laws.{RecordsLeaveTheRest}
-use Rattle.pfl_parts.specs.Nodes.{Node, timeout_at}
-use Rattle.pfl_parts.specs.Changes.{is_held, lost, freed, released, is_untold, changed, forgotten}
+use Rattle.pfl_desk.specs.Nodes.{Node, timeout_at}
+use Rattle.pfl_desk.specs.Changes.{is_held, lost, freed, released, is_untold, changed, forgotten}
 use Rattle.pfl_receive.specs.Receiving.{taken, insert_taken, can_import, merge_taken, merged_into, bulk_taken, state_answered, request_taken, ack_taken, is_known, cleared_names, status_taken}
 
 -- what stays: as one value

@@ -31,8 +31,8 @@ use Rattle.pfl_merge.specs.declared.merged.Merged.{Merged}
 use Rattle.pfl_merge.specs.Merging.{merged, stale_src, stale_dst}
 use Rattle.pfl_defer.specs.declared.Held.{Held}
 use Rattle.pfl_defer.specs.Deferring.{pushed_out}
-use Rattle.pfl_parts.specs.Nodes.{Node, timeout_at}
-use Rattle.pfl_parts.specs.Changes.{put_state, mark, is_untold, is_insert, is_held, freed, lost, not_waiting, released, changed, deleted, forgotten, count_stale, count_freed, count_lost, without_held}
+use Rattle.pfl_desk.specs.Nodes.{Node, timeout_at}
+use Rattle.pfl_desk.specs.Changes.{put_state, mark, is_untold, is_insert, is_held, freed, lost, not_waiting, released, changed, deleted, forgotten, count_stale, count_freed, count_lost, without_held}
 use Rattle.pfl_track.specs.Keys.{wire_key}
 use Rattle.pfl_node.specs.Starting.{Handled, started, judged, by_rule, announced, hold, with_room, with_new, new_state, is_at_max, is_deferred}
 use Rattle.pfl_node.specs.Packets.{handled, handled_by, followed, accepted}

@@ -6,12 +6,12 @@ use Rattle.pfl_base.specs.Lists.{folds}
 use Rattle.pfl_edits.specs.Maps as maps
 use Rattle.pfl_track.specs.declared.state.State.{State}
 use Rattle.pfl_table.specs.Tables.{States}
-use Rattle.pfl_parts.specs.declared.parts.judge.Overfull.{Overfull}
-use Rattle.pfl_parts.specs.Drafts.{Draft, Writes}
-use Rattle.pfl_parts.specs.Nodes.{Node, AreParts, is_overfull, is_overcounted}
-use Rattle.pfl_parts.specs.Changes.{deleted}
+use Rattle.pfl_desk.specs.declared.parts.judge.Overfull.{Overfull}
+use Rattle.pfl_desk.specs.Drafts.{Draft, Writes}
+use Rattle.pfl_desk.specs.Nodes.{Node, AreParts, is_overfull, is_overcounted}
+use Rattle.pfl_desk.specs.Changes.{deleted}
 use Rattle.pfl_node.specs.Purging.{purged, purge_points, expired_among, expired_states}
-use Rattle.pfl_parts.proofs.ForCallers.{Rest, deleted-rest, writes-none, writes-then, writes-more}
+use Rattle.pfl_desk.proofs.ForCallers.{Rest, deleted-rest, writes-none, writes-then, writes-more}
 use Rattle.pfl_node.proofs.Expired.{expired-without, expired-few, first-stands}
 
 -- ---- one deletion after another, by the timeouts of so many states

@@ -16,12 +16,12 @@ use Rattle.pfl_defer.specs.Deferring.{Deferrals, held_of, let_go, due}
 use Rattle.pfl_defer.proofs.ForCallers.{absent_stays}
 use Rattle.pfl_track.specs.declared.state.State.{State}
 use Rattle.pfl_language.specs.declared.limits.Limits.{Limits}
-use Rattle.pfl_parts.specs.declared.edit.NodeEdit.{NodeEdit}
-use Rattle.pfl_parts.specs.Changes.{count_freed, without_held, freed, not_waiting, put_state, released}
-use Rattle.pfl_parts.specs.Drafts.{Draft, Writes}
-use Rattle.pfl_parts.specs.inner.Judging.{judged_as}
-use Rattle.pfl_parts.specs.Nodes.{Node, AreParts, is_overcounted}
-use Rattle.pfl_parts.proofs.ForCallers.{writes-none, writes-then, writes-more}
+use Rattle.pfl_desk.specs.declared.edit.NodeEdit.{NodeEdit}
+use Rattle.pfl_desk.specs.Changes.{count_freed, without_held, freed, not_waiting, put_state, released}
+use Rattle.pfl_desk.specs.Drafts.{Draft, Writes}
+use Rattle.pfl_desk.specs.inner.Judging.{judged_as}
+use Rattle.pfl_desk.specs.Nodes.{Node, AreParts, is_overcounted}
+use Rattle.pfl_desk.proofs.ForCallers.{writes-none, writes-then, writes-more}
 use Rattle.pfl_node.specs.Releasing.{due_names, released_due}
 
 -- ---- the first of the names that are due, and those of the list without it

@@ -19,15 +19,15 @@ use Rattle.pfl_queue.specs.inner.Fitting.{entry_bytes}
 use Rattle.pfl_queue.specs.Queues.{pending}
 use Rattle.pfl_queue.specs.Taking.{in_turn, gone, left_by, next_frame}
 use Rattle.pfl_queue.proofs.ForCallers.{frame_carries, pending-in_turn, Stands, frame_stands, frame_begins, frame_fits}
-use Rattle.pfl_parts.specs.declared.edit.NodeEdit.{NodeEdit}
-use Rattle.pfl_parts.specs.Drafts.{Draft, Writes}
-use Rattle.pfl_parts.specs.Nodes.{Node, AreParts, IsRefusal, is_overcounted}
-use Rattle.pfl_parts.specs.inner.Judging.{judged_as}
-use Rattle.pfl_parts.specs.Changes.{put_state}
+use Rattle.pfl_desk.specs.declared.edit.NodeEdit.{NodeEdit}
+use Rattle.pfl_desk.specs.Drafts.{Draft, Writes}
+use Rattle.pfl_desk.specs.Nodes.{Node, AreParts, IsRefusal, is_overcounted}
+use Rattle.pfl_desk.specs.inner.Judging.{judged_as}
+use Rattle.pfl_desk.specs.Changes.{put_state}
 use Rattle.pfl_node.specs.Flushing.{frame_of, flushed, update_count_cleared, send_refusal}
 use Rattle.pfl_node.specs.inner.Sending.{IsTold, frame_with}
-use Rattle.pfl_parts.specs.inner.Taking.{taken_from}
-use Rattle.pfl_parts.proofs.ForCallers.{frame_entries, left-next, writes-none, writes-then, writes-more}
+use Rattle.pfl_desk.specs.inner.Taking.{taken_from}
+use Rattle.pfl_desk.proofs.ForCallers.{frame_entries, left-next, writes-none, writes-then, writes-more}
 
 -- ---- what its entries tell is there
 

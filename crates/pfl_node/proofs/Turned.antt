@@ -23,11 +23,11 @@ use Rattle.pfl_track.specs.declared.state.State.{State}
 use Rattle.pfl_wire.specs.declared.message.BulkStatus.{BulkStatus}
 use Rattle.pfl_wire.specs.declared.message.BulkStatus.TheVariants.{End as Finish}
 use Rattle.pfl_language.specs.declared.limits.Limits.{Limits}
-use Rattle.pfl_parts.specs.Changes.{mark, tell_status}
-use Rattle.pfl_parts.specs.Drafts.{Draft, Writes}
-use Rattle.pfl_parts.specs.inner.Kept.{MayMark}
-use Rattle.pfl_parts.specs.Nodes.{Node, AreParts, ServesSince, is_overfull}
-use Rattle.pfl_parts.proofs.ForCallers.{told-may, writes-none, writes-then, writes-more}
+use Rattle.pfl_desk.specs.Changes.{mark, tell_status}
+use Rattle.pfl_desk.specs.Drafts.{Draft, Writes}
+use Rattle.pfl_desk.specs.inner.Kept.{MayMark}
+use Rattle.pfl_desk.specs.Nodes.{Node, AreParts, ServesSince, is_overfull}
+use Rattle.pfl_desk.proofs.ForCallers.{told-may, writes-none, writes-then, writes-more}
 use Rattle.pfl_node.specs.Turning.{is_eligible, eligible_names, queued, turn_of, ended, turned}
 use Rattle.pfl_node.proofs.Expired.{values-stand}
 use Rattle.pfl_node.proofs.Risen.{names, values-rising, rising-names, rising-filter, rising-take}

@@ -19,8 +19,8 @@ use Rattle.pfl_queue.specs.declared.Kind.{Kind}
 use Rattle.pfl_queue.specs.declared.Kind.TheVariants.{Insert, InsertAck, Update, UpdateShort, Delete}
 use Rattle.pfl_queue.specs.Queues.{pending}
 use Rattle.pfl_queue.specs.Taking.{next_frame, left_by, one_action}
-use Rattle.pfl_parts.specs.Nodes.{Node, expiry_at}
-use Rattle.pfl_parts.specs.Changes.{put_state}
+use Rattle.pfl_desk.specs.Nodes.{Node, expiry_at}
+use Rattle.pfl_desk.specs.Changes.{put_state}
 
 -- the seconds that a state has left, truncated
 abbrev pub remaining : Node → State → ℕ

@@ -10,8 +10,8 @@ use Rattle.pfl_track.specs.Tracking.{tracked}
 use Rattle.pfl_table.specs.Tables.{found}
 use Rattle.pfl_language.specs.declared.node_event.NodeOutcome.TheVariants as outcome
 use Rattle.pfl_language.specs.declared.fate.Reason.TheVariants as reason
-use Rattle.pfl_parts.specs.Nodes.{Node, points_refusal}
-use Rattle.pfl_parts.specs.Changes.{freed, changed, deleted}
+use Rattle.pfl_desk.specs.Nodes.{Node, points_refusal}
+use Rattle.pfl_desk.specs.Changes.{freed, changed, deleted}
 use Rattle.pfl_node.specs.Starting.{Handled, pass, drop, judged}
 use Rattle.pfl_node.specs.Meanings.{NodeMeaning}
 

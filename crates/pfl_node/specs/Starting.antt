@@ -20,8 +20,8 @@ use Rattle.pfl_language.specs.declared.fate.Fate.{Fate}
 use Rattle.pfl_language.specs.declared.fate.Fate.TheVariants as fate
 use Rattle.pfl_language.specs.declared.fate.Reason.{Reason}
 use Rattle.pfl_language.specs.declared.fate.Reason.TheVariants as reason
-use Rattle.pfl_parts.specs.Nodes.{Node}
-use Rattle.pfl_parts.specs.Changes.{put_state, mark, push_if, count_passed, count_blocked, released}
+use Rattle.pfl_desk.specs.Nodes.{Node}
+use Rattle.pfl_desk.specs.Changes.{put_state, mark, push_if, count_passed, count_blocked, released}
 
 -- what a packet gives: its fate, and the node after it
 pub record Handled : Type 0 where

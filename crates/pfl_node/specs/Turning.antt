@@ -14,8 +14,8 @@ use Rattle.pfl_bulk.specs.Bulk.{is_serving, turn_names, is_last_turn, after_turn
 use Rattle.pfl_bulk.specs.declared.BulkServer.{BulkServer}
 use Rattle.pfl_bulk.specs.declared.BulkServer.TheVariants as server
 use Rattle.pfl_language.specs.declared.node_event.NodeOutcome.TheVariants.{Queued}
-use Rattle.pfl_parts.specs.Nodes.{Node, full_tests, refused_by}
-use Rattle.pfl_parts.specs.Changes.{mark, tell_status}
+use Rattle.pfl_desk.specs.Nodes.{Node, full_tests, refused_by}
+use Rattle.pfl_desk.specs.Changes.{mark, tell_status}
 use Rattle.pfl_node.specs.Meanings.{NodeMeaning}
 
 -- the state may be sent in a bulk update that runs since then

@@ -9,8 +9,8 @@ use Rattle.pfl_wire.specs.declared.message.StateRecord.{StateRecord}
 use Rattle.pfl_wire.specs.declared.message.UpdateRecord.{UpdateRecord}
 use Rattle.pfl_wire.specs.declared.message.Message.{Message}
 use Rattle.pfl_wire.specs.declared.message.Message.TheVariants as message
-use Rattle.pfl_parts.specs.Changes.{ask}
-use Rattle.pfl_parts.specs.Nodes.{Node}
+use Rattle.pfl_desk.specs.Changes.{ask}
+use Rattle.pfl_desk.specs.Nodes.{Node}
 use Rattle.pfl_receive.specs.Delivering.{cleared_by}
 use Rattle.pfl_receive.specs.Receiving.{taken, clear_taken, cleared_names, insert_taken, ack_taken, merge_taken, of_state, of_update, request_taken, delete_taken, status_taken}
 

@@ -15,10 +15,10 @@ use Rattle.pfl_edits.specs.Maps.{entries_sorted}
 use Rattle.pfl_edits.proofs.ForCallers.{len-entries, len-remove, contains_key-keys}
 use Rattle.pfl_track.specs.declared.state.State.{State}
 use Rattle.pfl_table.specs.Tables.{States}
-use Rattle.pfl_parts.specs.Changes.{forgotten, is_held, count_lost, without_held}
-use Rattle.pfl_parts.specs.Drafts.{Draft, Writes}
-use Rattle.pfl_parts.specs.Nodes.{Node}
-use Rattle.pfl_parts.proofs.ForCallers.{writes-none, writes-then}
+use Rattle.pfl_desk.specs.Changes.{forgotten, is_held, count_lost, without_held}
+use Rattle.pfl_desk.specs.Drafts.{Draft, Writes}
+use Rattle.pfl_desk.specs.Nodes.{Node}
+use Rattle.pfl_desk.proofs.ForCallers.{writes-none, writes-then}
 use Rattle.pfl_receive.specs.inner.Delivering.{IsPaid}
 use Rattle.pfl_receive.specs.Receiving.{clear_taken, cleared_names}
 

@@ -4,10 +4,10 @@ use Rattle.std.specs.List.{fold, list_any}
 use Rattle.std.proofs.Common.{◌∙◌, ap, sym, arith}
 use Rattle.pfl_edits.specs.Maps as maps
 use Rattle.pfl_wire.specs.declared.message.Message.{Message}
-use Rattle.pfl_parts.specs.Drafts.{Draft, Writes}
-use Rattle.pfl_parts.specs.inner.Drafting.{most_room}
-use Rattle.pfl_parts.specs.Nodes.{Node, is_overfull, is_overcounted}
-use Rattle.pfl_parts.proofs.ForCallers.{writes-none, writes-then}
+use Rattle.pfl_desk.specs.Drafts.{Draft, Writes}
+use Rattle.pfl_desk.specs.inner.Drafting.{most_room}
+use Rattle.pfl_desk.specs.Nodes.{Node, is_overfull, is_overcounted}
+use Rattle.pfl_desk.proofs.ForCallers.{writes-none, writes-then}
 use Rattle.pfl_receive.specs.inner.Delivering.{IsPaid, paid_by, paid_edits, records_room}
 use Rattle.pfl_receive.specs.Delivering.{cleared_by, records_work, taken_points}
 use Rattle.pfl_receive.specs.Receiving.{taken}

@@ -15,10 +15,10 @@ use Rattle.pfl_queue.specs.declared.Kind.{Kind}
 use Rattle.pfl_queue.specs.declared.Kind.TheVariants.{InsertAck}
 use Rattle.pfl_queue.specs.declared.Mark.{Mark}
 use Rattle.pfl_queue.specs.Queues.{kind_of}
-use Rattle.pfl_parts.specs.Changes.{put_state}
-use Rattle.pfl_parts.specs.inner.Kept.{MayAdd, MayMark}
-use Rattle.pfl_parts.specs.Nodes.{Node, AreParts, IsNodeState, IsGiven}
-use Rattle.pfl_parts.proofs.ForCallers.{put-node, told-may}
+use Rattle.pfl_desk.specs.Changes.{put_state}
+use Rattle.pfl_desk.specs.inner.Kept.{MayAdd, MayMark}
+use Rattle.pfl_desk.specs.Nodes.{Node, AreParts, IsNodeState, IsGiven}
+use Rattle.pfl_desk.proofs.ForCallers.{put-node, told-may}
 use Rattle.pfl_receive.specs.Receiving.{is_not_given, is_delete, can_import, imported, kept_rule}
 
 -- ---- why it may be

@@ -10,10 +10,10 @@ use Rattle.pfl_merge.specs.declared.received.Received.{Received}
 use Rattle.pfl_merge.specs.declared.merged.Merged.{Merged}
 use Rattle.pfl_merge.specs.Merging.{merged, stale_src, stale_dst}
 use Rattle.pfl_merge.specs.Laws.{Keeps}
-use Rattle.pfl_parts.specs.Changes.{lost, is_held, count_lost, without_held}
-use Rattle.pfl_parts.specs.inner.Kept.{MayReplace}
-use Rattle.pfl_parts.specs.Nodes.{Node, AreParts, IsPast}
-use Rattle.pfl_parts.proofs.ForCallers.{state_still}
+use Rattle.pfl_desk.specs.Changes.{lost, is_held, count_lost, without_held}
+use Rattle.pfl_desk.specs.inner.Kept.{MayReplace}
+use Rattle.pfl_desk.specs.Nodes.{Node, AreParts, IsPast}
+use Rattle.pfl_desk.proofs.ForCallers.{state_still}
 
 -- a state that was found by a name stands under its own
 pub stands-found : (n : Node) (m : States) (name : StateName) (o p : Option State) (s : State) → AreParts n → m ≡ n.states → o ≡ maps.get m name → p ≡ o → p ≡ Some s → maps.get n.states s.name ≡ Some s

@@ -17,9 +17,9 @@ use Rattle.pfl_merge.specs.declared.received.Received.{Received}
 use Rattle.pfl_merge.specs.declared.merged.Merged.{Merged}
 use Rattle.pfl_merge.specs.Merging.{merged}
 use Rattle.pfl_bulk.specs.Bulk.{no_name}
-use Rattle.pfl_parts.specs.Changes.{put_state, is_held, is_untold, count_freed, lost, count_lost, without_held, released, not_waiting, changed, count_stale, count_bad, forgotten, ask}
-use Rattle.pfl_parts.specs.Drafts.{Draft, Writes}
-use Rattle.pfl_parts.specs.Nodes.{Node, timeout_at}
+use Rattle.pfl_desk.specs.Changes.{put_state, is_held, is_untold, count_freed, lost, count_lost, without_held, released, not_waiting, changed, count_stale, count_bad, forgotten, ask}
+use Rattle.pfl_desk.specs.Drafts.{Draft, Writes}
+use Rattle.pfl_desk.specs.Nodes.{Node, timeout_at}
 use Rattle.pfl_receive.specs.inner.Delivering.{IsPaid, paid_edits}
 use Rattle.pfl_receive.specs.Receiving.{insert_taken, can_import, imported, merge_taken, merged_into, bulk_taken, is_partly_told, request_taken, state_answered}
 use Rattle.pfl_receive.proofs.Cleared.{forgotten-states, known-some}

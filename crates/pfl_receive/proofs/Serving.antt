@@ -8,7 +8,7 @@ use Rattle.pfl_bulk.specs.declared.BulkServer.TheVariants as server
 use Rattle.pfl_bulk.specs.declared.BulkClient.{BulkClient}
 use Rattle.pfl_bulk.specs.declared.BulkClient.TheVariants as client
 use Rattle.pfl_bulk.specs.Bulk.{server_started, after_status}
-use Rattle.pfl_parts.specs.Nodes.{Node, AreParts, ServesSince, AskedAt}
+use Rattle.pfl_desk.specs.Nodes.{Node, AreParts, ServesSince, AskedAt}
 
 serves : (n m : Node) (s : BulkServer) → m.clock ≡ n.clock → ServesSince n s → ServesSince m s
 serves n m server.Idle same h = tt

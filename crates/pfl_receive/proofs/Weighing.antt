@@ -8,7 +8,7 @@ use Rattle.pfl_wire.specs.declared.action.Action.TheVariants as action
 use Rattle.pfl_wire.specs.declared.message.Message.{Message}
 use Rattle.pfl_wire.specs.Actions.{record_len}
 use Rattle.pfl_wire.specs.Frames.{Frame, action_of, all_of, frame_len, group_len, records_of}
-use Rattle.pfl_parts.specs.Nodes.{Node}
+use Rattle.pfl_desk.specs.Nodes.{Node}
 use Rattle.pfl_receive.specs.inner.Delivering.{paid_by, paid_edits}
 use Rattle.pfl_receive.specs.Delivering.{cleared_by, records_work, taken_points}
 use Rattle.pfl_receive.specs.Receiving.{taken}

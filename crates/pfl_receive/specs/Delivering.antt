@@ -7,8 +7,8 @@ use Rattle.pfl_base.specs.Lists.{folds}
 use Rattle.pfl_wire.specs.declared.message.Message.{Message}
 use Rattle.pfl_wire.specs.declared.message.Message.TheVariants as message
 use Rattle.pfl_wire.specs.Frames.{Frame, records_of}
-use Rattle.pfl_parts.specs.Nodes.{Node}
-use Rattle.pfl_parts.specs.Weights.{forgotten_edits}
+use Rattle.pfl_desk.specs.Nodes.{Node}
+use Rattle.pfl_desk.specs.Weights.{forgotten_edits}
 use Rattle.pfl_receive.specs.Receiving.{taken, cleared_names}
 
 -- ---- records

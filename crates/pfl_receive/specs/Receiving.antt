@@ -21,8 +21,8 @@ use Rattle.pfl_merge.specs.declared.received.Received.{Received}
 use Rattle.pfl_merge.specs.declared.merged.Merged.{Merged}
 use Rattle.pfl_merge.specs.Merging.{merged, last_use}
 use Rattle.pfl_bulk.specs.Bulk.{no_name, server_started, after_status}
-use Rattle.pfl_parts.specs.Nodes.{Node, timeout_at}
-use Rattle.pfl_parts.specs.Changes.{put_state, mark, push_if, ask, tell_status, count_bad, count_stale, lost, released, changed, forgotten}
+use Rattle.pfl_desk.specs.Nodes.{Node, timeout_at}
+use Rattle.pfl_desk.specs.Changes.{put_state, mark, push_if, ask, tell_status, count_bad, count_stale, lost, released, changed, forgotten}
 
 -- the node has the state
 abbrev pub is_known : Node → StateName → Bool

@@ -3,11 +3,11 @@
 ghost use Rattle.std.specs.Option.{option_map_or};
 ghost use Rattle.std.specs.Prelude.{◌≡◌, ◌≤◌};
 ghost use Rattle.pfl_edits.specs.Maps as maps;
-ghost use Rattle.pfl_parts.specs.Drafts.{Writes};
+ghost use Rattle.pfl_desk.specs.Drafts.{Writes};
 ghost use Rattle.pfl_receive.specs.Receiving as receiving;
 
 use pfl_base::StateName;
-use pfl_parts::Desk;
+use pfl_desk::Desk;
 use std::alloc::Allocator;
 
 /// The packet of the state goes out, if the state waits for the peer.

@@ -1,10 +1,10 @@
 //! How far the peer is with a bulk update.
 
 ghost use Rattle.std.specs.Prelude.{◌≡◌, ◌<◌};
-ghost use Rattle.pfl_parts.specs.Drafts.{Writes};
+ghost use Rattle.pfl_desk.specs.Drafts.{Writes};
 ghost use Rattle.pfl_receive.specs.Receiving as receiving;
 
-use pfl_parts::Desk;
+use pfl_desk::Desk;
 use pfl_wire::BulkStatus;
 use std::alloc::Allocator;
 

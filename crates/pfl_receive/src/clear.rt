@@ -4,14 +4,14 @@ ghost use Rattle.std.specs.List.{slice_get};
 ghost use Rattle.std.specs.Option.{option_map};
 ghost use Rattle.std.specs.Prelude.{◌≡◌, ◌≤◌, ◌*◌, ◌==◌, ◌&&◌, nat_le, Some, is_some, length, if◌then◌else◌};
 ghost use Rattle.pfl_edits.specs.Maps as maps;
-ghost use Rattle.pfl_parts.specs.Drafts.{Writes};
-ghost use Rattle.pfl_parts.specs.Nodes.{AreParts};
+ghost use Rattle.pfl_desk.specs.Drafts.{Writes};
+ghost use Rattle.pfl_desk.specs.Nodes.{AreParts};
 ghost use Rattle.pfl_receive.specs.inner.Delivering.{IsPaid};
 ghost use Rattle.pfl_receive.specs.Receiving as receiving;
 ghost use Rattle.pfl_table.specs.Tables.{state_after};
 
 use pfl_base::StateName;
-use pfl_parts::Desk;
+use pfl_desk::Desk;
 use std::alloc::Allocator;
 
 /// The states of the creator up to the bound go unannounced, by four edits each at most.

@@ -1,12 +1,12 @@
 //! A deletion at the peer.
 
 ghost use Rattle.std.specs.Prelude.{◌≡◌, ◌≤◌};
-ghost use Rattle.pfl_parts.specs.Drafts.{Writes};
+ghost use Rattle.pfl_desk.specs.Drafts.{Writes};
 ghost use Rattle.pfl_receive.specs.inner.Delivering.{IsPaid};
 ghost use Rattle.pfl_receive.specs.Receiving as receiving;
 
 use pfl_base::StateName;
-use pfl_parts::{Counter, Desk};
+use pfl_desk::{Counter, Desk};
 use std::alloc::Allocator;
 
 /// The state of the name goes unannounced; a name without one is bad.

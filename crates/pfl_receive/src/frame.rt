@@ -3,8 +3,8 @@
 ghost use Rattle.std.specs.List.{fold};
 ghost use Rattle.std.specs.Prelude.{◌≡◌, ◌≤◌, ◌*◌, IfOk, OnOk, length};
 ghost use Rattle.pfl_edits.specs.Maps as maps;
-ghost use Rattle.pfl_parts.specs.Drafts.{Writes};
-ghost use Rattle.pfl_parts.specs.inner.Judging.{Went};
+ghost use Rattle.pfl_desk.specs.Drafts.{Writes};
+ghost use Rattle.pfl_desk.specs.inner.Judging.{Went};
 ghost use Rattle.pfl_receive.specs.Delivering as delivering;
 ghost use Rattle.pfl_receive.specs.inner.Delivering.{frame_room, paid_by, records_room};
 ghost use Rattle.pfl_receive.specs.Delivering.{frame_work, receive_points, received, records_work, taken_points, work_edits};
@@ -12,7 +12,7 @@ ghost use Rattle.pfl_receive.specs.Receiving.{taken};
 ghost use Rattle.pfl_wire.specs.Frames.{frame_len, records_of};
 
 use crate::records::take_record;
-use pfl_parts::{Desk, Overfull};
+use pfl_desk::{Desk, Overfull};
 use pfl_wire::{FrameBytes, Records};
 use std::alloc::Allocator;
 

@@ -1,8 +1,8 @@
 //! A state of the peer's that the node takes over.
 
 ghost use Rattle.std.specs.Prelude.{◌≡◌, ◌≤◌, true, OnOk, OnErr};
-ghost use Rattle.pfl_parts.specs.Drafts.{Writes};
-ghost use Rattle.pfl_parts.specs.Nodes.{AreParts, is_overfull};
+ghost use Rattle.pfl_desk.specs.Drafts.{Writes};
+ghost use Rattle.pfl_desk.specs.Nodes.{AreParts, is_overfull};
 ghost use Rattle.pfl_queue.specs.Queues.{kind_of};
 ghost use Rattle.pfl_receive.specs.Receiving as receiving;
 ghost use Rattle.pfl_table.specs.Tables.{key_in_use as is_in_use};
@@ -10,7 +10,7 @@ ghost use Rattle.pfl_track.specs.States.{IsState};
 
 use pfl_base::StateName;
 use pfl_merge::last_use;
-use pfl_parts::{Counter, Desk, Overfull};
+use pfl_desk::{Counter, Desk, Overfull};
 use pfl_queue::Kind;
 use pfl_track::{KeyPair, State, StateFields};
 use pfl_wire::StateRecord;

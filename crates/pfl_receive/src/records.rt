@@ -2,9 +2,9 @@
 
 ghost use Rattle.std.specs.Prelude.{◌≡◌, ◌≤◌, ◌+◌, ◌*◌, true, OnOk, OnErr};
 ghost use Rattle.pfl_edits.specs.Maps as maps;
-ghost use Rattle.pfl_parts.specs.Drafts.{Writes};
-ghost use Rattle.pfl_parts.specs.Nodes.{is_overfull};
-ghost use Rattle.pfl_parts.specs.Weights.{forgotten_edits};
+ghost use Rattle.pfl_desk.specs.Drafts.{Writes};
+ghost use Rattle.pfl_desk.specs.Nodes.{is_overfull};
+ghost use Rattle.pfl_desk.specs.Weights.{forgotten_edits};
 ghost use Rattle.pfl_receive.specs.inner.Delivering.{IsPaid, paid_edits};
 ghost use Rattle.pfl_receive.specs.Delivering.{cleared_by, record_edits};
 ghost use Rattle.pfl_receive.specs.Receiving.{taken};
@@ -16,7 +16,7 @@ use crate::deletion::take_deletion;
 use crate::insertion::take_insertion;
 use crate::request::take_request;
 use crate::update::{take_short_update, take_update};
-use pfl_parts::{Desk, Overfull};
+use pfl_desk::{Desk, Overfull};
 use pfl_wire::Message;
 use std::alloc::Allocator;
 

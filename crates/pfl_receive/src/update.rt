@@ -3,15 +3,15 @@
 ghost use Rattle.std.specs.Option.{option_map_or};
 ghost use Rattle.std.specs.Prelude.{◌≡◌, ◌≤◌, true, false, OnOk, OnErr, Some};
 ghost use Rattle.pfl_edits.specs.Maps as maps;
-ghost use Rattle.pfl_parts.specs.Changes as to;
-ghost use Rattle.pfl_parts.specs.Drafts.{Writes};
-ghost use Rattle.pfl_parts.specs.inner.Kept.{MayReplace};
-ghost use Rattle.pfl_parts.specs.Nodes.{AreParts, is_overfull};
+ghost use Rattle.pfl_desk.specs.Changes as to;
+ghost use Rattle.pfl_desk.specs.Drafts.{Writes};
+ghost use Rattle.pfl_desk.specs.inner.Kept.{MayReplace};
+ghost use Rattle.pfl_desk.specs.Nodes.{AreParts, is_overfull};
 ghost use Rattle.pfl_receive.specs.Receiving as receiving;
 
 use crate::insertion::take_insertion;
 use pfl_merge::{Merged, Received, merge};
-use pfl_parts::{Counter, Desk, Overfull};
+use pfl_desk::{Counter, Desk, Overfull};
 use pfl_track::State;
 use pfl_wire::{StateRecord, UpdateRecord};
 use std::alloc::Allocator;

@@ -8,7 +8,7 @@ use pfl_base::NodeId;
 use pfl_bulk::{BulkClient, BulkServer};
 use pfl_edits::NoMemory;
 use pfl_node::Node;
-use pfl_parts::Counters;
+use pfl_desk::Counters;
 use pfl_queue::Kind;
 use std::alloc::Allocator;
 

@@ -20,8 +20,8 @@ use Rattle.pfl_language.specs.BranchWords.{is_branch_name, same_name}
 use Rattle.pfl_link.specs.Links.{InFlight, is_full, is_counted_out}
 use Rattle.pfl_queue.specs.Queues.{pending}
 use Rattle.pfl_node.specs.Purging.{purge_points}
-use Rattle.pfl_parts.specs.Nodes.{Node, refused_by, unless_refused, points_refusal, full_tests, is_overfull, is_overcounted, last_millisecond}
-use Rattle.pfl_parts.specs.Changes.{count_broken}
+use Rattle.pfl_desk.specs.Nodes.{Node, refused_by, unless_refused, points_refusal, full_tests, is_overfull, is_overcounted, last_millisecond}
+use Rattle.pfl_desk.specs.Changes.{count_broken}
 use Rattle.pfl_receive.specs.Delivering.{receive_points}
 use Rattle.pfl_wire.specs.declared.fault.BadFrame.{BadFrame}
 use Rattle.pfl_wire.specs.Frames.{Frame}

@@ -16,7 +16,7 @@ use Rattle.pfl_wire.specs.Spelling.{spelling}
 use Rattle.pfl_wire.specs.Reading.{reading}
 use Rattle.pfl_language.specs.declared.outcome.Outcome.TheVariants as outcome
 use Rattle.pfl_language.specs.declared.node_event.NodeOutcome.TheVariants as given
-use Rattle.pfl_parts.specs.Nodes.{Node, new_node}
+use Rattle.pfl_desk.specs.Nodes.{Node, new_node}
 use Rattle.pfl_node.specs.Flushing.{frame_of, remaining}
 use Rattle.pfl_receive.specs.Receiving.{taken as take_record}
 use Rattle.pfl_world.specs.Weights.{weight}

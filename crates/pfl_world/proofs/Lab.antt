@@ -36,9 +36,9 @@ use Rattle.pfl_language.specs.declared.event.Event.TheVariants as event
 use Rattle.pfl_language.specs.declared.event.FrameEvent.TheVariants as frame
 use Rattle.pfl_language.specs.declared.outcome.Outcome.TheVariants as outcome
 use Rattle.pfl_language.specs.declared.outcome.Outcome.{Outcome}
-use Rattle.pfl_parts.specs.declared.counters.Counters.{Counters}
+use Rattle.pfl_desk.specs.declared.counters.Counters.{Counters}
 use Rattle.pfl_queue.specs.Taking.{in_turn}
-use Rattle.pfl_parts.specs.Nodes.{Node}
+use Rattle.pfl_desk.specs.Nodes.{Node}
 use Rattle.pfl_link.specs.Links.{InFlight}
 use Rattle.pfl_queue.specs.declared.Mark.{Mark}
 use Rattle.pfl_queue.specs.declared.Cleared.{Cleared}
@@ -58,7 +58,7 @@ use Rattle.pfl_world.specs.Tickets as tickets
 use Rattle.pfl_wire.specs.Spelling as spelling
 use Rattle.pfl_wire.proofs.ForCallers as reading
 use Rattle.pfl_queue.specs.Taking as taking
-use Rattle.pfl_parts.specs.Changes as changes
+use Rattle.pfl_desk.specs.Changes as changes
 use Rattle.pfl_node.specs.Starting as starting
 use Rattle.pfl_node.specs.Packets as packets
 use Rattle.pfl_receive.specs.Delivering as delivering

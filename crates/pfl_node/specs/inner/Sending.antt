@@ -12,7 +12,7 @@ use Rattle.pfl_queue.specs.declared.Kind.TheVariants.{Delete}
 use Rattle.pfl_queue.specs.declared.Entry.{Entry}
 use Rattle.pfl_queue.specs.declared.Entry.TheVariants.{Marked}
 use Rattle.pfl_queue.specs.Taking.{entry_action, one_action}
-use Rattle.pfl_parts.specs.Nodes.{Node}
+use Rattle.pfl_desk.specs.Nodes.{Node}
 use Rattle.pfl_node.specs.Flushing.{messages_of}
 
 -- what is told of a name by the kind is there: its state, except of a deletion

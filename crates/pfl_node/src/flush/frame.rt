@@ -4,7 +4,7 @@ ghost use Rattle.std.specs.List.{AllByRecursion, flat_map};
 ghost use Rattle.std.specs.Prelude.{◌≡◌, ◌<◌, ◌^◌, [], ◌∷◌, Some, IsSome, IfOk, length};
 ghost use Rattle.pfl_edits.specs.Maps as maps;
 ghost use Rattle.pfl_node.specs.Flushing as flushing;
-ghost use Rattle.pfl_parts.specs.Nodes.{AreParts, IsPast};
+ghost use Rattle.pfl_desk.specs.Nodes.{AreParts, IsPast};
 ghost use Rattle.pfl_node.specs.inner.Sending as sending;
 ghost use Rattle.pfl_queue.specs.inner.Fitting.{entry_bytes};
 ghost use Rattle.pfl_wire.specs.Frames.{lists};
@@ -12,7 +12,7 @@ ghost use Rattle.pfl_wire.specs.Spelling.{spelling};
 
 use pfl_base::StateName;
 use pfl_edits::NoMemory;
-use pfl_parts::Desk;
+use pfl_desk::Desk;
 use pfl_queue::{Entry, Kind};
 use pfl_track::State;
 use pfl_wire::{Action, Frame, Message, StateRecord, UpdateRecord, encode};

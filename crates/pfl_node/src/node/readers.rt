@@ -3,7 +3,7 @@
 ghost use Rattle.std.specs.Prelude.{◌≡◌, ◌≤◌, Some};
 ghost use Rattle.pfl_base.specs.declared.state_name.StateName.{StateName};
 ghost use Rattle.pfl_edits.specs.Maps as maps;
-ghost use Rattle.pfl_parts.specs.Nodes.{last_millisecond};
+ghost use Rattle.pfl_desk.specs.Nodes.{last_millisecond};
 ghost use Rattle.pfl_rules.specs.Rules.{timeout};
 ghost use Rattle.pfl_table.specs.Tables.{states_of};
 ghost use Rattle.pfl_table.specs.declared.row.Row.{Row};
@@ -13,7 +13,7 @@ use pfl_base::Millis;
 use pfl_bulk::{BulkClient, BulkServer};
 use pfl_defer::Deferrals;
 use pfl_language::Limits;
-use pfl_parts::Counters;
+use pfl_desk::Counters;
 use pfl_queue::Pending;
 use pfl_rules::RuleSet;
 use pfl_table::StateTable;

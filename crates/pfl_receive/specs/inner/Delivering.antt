@@ -5,8 +5,8 @@ use Rattle.pfl_edits.specs.Maps as maps
 use Rattle.pfl_wire.specs.declared.message.Message.{Message}
 use Rattle.pfl_wire.specs.Actions.{record_len}
 use Rattle.pfl_wire.specs.Frames.{action_of}
-use Rattle.pfl_parts.specs.Drafts.{Draft}
-use Rattle.pfl_parts.specs.Weights.{forgotten_edits}
+use Rattle.pfl_desk.specs.Drafts.{Draft}
+use Rattle.pfl_desk.specs.Weights.{forgotten_edits}
 use Rattle.pfl_receive.specs.Delivering.{record_edits}
 
 -- a record pays for so many edits: for one by each four of its bytes

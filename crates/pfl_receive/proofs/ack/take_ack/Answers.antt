@@ -1,6 +1,6 @@
 use Rattle.std.proofs.Common.{◌≤◌, sym, subst}
 use Rattle.pfl_edits.specs.Maps as maps
-use Rattle.pfl_parts.specs.Nodes.{Node}
+use Rattle.pfl_desk.specs.Nodes.{Node}
 use Rattle.pfl_receive.proofs.Paying.{few-released}
 use Rattle.pfl_receive.proofs.ack.take_ack.Goals as goal
 

@@ -3,8 +3,8 @@ use Rattle.std.specs.Prelude.{IfOk, OnOk}
 use Rattle.std.specs.List.{fold}
 use Rattle.pfl_wire.specs.declared.message.Message.{Message}
 use Rattle.pfl_wire.specs.Frames.{records_of}
-use Rattle.pfl_parts.specs.Drafts.{Writes}
-use Rattle.pfl_parts.specs.inner.Judging.{Went}
+use Rattle.pfl_desk.specs.Drafts.{Writes}
+use Rattle.pfl_desk.specs.inner.Judging.{Went}
 use Rattle.pfl_receive.specs.inner.Delivering.{paid_by}
 use Rattle.pfl_receive.specs.Delivering.{records_work, same_rules, taken_points}
 use Rattle.pfl_receive.specs.Receiving.{taken}

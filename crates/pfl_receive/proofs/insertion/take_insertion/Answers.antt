@@ -1,6 +1,6 @@
 use Rattle.std.proofs.Common.{subst, arith}
 use Rattle.pfl_track.specs.States.{IsState}
-use Rattle.pfl_parts.proofs.ForCallers.{writes-then, writes-more}
+use Rattle.pfl_desk.proofs.ForCallers.{writes-then, writes-more}
 use Rattle.pfl_receive.proofs.Importing.{may-import, imported-node, imported-may, acknowledged-may}
 use Rattle.pfl_receive.proofs.insertion.take_insertion.Goals as goal
 

@@ -1,7 +1,7 @@
 use Rattle.std.proofs.Common.{◌+◌, ◌*◌, length, ◌∙◌, ap, sym, refl, lit≤, arith}
 use Rattle.pfl_receive.proofs.ByKind.{cleared-clear, taken-clear, taken-insert, taken-ack, taken-update, taken-short, taken-request, taken-delete, taken-gone, taken-status}
 use Rattle.pfl_receive.proofs.Paying.{paid-as, paid-more, paid-on, few-insert, few-update, few-short, few-request}
-use Rattle.pfl_parts.proofs.ForCallers.{writes-more}
+use Rattle.pfl_desk.proofs.ForCallers.{writes-more}
 use Rattle.pfl_receive.specs.inner.Delivering.{paid_edits}
 use Rattle.pfl_receive.specs.Delivering.{cleared_by}
 use Rattle.pfl_receive.specs.Receiving.{cleared_names, of_state, of_update}

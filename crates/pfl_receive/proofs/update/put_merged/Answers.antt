@@ -1,5 +1,5 @@
 use Rattle.std.proofs.Common.{arith}
-use Rattle.pfl_parts.proofs.ForCallers.{writes-then, writes-more}
+use Rattle.pfl_desk.proofs.ForCallers.{writes-then, writes-more}
 use Rattle.pfl_receive.proofs.update.put_merged.Goals as goal
 
 pub returns-in_err-change_state-clause-writes : goal.returns-in_err-change_state-clause-writes

@@ -1,4 +1,4 @@
-use Rattle.pfl_parts.proofs.ForCallers.{writes-then}
+use Rattle.pfl_desk.proofs.ForCallers.{writes-then}
 use Rattle.pfl_receive.proofs.Merging.{merge-may}
 use Rattle.pfl_receive.proofs.update.take_merge.Goals as goal
 

@@ -8,8 +8,8 @@ use Rattle.pfl_edits.specs.Maps as maps
 use Rattle.pfl_table.specs.Tables.{States}
 use Rattle.pfl_track.specs.declared.state.State.{State}
 use Rattle.pfl_node.specs.Killing.{kill_refusal, killed}
-use Rattle.pfl_parts.specs.Changes.{deleted}
-use Rattle.pfl_parts.specs.Nodes.{Node, IsRefusal, points_refusal, refused_by, full_tests}
+use Rattle.pfl_desk.specs.Changes.{deleted}
+use Rattle.pfl_desk.specs.Nodes.{Node, IsRefusal, points_refusal, refused_by, full_tests}
 use Rattle.pfl_node.proofs.Ready.{begins, may-settle, settled, settled-answer}
 use Rattle.pfl_node.proofs.OnePoint.{point-ends, refused-as, not_refused-as}
 use Rattle.pfl_node.proofs.node.Node.kill.Goals as goal

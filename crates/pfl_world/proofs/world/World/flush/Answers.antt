@@ -5,7 +5,7 @@ use Rattle.pfl_link.specs.Links.{is_full, is_counted_out}
 use Rattle.pfl_queue.specs.Queues.{pending}
 use Rattle.pfl_queue.specs.Taking.{next_frame}
 use Rattle.pfl_node.specs.Flushing.{flushed, frame_of}
-use Rattle.pfl_parts.specs.Nodes.{Node}
+use Rattle.pfl_desk.specs.Nodes.{Node}
 use Rattle.pfl_wire.specs.Spelling.{spelling}
 use Rattle.pfl_world.specs.Worlds.{World, node_at, joined}
 use Rattle.pfl_world.proofs.Leads.{agrees_after, fits_after, back_after, leads_from, made_as, lent_from, where_err}

@@ -1,0 +1,114 @@
+-- The deletion of a state: what stays a node's parts on the way, what the peer is told, and what is left alone.
+use Rattle.std.specs.Prelude.{◌≡◌, ◌≤◌, ℕ, ◌+◌, ◌-◌, Bool, true, false, not, ◌&&◌, Option, Some, None, refl}
+use Rattle.std.proofs.Common.{cond, ◌∙◌, ap, sym, subst, arith, inl, inr}
+use Rattle.pfl_base.specs.declared.state_name.StateName.{StateName}
+use Rattle.pfl_base.specs.Names.{name_cmp}
+use Rattle.pfl_base.proofs.ForCallers.{names_total, names_exact}
+use Rattle.pfl_edits.specs.Maps as maps
+use Rattle.pfl_edits.specs.Maps.{Map}
+use Rattle.pfl_edits.proofs.ForCallers.{len-remove, get-set_at_same, get-set_at_other, get-set_at_cases, set_at-set_at, key_cases, some_is_none}
+use Rattle.pfl_rules.specs.Rules.{Rules}
+use Rattle.pfl_track.specs.declared.state.State.{State}
+use Rattle.pfl_table.specs.Tables.{States}
+use Rattle.pfl_table.proofs.ForCallers.{AreStates-without}
+use Rattle.pfl_queue.specs.declared.Kind.TheVariants.{Delete}
+use Rattle.pfl_queue.specs.declared.Mark.{Mark}
+use Rattle.pfl_queue.specs.Queues.{Queue, kind_of, unmarked}
+use Rattle.pfl_queue.proofs.ForCallers.{unmarked_kept, unmarked_absent, kept}
+use Rattle.pfl_language.specs.declared.limits.Limits.{Limits}
+use Rattle.pfl_desk.specs.Changes.{without_state, mark, unmark, is_held, is_insert, lost, count_lost, without_held, deleted, deletion_told, forgotten}
+use Rattle.pfl_desk.specs.Nodes.{Node, AreParts}
+use Rattle.pfl_desk.proofs.Keeps.{keeps_states, keeps_queue}
+use Rattle.pfl_desk.proofs.Putting.{IsTold, rightly-still}
+
+-- ---- nodes on the way
+
+-- a name less on a queue
+pub unmarked-node : (n : Node) (name : StateName) → AreParts n → AreParts (unmark n name)
+unmarked-node n name is =
+    keeps_queue n (unmarked n.queue name) is (unmarked_kept n.queue is.queue name) refl
+    (λ q k at. is.marks q k (kept n.queue is.queue name q k at))
+
+less : (b : Bool) (k l : ℕ) → k ≤ l → cond b (k - 1) k ≤ l
+less true k l h = omega arith
+less false k l h = h
+
+-- a state less, that is on no queue
+without-node : (n : Node) (name : StateName) → AreParts n → maps.get n.queue.marks name ≡ None → AreParts (without_state n name)
+without-node n name is free =
+    keeps_states n (maps.remove n.states name) is (AreStates-without n.states name is.states)
+    (subst (λ (k : ℕ). k ≤ n.limits.states) (sym (len-remove names_total n.states name)) (less (maps.contains_key n.states name) (maps.len n.states) n.limits.states is.few))
+    (λ q s at. elim (get-set_at_cases names_total names_exact n.states name None q s at) [
+      | inl here ↦ absurd (some_is_none s (sym here.1))
+      | inr other ↦ is.each q s other.1
+    ])
+    (λ q k at. elim (key_cases names_total names_exact q name) [
+      | inl same ↦ absurd (some_is_none k (sym at ∙ (ap (maps.get n.queue.marks) same ∙ free)))
+      | inr other ↦ rightly-still n (maps.remove n.states name) q k (get-set_at_other names_total names_exact n.states name None q other) (is.marks q k at).1
+    ])
+
+-- a name off its queue, and its state out
+pub taken_out-node : (n : Node) (name : StateName) → AreParts (unmark n name) → AreParts (without_state (unmark n name) name)
+taken_out-node n name is = without-node (unmark n name) name is (get-set_at_same names_total names_exact n.queue.marks name None)
+
+-- ---- what is told
+
+-- the peer is told of the deletion of a state
+abbrev pub is_deletion_told : Node → State → Bool
+is_deletion_told n s = not (is_insert (kind_of n.queue s.name)) && not s.no_sync
+
+-- the name ends on the deletions
+pub gone-told : (n : Node) (s : State) → is_deletion_told n s ≡ true → deletion_told (without_state n s.name) s ≡ mark (unmark (without_state n s.name) s.name) s.name Delete
+gone-told n s told =
+    by (is_insert (kind_of n.queue s.name)) s.no_sync (unmark (without_state n s.name) s.name) (without_state n s.name) _ told
+    ∙ ap (λ (m : Map name_cmp Mark). record (without_state n s.name) { queue = record n.queue { next = n.queue.next + 1; marks = m } }) (sym (set_at-set_at names_total names_exact n.queue.marks s.name None (Some (record { name = s.name; kind = Delete; number = n.queue.next }))))
+  where
+    by : (a b : Bool) (x y z : Node) → (not a && not b) ≡ true → cond a x (cond b y z) ≡ z
+    by true b x y z e = absurd (cc)
+    by false true x y z e = absurd (cc)
+    by false false x y z e = refl
+
+no_mark : (n : Node) (s : State) → AreParts n → maps.get n.states s.name ≡ Some s → s.no_sync ≡ true → (o : Option Mark) → maps.get n.queue.marks s.name ≡ o → o ≡ None
+no_mark n s is stands quiet None at = refl
+no_mark n s is stands quiet (Some k) at = let told = subst IsTold stands (is.marks s.name k at).1.1 in absurd (cc)
+
+-- or on no queue
+pub gone-untold : (n : Node) (s : State) → AreParts n → maps.get n.states s.name ≡ Some s → is_deletion_told n s ≡ false → deletion_told (without_state n s.name) s ≡ unmark (without_state n s.name) s.name
+gone-untold n s is stands told =
+    by (is_insert (kind_of n.queue s.name)) s.no_sync (unmark (without_state n s.name) s.name) (without_state n s.name) _ told
+    (λ quiet. ap (λ (q : Queue). record (without_state n s.name) { queue = q }) (unmarked_absent n.queue s.name (no_mark n s is stands quiet (maps.get n.queue.marks s.name) refl)))
+  where
+    by : (a b : Bool) (x y z : Node) → (not a && not b) ≡ false → (b ≡ true → y ≡ x) → cond a x (cond b y z) ≡ x
+    by true b x y z e f = refl
+    by false true x y z e f = f refl
+    by false false x y z e f = absurd (cc)
+
+-- ---- what it leaves alone
+
+field_if : {X : Type 0} (f : Node → X) (b : Bool) (x y : Node) (v : X) → f x ≡ v → f y ≡ v → f (cond b x y) ≡ v
+field_if f true x y v e g = e
+field_if f false x y v e g = g
+
+-- what neither queues nor counts
+abbrev pub Rest : Type 0
+Rest = Limits × (Rules × (States × (ℕ × (ℕ × ℕ))))
+
+abbrev pub rest : Node → Rest
+rest n = (n.limits, (n.rules, (n.states, (n.clock, (n.creator, n.next_id)))))
+
+pub deleted-rest : (n : Node) (s : State) → rest (deleted n s) ≡ rest (without_state n s.name)
+unfolding deleted
+deleted-rest n s =
+    let before = field_if (λ (m : Node). rest (without_state m s.name)) (is_held n s.name) (count_lost (without_held n s.name)) n (rest (without_state n s.name)) refl refl in
+    field_if rest (is_insert (kind_of (lost n s.name).queue s.name)) _ _ (rest (without_state n s.name)) before (field_if rest s.no_sync _ _ (rest (without_state n s.name)) before before)
+
+pub deleted-is : (n : Node) (s : State) → deleted n s ≡ deletion_told (without_state (lost n s.name) s.name) s
+unfolding deleted
+deleted-is n s = refl
+
+pub forgotten-is : (n : Node) (name : StateName) → forgotten n name ≡ unmark (without_state (lost n name) name) name
+unfolding forgotten
+forgotten-is n name = refl
+
+pub lost-stands : (n : Node) (s : State) → maps.get n.states s.name ≡ Some s → maps.get (lost n s.name).states s.name ≡ Some s
+lost-stands n s stands = field_if (λ (m : Node). maps.get m.states s.name) (is_held n s.name) (count_lost (without_held n s.name)) n (Some s) stands stands

@@ -1,0 +1,98 @@
+-- What was carried out and is not refused leads back through nodes; what is refused is refused for its points.
+use Rattle.std.specs.Prelude.{◌≡◌, ◌≤◌, Bool, true, false, List, [], ◌∷◌, Some, None, Result, Ok, Err, IfOk, OnOk, if◌then◌else◌, refl}
+use Rattle.std.specs.List.{list_any}
+use Rattle.std.proofs.Common.{◌∙◌, ap, sym, subst}
+use Rattle.pfl_base.specs.declared.refusal.Refusal.{Refusal}
+use Rattle.pfl_base.specs.declared.refusal.Refusal.TheVariants.{QueueFull, CountFull}
+use Rattle.pfl_base.specs.Numbers.{greatest}
+use Rattle.pfl_edits.specs.Changes.{Edits, Fits, LeadsBack, back}
+use Rattle.pfl_queue.specs.declared.edits.QueueEdit.TheVariants.{OfMark, OfName, OfRequest, OfStatus, OfClear}
+use Rattle.pfl_desk.specs.declared.edit.Counter.TheVariants.{Passed, Blocked, Freed, Lost, Bad, Stale, Broken}
+use Rattle.pfl_desk.specs.declared.edit.NodeEdit.{NodeEdit}
+use Rattle.pfl_desk.specs.declared.edit.NodeEdit.TheVariants.{OfState, Moved, OfQueue, OfHeld, Server, Client, Clock, NextId, Push, Count}
+use Rattle.pfl_desk.specs.declared.parts.judge.Overfull.{Overfull}
+use Rattle.pfl_desk.specs.Edits.{Finds, put_back, NodeLeadsBack}
+use Rattle.pfl_desk.specs.inner.Judging.{Went, judgement}
+use Rattle.pfl_desk.specs.Nodes.{Node, AreParts, IsNode, is_overfull, is_overcounted, refused_by, points_refusal}
+use Rattle.pfl_desk.proofs.Keeps.{counted_all, all_counted}
+
+-- ---- the way back is through nodes
+
+-- what is put back is not past the greatest, where nothing was
+stays : (e : NodeEdit) (n : Node) → Finds e n → is_overcounted n ≡ false → is_overcounted (put_back e n) ≡ false
+stays (OfState e) n f c = c
+stays (Moved e) n f c = c
+stays (OfQueue (OfMark name before after next_before next_after)) n f c =
+    let k = counted_all n c in
+    all_counted (put_back (OfQueue (OfMark name before after next_before next_after)) n) (record { next_id = k.next_id; next = f.1 (subst (λ i. i ≤ greatest) f.0.1 k.next); passed = k.passed; blocked = k.blocked; freed = k.freed; lost = k.lost; bad = k.bad; stale = k.stale; broken = k.broken })
+stays (OfQueue (OfName name before after)) n f c = c
+stays (OfQueue (OfRequest position before after)) n f c = c
+stays (OfQueue (OfStatus position before after)) n f c = c
+stays (OfQueue (OfClear position before after)) n f c = c
+stays (OfHeld e) n f c = c
+stays (Server before after) n f c = c
+stays (Client before after) n f c = c
+stays (Clock before after) n f c = c
+stays (Push before after) n f c = c
+stays (NextId before after) n f c =
+    let k = counted_all n c in
+    all_counted (put_back (NextId before after) n) (record { next_id = f.1 (subst (λ i. i ≤ greatest) f.0 k.next_id); next = k.next; passed = k.passed; blocked = k.blocked; freed = k.freed; lost = k.lost; bad = k.bad; stale = k.stale; broken = k.broken })
+stays (Count Passed before after) n f c =
+    let k = counted_all n c in
+    all_counted (put_back (Count Passed before after) n) (record { next_id = k.next_id; next = k.next; passed = f.1 (subst (λ i. i ≤ greatest) f.0 k.passed); blocked = k.blocked; freed = k.freed; lost = k.lost; bad = k.bad; stale = k.stale; broken = k.broken })
+stays (Count Blocked before after) n f c =
+    let k = counted_all n c in
+    all_counted (put_back (Count Blocked before after) n) (record { next_id = k.next_id; next = k.next; passed = k.passed; blocked = f.1 (subst (λ i. i ≤ greatest) f.0 k.blocked); freed = k.freed; lost = k.lost; bad = k.bad; stale = k.stale; broken = k.broken })
+stays (Count Freed before after) n f c =
+    let k = counted_all n c in
+    all_counted (put_back (Count Freed before after) n) (record { next_id = k.next_id; next = k.next; passed = k.passed; blocked = k.blocked; freed = f.1 (subst (λ i. i ≤ greatest) f.0 k.freed); lost = k.lost; bad = k.bad; stale = k.stale; broken = k.broken })
+stays (Count Lost before after) n f c =
+    let k = counted_all n c in
+    all_counted (put_back (Count Lost before after) n) (record { next_id = k.next_id; next = k.next; passed = k.passed; blocked = k.blocked; freed = k.freed; lost = f.1 (subst (λ i. i ≤ greatest) f.0 k.lost); bad = k.bad; stale = k.stale; broken = k.broken })
+stays (Count Bad before after) n f c =
+    let k = counted_all n c in
+    all_counted (put_back (Count Bad before after) n) (record { next_id = k.next_id; next = k.next; passed = k.passed; blocked = k.blocked; freed = k.freed; lost = k.lost; bad = f.1 (subst (λ i. i ≤ greatest) f.0 k.bad); stale = k.stale; broken = k.broken })
+stays (Count Stale before after) n f c =
+    let k = counted_all n c in
+    all_counted (put_back (Count Stale before after) n) (record { next_id = k.next_id; next = k.next; passed = k.passed; blocked = k.blocked; freed = k.freed; lost = k.lost; bad = k.bad; stale = f.1 (subst (λ i. i ≤ greatest) f.0 k.stale); broken = k.broken })
+stays (Count Broken before after) n f c =
+    let k = counted_all n c in
+    all_counted (put_back (Count Broken before after) n) (record { next_id = k.next_id; next = k.next; passed = k.passed; blocked = k.blocked; freed = k.freed; lost = k.lost; bad = k.bad; stale = k.stale; broken = f.1 (subst (λ i. i ≤ greatest) f.0 k.broken) })
+
+through_nodes : (es : List NodeEdit) (n : Node) → Fits Finds AreParts put_back es n → is_overcounted n ≡ false → Fits Finds IsNode put_back es n × (is_overcounted (back put_back es n) ≡ false)
+through_nodes [] n f c = (tt, c)
+through_nodes (e ∷ es) n f c =
+    let rest = through_nodes es n f.0 c in
+    let here = stays e (back put_back es n) f.1 rest.1 in
+    ((rest.0, f.1, record { parts = f.2; counted = here }), here)
+
+-- what leads back from where no number is too high leads back through nodes
+pub leads_through : (es : List NodeEdit) (a b : Node) → LeadsBack Finds AreParts put_back es a b → is_overcounted b ≡ false → NodeLeadsBack es a b
+leads_through es a b l c = record { fits = (through_nodes es b l.fits c).0; back = l.back }
+
+-- ---- what is refused
+
+by_tests : (a b : Bool) → refused_by ((a, QueueFull) ∷ (b, CountFull) ∷ []) ≡ (if a then Some QueueFull else if b then Some CountFull else None)
+by_tests true b = refl
+by_tests false true = refl
+by_tests false false = refl
+
+-- an event is refused for the points that it went through
+pub went-refusal : {T : Type 0} (r : Result (T × Bool) Overfull) (points : List Node) → Went r points → points_refusal points ≡ judgement r
+went-refusal (Ok r) points w =
+    by_tests (list_any is_overfull points) (list_any is_overcounted points)
+    ∙ (λ i. if w.0 i then Some QueueFull else if sym w.1 i then Some CountFull else None)
+went-refusal (Err e) points w =
+    by_tests (list_any is_overfull points) (list_any is_overcounted points)
+    ∙ ap (λ b. if b then Some QueueFull else if list_any is_overcounted points then Some CountFull else None) w
+
+-- where it is not, none was too high
+pub went-counted : {T : Type 0} (r : Result (T × Bool) Overfull) (t : T) (points : List Node) → Went r points → r ≡ Ok (t, false) → list_any is_overcounted points ≡ false
+went-counted {T} r t points w e = let all = subst (λ (q : Result (T × Bool) Overfull). Went q points) e w in sym all.1
+
+-- ---- what stands, or was taken back
+
+-- what was answered of the node that stands
+pub settled-answer : {T : Type 0} (b m : Node) (tried : Result (T × Bool) Overfull) (P : T → Node → Type 0) → IfOk tried (λ r. P r.0 b) → (result : Result (T × Edits NodeEdit) Refusal) → IfOk result (λ r. tried ≡ Ok (r.0, false)) → OnOk result (m ≡ b) → IfOk result (λ r. P r.0 m)
+settled-answer b m tried P answer (Ok r) stands kept = let here = subst (λ (q : Result _ Overfull). IfOk q (λ r. P r.0 b)) stands answer in subst (P r.0) (sym kept) here
+settled-answer b m tried P answer (Err e) stands kept = tt

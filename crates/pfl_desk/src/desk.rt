@@ -1,0 +1,109 @@
+//! The desk on which an event changes a node: the parts of the node, and what was recorded since the event began. Each place by
+//! itself (places), what the peer is asked for or told beside the queues of names (lists), the small changes that events are made of
+//! (changes), what a frame takes out (taking), and what ends an event (ending). What is read of the node stands in readers.
+
+mod changes;
+mod ending;
+mod lists;
+pub(crate) mod places;
+mod readers;
+mod taking;
+
+ghost use Rattle.std.specs.Prelude.{◌≡◌, ◌≤◌, false, IfOk, []};
+ghost use Rattle.pfl_language.specs.Limits.{AreLimits};
+ghost use Rattle.pfl_desk.specs.Edits.{Finds, put_back};
+ghost use Rattle.pfl_desk.specs.inner.Drafting.{IsDraft, most_room};
+ghost use Rattle.pfl_desk.specs.Nodes.{AreParts, is_overcounted, new_node};
+
+use crate::edit::NodeEdit;
+use crate::parts::Parts;
+use pfl_edits::{Change, NoMemory, Reversible};
+use pfl_language::Limits;
+use pfl_rules::RuleSet;
+use std::alloc::Allocator;
+use std::marker::Model;
+
+/// The parts of a node, and what was recorded of them since an event began: the edits lead back to where it began, and there is room
+/// for those that it still makes. So nothing that is changed here goes unrecorded, and no number comes near the last one that the code
+/// has.
+pub struct Desk<A: Allocator> {
+    parts: Parts<A>,
+    edits: Change<NodeEdit, A>,
+}
+
+// Not derived: to a proof a written drop is one call, where a derived one is opened again on every way out.
+impl<A: Allocator> Drop for Desk<A> {
+    fn drop(self) {
+        let Desk { parts: _, edits: _ } = self;
+    }
+}
+
+impl<A: Allocator> Model for Desk<A> {
+    ghost use Rattle.pfl_desk.specs.Drafts.{Draft};
+    ghost use Rattle.pfl_desk.specs.inner.Drafting.{IsDraft};
+
+    ghost Value = { Draft };
+
+    ghost view = { λ d. record { node = d.parts; edits = d.edits } };
+
+    ghost invariant = { λ d. IsDraft (record { node = d.parts; edits = d.edits }) };
+}
+
+impl<A: Allocator + Copy> Desk<A> {
+    /// A desk with a node that has seen nothing, and with room for so many edits. The node's creator is the number of its boot, and
+    /// its next id and its next queueing number are `next`.
+    pub fn new(
+        alloc: A,
+        limits: Limits,
+        rules: RuleSet<A>,
+        creator: u32,
+        next: u32,
+        room: usize,
+    ) -> Result<Self, NoMemory>
+        requires limits { AreLimits limits }
+        requires room { room ≤ most_room }
+        ensures new { IfOk result (λ d. d.node ≡ new_node limits rules creator next 0) }
+        ensures none { IfOk result (λ d. d.edits.list ≡ []) }
+        ensures room { IfOk result (λ d. d.edits.spare ≡ room) }
+        ensures parts { IfOk result (λ d. AreParts d.node) }
+    {
+        let parts = Parts::new(alloc, limits, rules, creator, next)?;
+        let edits = Change::with_room(alloc, room)?;
+        Ok(Desk { parts, edits })
+    }
+
+    /// A desk with an equal node, between events, with memory of its own and room for so many edits.
+    pub fn copy(&self, alloc: A, room: usize) -> Result<Self, NoMemory>
+        requires between { self.now.edits.list ≡ [] }
+        requires room { room ≤ most_room }
+        ensures same { IfOk result (λ d. d.node ≡ self.now.node) }
+        ensures none { IfOk result (λ d. d.edits.list ≡ []) }
+        ensures room { IfOk result (λ d. d.edits.spare ≡ room) }
+    {
+        let parts = self.parts.copy()?;
+        let edits = Change::with_room(alloc, room)?;
+        Ok(Desk { parts, edits })
+    }
+}
+
+impl<A: Allocator> Desk<A> {
+    /// Tells a proof what is true of each desk. It does nothing.
+    pub fn known(&self)
+        ensures parts { AreParts self.now.node }
+        ensures draft { IsDraft self.now }
+    {
+        self.parts.known();
+    }
+
+    /// Takes an edit of an earlier event back, between events.
+    pub fn undo(&mut self, edit: NodeEdit)
+        requires between { self.old.edits.list ≡ [] }
+        requires found { Finds edit self.old.node }
+        requires allowed { AreParts (put_back edit self.old.node) }
+        requires counted { is_overcounted (put_back edit self.old.node) ≡ false }
+        ensures node { self.new.node ≡ put_back edit self.old.node }
+        ensures edits { self.new.edits ≡ self.old.edits }
+    {
+        self.parts.undo(edit);
+    }
+}

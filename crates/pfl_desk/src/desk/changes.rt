@@ -1,0 +1,204 @@
+//! The small changes that events are made of: held packets that go, states that change, states that go, and when the peer is told
+//! (pfsync(4), if_pfsync.c).
+
+ghost use Rattle.std.specs.Prelude.{◌≡◌, ◌≤◌, ◌<◌, ◌+◌, true, false, None, OnOk, OnErr, ◌&&◌, not, Some};
+ghost use Rattle.pfl_edits.specs.Maps as maps;
+ghost use Rattle.pfl_desk.specs.Changes as to;
+ghost use Rattle.pfl_desk.specs.Drafts.{Writes};
+ghost use Rattle.pfl_desk.specs.inner.Kept.{MayReplace};
+ghost use Rattle.pfl_desk.specs.Nodes.{Node as Whole, AreParts, is_overfull};
+ghost use Rattle.pfl_queue.specs.Queues.{kind_of};
+ghost use Rattle.pfl_desk.specs.Weights.{freed_edits, released_edits, changed_edits, taken_out_edits, forgotten_edits, deleted_edits};
+
+use crate::desk::Desk;
+use crate::edit::Counter;
+use crate::parts::judge::Overfull;
+use pfl_base::{Proto, StateName};
+use pfl_queue::Kind;
+use pfl_track::State;
+use std::alloc::Allocator;
+
+impl<A: Allocator> Desk<A> {
+    /// Lets the packet of a name go out, if one is held, and counts it.
+    pub fn free(&mut self, name: StateName)
+        requires room { freed_edits ≤ self.old.edits.spare }
+        ensures node { self.new.node ≡ to.freed self.old.node name }
+        ensures writes { Writes freed_edits self.old self.new }
+    {
+        if self.let_go(name) {
+            self.count(Counter::Freed);
+        }
+    }
+
+    /// Drops the packet of a name, if one is held, and counts it.
+    pub fn drop_held(&mut self, name: StateName)
+        requires room { freed_edits ≤ self.old.edits.spare }
+        ensures node { self.new.node ≡ to.lost self.old.node name }
+        ensures writes { Writes freed_edits self.old self.new }
+    {
+        if self.let_go(name) {
+            self.count(Counter::Lost);
+        }
+    }
+
+    /// The state of a name waits for no acknowledgement, if there is one.
+    fn stop_waiting(&mut self, name: StateName)
+        requires room { 0 < self.old.edits.spare }
+        ensures node { self.new.node ≡ to.not_waiting self.old.node name }
+        ensures writes { Writes 1 self.old self.new }
+    {
+        let Some(state) = self.states().by_name(name).copied() else {
+            return;
+        };
+        self.replace_state(state.with_ack_wanted(false));
+    }
+
+    /// Lets the packet of a name go out, if one is held, and its state waits no more.
+    pub fn release(&mut self, name: StateName)
+        requires room { released_edits ≤ self.old.edits.spare }
+        ensures node { self.new.node ≡ to.released self.old.node name }
+        ensures writes { Writes released_edits self.old self.new }
+    {
+        self.free(name);
+        self.stop_waiting(name);
+    }
+
+    /// Puts a state in the place of one, and has the peer told of it.
+    pub fn change_state(&mut self, state: State) -> Result<(), Overfull>
+        requires room { changed_edits ≤ self.old.edits.spare }
+        requires known { MayReplace self.old.node state }
+        ensures full { OnErr result (is_overfull (to.changed self.old.node state) ≡ true) }
+        ensures node { OnOk result (self.new.node ≡ to.changed self.old.node state) }
+        ensures writes { Writes changed_edits self.old self.new }
+    {
+        let recent = self.is_recent(&state);
+        if state.no_sync() {
+            self.replace_state(state);
+            return Ok(());
+        }
+        self.tell(state)?;
+        self.push_if(recent);
+        Ok(())
+    }
+
+    /// Puts a state in the place of one, and has the peer told of it by an update.
+    fn tell(&mut self, state: State) -> Result<(), Overfull>
+        requires room { 2 ≤ self.old.edits.spare }
+        requires known { MayReplace self.old.node state }
+        requires told { state.no_sync ≡ false }
+        ensures full { OnErr result (is_overfull (to.told self.old.node state) ≡ true) }
+        ensures node { OnOk result (self.new.node ≡ to.told self.old.node state) }
+        ensures writes { Writes 2 self.old self.new }
+    {
+        let name = state.name();
+        if self.is_untold(name) {
+            self.replace_state(state.with_updates(0));
+            return self.mark(name, Kind::UpdateShort);
+        }
+        self.count_update(state);
+        Ok(())
+    }
+
+    /// Puts a state in the place of one that the peer is told of already.
+    fn count_update(&mut self, state: State)
+        requires room { 2 ≤ self.old.edits.spare }
+        requires known { MayReplace self.old.node state }
+        ensures node { self.new.node ≡ to.counted self.old.node state }
+        ensures writes { Writes 2 self.old self.new }
+    {
+        match state.wire().proto {
+            Proto::Tcp => {
+                let updates = state.updates().saturating_add(1);
+                let many = self.limits().maxupd <= u32::from(updates);
+                self.replace_state(state.with_updates(updates));
+                self.push_if(many);
+            }
+            Proto::Udp | Proto::Icmp | Proto::Other(_) => self.replace_state(state),
+        }
+    }
+
+    /// The name is on no queue, or only to be acknowledged.
+    fn is_untold(&self, name: StateName) -> bool
+        ensures untold { result ≡ to.is_untold (kind_of self.now.node.queue name) }
+    {
+        match self.queue().kind_of(name) {
+            None | Some(Kind::InsertAck) => true,
+            Some(_) => false,
+        }
+    }
+
+    /// The peer changed the state less than two seconds ago.
+    fn is_recent(&self, state: &State) -> bool
+        ensures recent { result ≡ to.is_recent self.now.node state.now }
+    {
+        match state.peer_change() {
+            Some(time) => self.clock().saturating_sub(time) < 2000,
+            None => false,
+        }
+    }
+
+    /// Deletes the state by itself, and has the peer told of it.
+    pub fn delete(&mut self, state: &State) -> Result<(), Overfull>
+        requires room { deleted_edits ≤ self.old.edits.spare }
+        requires stands { maps.get self.old.node.states state.now.name ≡ Some state.now }
+        ensures full { OnErr result (is_overfull (to.deleted self.old.node state.now) ≡ true) }
+        ensures node { OnOk result (self.new.node ≡ to.deleted self.old.node state.now) }
+        ensures writes { Writes deleted_edits self.old self.new }
+    {
+        self.drop_held(state.name());
+        self.tell_deletion(state)
+    }
+
+    /// Takes the state out, and has the peer told of it.
+    fn tell_deletion(&mut self, state: &State) -> Result<(), Overfull>
+        requires room { 3 ≤ self.old.edits.spare }
+        requires stands { maps.get self.old.node.states state.now.name ≡ Some state.now }
+        ensures full { OnErr result (is_overfull (to.deletion_told (to.without_state self.old.node state.now.name) state.now) ≡ true) }
+        ensures node { OnOk result (self.new.node ≡ to.deletion_told (to.without_state self.old.node state.now.name) state.now) }
+        ensures writes { Writes 3 self.old self.new }
+    {
+        let name = state.name();
+        let told = self.is_deletion_told(state);
+        self.take_out(name);
+        if !told {
+            return Ok(());
+        }
+        self.mark(name, Kind::Delete)
+    }
+
+    /// Takes a name off its queue, and its state out.
+    pub fn take_out(&mut self, name: StateName)
+        requires room { taken_out_edits ≤ self.old.edits.spare }
+        ensures node { self.new.node ≡ to.unmark (to.without_state self.old.node name) name }
+        ensures writes { Writes taken_out_edits self.old self.new }
+    {
+        self.unmark(name);
+        self.take_state(name);
+    }
+
+    /// Drops the packet of a name, takes the name off its queue and its state out, and tells the peer nothing.
+    pub fn forget(&mut self, name: StateName)
+        requires room { forgotten_edits ≤ self.old.edits.spare }
+        ensures node { self.new.node ≡ to.forgotten self.old.node name }
+        ensures writes { Writes forgotten_edits self.old self.new }
+    {
+        self.drop_held(name);
+        self.take_out(name);
+    }
+
+    /// The peer is told of the deletion of the state.
+    fn is_deletion_told(&self, state: &State) -> bool
+        ensures told { result ≡ (not (to.is_insert (kind_of self.now.node.queue state.now.name)) && not state.now.no_sync) }
+        ensures parts { AreParts self.now.node }
+    {
+        self.known();
+        !is_insert(self.queue().kind_of(state.name())) && !state.no_sync()
+    }
+}
+
+/// The peer has not heard of it.
+fn is_insert(kind: Option<Kind>) -> bool
+    ensures { result ≡ to.is_insert kind }
+{
+    matches!(kind, Some(Kind::Insert))
+}

@@ -1,0 +1,128 @@
+//! What is read of the node on a desk.
+
+ghost use Rattle.std.specs.Prelude.{◌≡◌, ◌≤◌, Some, false};
+ghost use Rattle.pfl_base.specs.declared.state_name.StateName.{StateName};
+ghost use Rattle.pfl_edits.specs.Maps as maps;
+ghost use Rattle.pfl_desk.specs.Nodes.{AreParts, is_overcounted, is_overfull, last_millisecond, timeout_at};
+ghost use Rattle.pfl_rules.specs.Rules.{timeout as rule_timeout};
+ghost use Rattle.pfl_table.specs.Tables.{states_of};
+ghost use Rattle.pfl_table.specs.declared.row.Row.{Row};
+
+use crate::counters::Counters;
+use crate::desk::Desk;
+use pfl_base::{Class, Millis};
+use pfl_bulk::{BulkClient, BulkServer};
+use pfl_defer::Deferrals;
+use pfl_language::Limits;
+use pfl_queue::Pending;
+use pfl_rules::{RuleSet, scaled};
+use pfl_table::StateTable;
+use std::alloc::Allocator;
+
+impl<A: Allocator> Desk<A> {
+    /// Its limits.
+    pub fn limits(&self) -> Limits
+        ensures limits { result ≡ self.now.node.limits }
+    {
+        self.parts.limits()
+    }
+
+    /// Its rules.
+    pub fn rules(&self) -> &RuleSet<A>
+        ensures rules { result.now ≡ self.now.node.rules }
+    {
+        self.parts.rules()
+    }
+
+    /// Its states, each with its timeout under the node's rules, in seconds.
+    pub fn states(&self) -> &StateTable<A>
+        ensures parts { AreParts self.now.node }
+        ensures states { states_of result.now ≡ self.now.node.states }
+        ensures limit { result.now.limit ≡ self.now.node.limits.states }
+        ensures timeouts { (name : StateName) (row : Row) → maps.get result.now.rows name ≡ Some row → row.timeout ≡ rule_timeout self.now.node.rules.list row.state.rule row.state.class }
+    {
+        self.parts.states()
+    }
+
+    /// The timeout that it gives the states of a rule and a class as it stands, in seconds (pf.conf(5), `adaptive.start`).
+    pub fn timeout(&self, rule: Option<u16>, class: Class) -> u32
+        ensures timeout { result ≡ timeout_at self.now.node rule class }
+    {
+        let states = self.states();
+        let seconds = self.rules().timeout(rule, class);
+        scaled(seconds, self.limits().adaptive(), states.len())
+    }
+
+    /// What it has to tell its peer.
+    pub fn queue(&self) -> &Pending<A>
+        ensures queue { result.now ≡ self.now.node.queue }
+    {
+        self.parts.queue()
+    }
+
+    /// The packets that it holds until its peer knows of their states.
+    pub fn held(&self) -> &Deferrals<A>
+        ensures parts { AreParts self.now.node }
+        ensures held { result.now ≡ self.now.node.held }
+    {
+        self.parts.held()
+    }
+
+    /// The bulk update that it serves.
+    pub fn server(&self) -> BulkServer
+        ensures server { result ≡ self.now.node.server }
+    {
+        self.parts.server()
+    }
+
+    /// The bulk update that it waits for.
+    pub fn client(&self) -> BulkClient
+        ensures client { result ≡ self.now.node.client }
+    {
+        self.parts.client()
+    }
+
+    /// Its clock, in milliseconds.
+    pub fn clock(&self) -> Millis
+        ensures clock { result ≡ self.now.node.clock }
+        ensures within { result ≤ last_millisecond }
+    {
+        self.parts.clock()
+    }
+
+    /// The number of its boot, by which its states are named.
+    pub fn creator(&self) -> u32
+        ensures creator { result ≡ self.now.node.creator }
+    {
+        self.parts.creator()
+    }
+
+    /// The id of its next state.
+    pub fn next_id(&self) -> u64
+        ensures next_id { result ≡ self.now.node.next_id }
+    {
+        self.parts.next_id()
+    }
+
+    /// Whether a frame is wanted soon.
+    pub fn push(&self) -> bool
+        ensures push { result ≡ self.now.node.push }
+    {
+        self.parts.push()
+    }
+
+    /// What it counted.
+    pub fn counters(&self) -> Counters
+        ensures counters { result ≡ self.now.node.counters }
+    {
+        self.parts.counters()
+    }
+
+    /// The next id, the next queueing number or a counter is past the greatest.
+    pub fn is_overcounted(&self) -> bool
+        ensures counted { result ≡ is_overcounted self.now.node }
+        ensures room { is_overfull self.now.node ≡ false }
+    {
+        self.parts.is_overcounted()
+    }
+}

@@ -1,0 +1,45 @@
+//! An edit is taken back at the parts of a node.
+
+use crate::edit::NodeEdit;
+use crate::parts::Parts;
+use pfl_edits::Reversible;
+use std::alloc::Allocator;
+
+impl<A: Allocator> Reversible for Parts<A> {
+    ghost use Rattle.pfl_desk.specs.Nodes.{AreParts};
+    ghost use Rattle.pfl_desk.specs.Edits.{Finds, FindsFormer, put_back, redone};
+    ghost use Rattle.pfl_desk.specs.inner.BothWays.{edit-both_ways};
+
+    type Edit = NodeEdit;
+
+    ghost finds = { Finds };
+
+    ghost finds_former = { FindsFormer };
+
+    ghost put_back = { put_back };
+
+    ghost redone = { redone };
+
+    ghost allows = { AreParts };
+
+    fn undo(&mut self, edit: NodeEdit) {
+        match edit {
+            NodeEdit::OfState(edit) => self.set_state(edit.name, edit.before),
+            NodeEdit::Moved(edit) => self.set_motion(edit.name, edit.before),
+            NodeEdit::OfQueue(edit) => self.queue.undo(edit),
+            NodeEdit::OfHeld(edit) => self.held.undo(edit),
+            NodeEdit::Server { before, .. } => self.server = before,
+            NodeEdit::Client { before, .. } => self.client = before,
+            NodeEdit::Clock { before, .. } => self.clock = before,
+            NodeEdit::NextId { before, .. } => self.next_id = before,
+            NodeEdit::Push { before, .. } => self.push = before,
+            NodeEdit::Count {
+                counter,
+                before,
+                ..
+            } => self.counters.set(counter, before),
+        }
+    }
+
+    ghost both_ways = { edit-both_ways };
+}

@@ -1,8 +1,0 @@
-use Rattle.pfl_parts.proofs.Recording.{draft-one, writes-one}
-use Rattle.pfl_parts.proofs.desk.Desk.set_clock.Goals as goal
-
-pub invariant_of-self : goal.invariant_of-self
-invariant_of-self g c = draft-one _ _ _ _ _ c.self.invariant c.set_clock-edit.ensures.makes c.push.ensures.list c.push.ensures.spare
-
-pub returns-clause-writes : goal.returns-clause-writes
-returns-clause-writes g c = rw (← c.self.view_is) (writes-one _ _ _ _ _ c.self.invariant c.set_clock-edit.ensures.makes c.push.ensures.list c.push.ensures.spare)

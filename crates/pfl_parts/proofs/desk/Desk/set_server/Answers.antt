@@ -1,8 +1,0 @@
-use Rattle.pfl_parts.proofs.Recording.{draft-if, writes-if}
-use Rattle.pfl_parts.proofs.desk.Desk.set_server.Goals as goal
-
-pub invariant_of-self : goal.invariant_of-self
-invariant_of-self g c = draft-if _ _ _ _ _ c.self.invariant c.set_server-edit.ensures.makes c.record_if.ensures
-
-pub returns-clause-writes : goal.returns-clause-writes
-returns-clause-writes g c = rw (← c.self.view_is) (writes-if _ _ _ _ _ c.self.invariant c.set_server-edit.ensures.makes c.record_if.ensures)

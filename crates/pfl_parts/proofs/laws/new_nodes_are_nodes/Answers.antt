@@ -1,5 +1,0 @@
-use Rattle.pfl_parts.proofs.NewNodes.{new_node-is}
-use Rattle.pfl_parts.proofs.laws.new_nodes_are_nodes.Goals as goal
-
-pub returns : goal.returns
-returns c = new_node-is
