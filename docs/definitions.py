@@ -11,12 +11,30 @@ CRATES = Path(__file__).resolve().parent.parent / "crates"
 HEAD = re.compile(r" *(?:(?:abbrev|unfoldable) )?(?:pub )?(?:record |data )?(?P<name>[^\W\d][\w']*|◌\S+◌) (?=[:({])")
 STARTS = re.compile(r" *(?:abbrev|unfoldable|pub record|pub data) ")
 IMPORT = re.compile(r"(?:ghost )?use Rattle\.(?P<module>[\w.]+?)(?:\.\{(?P<names>.*)\}| as (?P<alias>\w+));?$")
+# A line by which a crate passes on the specs of one below it, or what that passes on.
+PASSES = re.compile(r"pub use Rattle\.(?P<crate>\w+)\.specs(?:\.(?P<alias>\w+))? as (?P<name>\w+)$", re.MULTILINE)
 BINDERS = re.compile(r"λ ([^.]*)\.|\blet ([\w']+) |[({]([\w' ]+) :")
 # A name, with the names that stand before it and end with dots.
 NAME = re.compile(r"(?<![\w'.])(?P<before>(?:[^\W\d][\w']*\.)*)(?P<name>[^\W\d][\w']*)")
 
 # A definition's module and its name.
 Place = Tuple[str, str]
+
+
+@functools.lru_cache(maxsize=None)
+def passed_on(crate: str) -> Dict[str, str]:
+    """The crates whose specs a crate passes on, by the names that it gives them."""
+    path = CRATES / crate / "specs/Lib.antt"
+    lines = PASSES.finditer(path.read_text()) if path.exists() else ()
+    return {it["name"]: passed_on(it["crate"])[it["alias"]] if it["alias"] else it["crate"] for it in lines}
+
+
+def home(module: str) -> str:
+    """Where a module stands that is named by what a crate passes on."""
+    crate, *rest = module.split(".")
+    while rest[:1] == ["specs"] and rest[1:] and rest[1] in passed_on(crate):
+        crate, rest = passed_on(crate)[rest[1]], ["specs", *rest[2:]]
+    return ".".join([crate, *rest])
 
 
 @dataclass
@@ -40,11 +58,12 @@ class Scope:
         names: Dict[str, Place] = {}
         modules: Dict[str, str] = {}
         for found in filter(None, map(IMPORT.match, lines)):
+            module = home(found["module"])
             if found["alias"]:
-                modules[found["alias"]] = found["module"]
+                modules[found["alias"]] = module
             for item in filter(None, (found["names"] or "").split(", ")):
                 there, _, here = item.partition(" as ")
-                names[here or there] = (found["module"], there)
+                names[here or there] = (module, there)
         return cls(names, modules)
 
     def cited(self, text: str, own: AbstractSet[str] = frozenset()) -> Iterator[Place]:

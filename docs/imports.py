@@ -13,7 +13,7 @@ from typing import Iterator, Tuple
 sys.dont_write_bytecode = True
 from definitions import CRATES
 
-IMPORT = re.compile(r".*\buse Rattle\.(\w+)\.(?:proofs(?!\.ForCallers\b)|\{[^}]*\bproofs\b)")
+IMPORT = re.compile(r".*\buse Rattle\.(\w+)\.(?:proofs(?!\.ForCallers\b)|\{[^}]*\bproofs\b)|.*\b(\w+)::proofs::(?!ForCallers\b)")
 
 
 def sources() -> Iterator[Tuple[str, Path]]:

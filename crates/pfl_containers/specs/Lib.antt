@@ -6,3 +6,5 @@ pub mod NameKeys
 pub mod Mapped
 pub mod SlotIndexes
 pub mod inner
+pub use Rattle.pfl_base.specs as base
+pub use Rattle.pfl_edits.specs as edits

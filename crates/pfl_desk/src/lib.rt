@@ -13,3 +13,7 @@ pub use desk::Desk;
 pub use edit::{Counter, MotionEdit, NodeEdit, StateEdit};
 pub use laws::new_nodes_are_nodes;
 pub use parts::judge::Overfull;
+pub use pfl_defer as defer;
+pub use pfl_queue as queue;
+pub use pfl_rules as rules;
+pub use pfl_table as table;

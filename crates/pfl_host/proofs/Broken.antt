@@ -3,19 +3,19 @@ use Rattle.std.proofs.Common.{◌≡◌, ℕ, ◌≤◌, Bool, true, List, lengt
 use Rattle.std.specs.Prelude.{Result, IfErr, IfOk, OnErr, OnOk}
 use Rattle.std.specs.Io.KnownBytes.{Appends, Keeps as KeepsBytes}
 use Rattle.pfl_language.specs.declared.command.Command.{Command}
-use Rattle.pfl_timeline.specs.Replies.{Reply}
-use Rattle.pfl_timeline.specs.Timelines.{Timeline}
+use Rattle.pfl_run.specs.timeline.Replies.{Reply}
+use Rattle.pfl_run.specs.timeline.Timelines.{Timeline}
 use Rattle.pfl_session.specs.Desks.{one_more_counted}
 use Rattle.pfl_session.specs.Journals.{count_of}
 use Rattle.pfl_session.specs.Passes.{Seen, seen_in, GoesOn, HasSeenJournal, AddsCall}
-use Rattle.pfl_lines.specs.declared.fault.LineFault.{LineFault}
-use Rattle.pfl_lines.specs.declared.session.SessionLine.{SessionLine}
-use Rattle.pfl_reader.specs.Saids.{kept_session}
-use Rattle.pfl_script.specs.Replies.{reply_text, takes_memory}
-use Rattle.pfl_reader.specs.Scans.{Kept, has_word}
-use Rattle.pfl_script.specs.declared.fault.EngineFault.{EngineFault}
-use Rattle.pfl_script.specs.declared.fault.EngineFault.TheVariants as engine
-use Rattle.pfl_script.specs.Readers.{IsWriteFault}
+use Rattle.pfl_run.specs.lines.declared.fault.LineFault.{LineFault}
+use Rattle.pfl_run.specs.lines.declared.session.SessionLine.{SessionLine}
+use Rattle.pfl_run.specs.reader.Saids.{kept_session}
+use Rattle.pfl_run.specs.script.Replies.{reply_text, takes_memory}
+use Rattle.pfl_run.specs.reader.Scans.{Kept, has_word}
+use Rattle.pfl_run.specs.script.declared.fault.EngineFault.{EngineFault}
+use Rattle.pfl_run.specs.script.declared.fault.EngineFault.TheVariants as engine
+use Rattle.pfl_run.specs.script.Readers.{IsWriteFault}
 use Rattle.pfl_host.specs.Sessions.{HasAsked, IsCalled, IsReplied, IsUnanswered}
 use Rattle.pfl_host.specs.inner.Answers.{kept_said, Breaks, Writes}
 

@@ -4,22 +4,22 @@ use Rattle.std.specs.Prelude.{Result}
 use Rattle.std.specs.Io.KnownBytes.{Appends, Keeps as KeepsBytes}
 use Rattle.std.proofs.lemmas.Bool.{lt-ltb, le-ltb, cases_lt}
 use Rattle.std.proofs.lemmas.List.{append-nil, take_all}
-use Rattle.pfl_publish.proofs.ForCallers.{begun_all}
-use Rattle.pfl_timeline.specs.Timelines.{Timeline}
+use Rattle.pfl_session.proofs.ForCallers.publish.{begun_all}
+use Rattle.pfl_run.specs.timeline.Timelines.{Timeline}
 use Rattle.pfl_session.specs.Passes.{Seen, GoesOn}
-use Rattle.pfl_lines.specs.declared.fault.LineFault.{LineFault}
-use Rattle.pfl_lines.specs.declared.session.SessionLine.{SessionLine}
-use Rattle.pfl_lines.specs.declared.session.SessionLine.TheVariants.{View, Ask}
-use Rattle.pfl_lines.specs.Session.{parsed_session}
-use Rattle.pfl_reader.specs.Saids.{kept_session}
-use Rattle.pfl_script.specs.Answers.{one_if}
-use Rattle.pfl_reader.specs.Scans.{Kept, Keeps, ReadsLine, TakesLines, IsOver}
-use Rattle.pfl_script.specs.declared.fault.EngineFault.{EngineFault}
-use Rattle.pfl_script.specs.declared.fault.EngineFault.TheVariants as engine
-use Rattle.pfl_reader.specs.declared.fault.ReadFault.{ReadFault}
-use Rattle.pfl_reader.specs.declared.fault.ReadFault.TheVariants as read
-use Rattle.pfl_script.specs.Readers.{of_read}
-use Rattle.pfl_script.proofs.ForCallers.{appends_none, appends_then, taken-none, taken-line, taken-first, taken-all, taken-drained, appends-keeps}
+use Rattle.pfl_run.specs.lines.declared.fault.LineFault.{LineFault}
+use Rattle.pfl_run.specs.lines.declared.session.SessionLine.{SessionLine}
+use Rattle.pfl_run.specs.lines.declared.session.SessionLine.TheVariants.{View, Ask}
+use Rattle.pfl_run.specs.lines.Session.{parsed_session}
+use Rattle.pfl_run.specs.reader.Saids.{kept_session}
+use Rattle.pfl_run.specs.script.Answers.{one_if}
+use Rattle.pfl_run.specs.reader.Scans.{Kept, Keeps, ReadsLine, TakesLines, IsOver}
+use Rattle.pfl_run.specs.script.declared.fault.EngineFault.{EngineFault}
+use Rattle.pfl_run.specs.script.declared.fault.EngineFault.TheVariants as engine
+use Rattle.pfl_run.specs.reader.declared.fault.ReadFault.{ReadFault}
+use Rattle.pfl_run.specs.reader.declared.fault.ReadFault.TheVariants as read
+use Rattle.pfl_run.specs.script.Readers.{of_read}
+use Rattle.pfl_run.proofs.ForCallers.script.{appends_none, appends_then, taken-none, taken-line, taken-first, taken-all, taken-drained, appends-keeps}
 use Rattle.pfl_host.specs.Sessions.{said, is_fault, bad_lines, IsAnswer, Serves, ServesWhole, ServesFirst, ServesPart, ServesUnanswered, ServesUntil}
 use Rattle.pfl_host.specs.inner.Answers.{kept_said, Writes, Breaks, Lacks}
 

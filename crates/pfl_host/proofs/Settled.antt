@@ -4,8 +4,8 @@ use Rattle.std.specs.Prelude.{Result}
 use Rattle.std.specs.List.{AllByRecursion}
 use Rattle.std.proofs.lemmas.List.{append-nil}
 use Rattle.pfl_base.specs.declared.output.Output as Output
-use Rattle.pfl_script.specs.declared.engine.Ended.{Ended}
-use Rattle.pfl_script.specs.declared.fault.EngineFault.{EngineFault}
+use Rattle.pfl_run.specs.script.declared.engine.Ended.{Ended}
+use Rattle.pfl_run.specs.script.declared.fault.EngineFault.{EngineFault}
 use Rattle.pfl_session.specs.Passes.{IsPassOf}
 use Rattle.pfl_session.specs.declared.which.Which as Which
 use Rattle.pfl_host.specs.Seats.{AreServed}

@@ -3,15 +3,15 @@ use Rattle.std.proofs.Common.{◌≡◌, ℕ, ◌+◌, ◌≤◌, Bool, true, fa
 use Rattle.std.specs.Prelude.{nat_eq, Result, ◌⊎◌}
 use Rattle.std.proofs.lemmas.List.{append-nil}
 use Rattle.pfl_language.specs.declared.command.Command.{Command}
-use Rattle.pfl_timeline.specs.Replies.{Reply, reply_of}
-use Rattle.pfl_timeline.specs.Timelines.{Timeline}
+use Rattle.pfl_run.specs.timeline.Replies.{Reply, reply_of}
+use Rattle.pfl_run.specs.timeline.Timelines.{Timeline}
 use Rattle.pfl_session.specs.declared.entry.Entry.{Entry}
 use Rattle.pfl_session.specs.Journals.{calls_in, count_of}
 use Rattle.pfl_session.specs.Passes.{Seen, seen_in}
 use Rattle.pfl_session.proofs.ForCallers.{calls-since, count-append, count-begun, count-own}
-use Rattle.pfl_lines.specs.declared.fault.LineFault.{LineFault}
-use Rattle.pfl_lines.specs.declared.session.SessionLine.{SessionLine}
-use Rattle.pfl_lines.specs.declared.session.SessionLine.TheVariants.{View, Ask}
+use Rattle.pfl_run.specs.lines.declared.fault.LineFault.{LineFault}
+use Rattle.pfl_run.specs.lines.declared.session.SessionLine.{SessionLine}
+use Rattle.pfl_run.specs.lines.declared.session.SessionLine.TheVariants.{View, Ask}
 use Rattle.pfl_host.specs.Sessions.{said, IsAnswer, IsViewed, IsReplied, IsCalled, IsNotCalled, TellsRevision, TellsOvertaken, Serves}
 use Rattle.pfl_host.specs.Laws.{Call, calls_of, TellsLine, TellsView, Tells, HasSeenItsCalls, SessionsAreToldTheirCalls}
 

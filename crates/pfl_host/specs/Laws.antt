@@ -1,16 +1,16 @@
 -- What the answers of a session tell, in the words of the journal (this project's profile).
 use Rattle.std.specs.Prelude.{◌≡◌, ◌≤◌, ℕ, List, [], ◌∷◌, ◌++◌, cond, nat_eq, Option, Some, None, Result, Ok, Err, ◌⊎◌}
 use Rattle.pfl_language.specs.declared.command.Command.{Command}
-use Rattle.pfl_timeline.specs.Replies.{Reply, reply_of}
-use Rattle.pfl_timeline.specs.Timelines.{Timeline}
+use Rattle.pfl_run.specs.timeline.Replies.{Reply, reply_of}
+use Rattle.pfl_run.specs.timeline.Timelines.{Timeline}
 use Rattle.pfl_session.specs.declared.entry.Entry.{Entry}
 use Rattle.pfl_session.specs.Journals.{count_of}
 use Rattle.pfl_session.specs.Passes.{Seen, seen_in}
-use Rattle.pfl_lines.specs.declared.fault.LineFault.{LineFault}
-use Rattle.pfl_lines.specs.declared.session.SessionLine.{SessionLine}
-use Rattle.pfl_lines.specs.declared.session.SessionLine.TheVariants.{View, Ask}
-use Rattle.pfl_script.specs.Replies.{reply_text}
-use Rattle.pfl_script.specs.Texts.{bad_text}
+use Rattle.pfl_run.specs.lines.declared.fault.LineFault.{LineFault}
+use Rattle.pfl_run.specs.lines.declared.session.SessionLine.{SessionLine}
+use Rattle.pfl_run.specs.lines.declared.session.SessionLine.TheVariants.{View, Ask}
+use Rattle.pfl_run.specs.script.Replies.{reply_text}
+use Rattle.pfl_run.specs.script.Texts.{bad_text}
 use Rattle.pfl_host.specs.Sessions.{said, Serves}
 use Rattle.pfl_host.specs.Texts.{view_text, overtaken_text, full_text}
 

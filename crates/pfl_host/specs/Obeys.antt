@@ -5,7 +5,7 @@ use Rattle.clap.specs.Simple.{subcommand_of}
 use Rattle.clap.specs.Values.{kind_of}
 use Rattle.clap.specs.declared.error.kind.ErrorKind.{ErrorKind}
 use Rattle.clap.specs.declared.error.kind.ErrorKind.TheVariants.{DisplayHelp, DisplayVersion}
-use Rattle.pfl_reader.specs.Readers.{Source}
+use Rattle.pfl_run.specs.reader.Readers.{Source}
 use Rattle.pfl_run.specs.declared.fault.LabFault.TheVariants as lab
 use Rattle.pfl_run.specs.declared.mode.Mode.{Mode}
 use Rattle.pfl_run.specs.declared.mode.Mode.TheVariants.{Run, Check, Serve}

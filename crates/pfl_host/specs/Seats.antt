@@ -2,7 +2,7 @@
 use Rattle.std.specs.Prelude.{◌≡◌, ◌≤◌, List, [], ◌∷◌, length, IfOk, IfErr, OnOk, ⊤}
 use Rattle.pfl_base.specs.Counts.{Counts}
 use Rattle.pfl_base.specs.declared.output.Output as Output
-use Rattle.pfl_script.specs.Readers.{IsRunFault, counted_on}
+use Rattle.pfl_run.specs.script.Readers.{IsRunFault, counted_on}
 use Rattle.pfl_session.specs.Passes.{GoesOn, IsPassOf}
 use Rattle.pfl_session.specs.declared.which.Which as Which
 use Rattle.pfl_host.specs.Sessions.{ServesUntil, ServesWhole}

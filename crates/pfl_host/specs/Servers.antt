@@ -3,9 +3,9 @@ use Rattle.std.specs.Prelude.{◌≡◌, ℕ, Bool, List, [], ◌∷◌, ◌++�
 use Rattle.std.specs.Fmt.{decimal}
 use Rattle.std.specs.Io.KnownBytes.{Appends, Keeps}
 use Rattle.std.specs.declared.alloc.Global.{Global}
-use Rattle.pfl_timeline.specs.Timelines.{Timeline}
-use Rattle.pfl_script.specs.declared.engine.Ended.{Ended}
-use Rattle.pfl_script.specs.declared.fault.EngineFault.{EngineFault}
+use Rattle.pfl_run.specs.timeline.Timelines.{Timeline}
+use Rattle.pfl_run.specs.script.declared.engine.Ended.{Ended}
+use Rattle.pfl_run.specs.script.declared.fault.EngineFault.{EngineFault}
 use Rattle.pfl_session.specs.declared.entry.Entry.{Entry}
 use Rattle.pfl_session.specs.Labs.{IsClosed}
 use Rattle.pfl_run.specs.declared.fault.LabFault.{LabFault}

@@ -2,22 +2,22 @@
 use Rattle.std.specs.Prelude.{◌≡◌, ◌≤◌, ◌<◌, ℕ, ◌+◌, Bool, true, false, is_err, List, [], ◌∷◌, ◌++◌, length, take, slice_index, if◌then◌else◌, Option, Some, None, Result, Ok, Err, ◌⊎◌}
 use Rattle.std.specs.Io.KnownBytes.{Appends}
 use Rattle.pfl_language.specs.declared.command.Command.{Command}
-use Rattle.pfl_publish.specs.Seats.{IsRead, IsOvertaken, MakesTries}
-use Rattle.pfl_timeline.specs.Replies.{Reply}
-use Rattle.pfl_timeline.specs.Timelines.{Timeline}
+use Rattle.pfl_session.specs.publish.Seats.{IsRead, IsOvertaken, MakesTries}
+use Rattle.pfl_run.specs.timeline.Replies.{Reply}
+use Rattle.pfl_run.specs.timeline.Timelines.{Timeline}
 use Rattle.pfl_session.specs.Desks.{one_more_counted}
 use Rattle.pfl_session.specs.Journals.{count_of}
 use Rattle.pfl_session.specs.Passes.{Seen, seen_in, GoesOn, HasSeenJournal, AddsOthers, AddsCall}
-use Rattle.pfl_lines.specs.declared.fault.LineFault.{LineFault}
-use Rattle.pfl_lines.specs.declared.session.SessionLine.{SessionLine}
-use Rattle.pfl_lines.specs.declared.session.SessionLine.TheVariants.{View, Ask}
-use Rattle.pfl_lines.specs.Session.{parsed_session}
-use Rattle.pfl_script.specs.Answers.{AreLines, AreFirst, Drains, one_if}
-use Rattle.pfl_script.specs.Replies.{reply_text, takes_memory}
-use Rattle.pfl_reader.specs.Scans.{head_of, has_word, TakesLines}
-use Rattle.pfl_script.specs.Texts.{bad_text}
-use Rattle.pfl_script.specs.declared.fault.EngineFault.{EngineFault}
-use Rattle.pfl_script.specs.declared.fault.EngineFault.TheVariants as engine
+use Rattle.pfl_run.specs.lines.declared.fault.LineFault.{LineFault}
+use Rattle.pfl_run.specs.lines.declared.session.SessionLine.{SessionLine}
+use Rattle.pfl_run.specs.lines.declared.session.SessionLine.TheVariants.{View, Ask}
+use Rattle.pfl_run.specs.lines.Session.{parsed_session}
+use Rattle.pfl_run.specs.script.Answers.{AreLines, AreFirst, Drains, one_if}
+use Rattle.pfl_run.specs.script.Replies.{reply_text, takes_memory}
+use Rattle.pfl_run.specs.reader.Scans.{head_of, has_word, TakesLines}
+use Rattle.pfl_run.specs.script.Texts.{bad_text}
+use Rattle.pfl_run.specs.script.declared.fault.EngineFault.{EngineFault}
+use Rattle.pfl_run.specs.script.declared.fault.EngineFault.TheVariants as engine
 use Rattle.pfl_host.specs.Texts.{view_text, overtaken_text, full_text}
 
 -- what a line says to a session, or its fault; nothing, where it has no word or is a comment

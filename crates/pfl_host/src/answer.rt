@@ -1,7 +1,7 @@
 //! The answer to one line of a session.
 
 ghost use Rattle.std.specs.Prelude.{◌≡◌, length, IfOk, IfErr, OnOk};
-ghost use Rattle.pfl_script.specs.Readers.{IsWriteFault};
+ghost use Rattle.pfl_run.specs.script.Readers.{IsWriteFault};
 ghost use Rattle.pfl_session.specs.Passes.{GoesOn, IsPassOf};
 ghost use Rattle.pfl_host.specs.Sessions.{is_fault, IsAnswer, IsReplied, IsUnanswered, IsViewed};
 ghost use Rattle.pfl_host.specs.inner.Answers.{kept_said, Breaks, Lacks, Writes};
@@ -10,9 +10,9 @@ use crate::gate::Gate;
 use crate::texts::{FULL, overtaken_line, view_line};
 use pfl_base::Output;
 use pfl_language::Command;
-use pfl_lines::SessionLine;
-use pfl_reader::Line;
-use pfl_script::{EngineFault, ShortLine, fault_line, write_reply, write_text};
+use pfl_run::lines::SessionLine;
+use pfl_run::reader::Line;
+use pfl_run::script::{EngineFault, ShortLine, fault_line, write_reply, write_text};
 use pfl_session::{AskFault, Lab, Pass, Which};
 use std::alloc::Allocator;
 use std::sync::Wait;

@@ -13,7 +13,7 @@ use crate::seat::{Seat, ServeFault, Served};
 use crate::threads::serve_all;
 use pfl_base::{Input, Output};
 use pfl_run::LabFault;
-use pfl_script::{Ended, EngineFault};
+use pfl_run::script::{Ended, EngineFault};
 use pfl_session::{Lab, Opened, Pass, Which};
 use std::alloc::Global;
 use std::net::TcpStream;

@@ -21,6 +21,8 @@ mod threads;
 
 pub use gate::{Gate, Open};
 pub use laws::sessions_are_told_their_calls;
+pub use pfl_run as run;
+pub use pfl_run::{reader, script, timeline};
 pub use program::obey;
 pub use seat::{Seat, ServeFault, Served};
 pub use server::serve_lab;

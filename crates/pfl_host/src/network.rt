@@ -5,8 +5,8 @@ ghost use Rattle.pfl_run.specs.declared.fault.LabFault.TheVariants as fault;
 
 use crate::seat::Seat;
 use pfl_base::Std;
-use pfl_reader::LineReader;
 use pfl_run::LabFault;
+use pfl_run::reader::LineReader;
 use pfl_session::Pass;
 use std::alloc::Allocator;
 use std::net::{Ipv4Addr, Net, SocketAddr, TcpListener, TcpStream};

@@ -7,7 +7,7 @@ use crate::gate::Gate;
 use crate::report::tell_words;
 use crate::server::serve_lab;
 use pfl_base::{Input, Output};
-use pfl_reader::LineReader;
+use pfl_run::reader::LineReader;
 use pfl_run::{Mode, check_lab, mode_of, run_lab};
 use std::alloc::Global;
 use std::convert::AsStr;

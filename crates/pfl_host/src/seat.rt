@@ -1,8 +1,8 @@
 //! Seats of sessions.
 
 use pfl_base::{Input, Output};
-use pfl_reader::LineReader;
-use pfl_script::{Ended, EngineFault};
+use pfl_run::reader::LineReader;
+use pfl_run::script::{Ended, EngineFault};
 use pfl_session::Pass;
 use std::alloc::Allocator;
 use std::error::Error;

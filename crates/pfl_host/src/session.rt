@@ -2,15 +2,15 @@
 
 ghost use Rattle.std.specs.Prelude.{◌≡◌, ◌≤◌, length, IfOk, IfErr, OnOk};
 ghost use Rattle.pfl_base.specs.Counts.{Counts};
-ghost use Rattle.pfl_script.specs.Readers.{IsRunFault, counted_on};
+ghost use Rattle.pfl_run.specs.script.Readers.{IsRunFault, counted_on};
 ghost use Rattle.pfl_session.specs.Passes.{GoesOn, IsPassOf};
 ghost use Rattle.pfl_host.specs.Sessions.{ServesUntil, ServesWhole};
 
 use crate::answer::{Turn, answer_line};
 use crate::gate::Gate;
 use pfl_base::{Input, Output};
-use pfl_reader::LineReader;
-use pfl_script::{Ended, EngineFault};
+use pfl_run::reader::LineReader;
+use pfl_run::script::{Ended, EngineFault};
 use pfl_session::{Lab, Pass, Which};
 use std::alloc::Allocator;
 use std::sync::Wait;

@@ -5,8 +5,8 @@ ghost use Rattle.arrayvec.specs.ArrayString.{array_string_len};
 ghost use Rattle.std.specs.List.{flat_map};
 ghost use Rattle.pfl_host.specs.Texts.{numbered, overtaken_text, view_text};
 
-use pfl_publish::{Overtaken, Revision};
-use pfl_script::{ShortLine, plain_line, push_number};
+use pfl_run::script::{ShortLine, plain_line, push_number};
+use pfl_session::publish::{Overtaken, Revision};
 
 /// The line for a command that finds the journal full.
 pub(crate) const FULL: &str = "full\n";

@@ -5,9 +5,9 @@
 ghost use Rattle.std.specs.Prelude.{◌≡◌};
 
 use pfl_base::Std;
+use pfl_host::reader::LineReader;
+use pfl_host::run::{LabFault, tell};
 use pfl_host::{Open, obey};
-use pfl_reader::LineReader;
-use pfl_run::{LabFault, tell};
 use std::env;
 use std::io::{self, ErrorKind};
 use std::process::ExitCode;

@@ -2,15 +2,15 @@
 use Rattle.std.specs.Prelude.{◌≡◌, ℕ, Bool, true, false, List, [], ◌∷◌, refl}
 use Rattle.std.proofs.Common.{cond, ap, sym, subst, arith}
 use Rattle.pfl_base.specs.declared.state_name.StateName.{StateName}
-use Rattle.pfl_table.specs.Tables.{States, AreStates}
-use Rattle.pfl_queue.specs.declared.Kind.TheVariants.{Update}
-use Rattle.pfl_bulk.specs.Bulk.{no_name, asks_again, is_last_turn}
-use Rattle.pfl_defer.specs.declared.Held.{Held}
-use Rattle.pfl_defer.specs.Deferring.{Deferrals}
-use Rattle.pfl_desk.specs.Nodes.{Node}
-use Rattle.pfl_desk.specs.Changes.{mark, ask}
-use Rattle.pfl_node.specs.Retrying.{retried_client}
-use Rattle.pfl_node.specs.Turning.{queued, ended, turn_of, turned, eligible_names}
+use Rattle.pfl_world.specs.table.Tables.{States, AreStates}
+use Rattle.pfl_world.specs.queue.declared.Kind.TheVariants.{Update}
+use Rattle.pfl_world.specs.bulk.Bulk.{no_name, asks_again, is_last_turn}
+use Rattle.pfl_world.specs.defer.declared.Held.{Held}
+use Rattle.pfl_world.specs.defer.Deferring.{Deferrals}
+use Rattle.pfl_world.specs.desk.Nodes.{Node}
+use Rattle.pfl_world.specs.desk.Changes.{mark, ask}
+use Rattle.pfl_world.specs.node.Retrying.{retried_client}
+use Rattle.pfl_world.specs.node.Turning.{queued, ended, turn_of, turned, eligible_names}
 use Rattle.pfl_laws.specs.Laws.{IsTied, Holds}
 use Rattle.pfl_laws.proofs.Following.{Alike, Alike-itself, comes-same}
 use Rattle.pfl_laws.proofs.Keeping.{Keeps}

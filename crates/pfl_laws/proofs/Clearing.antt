@@ -6,14 +6,14 @@ use Rattle.pfl_base.specs.declared.state_name.StateName.{StateName}
 use Rattle.pfl_base.proofs.ForCallers.{names_total, names_exact}
 use Rattle.pfl_edits.specs.Maps as maps
 use Rattle.pfl_edits.proofs.ForCallers.{key_cases}
-use Rattle.pfl_track.specs.declared.state.State.{State}
-use Rattle.pfl_table.specs.Tables.{AreStates}
-use Rattle.pfl_defer.specs.declared.Held.{Held}
-use Rattle.pfl_desk.specs.Nodes.{Node}
-use Rattle.pfl_desk.specs.Changes.{deleted, forgotten}
-use Rattle.pfl_node.specs.Clearing.{cleared}
-use Rattle.pfl_node.specs.Killing.{killed}
-use Rattle.pfl_node.specs.Purging.{purged, expired_states}
+use Rattle.pfl_world.specs.track.declared.state.State.{State}
+use Rattle.pfl_world.specs.table.Tables.{AreStates}
+use Rattle.pfl_world.specs.defer.declared.Held.{Held}
+use Rattle.pfl_world.specs.desk.Nodes.{Node}
+use Rattle.pfl_world.specs.desk.Changes.{deleted, forgotten}
+use Rattle.pfl_world.specs.node.Clearing.{cleared}
+use Rattle.pfl_world.specs.node.Killing.{killed}
+use Rattle.pfl_world.specs.node.Purging.{purged, expired_states}
 use Rattle.pfl_laws.specs.Laws.{IsTied, Holds}
 use Rattle.pfl_laws.proofs.Following.{Alike, Alike-itself, Filed}
 use Rattle.pfl_laws.proofs.Keeping.{Keeps, keeps-itself, on_some, deleted-keeps}

@@ -12,26 +12,26 @@ use Rattle.pfl_base.specs.Names.{is_name}
 use Rattle.pfl_base.specs.Packets.{is_tcp}
 use Rattle.pfl_edits.specs.Maps as maps
 use Rattle.pfl_edits.proofs.ForCallers.{key_cases}
-use Rattle.pfl_track.specs.declared.state.State.{State}
-use Rattle.pfl_table.specs.Tables.{AreStates}
-use Rattle.pfl_wire.specs.declared.fault.BadFrame.{BadFrame}
-use Rattle.pfl_wire.specs.declared.message.Message.{Message}
-use Rattle.pfl_wire.specs.declared.message.Message.TheVariants as message
-use Rattle.pfl_wire.specs.declared.message.StateRecord.{StateRecord}
-use Rattle.pfl_wire.specs.Frames.{Frame, records_of}
-use Rattle.pfl_wire.specs.Reading.{reading}
-use Rattle.pfl_merge.specs.declared.received.Received.{Received}
-use Rattle.pfl_merge.specs.declared.merged.Merged.{Merged}
-use Rattle.pfl_merge.specs.Merging.{merged}
-use Rattle.pfl_queue.specs.declared.Kind.TheVariants.{Update}
-use Rattle.pfl_queue.specs.Queues.{kind_of}
-use Rattle.pfl_bulk.specs.Bulk.{no_name}
-use Rattle.pfl_defer.specs.declared.Held.{Held}
-use Rattle.pfl_desk.specs.Nodes.{Node, timeout_at}
-use Rattle.pfl_desk.specs.Changes.{put_state, mark, push_if, count_bad, count_broken, count_stale, count_freed, count_lost, without_held, is_held, is_untold, freed, lost, released, changed, forgotten, ask}
-use Rattle.pfl_receive.specs.Receiving.{taken, insert_taken, can_import, merge_taken, merged_into, bulk_taken, state_answered, is_partly_told, ack_taken, delete_taken, is_known, cleared_names, of_state, of_update}
-use Rattle.pfl_node.proofs.ForCallers.{taken-apart}
-use Rattle.pfl_receive.specs.Delivering.{same_rules}
+use Rattle.pfl_world.specs.track.declared.state.State.{State}
+use Rattle.pfl_world.specs.table.Tables.{AreStates}
+use Rattle.pfl_world.specs.wire.declared.fault.BadFrame.{BadFrame}
+use Rattle.pfl_world.specs.wire.declared.message.Message.{Message}
+use Rattle.pfl_world.specs.wire.declared.message.Message.TheVariants as message
+use Rattle.pfl_world.specs.wire.declared.message.StateRecord.{StateRecord}
+use Rattle.pfl_world.specs.wire.Frames.{Frame, records_of}
+use Rattle.pfl_world.specs.wire.Reading.{reading}
+use Rattle.pfl_world.specs.merge.declared.received.Received.{Received}
+use Rattle.pfl_world.specs.merge.declared.merged.Merged.{Merged}
+use Rattle.pfl_world.specs.merge.Merging.{merged}
+use Rattle.pfl_world.specs.queue.declared.Kind.TheVariants.{Update}
+use Rattle.pfl_world.specs.queue.Queues.{kind_of}
+use Rattle.pfl_world.specs.bulk.Bulk.{no_name}
+use Rattle.pfl_world.specs.defer.declared.Held.{Held}
+use Rattle.pfl_world.specs.desk.Nodes.{Node, timeout_at}
+use Rattle.pfl_world.specs.desk.Changes.{put_state, mark, push_if, count_bad, count_broken, count_stale, count_freed, count_lost, without_held, is_held, is_untold, freed, lost, released, changed, forgotten, ask}
+use Rattle.pfl_world.specs.receive.Receiving.{taken, insert_taken, can_import, merge_taken, merged_into, bulk_taken, state_answered, is_partly_told, ack_taken, delete_taken, is_known, cleared_names, of_state, of_update}
+use Rattle.pfl_world.proofs.ForCallers.node.{taken-apart}
+use Rattle.pfl_world.specs.receive.Delivering.{same_rules}
 use Rattle.pfl_laws.specs.Laws.{HasRisen, HasState, IsTied, Holds, LetsOut, OneLetsOut, RecordsLetGoOnlySo}
 use Rattle.pfl_world.specs.Delivering.{frame_points}
 use Rattle.pfl_laws.proofs.Following.{inner}

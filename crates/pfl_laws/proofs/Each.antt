@@ -9,24 +9,24 @@ use Rattle.pfl_base.proofs.ForCallers.{names_total, names_exact}
 use Rattle.pfl_base.specs.Names.{is_name}
 use Rattle.pfl_edits.specs.Maps as maps
 use Rattle.pfl_edits.proofs.ForCallers.{get-set_at_cases, some_is_none}
-use Rattle.pfl_track.specs.declared.peer.Peer.{Peer}
-use Rattle.pfl_track.specs.declared.state.State.{State}
-use Rattle.pfl_track.specs.Peers.{IsPeer}
-use Rattle.pfl_track.specs.States.{IsState}
-use Rattle.pfl_table.specs.Tables.{States}
-use Rattle.pfl_wire.specs.declared.message.Message.{Message}
-use Rattle.pfl_wire.specs.declared.message.Message.TheVariants as message
-use Rattle.pfl_wire.specs.declared.message.StateRecord.{StateRecord}
-use Rattle.pfl_merge.specs.declared.received.Received.{Received}
-use Rattle.pfl_merge.specs.declared.merged.Merged.{Merged}
-use Rattle.pfl_merge.specs.Merging.{merged, refreshed, stale_src, stale_dst}
-use Rattle.pfl_queue.specs.declared.Kind.TheVariants.{InsertAck, Update}
-use Rattle.pfl_queue.specs.Queues.{kind_of}
-use Rattle.pfl_bulk.specs.Bulk.{no_name}
-use Rattle.pfl_desk.specs.Nodes.{Node, timeout_at}
-use Rattle.pfl_desk.specs.Changes.{put_state, mark, push_if, count_bad, lost, released, changed, forgotten, count_stale, ask}
-use Rattle.pfl_receive.specs.Receiving.{taken, insert_taken, can_import, imported, merge_taken, merged_into, bulk_taken, state_answered, is_partly_told, request_taken, ack_taken, delete_taken, is_known, cleared_names, of_state, of_update}
-use Rattle.pfl_receive.proofs.ForCallers.{may-import}
+use Rattle.pfl_world.specs.track.declared.peer.Peer.{Peer}
+use Rattle.pfl_world.specs.track.declared.state.State.{State}
+use Rattle.pfl_world.specs.track.Peers.{IsPeer}
+use Rattle.pfl_world.specs.track.States.{IsState}
+use Rattle.pfl_world.specs.table.Tables.{States}
+use Rattle.pfl_world.specs.wire.declared.message.Message.{Message}
+use Rattle.pfl_world.specs.wire.declared.message.Message.TheVariants as message
+use Rattle.pfl_world.specs.wire.declared.message.StateRecord.{StateRecord}
+use Rattle.pfl_world.specs.merge.declared.received.Received.{Received}
+use Rattle.pfl_world.specs.merge.declared.merged.Merged.{Merged}
+use Rattle.pfl_world.specs.merge.Merging.{merged, refreshed, stale_src, stale_dst}
+use Rattle.pfl_world.specs.queue.declared.Kind.TheVariants.{InsertAck, Update}
+use Rattle.pfl_world.specs.queue.Queues.{kind_of}
+use Rattle.pfl_world.specs.bulk.Bulk.{no_name}
+use Rattle.pfl_world.specs.desk.Nodes.{Node, timeout_at}
+use Rattle.pfl_world.specs.desk.Changes.{put_state, mark, push_if, count_bad, lost, released, changed, forgotten, count_stale, ask}
+use Rattle.pfl_world.specs.receive.Receiving.{taken, insert_taken, can_import, imported, merge_taken, merged_into, bulk_taken, state_answered, is_partly_told, request_taken, ack_taken, delete_taken, is_known, cleared_names, of_state, of_update}
+use Rattle.pfl_world.proofs.ForCallers.receive.{may-import}
 use Rattle.pfl_laws.proofs.Following.{Alike, Filed, inner, waiting-is}
 use Rattle.pfl_laws.proofs.Keeping.{Keeps, released-keeps}
 use Rattle.pfl_laws.proofs.Records.{lost-states, forgotten-states, merged-name}

@@ -5,15 +5,15 @@ use Rattle.std.specs.Option.{option_map_or}
 use Rattle.std.proofs.Common.{◌∙◌, ap, sym, subst}
 use Rattle.pfl_base.specs.declared.state_name.StateName.{StateName}
 use Rattle.pfl_edits.specs.Maps as maps
-use Rattle.pfl_queue.specs.declared.Entry.{Entry}
-use Rattle.pfl_queue.specs.declared.Entry.TheVariants.{Marked, Request, Status, Clear}
-use Rattle.pfl_queue.specs.Taking.{next_frame, left_by}
-use Rattle.pfl_table.specs.Tables.{AreStates}
-use Rattle.pfl_table.proofs.ForCallers.{OwnsKeys-known, AreStates-with}
-use Rattle.pfl_track.specs.declared.state.State.{State}
-use Rattle.pfl_desk.specs.Nodes.{Node}
-use Rattle.pfl_desk.specs.Changes.{put_state}
-use Rattle.pfl_node.specs.Flushing.{update_count_cleared, flushed}
+use Rattle.pfl_world.specs.queue.declared.Entry.{Entry}
+use Rattle.pfl_world.specs.queue.declared.Entry.TheVariants.{Marked, Request, Status, Clear}
+use Rattle.pfl_world.specs.queue.Taking.{next_frame, left_by}
+use Rattle.pfl_world.specs.table.Tables.{AreStates}
+use Rattle.pfl_world.proofs.ForCallers.table.{OwnsKeys-known, AreStates-with}
+use Rattle.pfl_world.specs.track.declared.state.State.{State}
+use Rattle.pfl_world.specs.desk.Nodes.{Node}
+use Rattle.pfl_world.specs.desk.Changes.{put_state}
+use Rattle.pfl_world.specs.node.Flushing.{update_count_cleared, flushed}
 use Rattle.pfl_laws.proofs.Following.{Alike, Alike-itself, Filed}
 use Rattle.pfl_laws.proofs.Keeping.{Keeps, keeps-itself, alike-then, on_some, put-keeps}
 

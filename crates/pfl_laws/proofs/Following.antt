@@ -8,13 +8,13 @@ use Rattle.pfl_base.proofs.ForCallers.{names_total, names_exact}
 use Rattle.pfl_base.specs.Packets.{IsPacket}
 use Rattle.pfl_edits.specs.Maps as maps
 use Rattle.pfl_edits.proofs.ForCallers.{get-set_at_cases, some_is_none}
-use Rattle.pfl_track.specs.declared.state.State.{State}
-use Rattle.pfl_track.specs.declared.tracked.Tracked.TheVariants.{Moved}
-use Rattle.pfl_track.specs.Laws.{RisesInRange}
-use Rattle.pfl_track.specs.States.{IsState}
-use Rattle.pfl_track.specs.Tracking.{tracked}
-use Rattle.pfl_track.proofs.ForCallers.{tracked-is, tracked-rises}
-use Rattle.pfl_table.specs.Tables.{States}
+use Rattle.pfl_world.specs.track.declared.state.State.{State}
+use Rattle.pfl_world.specs.track.declared.tracked.Tracked.TheVariants.{Moved}
+use Rattle.pfl_world.specs.track.Laws.{RisesInRange}
+use Rattle.pfl_world.specs.track.States.{IsState}
+use Rattle.pfl_world.specs.track.Tracking.{tracked}
+use Rattle.pfl_world.proofs.ForCallers.track.{tracked-is, tracked-rises}
+use Rattle.pfl_world.specs.table.Tables.{States}
 
 -- ---- states
 

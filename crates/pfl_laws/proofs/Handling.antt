@@ -9,22 +9,22 @@ use Rattle.pfl_base.specs.declared.state_name.StateName.{StateName}
 use Rattle.pfl_base.specs.Keys.{key}
 use Rattle.pfl_base.specs.Packets.{IsPacket}
 use Rattle.pfl_edits.specs.Maps as maps
-use Rattle.pfl_rules.specs.declared.rule.Rule.{Rule}
-use Rattle.pfl_rules.specs.Rules.{verdict, rule_at}
-use Rattle.pfl_track.specs.declared.state.State.{State}
-use Rattle.pfl_track.specs.declared.tracked.Tracked.{Tracked}
-use Rattle.pfl_track.specs.declared.tracked.Tracked.TheVariants.{Moved, OutOfWindow, Reused}
-use Rattle.pfl_track.specs.Keys.{wire_key}
-use Rattle.pfl_track.specs.Tracking.{tracked}
-use Rattle.pfl_track.proofs.ForCallers.{Stays, tracked-stays}
-use Rattle.pfl_table.specs.Tables.{States, AreStates, found, key_in_use}
-use Rattle.pfl_table.proofs.ForCallers.{found-stands}
-use Rattle.pfl_queue.specs.declared.Kind.TheVariants.{Insert}
-use Rattle.pfl_defer.specs.Deferring.{pushed_out}
-use Rattle.pfl_desk.specs.Nodes.{Node, IsGiven}
-use Rattle.pfl_desk.specs.Changes.{mark, freed, changed, deleted}
-use Rattle.pfl_node.specs.Starting.{Handled, started, judged, by_rule, announced, hold, with_room, with_new, new_state, next_name, is_at_max, is_deferred}
-use Rattle.pfl_node.specs.Packets.{handled, handled_by, followed, accepted}
+use Rattle.pfl_world.specs.rules.declared.rule.Rule.{Rule}
+use Rattle.pfl_world.specs.rules.Rules.{verdict, rule_at}
+use Rattle.pfl_world.specs.track.declared.state.State.{State}
+use Rattle.pfl_world.specs.track.declared.tracked.Tracked.{Tracked}
+use Rattle.pfl_world.specs.track.declared.tracked.Tracked.TheVariants.{Moved, OutOfWindow, Reused}
+use Rattle.pfl_world.specs.track.Keys.{wire_key}
+use Rattle.pfl_world.specs.track.Tracking.{tracked}
+use Rattle.pfl_world.proofs.ForCallers.track.{Stays, tracked-stays}
+use Rattle.pfl_world.specs.table.Tables.{States, AreStates, found, key_in_use}
+use Rattle.pfl_world.proofs.ForCallers.table.{found-stands}
+use Rattle.pfl_world.specs.queue.declared.Kind.TheVariants.{Insert}
+use Rattle.pfl_world.specs.defer.Deferring.{pushed_out}
+use Rattle.pfl_world.specs.desk.Nodes.{Node, IsGiven}
+use Rattle.pfl_world.specs.desk.Changes.{mark, freed, changed, deleted}
+use Rattle.pfl_world.specs.node.Starting.{Handled, started, judged, by_rule, announced, hold, with_room, with_new, new_state, next_name, is_at_max, is_deferred}
+use Rattle.pfl_world.specs.node.Packets.{handled, handled_by, followed, accepted}
 use Rattle.pfl_laws.proofs.Following.{Alike, Alike-itself, Follows, alike-follows, alike-follows-then, moved-follows, comes-removed, Filed, filed-put}
 use Rattle.pfl_laws.proofs.Keeping.{Keeps, keeps-then, alike-then, keeps-as, keeps-itself, keeps-given, on_some, put_other-keeps, freed-states, freed-keeps, released-keeps, changed-keeps, deleted-states, deleted-keeps}
 

@@ -4,10 +4,10 @@ use Rattle.std.proofs.Common.{◌∙◌, cond, ap, sym}
 use Rattle.pfl_base.specs.declared.state_name.StateName.{StateName}
 use Rattle.pfl_base.specs.Names.{is_name}
 use Rattle.pfl_edits.proofs.ForCallers.{some_is_none}
-use Rattle.pfl_defer.specs.declared.Held.{Held}
-use Rattle.pfl_defer.specs.Deferring.{Deferrals, held_of}
-use Rattle.pfl_desk.specs.Nodes.{Node}
-use Rattle.pfl_desk.specs.Changes.{freed, released}
+use Rattle.pfl_world.specs.defer.declared.Held.{Held}
+use Rattle.pfl_world.specs.defer.Deferring.{Deferrals, held_of}
+use Rattle.pfl_world.specs.desk.Nodes.{Node}
+use Rattle.pfl_world.specs.desk.Changes.{freed, released}
 use Rattle.pfl_laws.specs.Laws.{Holds}
 use Rattle.pfl_laws.proofs.Tied.{without, others-stay, freed-held, not_waiting-held}
 

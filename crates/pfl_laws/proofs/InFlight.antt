@@ -9,7 +9,7 @@ use Rattle.pfl_edits.proofs.ForCallers.{get-set_at_cases, some_is_none}
 use Rattle.pfl_language.specs.declared.event.Event.{Event}
 use Rattle.pfl_language.specs.declared.event.Event.TheVariants as event
 use Rattle.pfl_language.specs.declared.event.FrameEvent.TheVariants as frame
-use Rattle.pfl_link.specs.Links.{Link, InFlight, sent, without_frame, cut_to}
+use Rattle.pfl_world.specs.link.Links.{Link, InFlight, sent, without_frame, cut_to}
 use Rattle.pfl_world.specs.Events.{step}
 use Rattle.pfl_world.specs.Runs.{run, world_after}
 use Rattle.pfl_world.specs.Flushing.{sent_frame}

@@ -5,12 +5,12 @@ use Rattle.std.proofs.Common.{◌∙◌, ap, cond, sym, arith}
 use Rattle.pfl_base.specs.declared.state_name.StateName.{StateName}
 use Rattle.pfl_base.specs.Packets.{is_tcp}
 use Rattle.pfl_edits.specs.Maps as maps
-use Rattle.pfl_track.specs.declared.state.State.{State}
-use Rattle.pfl_table.specs.Tables.{States}
-use Rattle.pfl_queue.specs.Queues.{kind_of}
-use Rattle.pfl_desk.specs.Nodes.{Node, IsGiven}
-use Rattle.pfl_desk.specs.Changes.{put_state, is_held, is_untold, freed, not_waiting, released, changed, deleted, count_freed, without_held}
-use Rattle.pfl_desk.proofs.ForCallers.{Rest, deleted-rest}
+use Rattle.pfl_world.specs.track.declared.state.State.{State}
+use Rattle.pfl_world.specs.table.Tables.{States}
+use Rattle.pfl_world.specs.queue.Queues.{kind_of}
+use Rattle.pfl_world.specs.desk.Nodes.{Node, IsGiven}
+use Rattle.pfl_world.specs.desk.Changes.{put_state, is_held, is_untold, freed, not_waiting, released, changed, deleted, count_freed, without_held}
+use Rattle.pfl_world.proofs.ForCallers.desk.{Rest, deleted-rest}
 use Rattle.pfl_laws.proofs.Following.{Alike, Alike-itself, Alike-then, From, Comes, comes-then, comes-same, comes-put, comes-removed, Filed}
 
 -- the creator stays, ids go on, and what stands under the name comes from what stood there

@@ -12,40 +12,40 @@ use Rattle.pfl_base.specs.Keys.{key}
 use Rattle.pfl_base.proofs.ForCallers.{names_total, names_exact}
 use Rattle.pfl_edits.specs.Maps as maps
 use Rattle.pfl_edits.proofs.ForCallers.{key_cases}
-use Rattle.pfl_rules.specs.declared.rule.Rule.{Rule}
-use Rattle.pfl_rules.specs.Rules.{verdict, rule_at}
-use Rattle.pfl_track.specs.declared.state.State.{State}
-use Rattle.pfl_track.specs.declared.tracked.Tracked.{Tracked}
-use Rattle.pfl_track.specs.declared.tracked.Tracked.TheVariants.{Moved, OutOfWindow, Reused}
-use Rattle.pfl_track.specs.Keys.{wire_key}
-use Rattle.pfl_track.specs.Tracking.{tracked}
-use Rattle.pfl_table.specs.Tables.{found, key_in_use}
-use Rattle.pfl_table.proofs.ForCallers.{found-stands}
-use Rattle.pfl_wire.specs.declared.fault.BadFrame.{BadFrame}
-use Rattle.pfl_wire.specs.Frames.{Frame, records_of}
-use Rattle.pfl_wire.specs.Reading.{reading}
+use Rattle.pfl_world.specs.rules.declared.rule.Rule.{Rule}
+use Rattle.pfl_world.specs.rules.Rules.{verdict, rule_at}
+use Rattle.pfl_world.specs.track.declared.state.State.{State}
+use Rattle.pfl_world.specs.track.declared.tracked.Tracked.{Tracked}
+use Rattle.pfl_world.specs.track.declared.tracked.Tracked.TheVariants.{Moved, OutOfWindow, Reused}
+use Rattle.pfl_world.specs.track.Keys.{wire_key}
+use Rattle.pfl_world.specs.track.Tracking.{tracked}
+use Rattle.pfl_world.specs.table.Tables.{found, key_in_use}
+use Rattle.pfl_world.proofs.ForCallers.table.{found-stands}
+use Rattle.pfl_world.specs.wire.declared.fault.BadFrame.{BadFrame}
+use Rattle.pfl_world.specs.wire.Frames.{Frame, records_of}
+use Rattle.pfl_world.specs.wire.Reading.{reading}
 use Rattle.pfl_language.specs.declared.fate.Fate.TheVariants as fate
 use Rattle.pfl_language.specs.declared.node_event.NodeEvent.{NodeEvent}
 use Rattle.pfl_language.specs.declared.node_event.NodeEvent.TheVariants as own
 use Rattle.pfl_language.specs.declared.event.Event.{Event}
 use Rattle.pfl_language.specs.declared.event.Event.TheVariants as event
 use Rattle.pfl_language.specs.declared.event.FrameEvent.TheVariants as frame
-use Rattle.pfl_link.specs.Links.{InFlight}
-use Rattle.pfl_queue.specs.declared.Entry.{Entry}
-use Rattle.pfl_queue.specs.declared.Entry.TheVariants.{Marked, Request, Status, Clear}
-use Rattle.pfl_queue.specs.declared.Kind.TheVariants.{Insert}
-use Rattle.pfl_queue.specs.Taking.{next_frame, left_by}
-use Rattle.pfl_defer.specs.declared.Held.{Held}
-use Rattle.pfl_defer.specs.Deferring.{Deferrals, pushed_out}
-use Rattle.pfl_desk.specs.Nodes.{Node, IsNode, IsGiven}
-use Rattle.pfl_desk.specs.Changes.{put_state, mark, freed, changed, deleted, released}
-use Rattle.pfl_node.specs.Stepping.{node_after}
-use Rattle.pfl_node.specs.Events.{restarted}
-use Rattle.pfl_node.specs.Turning as turning
-use Rattle.pfl_node.specs.Retrying.{retried_client}
-use Rattle.pfl_node.specs.Flushing.{flushed, update_count_cleared}
-use Rattle.pfl_node.specs.Packets.{handled, handled_by, followed, accepted, before_rules, on_the_way}
-use Rattle.pfl_node.specs.Starting.{Handled, pass, hold, started, judged, by_rule, announced, with_room, with_new, new_state, is_at_max, is_deferred}
+use Rattle.pfl_world.specs.link.Links.{InFlight}
+use Rattle.pfl_world.specs.queue.declared.Entry.{Entry}
+use Rattle.pfl_world.specs.queue.declared.Entry.TheVariants.{Marked, Request, Status, Clear}
+use Rattle.pfl_world.specs.queue.declared.Kind.TheVariants.{Insert}
+use Rattle.pfl_world.specs.queue.Taking.{next_frame, left_by}
+use Rattle.pfl_world.specs.defer.declared.Held.{Held}
+use Rattle.pfl_world.specs.defer.Deferring.{Deferrals, pushed_out}
+use Rattle.pfl_world.specs.desk.Nodes.{Node, IsNode, IsGiven}
+use Rattle.pfl_world.specs.desk.Changes.{put_state, mark, freed, changed, deleted, released}
+use Rattle.pfl_world.specs.node.Stepping.{node_after}
+use Rattle.pfl_world.specs.node.Events.{restarted}
+use Rattle.pfl_world.specs.node.Turning as turning
+use Rattle.pfl_world.specs.node.Retrying.{retried_client}
+use Rattle.pfl_world.specs.node.Flushing.{flushed, update_count_cleared}
+use Rattle.pfl_world.specs.node.Packets.{handled, handled_by, followed, accepted, before_rules, on_the_way}
+use Rattle.pfl_world.specs.node.Starting.{Handled, pass, hold, started, judged, by_rule, announced, with_room, with_new, new_state, is_at_max, is_deferred}
 use Rattle.pfl_world.specs.Worlds.{World, node_at, with_node}
 use Rattle.pfl_laws.specs.Laws.{FrameLetsOut, HeldPacketsLeaveOnlySo, Holds, LetsGo, NodeLetsGo, LetsOldestGo, OneLetsOut, asked_at}
 use Rattle.pfl_laws.proofs.Following.{Alike, Filed}

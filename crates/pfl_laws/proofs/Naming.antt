@@ -7,12 +7,12 @@ use Rattle.pfl_base.specs.declared.node_id.NodeId.TheVariants.{A, B}
 use Rattle.pfl_base.specs.declared.state_name.StateName.{StateName}
 use Rattle.pfl_edits.specs.Maps as maps
 use Rattle.pfl_edits.proofs.ForCallers.{some_is_none}
-use Rattle.pfl_track.specs.declared.state.State.{State}
+use Rattle.pfl_world.specs.track.declared.state.State.{State}
 use Rattle.pfl_language.specs.declared.event.Event.{Event}
 use Rattle.pfl_language.specs.declared.event.Event.TheVariants as event
 use Rattle.pfl_language.specs.declared.event.FrameEvent.TheVariants as frame
-use Rattle.pfl_desk.specs.Nodes.{Node, IsNode, IsGiven}
-use Rattle.pfl_node.specs.Events.{restarted}
+use Rattle.pfl_world.specs.desk.Nodes.{Node, IsNode, IsGiven}
+use Rattle.pfl_world.specs.node.Events.{restarted}
 use Rattle.pfl_world.specs.Worlds.{World, node_at, with_node}
 use Rattle.pfl_laws.specs.Laws.{Gives, IsDelivery, NewStatesAreNamed}
 use Rattle.pfl_laws.proofs.Restarting.{restarted-none}

@@ -5,14 +5,14 @@ use Rattle.pfl_base.specs.declared.node_id.NodeId.{NodeId}
 use Rattle.pfl_base.specs.declared.node_id.NodeId.TheVariants.{A, B}
 use Rattle.pfl_base.specs.declared.state_name.StateName.{StateName}
 use Rattle.pfl_edits.specs.Maps as maps
-use Rattle.pfl_table.specs.Tables.{AreStates}
-use Rattle.pfl_wire.specs.Reading.{reading}
+use Rattle.pfl_world.specs.table.Tables.{AreStates}
+use Rattle.pfl_world.specs.wire.Reading.{reading}
 use Rattle.pfl_language.specs.declared.event.Event.{Event}
 use Rattle.pfl_language.specs.declared.event.Event.TheVariants as event
 use Rattle.pfl_language.specs.declared.event.FrameEvent.TheVariants as frame
-use Rattle.pfl_link.specs.Links.{InFlight}
-use Rattle.pfl_desk.specs.Nodes.{Node, IsGiven}
-use Rattle.pfl_node.specs.Events.{restarted}
+use Rattle.pfl_world.specs.link.Links.{InFlight}
+use Rattle.pfl_world.specs.desk.Nodes.{Node, IsGiven}
+use Rattle.pfl_world.specs.node.Events.{restarted}
 use Rattle.pfl_world.specs.Events.{step}
 use Rattle.pfl_world.specs.Runs.{run, world_after}
 use Rattle.pfl_world.specs.Worlds.{World, node_at, with_node}

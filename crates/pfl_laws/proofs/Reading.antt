@@ -6,22 +6,22 @@ use Rattle.pfl_base.specs.declared.addr.Addr.{Addr}
 use Rattle.pfl_base.specs.declared.addr.Addr.TheVariants.{V4, V6}
 use Rattle.pfl_base.specs.declared.addr.End.{End}
 use Rattle.pfl_base.specs.Ends.{is_v4, proto_of}
-use Rattle.pfl_track.specs.declared.key_pair.KeyPair.{KeyPair}
-use Rattle.pfl_track.specs.declared.peer.Peer.{Peer}
-use Rattle.pfl_track.specs.Keys.{AreKeys}
-use Rattle.pfl_track.specs.Peers.{IsPeer}
-use Rattle.pfl_wire.specs.declared.action.Action.{Action}
-use Rattle.pfl_wire.specs.declared.action.Action.TheVariants as action
-use Rattle.pfl_wire.specs.declared.fault.BadFrame.TheVariants as bad
-use Rattle.pfl_wire.specs.declared.message.Message.{Message}
-use Rattle.pfl_wire.specs.declared.message.Message.TheVariants as message
-use Rattle.pfl_wire.specs.declared.message.StateRecord.{StateRecord}
-use Rattle.pfl_wire.specs.declared.message.UpdateRecord.{UpdateRecord}
-use Rattle.pfl_wire.specs.Frames.{Frame, records_of}
-use Rattle.pfl_wire.specs.Fields.{Read, wanted, byte_at, number_at, pads_at, name_at, scale_of, peer_at, address_at, end_at, ends_at, class_at, is_v4_of, dir_of, ack_wanted_of, status_of, rule_of}
-use Rattle.pfl_wire.specs.Records.{key_with, keys_at, state_at, update_at, clear_at, bulk_at, read_as, record_at}
-use Rattle.pfl_wire.specs.Reading.{records_at, subheader_at, group_at, groups_at, header_at, reading}
-use Rattle.pfl_wire.proofs.ForCallers.{bind_then, wanted_ok, ok_is, le_from, scale_back, proto_back, one_family}
+use Rattle.pfl_world.specs.track.declared.key_pair.KeyPair.{KeyPair}
+use Rattle.pfl_world.specs.track.declared.peer.Peer.{Peer}
+use Rattle.pfl_world.specs.track.Keys.{AreKeys}
+use Rattle.pfl_world.specs.track.Peers.{IsPeer}
+use Rattle.pfl_world.specs.wire.declared.action.Action.{Action}
+use Rattle.pfl_world.specs.wire.declared.action.Action.TheVariants as action
+use Rattle.pfl_world.specs.wire.declared.fault.BadFrame.TheVariants as bad
+use Rattle.pfl_world.specs.wire.declared.message.Message.{Message}
+use Rattle.pfl_world.specs.wire.declared.message.Message.TheVariants as message
+use Rattle.pfl_world.specs.wire.declared.message.StateRecord.{StateRecord}
+use Rattle.pfl_world.specs.wire.declared.message.UpdateRecord.{UpdateRecord}
+use Rattle.pfl_world.specs.wire.Frames.{Frame, records_of}
+use Rattle.pfl_world.specs.wire.Fields.{Read, wanted, byte_at, number_at, pads_at, name_at, scale_of, peer_at, address_at, end_at, ends_at, class_at, is_v4_of, dir_of, ack_wanted_of, status_of, rule_of}
+use Rattle.pfl_world.specs.wire.Records.{key_with, keys_at, state_at, update_at, clear_at, bulk_at, read_as, record_at}
+use Rattle.pfl_world.specs.wire.Reading.{records_at, subheader_at, group_at, groups_at, header_at, reading}
+use Rattle.pfl_world.proofs.ForCallers.wire.{bind_then, wanted_ok, ok_is, le_from, scale_back, proto_back, one_family}
 
 -- a whole state's record
 pub record IsWhole (r : StateRecord) : Type 0 where

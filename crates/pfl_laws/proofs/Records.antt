@@ -10,20 +10,20 @@ use Rattle.pfl_base.specs.Names.{is_name}
 use Rattle.pfl_base.specs.Packets.{is_tcp}
 use Rattle.pfl_edits.specs.Maps as maps
 use Rattle.pfl_edits.proofs.ForCallers.{get-set_at_cases}
-use Rattle.pfl_track.specs.declared.peer.Peer.{Peer}
-use Rattle.pfl_track.specs.declared.state.State.{State}
-use Rattle.pfl_table.specs.Tables.{States}
-use Rattle.pfl_wire.specs.declared.message.StateRecord.{StateRecord}
-use Rattle.pfl_wire.specs.declared.message.Message.TheVariants as message
-use Rattle.pfl_merge.specs.declared.received.Received.{Received}
-use Rattle.pfl_merge.specs.declared.merged.Merged.{Merged}
-use Rattle.pfl_merge.specs.Merging.{merged, stale_src, stale_dst, stale_source, stale_destination, is_ahead}
-use Rattle.pfl_queue.specs.declared.Kind.TheVariants.{InsertAck, Update}
-use Rattle.pfl_queue.specs.Queues.{kind_of}
-use Rattle.pfl_bulk.specs.Bulk.{no_name}
-use Rattle.pfl_desk.specs.Nodes.{Node, timeout_at}
-use Rattle.pfl_desk.specs.Changes.{put_state, push_if, mark, count_bad, is_held, lost, count_lost, without_held, released, changed, forgotten, count_stale, ask}
-use Rattle.pfl_receive.specs.Receiving.{taken, insert_taken, can_import, imported, merge_taken, merged_into, bulk_taken, state_answered, is_partly_told, request_taken, ack_taken, delete_taken, status_taken, is_known, cleared_names, of_state, of_update}
+use Rattle.pfl_world.specs.track.declared.peer.Peer.{Peer}
+use Rattle.pfl_world.specs.track.declared.state.State.{State}
+use Rattle.pfl_world.specs.table.Tables.{States}
+use Rattle.pfl_world.specs.wire.declared.message.StateRecord.{StateRecord}
+use Rattle.pfl_world.specs.wire.declared.message.Message.TheVariants as message
+use Rattle.pfl_world.specs.merge.declared.received.Received.{Received}
+use Rattle.pfl_world.specs.merge.declared.merged.Merged.{Merged}
+use Rattle.pfl_world.specs.merge.Merging.{merged, stale_src, stale_dst, stale_source, stale_destination, is_ahead}
+use Rattle.pfl_world.specs.queue.declared.Kind.TheVariants.{InsertAck, Update}
+use Rattle.pfl_world.specs.queue.Queues.{kind_of}
+use Rattle.pfl_world.specs.bulk.Bulk.{no_name}
+use Rattle.pfl_world.specs.desk.Nodes.{Node, timeout_at}
+use Rattle.pfl_world.specs.desk.Changes.{put_state, push_if, mark, count_bad, is_held, lost, count_lost, without_held, released, changed, forgotten, count_stale, ask}
+use Rattle.pfl_world.specs.receive.Receiving.{taken, insert_taken, can_import, imported, merge_taken, merged_into, bulk_taken, state_answered, is_partly_told, request_taken, ack_taken, delete_taken, status_taken, is_known, cleared_names, of_state, of_update}
 use Rattle.pfl_laws.specs.Laws.{HasRisen, LevelsRise, RecordsLowerNoLevel}
 use Rattle.pfl_laws.proofs.Following.{Alike, Alike-then, From, Comes, comes-then, comes-removed, inner, Filed}
 use Rattle.pfl_laws.proofs.Keeping.{Keeps, keeps-as, put-keeps, changed-keeps, released-keeps}

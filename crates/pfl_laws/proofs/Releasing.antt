@@ -10,14 +10,14 @@ use Rattle.pfl_base.proofs.ForCallers.{names_total, names_exact, is_name-itself}
 use Rattle.pfl_base.specs.Names.{is_name}
 use Rattle.pfl_edits.specs.Maps as maps
 use Rattle.pfl_edits.proofs.ForCallers.{key_cases}
-use Rattle.pfl_track.specs.declared.state.State.{State}
-use Rattle.pfl_table.specs.Tables.{AreStates}
-use Rattle.pfl_table.proofs.ForCallers.{OwnsKeys-known, AreStates-with}
-use Rattle.pfl_defer.specs.declared.Held.{Held}
-use Rattle.pfl_defer.specs.Deferring.{due}
-use Rattle.pfl_desk.specs.Nodes.{Node, IsNode}
-use Rattle.pfl_desk.specs.Changes.{put_state, freed, released}
-use Rattle.pfl_node.specs.Releasing.{due_names, released_due}
+use Rattle.pfl_world.specs.track.declared.state.State.{State}
+use Rattle.pfl_world.specs.table.Tables.{AreStates}
+use Rattle.pfl_world.proofs.ForCallers.table.{OwnsKeys-known, AreStates-with}
+use Rattle.pfl_world.specs.defer.declared.Held.{Held}
+use Rattle.pfl_world.specs.defer.Deferring.{due}
+use Rattle.pfl_world.specs.desk.Nodes.{Node, IsNode}
+use Rattle.pfl_world.specs.desk.Changes.{put_state, freed, released}
+use Rattle.pfl_world.specs.node.Releasing.{due_names, released_due}
 use Rattle.pfl_laws.specs.Laws.{IsTied, Holds}
 use Rattle.pfl_laws.proofs.Following.{Alike, Alike-itself, inner}
 use Rattle.pfl_laws.proofs.Keeping.{Keeps, alike-then, keeps-itself, freed-states, released-keeps}

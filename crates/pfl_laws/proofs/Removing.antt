@@ -6,13 +6,13 @@ use Rattle.pfl_base.specs.declared.state_name.StateName.{StateName}
 use Rattle.pfl_base.proofs.ForCallers.{names_total, names_exact}
 use Rattle.pfl_edits.specs.Maps as maps
 use Rattle.pfl_edits.proofs.ForCallers.{get-set_at_same, key_cases, some_is_none}
-use Rattle.pfl_track.specs.declared.state.State.{State}
-use Rattle.pfl_table.specs.Tables.{States, AreStates}
-use Rattle.pfl_table.proofs.ForCallers.{AreStates-without}
-use Rattle.pfl_defer.specs.declared.Held.{Held}
-use Rattle.pfl_desk.specs.Nodes.{Node}
-use Rattle.pfl_desk.specs.Changes.{is_held, count_lost, without_held, deleted, forgotten}
-use Rattle.pfl_desk.proofs.ForCallers.{Rest, deleted-rest}
+use Rattle.pfl_world.specs.track.declared.state.State.{State}
+use Rattle.pfl_world.specs.table.Tables.{States, AreStates}
+use Rattle.pfl_world.proofs.ForCallers.table.{AreStates-without}
+use Rattle.pfl_world.specs.defer.declared.Held.{Held}
+use Rattle.pfl_world.specs.desk.Nodes.{Node}
+use Rattle.pfl_world.specs.desk.Changes.{is_held, count_lost, without_held, deleted, forgotten}
+use Rattle.pfl_world.proofs.ForCallers.desk.{Rest, deleted-rest}
 use Rattle.pfl_laws.specs.Laws.{IsTied, Holds}
 use Rattle.pfl_laws.proofs.Following.{Alike, Alike-itself, comes-removed}
 use Rattle.pfl_laws.proofs.Keeping.{Keeps, alike-then, keeps-itself, deleted-states}

@@ -5,10 +5,10 @@ use Rattle.pfl_base.specs.declared.state_name.StateName.{StateName}
 use Rattle.pfl_base.specs.Names.{name_cmp}
 use Rattle.pfl_edits.specs.Maps as maps
 use Rattle.pfl_edits.proofs.ForCallers.{get-empty, some_is_none}
-use Rattle.pfl_track.specs.declared.state.State.{State}
-use Rattle.pfl_table.specs.Tables.{AreStates}
-use Rattle.pfl_desk.specs.Nodes.{Node}
-use Rattle.pfl_node.specs.Events.{restarted}
+use Rattle.pfl_world.specs.track.declared.state.State.{State}
+use Rattle.pfl_world.specs.table.Tables.{AreStates}
+use Rattle.pfl_world.specs.desk.Nodes.{Node}
+use Rattle.pfl_world.specs.node.Events.{restarted}
 use Rattle.pfl_laws.specs.Laws.{HasState, IsTied}
 use Rattle.pfl_laws.proofs.Tied.{waits}
 use Rattle.pfl_laws.proofs.Waiting.{AreGiven}

@@ -8,17 +8,17 @@ use Rattle.pfl_base.specs.declared.node_id.NodeId.TheVariants.{A, B}
 use Rattle.pfl_base.specs.declared.state_name.StateName.{StateName}
 use Rattle.pfl_edits.specs.Maps as maps
 use Rattle.pfl_edits.proofs.ForCallers.{some_is_none}
-use Rattle.pfl_track.specs.declared.state.State.{State}
-use Rattle.pfl_table.specs.Tables.{AreStates}
-use Rattle.pfl_wire.specs.declared.fault.BadFrame.{BadFrame}
-use Rattle.pfl_wire.specs.Frames.{Frame}
-use Rattle.pfl_wire.specs.Reading.{reading}
+use Rattle.pfl_world.specs.track.declared.state.State.{State}
+use Rattle.pfl_world.specs.table.Tables.{AreStates}
+use Rattle.pfl_world.specs.wire.declared.fault.BadFrame.{BadFrame}
+use Rattle.pfl_world.specs.wire.Frames.{Frame}
+use Rattle.pfl_world.specs.wire.Reading.{reading}
 use Rattle.pfl_language.specs.declared.event.Event.{Event}
 use Rattle.pfl_language.specs.declared.event.Event.TheVariants as event
 use Rattle.pfl_language.specs.declared.event.FrameEvent.TheVariants as frame
-use Rattle.pfl_link.specs.Links.{InFlight}
-use Rattle.pfl_desk.specs.Nodes.{Node, IsNode, IsGiven}
-use Rattle.pfl_node.specs.Events.{restarted}
+use Rattle.pfl_world.specs.link.Links.{InFlight}
+use Rattle.pfl_world.specs.desk.Nodes.{Node, IsNode, IsGiven}
+use Rattle.pfl_world.specs.node.Events.{restarted}
 use Rattle.pfl_world.specs.Events.{step, points_at}
 use Rattle.pfl_world.specs.Runs.{run, world_after}
 use Rattle.pfl_world.specs.Worlds.{World, IsWorld, node_at, with_node}

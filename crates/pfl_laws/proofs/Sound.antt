@@ -13,42 +13,42 @@ use Rattle.pfl_base.specs.Packets.{IsPacket}
 use Rattle.pfl_base.specs.Names.{name_cmp}
 use Rattle.pfl_edits.specs.Maps as maps
 use Rattle.pfl_edits.proofs.ForCallers.{get-empty, some_is_none}
-use Rattle.pfl_track.specs.declared.state.State.{State}
-use Rattle.pfl_track.specs.declared.tracked.Tracked.{Tracked}
-use Rattle.pfl_track.specs.declared.tracked.Tracked.TheVariants.{Moved, OutOfWindow, Reused}
-use Rattle.pfl_track.specs.Tracking.{tracked}
-use Rattle.pfl_track.proofs.ForCallers.{Stays, tracked-stays}
-use Rattle.pfl_table.specs.Tables.{AreStates, found}
-use Rattle.pfl_table.proofs.ForCallers.{found-stands}
-use Rattle.pfl_wire.specs.declared.fault.BadFrame.{BadFrame}
-use Rattle.pfl_wire.specs.Frames.{Frame}
-use Rattle.pfl_wire.specs.Reading.{reading}
+use Rattle.pfl_world.specs.track.declared.state.State.{State}
+use Rattle.pfl_world.specs.track.declared.tracked.Tracked.{Tracked}
+use Rattle.pfl_world.specs.track.declared.tracked.Tracked.TheVariants.{Moved, OutOfWindow, Reused}
+use Rattle.pfl_world.specs.track.Tracking.{tracked}
+use Rattle.pfl_world.proofs.ForCallers.track.{Stays, tracked-stays}
+use Rattle.pfl_world.specs.table.Tables.{AreStates, found}
+use Rattle.pfl_world.proofs.ForCallers.table.{found-stands}
+use Rattle.pfl_world.specs.wire.declared.fault.BadFrame.{BadFrame}
+use Rattle.pfl_world.specs.wire.Frames.{Frame}
+use Rattle.pfl_world.specs.wire.Reading.{reading}
 use Rattle.pfl_language.specs.declared.node_event.NodeEvent.{NodeEvent}
 use Rattle.pfl_language.specs.declared.node_event.NodeEvent.TheVariants as own
 use Rattle.pfl_language.specs.declared.event.Event.{Event}
 use Rattle.pfl_language.specs.declared.event.Event.TheVariants as event
 use Rattle.pfl_language.specs.declared.event.FrameEvent.TheVariants as frame
-use Rattle.pfl_link.specs.Links.{InFlight}
-use Rattle.pfl_queue.specs.declared.Entry.{Entry}
-use Rattle.pfl_queue.specs.declared.Entry.TheVariants.{Marked, Request, Status, Clear}
-use Rattle.pfl_queue.specs.Taking.{next_frame, left_by}
-use Rattle.pfl_desk.specs.Nodes.{Node}
-use Rattle.pfl_desk.specs.Changes.{put_state, count_blocked, is_held, deleted}
-use Rattle.pfl_node.specs.Stepping.{node_after}
-use Rattle.pfl_node.specs.Ticking.{ticked}
-use Rattle.pfl_node.specs.Purging.{purged}
-use Rattle.pfl_node.specs.Releasing.{released_due}
-use Rattle.pfl_node.specs.Killing.{killed}
-use Rattle.pfl_node.specs.Clearing.{cleared}
-use Rattle.pfl_node.specs.Events.{restarted}
-use Rattle.pfl_node.specs.Turning as turning
-use Rattle.pfl_node.specs.Retrying.{retried_client}
-use Rattle.pfl_node.specs.Flushing.{flushed, update_count_cleared}
-use Rattle.pfl_node.specs.Packets.{handled, handled_by, followed, accepted}
-use Rattle.pfl_node.proofs.ForCallers.{handled-apart}
+use Rattle.pfl_world.specs.link.Links.{InFlight}
+use Rattle.pfl_world.specs.queue.declared.Entry.{Entry}
+use Rattle.pfl_world.specs.queue.declared.Entry.TheVariants.{Marked, Request, Status, Clear}
+use Rattle.pfl_world.specs.queue.Taking.{next_frame, left_by}
+use Rattle.pfl_world.specs.desk.Nodes.{Node}
+use Rattle.pfl_world.specs.desk.Changes.{put_state, count_blocked, is_held, deleted}
+use Rattle.pfl_world.specs.node.Stepping.{node_after}
+use Rattle.pfl_world.specs.node.Ticking.{ticked}
+use Rattle.pfl_world.specs.node.Purging.{purged}
+use Rattle.pfl_world.specs.node.Releasing.{released_due}
+use Rattle.pfl_world.specs.node.Killing.{killed}
+use Rattle.pfl_world.specs.node.Clearing.{cleared}
+use Rattle.pfl_world.specs.node.Events.{restarted}
+use Rattle.pfl_world.specs.node.Turning as turning
+use Rattle.pfl_world.specs.node.Retrying.{retried_client}
+use Rattle.pfl_world.specs.node.Flushing.{flushed, update_count_cleared}
+use Rattle.pfl_world.specs.node.Packets.{handled, handled_by, followed, accepted}
+use Rattle.pfl_world.proofs.ForCallers.node.{handled-apart}
 use Rattle.pfl_world.specs.Events.{step}
 use Rattle.pfl_world.specs.Runs.{run, world_after}
-use Rattle.pfl_rules.specs.Rules.{Rules}
+use Rattle.pfl_world.specs.rules.Rules.{Rules}
 use Rattle.pfl_language.specs.declared.limits.Limits.{Limits}
 use Rattle.pfl_world.specs.Worlds.{World, IsWorld, node_at, with_node, opening_world}
 use Rattle.pfl_laws.specs.Laws.{waits_for_ack, IsTied, AreTied, OpeningsAreTied, LaterOpeningsAreTied, EventsKeepTied, EventsKeepTiedAlong}

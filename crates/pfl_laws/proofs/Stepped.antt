@@ -10,24 +10,24 @@ use Rattle.pfl_base.specs.declared.refusal.Refusal.TheVariants.{NoSuchFrame, Lin
 use Rattle.pfl_base.specs.Numbers.{greatest}
 use Rattle.pfl_edits.specs.Maps as maps
 use Rattle.pfl_edits.proofs.ForCallers.{some_is_none}
-use Rattle.pfl_wire.specs.declared.fault.BadFrame.{BadFrame}
-use Rattle.pfl_wire.specs.Frames.{Frame, records_of}
-use Rattle.pfl_wire.specs.Reading.{reading}
+use Rattle.pfl_world.specs.wire.declared.fault.BadFrame.{BadFrame}
+use Rattle.pfl_world.specs.wire.Frames.{Frame, records_of}
+use Rattle.pfl_world.specs.wire.Reading.{reading}
 use Rattle.pfl_language.specs.declared.event.Event.{Event}
 use Rattle.pfl_language.specs.declared.event.Event.TheVariants as event
 use Rattle.pfl_language.specs.declared.event.FrameEvent.TheVariants as frame
 use Rattle.pfl_language.specs.declared.outcome.Outcome.TheVariants as outcome
 use Rattle.pfl_language.specs.declared.outcome.Outcome.{Outcome}
-use Rattle.pfl_link.specs.Links.{Link, InFlight, is_full, is_counted_out, sent, without_frame, with_frame, cut_to}
-use Rattle.pfl_desk.specs.Nodes.{refused_by, full_tests, unless_refused}
-use Rattle.pfl_desk.specs.Changes.{count_broken}
-use Rattle.pfl_receive.specs.Receiving.{taken}
-use Rattle.pfl_node.specs.Flushing.{flushed}
-use Rattle.pfl_node.specs.Events.{restarted}
-use Rattle.pfl_node.specs.Stepping.{node_refusal, node_after}
+use Rattle.pfl_world.specs.link.Links.{Link, InFlight, is_full, is_counted_out, sent, without_frame, with_frame, cut_to}
+use Rattle.pfl_world.specs.desk.Nodes.{refused_by, full_tests, unless_refused}
+use Rattle.pfl_world.specs.desk.Changes.{count_broken}
+use Rattle.pfl_world.specs.receive.Receiving.{taken}
+use Rattle.pfl_world.specs.node.Flushing.{flushed}
+use Rattle.pfl_world.specs.node.Events.{restarted}
+use Rattle.pfl_world.specs.node.Stepping.{node_refusal, node_after}
 use Rattle.pfl_world.specs.Events.{step}
 use Rattle.pfl_world.specs.Runs.{world_after}
-use Rattle.pfl_receive.specs.Delivering.{same_rules}
+use Rattle.pfl_world.specs.receive.Delivering.{same_rules}
 use Rattle.pfl_world.specs.Flushing.{flush_refusal, sent_frame, flush_step}
 use Rattle.pfl_world.specs.Delivering.{read_taken, deliver_step}
 use Rattle.pfl_world.specs.Tickets.{lose_step, repeat_step, cut_step, without_ticket}

@@ -12,9 +12,9 @@ use Rattle.pfl_base.specs.declared.state_name.StateName.{StateName}
 use Rattle.pfl_base.specs.Numbers.{greatest}
 use Rattle.pfl_edits.specs.Maps as maps
 use Rattle.pfl_edits.proofs.ForCallers.{some_is_none}
-use Rattle.pfl_wire.specs.declared.fault.BadFrame.{BadFrame}
-use Rattle.pfl_wire.specs.Frames.{Frame, records_of}
-use Rattle.pfl_wire.specs.Reading.{reading}
+use Rattle.pfl_world.specs.wire.declared.fault.BadFrame.{BadFrame}
+use Rattle.pfl_world.specs.wire.Frames.{Frame, records_of}
+use Rattle.pfl_world.specs.wire.Reading.{reading}
 use Rattle.pfl_language.specs.declared.node_event.NodeEvent.{NodeEvent}
 use Rattle.pfl_language.specs.declared.node_event.NodeEvent.TheVariants as own
 use Rattle.pfl_language.specs.declared.event.Event.{Event}
@@ -22,26 +22,26 @@ use Rattle.pfl_language.specs.declared.event.Event.TheVariants as event
 use Rattle.pfl_language.specs.declared.event.FrameEvent.TheVariants as frame
 use Rattle.pfl_language.specs.declared.outcome.Outcome.TheVariants as outcome
 use Rattle.pfl_language.specs.declared.outcome.Outcome.{Outcome}
-use Rattle.pfl_link.specs.Links.{Link, InFlight, is_full, is_counted_out, sent, without_frame, with_frame, cut_to}
-use Rattle.pfl_track.specs.declared.state.State.{State}
-use Rattle.pfl_table.specs.Tables.{AreStates}
-use Rattle.pfl_desk.specs.Nodes.{Node, IsGiven, refused_by, full_tests, unless_refused}
-use Rattle.pfl_desk.specs.Changes.{count_broken}
-use Rattle.pfl_node.specs.Stepping.{NodeStepped, node_refusal, node_after}
-use Rattle.pfl_node.specs.Flushing.{flushed}
-use Rattle.pfl_node.specs.Purging.{purged}
-use Rattle.pfl_node.specs.Releasing.{released_due}
-use Rattle.pfl_node.specs.Killing.{killed}
-use Rattle.pfl_node.specs.Clearing.{cleared}
-use Rattle.pfl_node.specs.Events.{restarted}
-use Rattle.pfl_node.specs.Turning as turning
-use Rattle.pfl_node.specs.Retrying.{retried_client}
-use Rattle.pfl_node.proofs.ForCallers.{handled-apart}
-use Rattle.pfl_receive.specs.Receiving.{taken}
+use Rattle.pfl_world.specs.link.Links.{Link, InFlight, is_full, is_counted_out, sent, without_frame, with_frame, cut_to}
+use Rattle.pfl_world.specs.track.declared.state.State.{State}
+use Rattle.pfl_world.specs.table.Tables.{AreStates}
+use Rattle.pfl_world.specs.desk.Nodes.{Node, IsGiven, refused_by, full_tests, unless_refused}
+use Rattle.pfl_world.specs.desk.Changes.{count_broken}
+use Rattle.pfl_world.specs.node.Stepping.{NodeStepped, node_refusal, node_after}
+use Rattle.pfl_world.specs.node.Flushing.{flushed}
+use Rattle.pfl_world.specs.node.Purging.{purged}
+use Rattle.pfl_world.specs.node.Releasing.{released_due}
+use Rattle.pfl_world.specs.node.Killing.{killed}
+use Rattle.pfl_world.specs.node.Clearing.{cleared}
+use Rattle.pfl_world.specs.node.Events.{restarted}
+use Rattle.pfl_world.specs.node.Turning as turning
+use Rattle.pfl_world.specs.node.Retrying.{retried_client}
+use Rattle.pfl_world.proofs.ForCallers.node.{handled-apart}
+use Rattle.pfl_world.specs.receive.Receiving.{taken}
 use Rattle.pfl_world.specs.Events.{step}
 use Rattle.pfl_world.specs.Meanings.{Stepped}
 use Rattle.pfl_world.specs.Runs.{world_after}
-use Rattle.pfl_receive.specs.Delivering.{same_rules}
+use Rattle.pfl_world.specs.receive.Delivering.{same_rules}
 use Rattle.pfl_world.specs.AtNodes.{from_node}
 use Rattle.pfl_world.specs.Flushing.{flush_refusal, sent_frame, flush_step}
 use Rattle.pfl_world.specs.Delivering.{read_taken, deliver_step}

@@ -10,14 +10,14 @@ use Rattle.pfl_base.specs.Packets.{is_tcp}
 use Rattle.pfl_edits.specs.Maps as maps
 use Rattle.pfl_edits.specs.Maps.{set_at}
 use Rattle.pfl_edits.proofs.ForCallers.{get-set_at_same, get-set_at_other, set_at-same, key_cases}
-use Rattle.pfl_track.specs.declared.state.State.{State}
-use Rattle.pfl_table.specs.Tables.{States}
-use Rattle.pfl_queue.specs.declared.Kind.TheVariants.{UpdateShort}
-use Rattle.pfl_queue.specs.Queues.{kind_of}
-use Rattle.pfl_defer.specs.declared.Held.{Held}
-use Rattle.pfl_defer.specs.Deferring.{Deferrals, held_of, let_go, with_held}
-use Rattle.pfl_desk.specs.Nodes.{Node}
-use Rattle.pfl_desk.specs.Changes.{put_state, mark, push_if, counted, told, is_recent, is_held, is_untold, is_insert, freed, lost, not_waiting, released, changed, deleted, forgotten, count_freed, count_lost, without_held}
+use Rattle.pfl_world.specs.track.declared.state.State.{State}
+use Rattle.pfl_world.specs.table.Tables.{States}
+use Rattle.pfl_world.specs.queue.declared.Kind.TheVariants.{UpdateShort}
+use Rattle.pfl_world.specs.queue.Queues.{kind_of}
+use Rattle.pfl_world.specs.defer.declared.Held.{Held}
+use Rattle.pfl_world.specs.defer.Deferring.{Deferrals, held_of, let_go, with_held}
+use Rattle.pfl_world.specs.desk.Nodes.{Node}
+use Rattle.pfl_world.specs.desk.Changes.{put_state, mark, push_if, counted, told, is_recent, is_held, is_untold, is_insert, freed, lost, not_waiting, released, changed, deleted, forgotten, count_freed, count_lost, without_held}
 use Rattle.pfl_laws.specs.Laws.{IsTied}
 use Rattle.pfl_laws.proofs.Following.{Filed}
 use Rattle.pfl_laws.proofs.Keeping.{freed-states, deleted-states}

@@ -11,25 +11,25 @@ use Rattle.pfl_base.proofs.ForCallers.{names_total, names_exact}
 use Rattle.pfl_base.specs.Names.{is_name}
 use Rattle.pfl_edits.specs.Maps as maps
 use Rattle.pfl_edits.proofs.ForCallers.{get-set_at_other, key_cases}
-use Rattle.pfl_rules.specs.declared.rule.Rule.{Rule}
-use Rattle.pfl_rules.specs.Rules.{verdict, rule_at}
-use Rattle.pfl_track.specs.declared.state.State.{State}
-use Rattle.pfl_track.specs.Keys.{wire_key}
-use Rattle.pfl_table.specs.Tables.{States, key_in_use}
-use Rattle.pfl_wire.specs.declared.message.StateRecord.{StateRecord}
-use Rattle.pfl_wire.specs.declared.message.Message.TheVariants as message
-use Rattle.pfl_merge.specs.declared.received.Received.{Received}
-use Rattle.pfl_merge.specs.declared.merged.Merged.{Merged}
-use Rattle.pfl_merge.specs.Merging.{merged}
-use Rattle.pfl_queue.specs.declared.Kind.TheVariants.{Insert, InsertAck, Update}
-use Rattle.pfl_queue.specs.Queues.{kind_of}
-use Rattle.pfl_bulk.specs.Bulk.{no_name}
-use Rattle.pfl_defer.specs.Deferring.{pushed_out}
-use Rattle.pfl_desk.specs.Nodes.{Node, IsGiven, timeout_at}
-use Rattle.pfl_desk.specs.Changes.{put_state, mark, push_if, count_bad, count_passed, count_blocked, is_held, freed, lost, changed, forgotten, released, count_stale, ask}
-use Rattle.pfl_node.specs.Packets.{accepted}
-use Rattle.pfl_receive.specs.Receiving.{taken, insert_taken, can_import, imported, merge_taken, merged_into, bulk_taken, state_answered, is_partly_told, request_taken, ack_taken, delete_taken, status_taken, is_known, cleared_names, of_state, of_update}
-use Rattle.pfl_node.specs.Starting.{Handled, pass, started, judged, by_rule, announced, hold, with_room, with_new, new_state, next_name, is_at_max, is_deferred}
+use Rattle.pfl_world.specs.rules.declared.rule.Rule.{Rule}
+use Rattle.pfl_world.specs.rules.Rules.{verdict, rule_at}
+use Rattle.pfl_world.specs.track.declared.state.State.{State}
+use Rattle.pfl_world.specs.track.Keys.{wire_key}
+use Rattle.pfl_world.specs.table.Tables.{States, key_in_use}
+use Rattle.pfl_world.specs.wire.declared.message.StateRecord.{StateRecord}
+use Rattle.pfl_world.specs.wire.declared.message.Message.TheVariants as message
+use Rattle.pfl_world.specs.merge.declared.received.Received.{Received}
+use Rattle.pfl_world.specs.merge.declared.merged.Merged.{Merged}
+use Rattle.pfl_world.specs.merge.Merging.{merged}
+use Rattle.pfl_world.specs.queue.declared.Kind.TheVariants.{Insert, InsertAck, Update}
+use Rattle.pfl_world.specs.queue.Queues.{kind_of}
+use Rattle.pfl_world.specs.bulk.Bulk.{no_name}
+use Rattle.pfl_world.specs.defer.Deferring.{pushed_out}
+use Rattle.pfl_world.specs.desk.Nodes.{Node, IsGiven, timeout_at}
+use Rattle.pfl_world.specs.desk.Changes.{put_state, mark, push_if, count_bad, count_passed, count_blocked, is_held, freed, lost, changed, forgotten, released, count_stale, ask}
+use Rattle.pfl_world.specs.node.Packets.{accepted}
+use Rattle.pfl_world.specs.receive.Receiving.{taken, insert_taken, can_import, imported, merge_taken, merged_into, bulk_taken, state_answered, is_partly_told, request_taken, ack_taken, delete_taken, status_taken, is_known, cleared_names, of_state, of_update}
+use Rattle.pfl_world.specs.node.Starting.{Handled, pass, started, judged, by_rule, announced, hold, with_room, with_new, new_state, next_name, is_at_max, is_deferred}
 use Rattle.pfl_laws.specs.Laws.{IsTied, RecordsKeepTied}
 use Rattle.pfl_laws.proofs.Following.{Alike, Filed, filed-put}
 use Rattle.pfl_laws.proofs.Keeping.{Keeps, keeps-given, freed-states}

@@ -9,13 +9,13 @@ use Rattle.pfl_base.specs.declared.state_name.StateName.{StateName}
 use Rattle.pfl_base.specs.Keys.{key}
 use Rattle.pfl_base.specs.Packets.{IsPacket}
 use Rattle.pfl_edits.specs.Maps as maps
-use Rattle.pfl_rules.specs.Rules.{Rules}
-use Rattle.pfl_table.specs.Tables.{AreStates, found}
-use Rattle.pfl_track.specs.declared.state.State.{State}
-use Rattle.pfl_wire.specs.declared.message.Message.{Message}
-use Rattle.pfl_wire.specs.declared.message.Message.TheVariants as message
-use Rattle.pfl_wire.specs.Frames.{records_of}
-use Rattle.pfl_wire.specs.Reading.{reading}
+use Rattle.pfl_world.specs.rules.Rules.{Rules}
+use Rattle.pfl_world.specs.table.Tables.{AreStates, found}
+use Rattle.pfl_world.specs.track.declared.state.State.{State}
+use Rattle.pfl_world.specs.wire.declared.message.Message.{Message}
+use Rattle.pfl_world.specs.wire.declared.message.Message.TheVariants as message
+use Rattle.pfl_world.specs.wire.Frames.{records_of}
+use Rattle.pfl_world.specs.wire.Reading.{reading}
 use Rattle.pfl_language.specs.declared.fate.Fate.{Fate}
 use Rattle.pfl_language.specs.declared.fate.Fate.TheVariants as fate
 use Rattle.pfl_language.specs.declared.limits.Limits.{Limits}
@@ -24,13 +24,13 @@ use Rattle.pfl_language.specs.declared.node_event.NodeEvent.TheVariants as own
 use Rattle.pfl_language.specs.declared.event.Event.{Event}
 use Rattle.pfl_language.specs.declared.event.Event.TheVariants as event
 use Rattle.pfl_language.specs.declared.event.FrameEvent.TheVariants as frame
-use Rattle.pfl_link.specs.Links.{InFlight}
-use Rattle.pfl_defer.specs.declared.Held.{Held}
-use Rattle.pfl_defer.specs.Deferring.{Deferrals, held_of, pushed_out}
-use Rattle.pfl_desk.specs.Nodes.{Node}
-use Rattle.pfl_desk.specs.Changes.{is_held}
-use Rattle.pfl_node.specs.Packets.{handled, before_rules}
-use Rattle.pfl_receive.specs.Receiving.{taken}
+use Rattle.pfl_world.specs.link.Links.{InFlight}
+use Rattle.pfl_world.specs.defer.declared.Held.{Held}
+use Rattle.pfl_world.specs.defer.Deferring.{Deferrals, held_of, pushed_out}
+use Rattle.pfl_world.specs.desk.Nodes.{Node}
+use Rattle.pfl_world.specs.desk.Changes.{is_held}
+use Rattle.pfl_world.specs.node.Packets.{handled, before_rules}
+use Rattle.pfl_world.specs.receive.Receiving.{taken}
 use Rattle.pfl_world.specs.Events.{points_at, step}
 use Rattle.pfl_world.specs.Runs.{world_after, run}
 use Rattle.pfl_world.specs.Flushing.{sent_frame}

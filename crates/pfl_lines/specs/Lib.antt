@@ -13,3 +13,6 @@ pub mod Session
 pub mod Written
 pub mod Laws
 pub mod inner
+pub use Rattle.pfl_base.specs as base
+pub use Rattle.pfl_rules.specs as rules
+pub use Rattle.pfl_language.specs as language

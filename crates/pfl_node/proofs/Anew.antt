@@ -6,11 +6,11 @@ use Rattle.pfl_base.specs.Names.{name_cmp}
 use Rattle.pfl_bulk.specs.Bulk.{no_name, first_asked}
 use Rattle.pfl_edits.specs.Maps as maps
 use Rattle.pfl_edits.proofs.ForCallers.{len-empty}
-use Rattle.pfl_queue.specs.declared.Mark.{Mark}
+use Rattle.pfl_receive.specs.queue.declared.Mark.{Mark}
 use Rattle.pfl_rules.specs.Rules.{Rules}
 use Rattle.pfl_language.specs.declared.limits.Limits.{Limits}
-use Rattle.pfl_desk.specs.Changes.{ask}
-use Rattle.pfl_desk.specs.Nodes.{Node, new_node, is_overfull, is_overcounted}
+use Rattle.pfl_receive.specs.desk.Changes.{ask}
+use Rattle.pfl_receive.specs.desk.Nodes.{Node, new_node, is_overfull, is_overcounted}
 use Rattle.pfl_node.specs.Events.{restarted}
 
 -- one entry is not too much

@@ -8,11 +8,11 @@ use Rattle.pfl_bulk.specs.Bulk as bulk
 use Rattle.pfl_bulk.specs.Bulk.{no_name, asks_again, retried, tries_of}
 use Rattle.pfl_bulk.specs.declared.BulkClient.{BulkClient}
 use Rattle.pfl_bulk.specs.declared.BulkClient.TheVariants as client
-use Rattle.pfl_queue.specs.Queues.{is_requested}
+use Rattle.pfl_receive.specs.queue.Queues.{is_requested}
 use Rattle.pfl_language.specs.declared.retried.Retried.TheVariants.{Asked, Served}
 use Rattle.pfl_node.specs.Retrying.{retried_client, retry_answer, retry_refusal}
-use Rattle.pfl_desk.specs.Changes.{ask, push_if}
-use Rattle.pfl_desk.specs.Nodes.{Node, is_overfull, is_overcounted, refused_by, points_refusal}
+use Rattle.pfl_receive.specs.desk.Changes.{ask, push_if}
+use Rattle.pfl_receive.specs.desk.Nodes.{Node, is_overfull, is_overcounted, refused_by, points_refusal}
 
 -- ---- it asks again, or not
 

@@ -6,12 +6,12 @@ use Rattle.pfl_base.proofs.ForCallers.{names_total}
 use Rattle.pfl_edits.specs.Maps as maps
 use Rattle.pfl_edits.proofs.ForCallers.{len-insert}
 use Rattle.pfl_track.specs.declared.state.State.{State}
-use Rattle.pfl_table.proofs.ForCallers.{OwnsKeys-unused}
-use Rattle.pfl_queue.specs.declared.Mark.{Mark}
-use Rattle.pfl_desk.specs.inner.Kept.{MayStart, MayAdd}
-use Rattle.pfl_desk.specs.Nodes.{Node, AreParts, IsGiven}
+use Rattle.pfl_receive.proofs.ForCallers.table.{OwnsKeys-unused}
+use Rattle.pfl_receive.specs.queue.declared.Mark.{Mark}
+use Rattle.pfl_receive.specs.desk.inner.Kept.{MayStart, MayAdd}
+use Rattle.pfl_receive.specs.desk.Nodes.{Node, AreParts, IsGiven}
 use Rattle.pfl_node.specs.Starting.{with_new}
-use Rattle.pfl_desk.proofs.ForCallers.{keeps_next_id, put-node}
+use Rattle.pfl_receive.proofs.ForCallers.desk.{keeps_next_id, put-node}
 
 -- its name was on no queue
 pub fresh-name : (n : Node) (name : StateName) → AreParts n → name.creator ≡ n.creator → name.id ≡ n.next_id → (k : Mark) → maps.get n.queue.marks name ≡ Some k → ⊥

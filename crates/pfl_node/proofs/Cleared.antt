@@ -12,12 +12,12 @@ use Rattle.pfl_base.proofs.ForCallers.{names_total}
 use Rattle.pfl_edits.specs.Maps as maps
 use Rattle.pfl_edits.specs.Maps.{entries_sorted}
 use Rattle.pfl_edits.proofs.ForCallers.{len-entries}
-use Rattle.pfl_table.specs.Tables.{States}
+use Rattle.pfl_receive.specs.table.Tables.{States}
 use Rattle.pfl_track.specs.declared.state.State.{State}
-use Rattle.pfl_desk.specs.Changes.{count_lost, without_held, is_held, forgotten, tell_clear}
-use Rattle.pfl_desk.specs.Drafts.{Draft, Writes}
-use Rattle.pfl_desk.specs.Nodes.{Node}
-use Rattle.pfl_desk.proofs.ForCallers.{writes-none, writes-then, writes-more}
+use Rattle.pfl_receive.specs.desk.Changes.{count_lost, without_held, is_held, forgotten, tell_clear}
+use Rattle.pfl_receive.specs.desk.Drafts.{Draft, Writes}
+use Rattle.pfl_receive.specs.desk.Nodes.{Node}
+use Rattle.pfl_receive.proofs.ForCallers.desk.{writes-none, writes-then, writes-more}
 use Rattle.pfl_node.specs.Clearing.{cleared}
 use Rattle.pfl_node.proofs.Expired.{Entries, left, right, less_is}
 

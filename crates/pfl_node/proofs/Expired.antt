@@ -20,10 +20,10 @@ use Rattle.pfl_rules.specs.declared.adaptive.Adaptive.{Adaptive}
 use Rattle.pfl_rules.specs.Scaling.{scaled}
 use Rattle.pfl_track.specs.declared.state.State.{State}
 use Rattle.pfl_track.specs.Tracking.{expiry}
-use Rattle.pfl_table.specs.declared.row.Row.{Row}
-use Rattle.pfl_table.proofs.ForCallers.{state_before, TimedBy, row_of, first_expiring-states, IsInOrder, NoneBefore, IsInOrder-in_order, rest_in_order, in_order-filter, state_before-asymmetric, state_before-passed_on}
-use Rattle.pfl_table.specs.Tables.{Table, States, AreStates, states_of, row_expiry, first_expiring}
-use Rattle.pfl_desk.specs.Nodes.{Node, AreParts}
+use Rattle.pfl_receive.specs.table.declared.row.Row.{Row}
+use Rattle.pfl_receive.proofs.ForCallers.table.{state_before, TimedBy, row_of, first_expiring-states, IsInOrder, NoneBefore, IsInOrder-in_order, rest_in_order, in_order-filter, state_before-asymmetric, state_before-passed_on}
+use Rattle.pfl_receive.specs.table.Tables.{Table, States, AreStates, states_of, row_expiry, first_expiring}
+use Rattle.pfl_receive.specs.desk.Nodes.{Node, AreParts}
 use Rattle.pfl_node.specs.Purging.{expiry_among, expires_before, expired_among}
 
 -- ---- lists

@@ -15,10 +15,10 @@ use Rattle.pfl_track.specs.Tracking.{tracked, start_state}
 use Rattle.std.proofs.lemmas.Bool.Decides.{nat_tests}
 use Rattle.pfl_track.specs.declared.key_pair.KeyFields.{KeyFields}
 use Rattle.pfl_track.proofs.ForCallers.{tracked-is, start-is, tracked-used}
-use Rattle.pfl_table.specs.Tables.{found, key_in_use}
-use Rattle.pfl_table.proofs.ForCallers.{found-stands}
-use Rattle.pfl_desk.specs.inner.Kept.{MayReplace, MayStart}
-use Rattle.pfl_desk.specs.Nodes.{Node, AreParts, IsGiven, IsPast}
+use Rattle.pfl_receive.specs.table.Tables.{found, key_in_use}
+use Rattle.pfl_receive.proofs.ForCallers.table.{found-stands}
+use Rattle.pfl_receive.specs.desk.inner.Kept.{MayReplace, MayStart}
+use Rattle.pfl_receive.specs.desk.Nodes.{Node, AreParts, IsGiven, IsPast}
 use Rattle.pfl_node.specs.Starting.{Handled, judged, next_name}
 use Rattle.pfl_node.specs.Packets.{handled, handled_by, followed, packet_points, before_rules, on_the_way}
 

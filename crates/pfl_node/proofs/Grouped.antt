@@ -21,13 +21,13 @@ use Rattle.pfl_wire.specs.declared.action.Action.{Action}
 use Rattle.pfl_wire.specs.declared.action.Action.TheVariants as action
 use Rattle.pfl_wire.specs.declared.message.Message.{Message}
 use Rattle.pfl_wire.specs.declared.message.Message.TheVariants as message
-use Rattle.pfl_queue.specs.declared.Entry.{Entry}
-use Rattle.pfl_queue.specs.declared.Entry.TheVariants.{Marked, Request, Status, Clear}
-use Rattle.pfl_queue.specs.declared.Kind.TheVariants.{Insert, InsertAck, Update, UpdateShort, Delete}
-use Rattle.pfl_queue.specs.inner.Fitting.{entry_bytes}
-use Rattle.pfl_queue.specs.Taking.{entry_action, one_action, bytes_of}
+use Rattle.pfl_receive.specs.queue.declared.Entry.{Entry}
+use Rattle.pfl_receive.specs.queue.declared.Entry.TheVariants.{Marked, Request, Status, Clear}
+use Rattle.pfl_receive.specs.queue.declared.Kind.TheVariants.{Insert, InsertAck, Update, UpdateShort, Delete}
+use Rattle.pfl_receive.specs.queue.inner.Fitting.{entry_bytes}
+use Rattle.pfl_receive.specs.queue.Taking.{entry_action, one_action, bytes_of}
 use Rattle.pfl_node.specs.Flushing.{state_record, update_record, messages_of}
-use Rattle.pfl_desk.specs.Nodes.{Node, AreParts}
+use Rattle.pfl_receive.specs.desk.Nodes.{Node, AreParts}
 use Rattle.pfl_node.specs.inner.Sending.{IsTold, run_of, groups_of}
 
 abbrev pub like : Message → Message → Bool

@@ -10,17 +10,17 @@ use Rattle.pfl_base.specs.Names.{is_name}
 use Rattle.pfl_edits.specs.Maps as maps
 use Rattle.pfl_edits.proofs.ForCallers.{get-set_at_same, get-set_at_other, key_cases}
 use Rattle.pfl_track.specs.declared.state.State.{State}
-use Rattle.pfl_table.specs.Tables.{AreStates}
-use Rattle.pfl_queue.specs.declared.Kind.TheVariants.{Insert}
-use Rattle.pfl_defer.specs.declared.Held.{Held}
-use Rattle.pfl_defer.specs.Deferring as deferring
-use Rattle.pfl_defer.specs.Deferring.{Deferrals, IsDeferrals, held_of, let_go, pushed_out}
-use Rattle.pfl_defer.proofs.ForCallers.{with_room-has_room, found_place}
-use Rattle.pfl_desk.specs.Changes.{put_state, mark, is_held, freed, count_freed, without_held, not_waiting, released}
-use Rattle.pfl_desk.specs.inner.Kept.{MayReplace, MayStart}
-use Rattle.pfl_desk.specs.Nodes.{Node, AreParts, IsGiven}
+use Rattle.pfl_receive.specs.table.Tables.{AreStates}
+use Rattle.pfl_receive.specs.queue.declared.Kind.TheVariants.{Insert}
+use Rattle.pfl_receive.specs.defer.declared.Held.{Held}
+use Rattle.pfl_receive.specs.defer.Deferring as deferring
+use Rattle.pfl_receive.specs.defer.Deferring.{Deferrals, IsDeferrals, held_of, let_go, pushed_out}
+use Rattle.pfl_receive.proofs.ForCallers.defer.{with_room-has_room, found_place}
+use Rattle.pfl_receive.specs.desk.Changes.{put_state, mark, is_held, freed, count_freed, without_held, not_waiting, released}
+use Rattle.pfl_receive.specs.desk.inner.Kept.{MayReplace, MayStart}
+use Rattle.pfl_receive.specs.desk.Nodes.{Node, AreParts, IsGiven}
 use Rattle.pfl_node.specs.Starting.{announced, with_room, is_deferred, pass, hold}
-use Rattle.pfl_desk.proofs.ForCallers.{state_still}
+use Rattle.pfl_receive.proofs.ForCallers.desk.{state_still}
 
 -- ---- a full list lets its oldest go
 

@@ -7,19 +7,19 @@ use Rattle.pfl_base.specs.declared.state_name.StateName.{StateName}
 use Rattle.pfl_base.specs.Packets.{is_tcp}
 use Rattle.pfl_edits.specs.Maps as maps
 use Rattle.pfl_rules.specs.Rules.{Rules}
-use Rattle.pfl_merge.specs.Merging.{merged}
+use Rattle.pfl_receive.specs.merge.Merging.{merged}
 use Rattle.pfl_track.specs.declared.state.State.{State}
 use Rattle.pfl_wire.specs.declared.message.BulkStatus.{BulkStatus}
 use Rattle.pfl_wire.specs.declared.message.StateRecord.{StateRecord}
 use Rattle.pfl_wire.specs.declared.message.Message.{Message}
 use Rattle.pfl_wire.specs.declared.message.Message.TheVariants as message
-use Rattle.pfl_queue.specs.Queues.{kind_of}
-use Rattle.pfl_merge.specs.declared.received.Received.{Received}
-use Rattle.pfl_merge.specs.declared.merged.Merged.{Merged}
+use Rattle.pfl_receive.specs.queue.Queues.{kind_of}
+use Rattle.pfl_receive.specs.merge.declared.received.Received.{Received}
+use Rattle.pfl_receive.specs.merge.declared.merged.Merged.{Merged}
 use Rattle.pfl_language.specs.declared.limits.Limits.{Limits}
 use Rattle.pfl_node.specs.Laws.{RecordsLeaveTheRest}
-use Rattle.pfl_desk.specs.Nodes.{Node, timeout_at}
-use Rattle.pfl_desk.specs.Changes.{is_held, lost, freed, released, is_untold, changed, forgotten}
+use Rattle.pfl_receive.specs.desk.Nodes.{Node, timeout_at}
+use Rattle.pfl_receive.specs.desk.Changes.{is_held, lost, freed, released, is_untold, changed, forgotten}
 use Rattle.pfl_receive.specs.Receiving.{taken, insert_taken, can_import, merge_taken, merged_into, bulk_taken, state_answered, request_taken, ack_taken, is_known, cleared_names, status_taken}
 
 -- what stays: as one value

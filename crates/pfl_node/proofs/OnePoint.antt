@@ -3,9 +3,9 @@ use Rattle.std.specs.Prelude.{◌≡◌, Bool, true, false, ◌||◌, [], ◌∷
 use Rattle.std.specs.List.{list_any}
 use Rattle.std.proofs.Common.{◌∙◌, ap, sym, subst}
 use Rattle.pfl_base.specs.declared.refusal.Refusal.{Refusal}
-use Rattle.pfl_desk.specs.declared.parts.judge.Overfull.{Overfull}
-use Rattle.pfl_desk.specs.inner.Judging.{Went}
-use Rattle.pfl_desk.specs.Nodes.{Node, IsRefusal, is_overfull, is_overcounted}
+use Rattle.pfl_receive.specs.desk.declared.parts.judge.Overfull.{Overfull}
+use Rattle.pfl_receive.specs.desk.inner.Judging.{Went}
+use Rattle.pfl_receive.specs.desk.Nodes.{Node, IsRefusal, is_overfull, is_overcounted}
 
 -- where no number is too high there, none is where it ends
 pub point-ends : {T : Type 0} (b meant : Node) (tried : Result (T × Bool) Overfull) → OnOk tried (b ≡ meant)

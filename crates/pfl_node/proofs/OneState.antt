@@ -18,21 +18,21 @@ use Rattle.pfl_track.specs.declared.tracked.Tracked.{Tracked}
 use Rattle.pfl_track.specs.declared.tracked.Tracked.TheVariants.{Moved, OutOfWindow, Reused}
 use Rattle.pfl_track.specs.Tracking.{tracked}
 use Rattle.pfl_track.proofs.ForCallers.{Stays, tracked-stays}
-use Rattle.pfl_table.specs.Tables.{AreStates, found, key_in_use}
-use Rattle.pfl_table.proofs.ForCallers.{OwnsKeys-unused, OwnsKeys-known, SameKeys, SameKeys-itself, AreStates-with, AreStates-without, found-stands}
+use Rattle.pfl_receive.specs.table.Tables.{AreStates, found, key_in_use}
+use Rattle.pfl_receive.proofs.ForCallers.table.{OwnsKeys-unused, OwnsKeys-known, SameKeys, SameKeys-itself, AreStates-with, AreStates-without, found-stands}
 use Rattle.pfl_wire.specs.declared.message.BulkStatus.{BulkStatus}
 use Rattle.pfl_wire.specs.declared.message.StateRecord.{StateRecord}
 use Rattle.pfl_wire.specs.declared.message.Message.{Message}
 use Rattle.pfl_wire.specs.declared.message.Message.TheVariants as message
-use Rattle.pfl_queue.specs.declared.Kind.TheVariants.{Insert}
-use Rattle.pfl_queue.specs.Queues.{kind_of}
-use Rattle.pfl_merge.specs.declared.received.Received.{Received}
-use Rattle.pfl_merge.specs.declared.merged.Merged.{Merged}
-use Rattle.pfl_merge.specs.Merging.{merged, stale_src, stale_dst}
-use Rattle.pfl_defer.specs.declared.Held.{Held}
-use Rattle.pfl_defer.specs.Deferring.{pushed_out}
-use Rattle.pfl_desk.specs.Nodes.{Node, timeout_at}
-use Rattle.pfl_desk.specs.Changes.{put_state, mark, is_untold, is_insert, is_held, freed, lost, not_waiting, released, changed, deleted, forgotten, count_stale, count_freed, count_lost, without_held}
+use Rattle.pfl_receive.specs.queue.declared.Kind.TheVariants.{Insert}
+use Rattle.pfl_receive.specs.queue.Queues.{kind_of}
+use Rattle.pfl_receive.specs.merge.declared.received.Received.{Received}
+use Rattle.pfl_receive.specs.merge.declared.merged.Merged.{Merged}
+use Rattle.pfl_receive.specs.merge.Merging.{merged, stale_src, stale_dst}
+use Rattle.pfl_receive.specs.defer.declared.Held.{Held}
+use Rattle.pfl_receive.specs.defer.Deferring.{pushed_out}
+use Rattle.pfl_receive.specs.desk.Nodes.{Node, timeout_at}
+use Rattle.pfl_receive.specs.desk.Changes.{put_state, mark, is_untold, is_insert, is_held, freed, lost, not_waiting, released, changed, deleted, forgotten, count_stale, count_freed, count_lost, without_held}
 use Rattle.pfl_track.specs.Keys.{wire_key}
 use Rattle.pfl_node.specs.Starting.{Handled, started, judged, by_rule, announced, hold, with_room, with_new, new_state, is_at_max, is_deferred}
 use Rattle.pfl_node.specs.Packets.{handled, handled_by, followed, accepted}

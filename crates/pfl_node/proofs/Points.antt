@@ -7,13 +7,13 @@ use Rattle.pfl_base.specs.declared.packet.Packet.{Packet}
 use Rattle.pfl_track.specs.declared.state.State.{State}
 use Rattle.pfl_track.specs.declared.tracked.Tracked.{Tracked}
 use Rattle.pfl_language.specs.declared.fate.Fate.{Fate}
-use Rattle.pfl_desk.specs.declared.parts.judge.Overfull.{Overfull}
-use Rattle.pfl_desk.specs.Drafts.{Draft, Writes}
+use Rattle.pfl_receive.specs.desk.declared.parts.judge.Overfull.{Overfull}
+use Rattle.pfl_receive.specs.desk.Drafts.{Draft, Writes}
 use Rattle.pfl_node.specs.inner.Carried.{Handles}
-use Rattle.pfl_desk.specs.Nodes.{Node, is_overfull, is_overcounted}
+use Rattle.pfl_receive.specs.desk.Nodes.{Node, is_overfull, is_overcounted}
 use Rattle.pfl_node.specs.Packets.{followed, on_the_way, handled, packet_points}
 use Rattle.pfl_node.specs.Starting.{Handled}
-use Rattle.pfl_desk.proofs.ForCallers.{writes-more}
+use Rattle.pfl_receive.proofs.ForCallers.desk.{writes-more}
 
 or_false : (a : Bool) → a ≡ (a || false)
 or_false true = λ i. true

@@ -5,13 +5,13 @@ use Rattle.std.proofs.Common.{◌∙◌, ap, sym, subst, arith}
 use Rattle.pfl_base.specs.Lists.{folds}
 use Rattle.pfl_edits.specs.Maps as maps
 use Rattle.pfl_track.specs.declared.state.State.{State}
-use Rattle.pfl_table.specs.Tables.{States}
-use Rattle.pfl_desk.specs.declared.parts.judge.Overfull.{Overfull}
-use Rattle.pfl_desk.specs.Drafts.{Draft, Writes}
-use Rattle.pfl_desk.specs.Nodes.{Node, AreParts, is_overfull, is_overcounted}
-use Rattle.pfl_desk.specs.Changes.{deleted}
+use Rattle.pfl_receive.specs.table.Tables.{States}
+use Rattle.pfl_receive.specs.desk.declared.parts.judge.Overfull.{Overfull}
+use Rattle.pfl_receive.specs.desk.Drafts.{Draft, Writes}
+use Rattle.pfl_receive.specs.desk.Nodes.{Node, AreParts, is_overfull, is_overcounted}
+use Rattle.pfl_receive.specs.desk.Changes.{deleted}
 use Rattle.pfl_node.specs.Purging.{purged, purge_points, expired_among, expired_states}
-use Rattle.pfl_desk.proofs.ForCallers.{Rest, deleted-rest, writes-none, writes-then, writes-more}
+use Rattle.pfl_receive.proofs.ForCallers.desk.{Rest, deleted-rest, writes-none, writes-then, writes-more}
 use Rattle.pfl_node.proofs.Expired.{expired-without, expired-few, first-stands}
 
 -- ---- one deletion after another, by the timeouts of so many states

@@ -6,16 +6,16 @@ use Rattle.pfl_base.specs.declared.refusal.Refusal.{Refusal}
 use Rattle.pfl_edits.specs.Changes.{Edits, LeadsBack, back}
 use Rattle.pfl_language.specs.declared.limits.Limits.{Limits}
 use Rattle.pfl_language.specs.Limits.{AreLimits}
-use Rattle.pfl_desk.specs.declared.edit.NodeEdit.{NodeEdit}
-use Rattle.pfl_desk.specs.declared.edit.NodeEdit.TheVariants.{OfState, Moved, OfQueue, OfHeld, Server, Client, Clock, NextId, Push, Count}
-use Rattle.pfl_desk.specs.declared.parts.judge.Overfull.{Overfull}
-use Rattle.pfl_desk.specs.Drafts.{Draft, Writes, began}
-use Rattle.pfl_desk.specs.Edits.{Finds, put_back, NodeLeadsBack}
-use Rattle.pfl_desk.specs.inner.Drafting.{most_room}
-use Rattle.pfl_desk.specs.inner.Judging.{Went, judgement}
-use Rattle.pfl_desk.specs.Nodes.{Node, AreParts, IsNode, IsRefusal, is_overcounted, points_refusal}
-use Rattle.pfl_desk.proofs.ForCallers.{leads_through, went-refusal, went-counted}
-pub use Rattle.pfl_desk.proofs.ForCallers.{settled-answer}
+use Rattle.pfl_receive.specs.desk.declared.edit.NodeEdit.{NodeEdit}
+use Rattle.pfl_receive.specs.desk.declared.edit.NodeEdit.TheVariants.{OfState, Moved, OfQueue, OfHeld, Server, Client, Clock, NextId, Push, Count}
+use Rattle.pfl_receive.specs.desk.declared.parts.judge.Overfull.{Overfull}
+use Rattle.pfl_receive.specs.desk.Drafts.{Draft, Writes, began}
+use Rattle.pfl_receive.specs.desk.Edits.{Finds, put_back, NodeLeadsBack}
+use Rattle.pfl_receive.specs.desk.inner.Drafting.{most_room}
+use Rattle.pfl_receive.specs.desk.inner.Judging.{Went, judgement}
+use Rattle.pfl_receive.specs.desk.Nodes.{Node, AreParts, IsNode, IsRefusal, is_overcounted, points_refusal}
+use Rattle.pfl_receive.proofs.ForCallers.desk.{leads_through, went-refusal, went-counted}
+pub use Rattle.pfl_receive.proofs.ForCallers.desk.{settled-answer}
 use Rattle.pfl_receive.specs.inner.Delivering.{frame_room}
 use Rattle.pfl_node.specs.Weights.{packet_edits}
 use Rattle.pfl_node.specs.inner.Room.{IsReady, most_edits}

@@ -4,8 +4,8 @@ use Rattle.std.specs.List.{fold, list_any}
 use Rattle.std.proofs.Common.{◌∙◌, ap, subst}
 use Rattle.pfl_wire.specs.declared.message.Message.{Message}
 use Rattle.pfl_wire.specs.Frames.{Frame, records_of}
-use Rattle.pfl_desk.specs.declared.parts.judge.Overfull.{Overfull}
-use Rattle.pfl_desk.specs.Nodes.{Node, is_overcounted}
+use Rattle.pfl_receive.specs.desk.declared.parts.judge.Overfull.{Overfull}
+use Rattle.pfl_receive.specs.desk.Nodes.{Node, is_overcounted}
 use Rattle.pfl_receive.specs.Delivering.{receive_points, received, same_rules, taken_points}
 use Rattle.pfl_receive.specs.Receiving.{taken}
 

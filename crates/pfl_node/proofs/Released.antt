@@ -11,17 +11,17 @@ use Rattle.pfl_base.specs.Names.{is_name}
 use Rattle.pfl_base.proofs.ForCallers.{is_name-itself}
 use Rattle.pfl_edits.specs.Changes.{Edits}
 use Rattle.pfl_edits.specs.Maps as maps
-use Rattle.pfl_defer.specs.declared.Held.{Held}
-use Rattle.pfl_defer.specs.Deferring.{Deferrals, held_of, let_go, due}
-use Rattle.pfl_defer.proofs.ForCallers.{absent_stays}
+use Rattle.pfl_receive.specs.defer.declared.Held.{Held}
+use Rattle.pfl_receive.specs.defer.Deferring.{Deferrals, held_of, let_go, due}
+use Rattle.pfl_receive.proofs.ForCallers.defer.{absent_stays}
 use Rattle.pfl_track.specs.declared.state.State.{State}
 use Rattle.pfl_language.specs.declared.limits.Limits.{Limits}
-use Rattle.pfl_desk.specs.declared.edit.NodeEdit.{NodeEdit}
-use Rattle.pfl_desk.specs.Changes.{count_freed, without_held, freed, not_waiting, put_state, released}
-use Rattle.pfl_desk.specs.Drafts.{Draft, Writes}
-use Rattle.pfl_desk.specs.inner.Judging.{judged_as}
-use Rattle.pfl_desk.specs.Nodes.{Node, AreParts, is_overcounted}
-use Rattle.pfl_desk.proofs.ForCallers.{writes-none, writes-then, writes-more}
+use Rattle.pfl_receive.specs.desk.declared.edit.NodeEdit.{NodeEdit}
+use Rattle.pfl_receive.specs.desk.Changes.{count_freed, without_held, freed, not_waiting, put_state, released}
+use Rattle.pfl_receive.specs.desk.Drafts.{Draft, Writes}
+use Rattle.pfl_receive.specs.desk.inner.Judging.{judged_as}
+use Rattle.pfl_receive.specs.desk.Nodes.{Node, AreParts, is_overcounted}
+use Rattle.pfl_receive.proofs.ForCallers.desk.{writes-none, writes-then, writes-more}
 use Rattle.pfl_node.specs.Releasing.{due_names, released_due}
 
 -- ---- the first of the names that are due, and those of the list without it

@@ -15,7 +15,7 @@ use Rattle.pfl_bulk.specs.Bulk.{names_after}
 use Rattle.pfl_edits.specs.Maps as maps
 use Rattle.pfl_edits.specs.Maps.{entries_sorted}
 use Rattle.pfl_edits.specs.Ordered.{IsBelow, IsRising}
-use Rattle.pfl_table.specs.Tables.{States, AreStates, state_after}
+use Rattle.pfl_receive.specs.table.Tables.{States, AreStates, state_after}
 use Rattle.pfl_track.specs.declared.state.State.{State}
 use Rattle.pfl_node.proofs.Expired.{Entries, AreFiled, filed, left, right, less_is}
 

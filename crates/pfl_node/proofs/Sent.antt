@@ -11,23 +11,23 @@ use Rattle.pfl_base.specs.declared.refusal.Refusal.{Refusal}
 use Rattle.pfl_edits.specs.Changes.{Edits}
 use Rattle.pfl_edits.specs.Maps as maps
 use Rattle.pfl_track.specs.declared.state.State.{State}
-use Rattle.pfl_queue.specs.declared.Entry.{Entry}
-use Rattle.pfl_queue.specs.declared.Entry.TheVariants.{Marked, Request, Status, Clear}
-use Rattle.pfl_queue.specs.declared.Kind.{Kind}
-use Rattle.pfl_queue.specs.declared.Kind.TheVariants.{Insert, InsertAck, Update, UpdateShort, Delete}
-use Rattle.pfl_queue.specs.inner.Fitting.{entry_bytes}
-use Rattle.pfl_queue.specs.Queues.{pending}
-use Rattle.pfl_queue.specs.Taking.{in_turn, gone, left_by, next_frame}
-use Rattle.pfl_queue.proofs.ForCallers.{frame_carries, pending-in_turn, Stands, frame_stands, frame_begins, frame_fits}
-use Rattle.pfl_desk.specs.declared.edit.NodeEdit.{NodeEdit}
-use Rattle.pfl_desk.specs.Drafts.{Draft, Writes}
-use Rattle.pfl_desk.specs.Nodes.{Node, AreParts, IsRefusal, is_overcounted}
-use Rattle.pfl_desk.specs.inner.Judging.{judged_as}
-use Rattle.pfl_desk.specs.Changes.{put_state}
+use Rattle.pfl_receive.specs.queue.declared.Entry.{Entry}
+use Rattle.pfl_receive.specs.queue.declared.Entry.TheVariants.{Marked, Request, Status, Clear}
+use Rattle.pfl_receive.specs.queue.declared.Kind.{Kind}
+use Rattle.pfl_receive.specs.queue.declared.Kind.TheVariants.{Insert, InsertAck, Update, UpdateShort, Delete}
+use Rattle.pfl_receive.specs.queue.inner.Fitting.{entry_bytes}
+use Rattle.pfl_receive.specs.queue.Queues.{pending}
+use Rattle.pfl_receive.specs.queue.Taking.{in_turn, gone, left_by, next_frame}
+use Rattle.pfl_receive.proofs.ForCallers.queue.{frame_carries, pending-in_turn, Stands, frame_stands, frame_begins, frame_fits}
+use Rattle.pfl_receive.specs.desk.declared.edit.NodeEdit.{NodeEdit}
+use Rattle.pfl_receive.specs.desk.Drafts.{Draft, Writes}
+use Rattle.pfl_receive.specs.desk.Nodes.{Node, AreParts, IsRefusal, is_overcounted}
+use Rattle.pfl_receive.specs.desk.inner.Judging.{judged_as}
+use Rattle.pfl_receive.specs.desk.Changes.{put_state}
 use Rattle.pfl_node.specs.Flushing.{frame_of, flushed, update_count_cleared, send_refusal}
 use Rattle.pfl_node.specs.inner.Sending.{IsTold, frame_with}
-use Rattle.pfl_desk.specs.inner.Taking.{taken_from}
-use Rattle.pfl_desk.proofs.ForCallers.{frame_entries, left-next, writes-none, writes-then, writes-more}
+use Rattle.pfl_receive.specs.desk.inner.Taking.{taken_from}
+use Rattle.pfl_receive.proofs.ForCallers.desk.{frame_entries, left-next, writes-none, writes-then, writes-more}
 
 -- ---- what its entries tell is there
 

@@ -9,9 +9,9 @@ use Rattle.pfl_edits.specs.Maps as maps
 use Rattle.pfl_rules.specs.declared.rule.Rule.{Rule}
 use Rattle.pfl_rules.specs.Rules.{verdict}
 use Rattle.pfl_track.specs.Keys.{wire_key}
-use Rattle.pfl_table.specs.Tables.{key_in_use}
+use Rattle.pfl_receive.specs.table.Tables.{key_in_use}
 use Rattle.pfl_language.specs.declared.fate.Reason.TheVariants as reason
-use Rattle.pfl_desk.specs.Nodes.{Node}
+use Rattle.pfl_receive.specs.desk.Nodes.{Node}
 use Rattle.pfl_node.specs.Starting.{Handled, pass, drop, by_rule, judged, started, announced, with_new, new_state, is_at_max}
 
 module _ (n : Node) (dir : Dir) (p : Packet) where

@@ -16,18 +16,18 @@ use Rattle.pfl_bulk.specs.declared.BulkServer.TheVariants as server
 use Rattle.pfl_edits.specs.Maps as maps
 use Rattle.pfl_edits.proofs.ForCallers.{len-insert, len-entries}
 use Rattle.pfl_edits.specs.Ordered.{IsRising}
-use Rattle.pfl_queue.specs.declared.Kind.{Kind}
-use Rattle.pfl_queue.specs.declared.Kind.TheVariants.{Update}
-use Rattle.pfl_queue.specs.Queues.{Queue, pending, marked}
+use Rattle.pfl_receive.specs.queue.declared.Kind.{Kind}
+use Rattle.pfl_receive.specs.queue.declared.Kind.TheVariants.{Update}
+use Rattle.pfl_receive.specs.queue.Queues.{Queue, pending, marked}
 use Rattle.pfl_track.specs.declared.state.State.{State}
 use Rattle.pfl_wire.specs.declared.message.BulkStatus.{BulkStatus}
 use Rattle.pfl_wire.specs.declared.message.BulkStatus.TheVariants.{End as Finish}
 use Rattle.pfl_language.specs.declared.limits.Limits.{Limits}
-use Rattle.pfl_desk.specs.Changes.{mark, tell_status}
-use Rattle.pfl_desk.specs.Drafts.{Draft, Writes}
-use Rattle.pfl_desk.specs.inner.Kept.{MayMark}
-use Rattle.pfl_desk.specs.Nodes.{Node, AreParts, ServesSince, is_overfull}
-use Rattle.pfl_desk.proofs.ForCallers.{told-may, writes-none, writes-then, writes-more}
+use Rattle.pfl_receive.specs.desk.Changes.{mark, tell_status}
+use Rattle.pfl_receive.specs.desk.Drafts.{Draft, Writes}
+use Rattle.pfl_receive.specs.desk.inner.Kept.{MayMark}
+use Rattle.pfl_receive.specs.desk.Nodes.{Node, AreParts, ServesSince, is_overfull}
+use Rattle.pfl_receive.proofs.ForCallers.desk.{told-may, writes-none, writes-then, writes-more}
 use Rattle.pfl_node.specs.Turning.{is_eligible, eligible_names, queued, turn_of, ended, turned}
 use Rattle.pfl_node.proofs.Expired.{values-stand}
 use Rattle.pfl_node.proofs.Risen.{names, values-rising, rising-names, rising-filter, rising-take}

@@ -4,8 +4,8 @@ use Rattle.std.specs.List.{fold}
 use Rattle.pfl_base.specs.declared.refusal.Refusal.{Refusal}
 use Rattle.pfl_edits.specs.Maps as maps
 use Rattle.pfl_language.specs.declared.node_event.NodeOutcome.TheVariants.{Cleared}
-use Rattle.pfl_desk.specs.Nodes.{Node, points_refusal}
-use Rattle.pfl_desk.specs.Changes.{tell_clear, forgotten}
+use Rattle.pfl_receive.specs.desk.Nodes.{Node, points_refusal}
+use Rattle.pfl_receive.specs.desk.Changes.{tell_clear, forgotten}
 use Rattle.pfl_node.specs.Meanings.{NodeMeaning}
 
 -- all states go unannounced, and the peer is told to clear up to the last id

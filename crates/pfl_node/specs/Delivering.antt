@@ -2,8 +2,8 @@
 use Rattle.std.specs.Prelude.{[], ◌∷◌, Option}
 use Rattle.pfl_base.specs.declared.refusal.Refusal.{Refusal}
 use Rattle.pfl_wire.specs.Frames.{Frame}
-use Rattle.pfl_desk.specs.Changes.{count_broken}
-use Rattle.pfl_desk.specs.Nodes.{Node, points_refusal}
+use Rattle.pfl_receive.specs.desk.Changes.{count_broken}
+use Rattle.pfl_receive.specs.desk.Nodes.{Node, points_refusal}
 use Rattle.pfl_receive.specs.Delivering.{receive_points}
 
 -- each record of a frame can be taken

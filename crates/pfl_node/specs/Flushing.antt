@@ -13,14 +13,14 @@ use Rattle.pfl_wire.specs.declared.message.UpdateRecord.{UpdateRecord}
 use Rattle.pfl_wire.specs.declared.message.Message.{Message}
 use Rattle.pfl_wire.specs.declared.message.Message.TheVariants as message
 use Rattle.pfl_wire.specs.Frames.{Frame, action_of}
-use Rattle.pfl_queue.specs.declared.Entry.{Entry}
-use Rattle.pfl_queue.specs.declared.Entry.TheVariants.{Marked, Request, Status, Clear}
-use Rattle.pfl_queue.specs.declared.Kind.{Kind}
-use Rattle.pfl_queue.specs.declared.Kind.TheVariants.{Insert, InsertAck, Update, UpdateShort, Delete}
-use Rattle.pfl_queue.specs.Queues.{pending}
-use Rattle.pfl_queue.specs.Taking.{next_frame, left_by, one_action}
-use Rattle.pfl_desk.specs.Nodes.{Node, expiry_at}
-use Rattle.pfl_desk.specs.Changes.{put_state}
+use Rattle.pfl_receive.specs.queue.declared.Entry.{Entry}
+use Rattle.pfl_receive.specs.queue.declared.Entry.TheVariants.{Marked, Request, Status, Clear}
+use Rattle.pfl_receive.specs.queue.declared.Kind.{Kind}
+use Rattle.pfl_receive.specs.queue.declared.Kind.TheVariants.{Insert, InsertAck, Update, UpdateShort, Delete}
+use Rattle.pfl_receive.specs.queue.Queues.{pending}
+use Rattle.pfl_receive.specs.queue.Taking.{next_frame, left_by, one_action}
+use Rattle.pfl_receive.specs.desk.Nodes.{Node, expiry_at}
+use Rattle.pfl_receive.specs.desk.Changes.{put_state}
 
 -- the seconds that a state has left, truncated
 abbrev pub remaining : Node → State → ℕ

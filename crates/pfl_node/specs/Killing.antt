@@ -6,8 +6,8 @@ use Rattle.pfl_base.specs.declared.refusal.Refusal.TheVariants.{NoSuchState}
 use Rattle.pfl_base.specs.declared.state_name.StateName.{StateName}
 use Rattle.pfl_edits.specs.Maps as maps
 use Rattle.pfl_language.specs.declared.node_event.NodeOutcome.TheVariants.{Killed}
-use Rattle.pfl_desk.specs.Nodes.{Node, full_tests, refused_by}
-use Rattle.pfl_desk.specs.Changes.{deleted}
+use Rattle.pfl_receive.specs.desk.Nodes.{Node, full_tests, refused_by}
+use Rattle.pfl_receive.specs.desk.Changes.{deleted}
 use Rattle.pfl_node.specs.Meanings.{NodeMeaning}
 
 -- the node without the state of the name, by itself

@@ -2,9 +2,9 @@
 use Rattle.std.specs.Prelude.{◌≡◌, Bool}
 use Rattle.pfl_base.specs.declared.direction.Dir.{Dir}
 use Rattle.pfl_base.specs.declared.packet.Packet.{Packet}
-use Rattle.pfl_table.specs.Tables.{AreStates}
+use Rattle.pfl_receive.specs.table.Tables.{AreStates}
 use Rattle.pfl_wire.specs.declared.message.Message.{Message}
-use Rattle.pfl_desk.specs.Nodes.{Node}
+use Rattle.pfl_receive.specs.desk.Nodes.{Node}
 use Rattle.pfl_node.specs.Packets.{handled}
 use Rattle.pfl_receive.specs.Receiving.{taken}
 

@@ -15,3 +15,16 @@ pub mod Events
 pub mod Laws
 pub mod inner
 pub mod Weights
+pub use Rattle.pfl_base.specs as base
+pub use Rattle.pfl_edits.specs as edits
+pub use Rattle.pfl_rules.specs as rules
+pub use Rattle.pfl_track.specs as track
+pub use Rattle.pfl_receive.specs.table as table
+pub use Rattle.pfl_wire.specs as wire
+pub use Rattle.pfl_receive.specs.queue as queue
+pub use Rattle.pfl_receive.specs.merge as merge
+pub use Rattle.pfl_receive.specs.defer as defer
+pub use Rattle.pfl_bulk.specs as bulk
+pub use Rattle.pfl_language.specs as language
+pub use Rattle.pfl_receive.specs.desk as desk
+pub use Rattle.pfl_receive.specs as receive

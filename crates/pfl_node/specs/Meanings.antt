@@ -2,7 +2,7 @@
 use Rattle.std.specs.Prelude.{ℕ, List, Option}
 use Rattle.pfl_base.specs.declared.refusal.Refusal.{Refusal}
 use Rattle.pfl_language.specs.declared.node_event.NodeOutcome.{NodeOutcome}
-use Rattle.pfl_desk.specs.Nodes.{Node}
+use Rattle.pfl_receive.specs.desk.Nodes.{Node}
 
 -- why the event is refused, if there is a reason: the first one; and where there is none, the node after it, its outcome, the points
 -- that the node goes through, and the number of states or packets that it is about

@@ -7,11 +7,11 @@ use Rattle.pfl_track.specs.declared.state.State.{State}
 use Rattle.pfl_track.specs.declared.tracked.Tracked.{Tracked}
 use Rattle.pfl_track.specs.declared.tracked.Tracked.TheVariants.{Moved, OutOfWindow, Reused}
 use Rattle.pfl_track.specs.Tracking.{tracked}
-use Rattle.pfl_table.specs.Tables.{found}
+use Rattle.pfl_receive.specs.table.Tables.{found}
 use Rattle.pfl_language.specs.declared.node_event.NodeOutcome.TheVariants as outcome
 use Rattle.pfl_language.specs.declared.fate.Reason.TheVariants as reason
-use Rattle.pfl_desk.specs.Nodes.{Node, points_refusal}
-use Rattle.pfl_desk.specs.Changes.{freed, changed, deleted}
+use Rattle.pfl_receive.specs.desk.Nodes.{Node, points_refusal}
+use Rattle.pfl_receive.specs.desk.Changes.{freed, changed, deleted}
 use Rattle.pfl_node.specs.Starting.{Handled, pass, drop, judged}
 use Rattle.pfl_node.specs.Meanings.{NodeMeaning}
 

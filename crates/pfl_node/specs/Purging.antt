@@ -10,8 +10,8 @@ use Rattle.pfl_edits.specs.Maps as maps
 use Rattle.pfl_track.specs.declared.state.State.{State}
 use Rattle.pfl_track.specs.Tracking.{expiry, expired}
 use Rattle.pfl_language.specs.declared.node_event.NodeOutcome.TheVariants.{Purged}
-use Rattle.pfl_desk.specs.Nodes.{Node, timeout_among, points_refusal}
-use Rattle.pfl_desk.specs.Changes.{deleted}
+use Rattle.pfl_receive.specs.desk.Nodes.{Node, timeout_among, points_refusal}
+use Rattle.pfl_receive.specs.desk.Changes.{deleted}
 use Rattle.pfl_node.specs.Meanings.{NodeMeaning}
 
 -- the timeout of a state where the node has so many states, in seconds

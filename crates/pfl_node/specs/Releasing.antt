@@ -4,10 +4,10 @@ use Rattle.std.specs.List.{fold}
 use Rattle.pfl_base.specs.declared.refusal.Refusal.{Refusal}
 use Rattle.pfl_base.specs.declared.refusal.Refusal.TheVariants.{NothingPending, CountFull, TooEarly}
 use Rattle.pfl_base.specs.declared.state_name.StateName.{StateName}
-use Rattle.pfl_defer.specs.Deferring.{due}
+use Rattle.pfl_receive.specs.defer.Deferring.{due}
 use Rattle.pfl_language.specs.declared.node_event.NodeOutcome.TheVariants.{Released}
-use Rattle.pfl_desk.specs.Nodes.{Node, is_overcounted, refused_by}
-use Rattle.pfl_desk.specs.Changes.{released}
+use Rattle.pfl_receive.specs.desk.Nodes.{Node, is_overcounted, refused_by}
+use Rattle.pfl_receive.specs.desk.Changes.{released}
 use Rattle.pfl_node.specs.Meanings.{NodeMeaning}
 
 -- the names of the packets that are due, the oldest first

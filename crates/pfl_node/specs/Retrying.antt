@@ -7,8 +7,8 @@ use Rattle.pfl_bulk.specs.Bulk.{no_name, ask_refusal, asks_again, retried, tries
 use Rattle.pfl_language.specs.declared.retried.Retried.{Retried}
 use Rattle.pfl_language.specs.declared.retried.Retried.TheVariants.{Asked, Served}
 use Rattle.pfl_language.specs.declared.node_event.NodeOutcome.TheVariants.{Tried}
-use Rattle.pfl_desk.specs.Nodes.{Node, is_overfull, refused_by}
-use Rattle.pfl_desk.specs.Changes.{ask}
+use Rattle.pfl_receive.specs.desk.Nodes.{Node, is_overfull, refused_by}
+use Rattle.pfl_receive.specs.desk.Changes.{ask}
 use Rattle.pfl_node.specs.Meanings.{NodeMeaning}
 
 -- a client that waited long enough asks again, or goes on as if served

@@ -13,15 +13,15 @@ use Rattle.pfl_rules.specs.Rules.{verdict, rule_at}
 use Rattle.pfl_track.specs.declared.state.State.{State}
 use Rattle.pfl_track.specs.Keys.{wire_key}
 use Rattle.pfl_track.specs.Tracking.{start_state}
-use Rattle.pfl_table.specs.Tables.{key_in_use, count_of_rule}
-use Rattle.pfl_queue.specs.declared.Kind.TheVariants.{Insert}
-use Rattle.pfl_defer.specs.Deferring.{pushed_out, with_held}
+use Rattle.pfl_receive.specs.table.Tables.{key_in_use, count_of_rule}
+use Rattle.pfl_receive.specs.queue.declared.Kind.TheVariants.{Insert}
+use Rattle.pfl_receive.specs.defer.Deferring.{pushed_out, with_held}
 use Rattle.pfl_language.specs.declared.fate.Fate.{Fate}
 use Rattle.pfl_language.specs.declared.fate.Fate.TheVariants as fate
 use Rattle.pfl_language.specs.declared.fate.Reason.{Reason}
 use Rattle.pfl_language.specs.declared.fate.Reason.TheVariants as reason
-use Rattle.pfl_desk.specs.Nodes.{Node}
-use Rattle.pfl_desk.specs.Changes.{put_state, mark, push_if, count_passed, count_blocked, released}
+use Rattle.pfl_receive.specs.desk.Nodes.{Node}
+use Rattle.pfl_receive.specs.desk.Changes.{put_state, mark, push_if, count_passed, count_blocked, released}
 
 -- what a packet gives: its fate, and the node after it
 pub record Handled : Type 0 where

@@ -5,7 +5,7 @@ use Rattle.pfl_base.specs.declared.refusal.Refusal.{Refusal}
 use Rattle.pfl_language.specs.declared.node_event.NodeEvent.{NodeEvent}
 use Rattle.pfl_language.specs.declared.node_event.NodeEvent.TheVariants as event
 use Rattle.pfl_language.specs.declared.node_event.NodeOutcome.{NodeOutcome}
-use Rattle.pfl_desk.specs.Nodes.{Node, unless_refused}
+use Rattle.pfl_receive.specs.desk.Nodes.{Node, unless_refused}
 use Rattle.pfl_node.specs.Meanings.{NodeMeaning}
 use Rattle.pfl_node.specs.Clearing.{clear_meaning}
 use Rattle.pfl_node.specs.Killing.{kill_meaning}

@@ -3,7 +3,7 @@ use Rattle.std.specs.Prelude.{ℕ, ◌+◌, nat_lt, Option, Some, None, if◌the
 use Rattle.pfl_base.specs.declared.refusal.Refusal.{Refusal}
 use Rattle.pfl_base.specs.declared.refusal.Refusal.TheVariants.{ClockFull}
 use Rattle.pfl_language.specs.declared.node_event.NodeOutcome.TheVariants.{Clock}
-use Rattle.pfl_desk.specs.Nodes.{Node, last_millisecond}
+use Rattle.pfl_receive.specs.desk.Nodes.{Node, last_millisecond}
 use Rattle.pfl_node.specs.Meanings.{NodeMeaning}
 
 -- the clock goes on

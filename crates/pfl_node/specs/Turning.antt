@@ -8,14 +8,14 @@ use Rattle.pfl_base.specs.declared.state_name.StateName.{StateName}
 use Rattle.pfl_edits.specs.Maps as maps
 use Rattle.pfl_track.specs.declared.state.State.{State}
 use Rattle.pfl_wire.specs.declared.message.BulkStatus.TheVariants.{End as Finish}
-use Rattle.pfl_queue.specs.declared.Kind.TheVariants.{Update}
-use Rattle.pfl_queue.specs.Queues.{kind_of}
+use Rattle.pfl_receive.specs.queue.declared.Kind.TheVariants.{Update}
+use Rattle.pfl_receive.specs.queue.Queues.{kind_of}
 use Rattle.pfl_bulk.specs.Bulk.{is_serving, turn_names, is_last_turn, after_turn}
 use Rattle.pfl_bulk.specs.declared.BulkServer.{BulkServer}
 use Rattle.pfl_bulk.specs.declared.BulkServer.TheVariants as server
 use Rattle.pfl_language.specs.declared.node_event.NodeOutcome.TheVariants.{Queued}
-use Rattle.pfl_desk.specs.Nodes.{Node, full_tests, refused_by}
-use Rattle.pfl_desk.specs.Changes.{mark, tell_status}
+use Rattle.pfl_receive.specs.desk.Nodes.{Node, full_tests, refused_by}
+use Rattle.pfl_receive.specs.desk.Changes.{mark, tell_status}
 use Rattle.pfl_node.specs.Meanings.{NodeMeaning}
 
 -- the state may be sent in a bulk update that runs since then

@@ -1,6 +1,6 @@
 -- How many edits what an event does takes at most, beside those of the changes of a node's parts (this project's profile).
 use Rattle.std.specs.Prelude.{ℕ, ◌+◌, ◌*◌}
-use Rattle.pfl_desk.specs.Weights.{listed_edits}
+use Rattle.pfl_receive.specs.desk.Weights.{listed_edits}
 
 -- the edits of an event that is about so many states, records or packets
 abbrev pub edits_for : ℕ → ℕ

@@ -4,17 +4,17 @@ ghost use Rattle.std.specs.List.{fold, slice_get};
 ghost use Rattle.std.specs.Prelude.{◌≡◌, ◌≤◌, ◌+◌, ◌*◌, [], ◌∷◌, None, IfOk, IfErr, OnOk, OnErr, length};
 ghost use Rattle.pfl_edits.specs.Maps as maps;
 ghost use Rattle.pfl_node.specs.Clearing as clearing;
-ghost use Rattle.pfl_desk.specs.Changes.{forgotten};
-ghost use Rattle.pfl_desk.specs.Drafts.{Writes};
-ghost use Rattle.pfl_desk.specs.Edits.{NodeLeadsBack};
-ghost use Rattle.pfl_desk.specs.inner.Judging.{Went};
-ghost use Rattle.pfl_desk.specs.Nodes.{Node as Whole, IsRefusal};
-ghost use Rattle.pfl_desk.specs.Weights.{forgotten_edits, listed_edits};
+ghost use Rattle.pfl_receive.specs.desk.Changes.{forgotten};
+ghost use Rattle.pfl_receive.specs.desk.Drafts.{Writes};
+ghost use Rattle.pfl_receive.specs.desk.Edits.{NodeLeadsBack};
+ghost use Rattle.pfl_receive.specs.desk.inner.Judging.{Went};
+ghost use Rattle.pfl_receive.specs.desk.Nodes.{Node as Whole, IsRefusal};
+ghost use Rattle.pfl_receive.specs.desk.Weights.{forgotten_edits, listed_edits};
 
 use crate::node::Node;
 use pfl_base::{Refusal, StateName};
 use pfl_edits::Change;
-use pfl_desk::{Desk, NodeEdit, Overfull};
+use pfl_receive::desk::{Desk, NodeEdit, Overfull};
 use std::alloc::Allocator;
 
 impl<A: Allocator + Copy> Node<A> {

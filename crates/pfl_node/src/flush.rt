@@ -5,12 +5,12 @@ mod frame;
 ghost use Rattle.std.specs.List.{fold};
 ghost use Rattle.std.specs.Prelude.{◌≡◌, ◌≤◌, ◌<◌, ◌+◌, ◌*◌, false, None, length, IfOk, IfErr, OnOk, OnErr};
 ghost use Rattle.pfl_base.specs.declared.refusal.Refusal.TheVariants as refusal;
-ghost use Rattle.pfl_desk.specs.Drafts.{Writes};
-ghost use Rattle.pfl_desk.specs.Edits.{NodeLeadsBack};
+ghost use Rattle.pfl_receive.specs.desk.Drafts.{Writes};
+ghost use Rattle.pfl_receive.specs.desk.Edits.{NodeLeadsBack};
 ghost use Rattle.pfl_node.specs.Flushing as flushing;
-ghost use Rattle.pfl_desk.specs.Nodes.{Node as Whole, AreParts, IsRefusal};
-ghost use Rattle.pfl_desk.specs.inner.Taking.{taken_from};
-ghost use Rattle.pfl_queue.specs.Taking.{next_frame};
+ghost use Rattle.pfl_receive.specs.desk.Nodes.{Node as Whole, AreParts, IsRefusal};
+ghost use Rattle.pfl_receive.specs.desk.inner.Taking.{taken_from};
+ghost use Rattle.pfl_receive.specs.queue.Taking.{next_frame};
 ghost use Rattle.pfl_wire.specs.Spelling.{spelling};
 ghost use Rattle.pfl_node.specs.Weights.{sent_edits};
 
@@ -18,8 +18,8 @@ use crate::flush::frame::bytes_of;
 use crate::node::Node;
 use pfl_base::Refusal;
 use pfl_edits::{Change, NoMemory};
-use pfl_desk::{Desk, NodeEdit};
-use pfl_queue::Entry;
+use pfl_receive::desk::{Desk, NodeEdit};
+use pfl_receive::queue::Entry;
 use std::alloc::Allocator;
 
 impl<A: Allocator + Copy> Node<A> {

@@ -5,11 +5,11 @@ mod readers;
 ghost use Rattle.std.specs.Prelude.{◌≡◌, IfOk};
 ghost use Rattle.pfl_language.specs.Limits.{AreLimits};
 ghost use Rattle.pfl_node.specs.inner.Room.{most_edits as most};
-ghost use Rattle.pfl_desk.specs.Nodes.{Node as Whole, IsNode, new_node};
+ghost use Rattle.pfl_receive.specs.desk.Nodes.{Node as Whole, IsNode, new_node};
 
 use pfl_edits::{NoMemory, Reversible};
 use pfl_language::Limits;
-use pfl_desk::{Desk, NodeEdit};
+use pfl_receive::desk::{Desk, NodeEdit};
 use pfl_rules::RuleSet;
 use std::alloc::Allocator;
 use std::marker::Model;
@@ -29,8 +29,8 @@ impl<A: Allocator> Drop for Node<A> {
 }
 
 impl<A: Allocator> Model for Node<A> {
-    ghost use Rattle.pfl_desk.specs.Nodes.{Node, IsNode};
-    ghost use Rattle.pfl_desk.specs.Codes.{coded_node};
+    ghost use Rattle.pfl_receive.specs.desk.Nodes.{Node, IsNode};
+    ghost use Rattle.pfl_receive.specs.desk.Codes.{coded_node};
     ghost use Rattle.pfl_node.specs.inner.Room.{IsReady};
 
     ghost Value = { Node };
@@ -101,9 +101,9 @@ pub(crate) fn most_edits(limits: &Limits) -> usize
 }
 
 impl<A: Allocator> Reversible for Node<A> {
-    ghost use Rattle.pfl_desk.specs.Nodes.{IsNode};
-    ghost use Rattle.pfl_desk.specs.Edits.{Finds, FindsFormer, put_back, redone};
-    ghost use Rattle.pfl_desk.specs.inner.BothWays.{edit-both_ways};
+    ghost use Rattle.pfl_receive.specs.desk.Nodes.{IsNode};
+    ghost use Rattle.pfl_receive.specs.desk.Edits.{Finds, FindsFormer, put_back, redone};
+    ghost use Rattle.pfl_receive.specs.desk.inner.BothWays.{edit-both_ways};
 
     type Edit = NodeEdit;
 

@@ -7,14 +7,14 @@ ghost use Rattle.std.specs.Prelude.{◌≡◌, ◌≤◌, ◌+◌, ◌∷◌, []
 ghost use Rattle.pfl_base.specs.Keys.{key as flow_of};
 ghost use Rattle.pfl_base.specs.Packets.{IsPacket};
 ghost use Rattle.pfl_edits.specs.Maps as maps;
-ghost use Rattle.pfl_desk.specs.Changes as to;
-ghost use Rattle.pfl_desk.specs.Edits.{NodeLeadsBack};
+ghost use Rattle.pfl_receive.specs.desk.Changes as to;
+ghost use Rattle.pfl_receive.specs.desk.Edits.{NodeLeadsBack};
 ghost use Rattle.pfl_node.specs.inner.Carried.{Handles, Tried};
-ghost use Rattle.pfl_desk.specs.inner.Kept.{MayReplace};
-ghost use Rattle.pfl_desk.specs.Nodes.{Node as Whole, AreParts, IsRefusal, points_refusal};
+ghost use Rattle.pfl_receive.specs.desk.inner.Kept.{MayReplace};
+ghost use Rattle.pfl_receive.specs.desk.Nodes.{Node as Whole, AreParts, IsRefusal, points_refusal};
 ghost use Rattle.pfl_node.specs.Packets.{handled, packet_points, followed, on_the_way, accepted};
 ghost use Rattle.pfl_node.specs.Starting.{judged, pass};
-ghost use Rattle.pfl_table.specs.Tables.{found};
+ghost use Rattle.pfl_receive.specs.table.Tables.{found};
 ghost use Rattle.pfl_track.specs.Tracking.{tracked};
 ghost use Rattle.pfl_node.specs.Weights.{packet_edits};
 
@@ -23,7 +23,7 @@ use crate::packet::start::{drop_packet, judge, pass};
 use pfl_base::{Dir, Packet, Refusal, key};
 use pfl_edits::Change;
 use pfl_language::{Fate, Reason};
-use pfl_desk::{Desk, NodeEdit, Overfull};
+use pfl_receive::desk::{Desk, NodeEdit, Overfull};
 use pfl_track::{State, Tracked, track};
 use std::alloc::Allocator;
 

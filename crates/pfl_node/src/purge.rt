@@ -2,17 +2,17 @@
 
 ghost use Rattle.std.specs.List.{slice_get};
 ghost use Rattle.std.specs.Prelude.{◌≡◌, ◌≤◌, ◌+◌, ◌*◌, None, IfOk, IfErr, OnOk, OnErr, length};
-ghost use Rattle.pfl_desk.specs.Drafts.{Writes};
-ghost use Rattle.pfl_desk.specs.Edits.{NodeLeadsBack};
+ghost use Rattle.pfl_receive.specs.desk.Drafts.{Writes};
+ghost use Rattle.pfl_receive.specs.desk.Edits.{NodeLeadsBack};
 ghost use Rattle.pfl_node.specs.Purging as event;
-ghost use Rattle.pfl_desk.specs.inner.Judging.{Went};
-ghost use Rattle.pfl_desk.specs.Nodes.{Node as Whole, AreParts, IsRefusal, points_refusal};
-ghost use Rattle.pfl_desk.specs.Weights.{deleted_edits};
+ghost use Rattle.pfl_receive.specs.desk.inner.Judging.{Went};
+ghost use Rattle.pfl_receive.specs.desk.Nodes.{Node as Whole, AreParts, IsRefusal, points_refusal};
+ghost use Rattle.pfl_receive.specs.desk.Weights.{deleted_edits};
 
 use crate::node::Node;
 use pfl_base::Refusal;
 use pfl_edits::Change;
-use pfl_desk::{Desk, NodeEdit, Overfull};
+use pfl_receive::desk::{Desk, NodeEdit, Overfull};
 use pfl_rules::scaled;
 use pfl_track::State;
 use std::alloc::Allocator;

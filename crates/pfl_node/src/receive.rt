@@ -2,18 +2,18 @@
 
 ghost use Rattle.std.specs.Prelude.{◌≡◌, ◌≤◌, ◌<◌, ◌+◌, ◌*◌, [], ◌∷◌, None, IfOk, IfErr, OnOk, OnErr, length};
 ghost use Rattle.pfl_node.specs.Delivering as delivering;
-ghost use Rattle.pfl_desk.specs.Changes as to;
-ghost use Rattle.pfl_desk.specs.Drafts.{Writes};
-ghost use Rattle.pfl_desk.specs.Edits.{NodeLeadsBack};
-ghost use Rattle.pfl_desk.specs.inner.Judging.{Went};
-ghost use Rattle.pfl_desk.specs.Nodes.{Node as Whole, IsRefusal};
+ghost use Rattle.pfl_receive.specs.desk.Changes as to;
+ghost use Rattle.pfl_receive.specs.desk.Drafts.{Writes};
+ghost use Rattle.pfl_receive.specs.desk.Edits.{NodeLeadsBack};
+ghost use Rattle.pfl_receive.specs.desk.inner.Judging.{Went};
+ghost use Rattle.pfl_receive.specs.desk.Nodes.{Node as Whole, IsRefusal};
 ghost use Rattle.pfl_receive.specs.Delivering as receiving;
 ghost use Rattle.pfl_wire.specs.Frames.{frame_len, records_of};
 
 use crate::node::Node;
 use pfl_base::Refusal;
 use pfl_edits::Change;
-use pfl_desk::{Counter, Desk, NodeEdit, Overfull};
+use pfl_receive::desk::{Counter, Desk, NodeEdit, Overfull};
 use pfl_receive::take_frame;
 use pfl_wire::FrameBytes;
 use std::alloc::Allocator;

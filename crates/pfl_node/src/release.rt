@@ -4,16 +4,16 @@ ghost use Rattle.std.specs.List.{slice_get};
 ghost use Rattle.std.specs.Prelude.{◌≡◌, ◌≤◌, ◌*◌, ◌+◌, ◌==◌, [], ◌∷◌, None, false, IfOk, IfErr, OnOk, OnErr, length};
 ghost use Rattle.pfl_base.specs.declared.refusal.Refusal.TheVariants as refusal;
 ghost use Rattle.pfl_node.specs.Releasing as releasing;
-ghost use Rattle.pfl_desk.specs.Drafts.{Writes};
-ghost use Rattle.pfl_desk.specs.Edits.{NodeLeadsBack};
-ghost use Rattle.pfl_desk.specs.inner.Judging.{judged_as};
-ghost use Rattle.pfl_desk.specs.Nodes.{Node as Whole, AreParts, IsRefusal, is_overcounted, refused_by};
-ghost use Rattle.pfl_desk.specs.Weights.{released_edits};
+ghost use Rattle.pfl_receive.specs.desk.Drafts.{Writes};
+ghost use Rattle.pfl_receive.specs.desk.Edits.{NodeLeadsBack};
+ghost use Rattle.pfl_receive.specs.desk.inner.Judging.{judged_as};
+ghost use Rattle.pfl_receive.specs.desk.Nodes.{Node as Whole, AreParts, IsRefusal, is_overcounted, refused_by};
+ghost use Rattle.pfl_receive.specs.desk.Weights.{released_edits};
 
 use crate::node::Node;
 use pfl_base::{Refusal, StateName};
 use pfl_edits::Change;
-use pfl_desk::{Desk, NodeEdit};
+use pfl_receive::desk::{Desk, NodeEdit};
 use std::alloc::Allocator;
 
 impl<A: Allocator + Copy> Node<A> {

@@ -3,15 +3,15 @@
 ghost use Rattle.std.specs.Prelude.{◌≡◌, ◌≤◌, false, IfOk};
 ghost use Rattle.pfl_bulk.specs.Bulk.{no_name, first_asked};
 ghost use Rattle.pfl_node.specs.Events as event;
-ghost use Rattle.pfl_desk.specs.Changes as to;
-ghost use Rattle.pfl_desk.specs.Drafts.{Writes};
-ghost use Rattle.pfl_desk.specs.Nodes.{AreParts, is_overfull, last_millisecond};
+ghost use Rattle.pfl_receive.specs.desk.Changes as to;
+ghost use Rattle.pfl_receive.specs.desk.Drafts.{Writes};
+ghost use Rattle.pfl_receive.specs.desk.Nodes.{AreParts, is_overfull, last_millisecond};
 
 use crate::node::{Node, most_edits};
 use pfl_base::{Millis, StateName};
 use pfl_bulk::BulkClient;
 use pfl_edits::NoMemory;
-use pfl_desk::Desk;
+use pfl_receive::desk::Desk;
 use std::alloc::Allocator;
 
 /// As a request, this name asks for all states.

@@ -3,10 +3,10 @@
 ghost use Rattle.std.specs.Prelude.{◌≡◌, ◌≤◌, [], ◌∷◌, None, IfOk, IfErr, OnOk, OnErr, length};
 ghost use Rattle.pfl_bulk.specs.Bulk.{asks_again, retried};
 ghost use Rattle.pfl_node.specs.Retrying as retrying;
-ghost use Rattle.pfl_desk.specs.Drafts.{Writes};
-ghost use Rattle.pfl_desk.specs.Edits.{NodeLeadsBack};
-ghost use Rattle.pfl_desk.specs.inner.Judging.{Went};
-ghost use Rattle.pfl_desk.specs.Nodes.{Node as Whole, IsRefusal};
+ghost use Rattle.pfl_receive.specs.desk.Drafts.{Writes};
+ghost use Rattle.pfl_receive.specs.desk.Edits.{NodeLeadsBack};
+ghost use Rattle.pfl_receive.specs.desk.inner.Judging.{Went};
+ghost use Rattle.pfl_receive.specs.desk.Nodes.{Node as Whole, IsRefusal};
 ghost use Rattle.pfl_node.specs.Weights.{retried_edits};
 
 use crate::node::Node;
@@ -14,7 +14,7 @@ use pfl_base::{Refusal, StateName};
 use pfl_bulk::Retry;
 use pfl_edits::Change;
 use pfl_language::Retried;
-use pfl_desk::{Desk, NodeEdit, Overfull};
+use pfl_receive::desk::{Desk, NodeEdit, Overfull};
 use std::alloc::Allocator;
 
 /// As a request, this name asks for all states.

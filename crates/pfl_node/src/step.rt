@@ -2,14 +2,14 @@
 
 ghost use Rattle.std.specs.Prelude.{◌≡◌, ◌≤◌, Ok, IfOk, IfErr, OnErr, length};
 ghost use Rattle.pfl_node.specs.Stepping as stepping;
-ghost use Rattle.pfl_desk.specs.Edits.{NodeLeadsBack};
-ghost use Rattle.pfl_desk.specs.Nodes.{Node as Whole, IsRefusal};
+ghost use Rattle.pfl_receive.specs.desk.Edits.{NodeLeadsBack};
+ghost use Rattle.pfl_receive.specs.desk.Nodes.{Node as Whole, IsRefusal};
 
 use crate::node::Node;
 use pfl_base::Refusal;
 use pfl_edits::Change;
 use pfl_language::{NodeEvent, NodeOutcome};
-use pfl_desk::NodeEdit;
+use pfl_receive::desk::NodeEdit;
 use std::alloc::Allocator;
 
 impl<A: Allocator + Copy> Node<A> {

@@ -1,15 +1,15 @@
 //! The clock goes on.
 
 ghost use Rattle.std.specs.Prelude.{◌≡◌, ◌≤◌, None, IfOk, IfErr, OnOk, OnErr, length};
-ghost use Rattle.pfl_desk.specs.Edits.{NodeLeadsBack};
+ghost use Rattle.pfl_receive.specs.desk.Edits.{NodeLeadsBack};
 ghost use Rattle.pfl_node.specs.Ticking as event;
-ghost use Rattle.pfl_desk.specs.Nodes.{IsRefusal};
+ghost use Rattle.pfl_receive.specs.desk.Nodes.{IsRefusal};
 ghost use Rattle.pfl_node.specs.Weights.{ticked_edits};
 
 use crate::node::Node;
 use pfl_base::{Millis, Refusal};
 use pfl_edits::Change;
-use pfl_desk::NodeEdit;
+use pfl_receive::desk::NodeEdit;
 use std::alloc::Allocator;
 
 /// The last millisecond that a clock shows.

@@ -14,7 +14,7 @@ use Rattle.pfl_edits.specs.Maps as maps
 use Rattle.pfl_edits.specs.Maps.{entries_sorted}
 use Rattle.pfl_edits.proofs.ForCallers.{len-entries, len-remove, contains_key-keys}
 use Rattle.pfl_track.specs.declared.state.State.{State}
-use Rattle.pfl_table.specs.Tables.{States}
+use Rattle.pfl_desk.specs.table.Tables.{States}
 use Rattle.pfl_desk.specs.Changes.{forgotten, is_held, count_lost, without_held}
 use Rattle.pfl_desk.specs.Drafts.{Draft, Writes}
 use Rattle.pfl_desk.specs.Nodes.{Node}

@@ -17,7 +17,7 @@ use Rattle.pfl_edits.specs.Maps as maps
 use Rattle.pfl_edits.specs.Maps.{entries_sorted}
 use Rattle.pfl_edits.proofs.ForCallers.{get-entries}
 use Rattle.pfl_track.specs.declared.state.State.{State}
-use Rattle.pfl_table.specs.Tables.{States, AreStates, state_after}
+use Rattle.pfl_desk.specs.table.Tables.{States, AreStates, state_after}
 use Rattle.pfl_desk.specs.Nodes.{Node}
 use Rattle.pfl_receive.specs.Receiving.{cleared_names}
 

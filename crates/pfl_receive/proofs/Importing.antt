@@ -8,13 +8,13 @@ use Rattle.pfl_base.proofs.ForCallers.{names_total, names_exact}
 use Rattle.pfl_edits.specs.Maps as maps
 use Rattle.pfl_edits.proofs.ForCallers.{len-insert, get-set_at_same}
 use Rattle.pfl_track.specs.States.{IsState}
-use Rattle.pfl_table.specs.Tables.{key_in_use}
-use Rattle.pfl_table.proofs.ForCallers.{OwnsKeys-unused}
+use Rattle.pfl_desk.specs.table.Tables.{key_in_use}
+use Rattle.pfl_desk.proofs.ForCallers.table.{OwnsKeys-unused}
 use Rattle.pfl_wire.specs.declared.message.StateRecord.{StateRecord}
-use Rattle.pfl_queue.specs.declared.Kind.{Kind}
-use Rattle.pfl_queue.specs.declared.Kind.TheVariants.{InsertAck}
-use Rattle.pfl_queue.specs.declared.Mark.{Mark}
-use Rattle.pfl_queue.specs.Queues.{kind_of}
+use Rattle.pfl_desk.specs.queue.declared.Kind.{Kind}
+use Rattle.pfl_desk.specs.queue.declared.Kind.TheVariants.{InsertAck}
+use Rattle.pfl_desk.specs.queue.declared.Mark.{Mark}
+use Rattle.pfl_desk.specs.queue.Queues.{kind_of}
 use Rattle.pfl_desk.specs.Changes.{put_state}
 use Rattle.pfl_desk.specs.inner.Kept.{MayAdd, MayMark}
 use Rattle.pfl_desk.specs.Nodes.{Node, AreParts, IsNodeState, IsGiven}

@@ -9,14 +9,14 @@ use Rattle.pfl_base.specs.Packets.{is_tcp}
 use Rattle.pfl_edits.specs.Maps as maps
 use Rattle.pfl_edits.proofs.ForCallers.{len-insert, len-remove}
 use Rattle.pfl_track.specs.declared.state.State.{State}
-use Rattle.pfl_table.specs.Tables.{States, AreStates}
+use Rattle.pfl_desk.specs.table.Tables.{States, AreStates}
 use Rattle.pfl_wire.specs.declared.message.Message.{Message}
 use Rattle.pfl_wire.specs.declared.message.StateRecord.{StateRecord}
-use Rattle.pfl_queue.specs.Queues.{kind_of}
+use Rattle.pfl_desk.specs.queue.Queues.{kind_of}
 use Rattle.pfl_merge.specs.declared.received.Received.{Received}
 use Rattle.pfl_merge.specs.declared.merged.Merged.{Merged}
 use Rattle.pfl_merge.specs.Merging.{merged}
-use Rattle.pfl_bulk.specs.Bulk.{no_name}
+use Rattle.pfl_desk.specs.bulk.Bulk.{no_name}
 use Rattle.pfl_desk.specs.Changes.{put_state, is_held, is_untold, count_freed, lost, count_lost, without_held, released, not_waiting, changed, count_stale, count_bad, forgotten, ask}
 use Rattle.pfl_desk.specs.Drafts.{Draft, Writes}
 use Rattle.pfl_desk.specs.Nodes.{Node, timeout_at}

@@ -3,11 +3,11 @@ use Rattle.std.specs.Prelude.{◌≡◌, Bool, true, false, not, ◌&&◌, refl}
 use Rattle.std.proofs.Common.{arith}
 use Rattle.pfl_wire.specs.declared.message.BulkStatus.{BulkStatus}
 use Rattle.pfl_wire.specs.declared.message.BulkStatus.TheVariants.{Start, End as Finish}
-use Rattle.pfl_bulk.specs.declared.BulkServer.{BulkServer}
-use Rattle.pfl_bulk.specs.declared.BulkServer.TheVariants as server
-use Rattle.pfl_bulk.specs.declared.BulkClient.{BulkClient}
-use Rattle.pfl_bulk.specs.declared.BulkClient.TheVariants as client
-use Rattle.pfl_bulk.specs.Bulk.{server_started, after_status}
+use Rattle.pfl_desk.specs.bulk.declared.BulkServer.{BulkServer}
+use Rattle.pfl_desk.specs.bulk.declared.BulkServer.TheVariants as server
+use Rattle.pfl_desk.specs.bulk.declared.BulkClient.{BulkClient}
+use Rattle.pfl_desk.specs.bulk.declared.BulkClient.TheVariants as client
+use Rattle.pfl_desk.specs.bulk.Bulk.{server_started, after_status}
 use Rattle.pfl_desk.specs.Nodes.{Node, AreParts, ServesSince, AskedAt}
 
 serves : (n m : Node) (s : BulkServer) → m.clock ≡ n.clock → ServesSince n s → ServesSince m s

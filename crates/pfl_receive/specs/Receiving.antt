@@ -7,20 +7,20 @@ use Rattle.pfl_base.specs.declared.state_name.StateName.{StateName}
 use Rattle.pfl_base.specs.Names.{is_name}
 use Rattle.pfl_edits.specs.Maps as maps
 use Rattle.pfl_track.specs.declared.state.State.{State}
-use Rattle.pfl_table.specs.Tables.{key_in_use}
+use Rattle.pfl_desk.specs.table.Tables.{key_in_use}
 use Rattle.pfl_wire.specs.declared.message.BulkStatus.{BulkStatus}
 use Rattle.pfl_wire.specs.declared.message.BulkStatus.TheVariants.{Start, End as Finish}
 use Rattle.pfl_wire.specs.declared.message.StateRecord.{StateRecord}
 use Rattle.pfl_wire.specs.declared.message.UpdateRecord.{UpdateRecord}
 use Rattle.pfl_wire.specs.declared.message.Message.{Message}
 use Rattle.pfl_wire.specs.declared.message.Message.TheVariants as message
-use Rattle.pfl_queue.specs.declared.Kind.{Kind}
-use Rattle.pfl_queue.specs.declared.Kind.TheVariants.{InsertAck, Update, UpdateShort, Delete}
-use Rattle.pfl_queue.specs.Queues.{kind_of}
+use Rattle.pfl_desk.specs.queue.declared.Kind.{Kind}
+use Rattle.pfl_desk.specs.queue.declared.Kind.TheVariants.{InsertAck, Update, UpdateShort, Delete}
+use Rattle.pfl_desk.specs.queue.Queues.{kind_of}
 use Rattle.pfl_merge.specs.declared.received.Received.{Received}
 use Rattle.pfl_merge.specs.declared.merged.Merged.{Merged}
 use Rattle.pfl_merge.specs.Merging.{merged, last_use}
-use Rattle.pfl_bulk.specs.Bulk.{no_name, server_started, after_status}
+use Rattle.pfl_desk.specs.bulk.Bulk.{no_name, server_started, after_status}
 use Rattle.pfl_desk.specs.Nodes.{Node, timeout_at}
 use Rattle.pfl_desk.specs.Changes.{put_state, mark, push_if, ask, tell_status, count_bad, count_stale, lost, released, changed, forgotten}
 

@@ -8,7 +8,7 @@ ghost use Rattle.pfl_desk.specs.Drafts.{Writes};
 ghost use Rattle.pfl_desk.specs.Nodes.{AreParts};
 ghost use Rattle.pfl_receive.specs.inner.Delivering.{IsPaid};
 ghost use Rattle.pfl_receive.specs.Receiving as receiving;
-ghost use Rattle.pfl_table.specs.Tables.{state_after};
+ghost use Rattle.pfl_desk.specs.table.Tables.{state_after};
 
 use pfl_base::StateName;
 use pfl_desk::Desk;

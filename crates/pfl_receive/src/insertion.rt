@@ -3,15 +3,15 @@
 ghost use Rattle.std.specs.Prelude.{◌≡◌, ◌≤◌, true, OnOk, OnErr};
 ghost use Rattle.pfl_desk.specs.Drafts.{Writes};
 ghost use Rattle.pfl_desk.specs.Nodes.{AreParts, is_overfull};
-ghost use Rattle.pfl_queue.specs.Queues.{kind_of};
+ghost use Rattle.pfl_desk.specs.queue.Queues.{kind_of};
 ghost use Rattle.pfl_receive.specs.Receiving as receiving;
-ghost use Rattle.pfl_table.specs.Tables.{key_in_use as is_in_use};
+ghost use Rattle.pfl_desk.specs.table.Tables.{key_in_use as is_in_use};
 ghost use Rattle.pfl_track.specs.States.{IsState};
 
 use pfl_base::StateName;
-use pfl_merge::last_use;
+use pfl_desk::queue::Kind;
 use pfl_desk::{Counter, Desk, Overfull};
-use pfl_queue::Kind;
+use pfl_merge::last_use;
 use pfl_track::{KeyPair, State, StateFields};
 use pfl_wire::StateRecord;
 use std::alloc::Allocator;

@@ -12,4 +12,6 @@ mod request;
 mod update;
 
 pub use frame::take_frame;
+pub use pfl_desk as desk;
+pub use pfl_desk::{defer, queue, table};
 pub use records::take_record;

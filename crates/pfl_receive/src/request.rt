@@ -4,13 +4,13 @@ ghost use Rattle.std.specs.Prelude.{◌≡◌, ◌≤◌, true, OnOk, OnErr, Som
 ghost use Rattle.pfl_edits.specs.Maps as maps;
 ghost use Rattle.pfl_desk.specs.Drafts.{Writes};
 ghost use Rattle.pfl_desk.specs.Nodes.{AreParts, is_overfull};
-ghost use Rattle.pfl_queue.specs.Queues.{kind_of};
+ghost use Rattle.pfl_desk.specs.queue.Queues.{kind_of};
 ghost use Rattle.pfl_receive.specs.Receiving as receiving;
 ghost use Rattle.pfl_wire.specs.declared.message.BulkStatus.TheVariants.{Start, End as Finish};
 
 use pfl_base::StateName;
+use pfl_desk::queue::Kind;
 use pfl_desk::{Counter, Desk, Overfull};
-use pfl_queue::Kind;
 use pfl_track::State;
 use pfl_wire::BulkStatus;
 use std::alloc::Allocator;

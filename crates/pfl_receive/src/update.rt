@@ -10,8 +10,8 @@ ghost use Rattle.pfl_desk.specs.Nodes.{AreParts, is_overfull};
 ghost use Rattle.pfl_receive.specs.Receiving as receiving;
 
 use crate::insertion::take_insertion;
-use pfl_merge::{Merged, Received, merge};
 use pfl_desk::{Counter, Desk, Overfull};
+use pfl_merge::{Merged, Received, merge};
 use pfl_track::State;
 use pfl_wire::{StateRecord, UpdateRecord};
 use std::alloc::Allocator;

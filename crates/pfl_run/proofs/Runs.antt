@@ -3,11 +3,11 @@ use Rattle.std.proofs.Common.{◌≡◌, ℕ, ◌≤◌, Bool, true, false, List
 use Rattle.std.specs.Prelude.{Result, Ok, Err, OnOk, OnErr}
 use Rattle.std.proofs.lemmas.List.{take_all}
 use Rattle.std.specs.Io.KnownBytes.{Keeps, Appends}
-use Rattle.pfl_timeline.specs.Timelines.{Timeline}
+use Rattle.pfl_script.specs.timeline.Timelines.{Timeline}
 use Rattle.pfl_script.specs.declared.fault.EngineFault.{EngineFault}
 use Rattle.pfl_script.specs.declared.fault.EngineFault.TheVariants as engine
 use Rattle.pfl_script.specs.Answers.{RunsUntil}
-use Rattle.pfl_reader.specs.Readers.{Source}
+use Rattle.pfl_script.specs.reader.Readers.{Source}
 use Rattle.pfl_script.specs.Readers.{IsRunFault}
 use Rattle.pfl_run.specs.Faults.{of_engine}
 use Rattle.pfl_run.specs.Runs.{IsDeviceFault, IsStop, IsTold, SetsUp}

@@ -2,8 +2,8 @@
 use Rattle.std.specs.Prelude.{ℕ, List, ◌++◌, codes}
 use Rattle.std.specs.Fmt.{decimal}
 use Rattle.pfl_rules.specs.Faults.{fault_number as rule_number}
-use Rattle.pfl_world.specs.Faults.{fault_number as world_number}
-use Rattle.pfl_lines.specs.Faults.{fault_number as line_number}
+use Rattle.pfl_script.specs.world.Faults.{fault_number as world_number}
+use Rattle.pfl_script.specs.lines.Faults.{fault_number as line_number}
 use Rattle.pfl_script.specs.declared.fault.EngineFault.{EngineFault}
 use Rattle.pfl_script.specs.declared.fault.EngineFault.TheVariants as engine
 use Rattle.pfl_script.specs.declared.setup_fault.SetupFault.{SetupFault}

@@ -4,10 +4,10 @@ use Rattle.std.specs.Io.KnownBytes.{Appends, Keeps}
 use Rattle.pfl_rules.specs.declared.fault.RuleFault.{RuleFault}
 use Rattle.pfl_rules.specs.Rules.{Rules}
 use Rattle.pfl_language.specs.declared.limits.Limits.{Limits}
-use Rattle.pfl_world.specs.declared.fault.WorldFault.{WorldFault}
-use Rattle.pfl_world.specs.Worlds.{new_world, world_fault}
-use Rattle.pfl_timeline.specs.Timelines.{Timeline, new_timeline}
-use Rattle.pfl_reader.specs.Readers.{Source}
+use Rattle.pfl_script.specs.world.declared.fault.WorldFault.{WorldFault}
+use Rattle.pfl_script.specs.world.Worlds.{new_world, world_fault}
+use Rattle.pfl_script.specs.timeline.Timelines.{Timeline, new_timeline}
+use Rattle.pfl_script.specs.reader.Readers.{Source}
 use Rattle.pfl_script.specs.Answers.{RunsWhole, RunsUntil}
 use Rattle.pfl_script.specs.Setups.{IsFaultyAt, IsUnopened, HasRuleFault, ReadsSetupTo}
 use Rattle.pfl_run.specs.declared.fault.LabFault.{LabFault}

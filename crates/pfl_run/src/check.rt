@@ -8,7 +8,7 @@ use crate::fault::LabFault;
 use crate::opening::read_opening;
 use crate::run::{ended_status, tell};
 use pfl_base::{Input, Output};
-use pfl_reader::LineReader;
+use pfl_script::reader::LineReader;
 use pfl_script::{Checked, check_lines};
 use std::alloc::Allocator;
 

@@ -1,20 +1,20 @@
 //! Setups of scripts, which runs and checks read alike.
 
 ghost use Rattle.std.specs.Prelude.{◌≡◌, ◌≤◌, ◌^◌, None, false, IfOk, IfErr, OnOk};
-ghost use Rattle.pfl_world.specs.Worlds.{world_fault};
+ghost use Rattle.pfl_script.specs.world.Worlds.{world_fault};
 ghost use Rattle.pfl_run.specs.Runs.{IsDeviceFault, IsSetup, IsSetupStop};
 ghost use Rattle.pfl_run.specs.inner.Runs.{IsLimitsStop};
 
 use crate::fault::LabFault;
 use pfl_base::Input;
 use pfl_language::{LimitFault, Limits};
-use pfl_reader::LineReader;
+use pfl_script::reader::LineReader;
+use pfl_script::world::WorldFault;
 use pfl_script::{Setup, read_setup};
-use pfl_world::WorldFault;
 use std::alloc::Allocator;
 
 /// Tests the limits of a setup, whose line `open` has the number.
-#[tactic(auto, using(pfl_world::proofs::LimitFaults::too_small, pfl_world::proofs::LimitFaults::too_large, pfl_world::proofs::LimitFaults::no_fault))]
+#[tactic(auto, using(pfl_script::proofs::ForCallers::world::too_small, pfl_script::proofs::ForCallers::world::too_large, pfl_script::proofs::ForCallers::world::no_fault))]
 fn judge(limits: &Limits, number: u64) -> Result<(), LabFault>
     ensures faultless { OnOk result (world_fault limits.now ≡ None) }
     ensures fault { IfErr result (λ fault. IsLimitsStop fault number (world_fault limits.now)) }

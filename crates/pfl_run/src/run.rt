@@ -1,8 +1,8 @@
 //! Runs of the laboratory.
 
 ghost use Rattle.std.specs.Prelude.{◌≡◌, ◌⊎◌, None, false, IfOk, IfErr};
-ghost use Rattle.pfl_world.specs.Worlds.{new_world, world_fault};
-ghost use Rattle.pfl_timeline.specs.Timelines.{new_timeline};
+ghost use Rattle.pfl_script.specs.world.Worlds.{new_world, world_fault};
+ghost use Rattle.pfl_script.specs.timeline.Timelines.{new_timeline};
 ghost use Rattle.pfl_run.specs.Faults.{fault_status, fault_text};
 ghost use Rattle.pfl_run.specs.Runs.{Ends, IsDeviceFault, IsSetupStop, IsStop, IsTold, RunsToEnd, SetsUp, Stops, ended_status};
 
@@ -10,10 +10,10 @@ use crate::fault::LabFault;
 use crate::opening::read_opening;
 use pfl_base::{Input, Output};
 use pfl_edits::NoMemory;
-use pfl_reader::LineReader;
+use pfl_script::reader::LineReader;
+use pfl_script::timeline::Timeline;
+use pfl_script::world::{World, WorldFault};
 use pfl_script::{Ended, Setup, run_lines, write_text};
-use pfl_timeline::Timeline;
-use pfl_world::{World, WorldFault};
 use std::alloc::Allocator;
 
 /// The pair of a setup, with an empty branch `main`.

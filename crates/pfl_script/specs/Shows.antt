@@ -24,10 +24,10 @@ use Rattle.pfl_bulk.specs.declared.BulkClient.{BulkClient}
 use Rattle.pfl_bulk.specs.declared.BulkClient.TheVariants as client
 use Rattle.pfl_bulk.specs.declared.BulkServer.{BulkServer}
 use Rattle.pfl_bulk.specs.declared.BulkServer.TheVariants as server
-use Rattle.pfl_desk.specs.declared.counters.Counters.{Counters}
-use Rattle.pfl_desk.specs.Nodes.{Node}
+use Rattle.pfl_timeline.specs.desk.declared.counters.Counters.{Counters}
+use Rattle.pfl_timeline.specs.desk.Nodes.{Node}
 use Rattle.pfl_link.specs.Links.{InFlight, Link}
-use Rattle.pfl_world.specs.Worlds.{World}
+use Rattle.pfl_timeline.specs.world.Worlds.{World}
 use Rattle.pfl_lines.specs.Written.{packet_text}
 use Rattle.pfl_script.specs.Texts.{or_dash}
 

@@ -7,9 +7,9 @@ use crate::listed::push_shown;
 use pfl_base::NodeId;
 use pfl_bulk::{BulkClient, BulkServer};
 use pfl_edits::NoMemory;
-use pfl_node::Node;
-use pfl_desk::Counters;
 use pfl_queue::Kind;
+use pfl_timeline::desk::Counters;
+use pfl_timeline::node::Node;
 use std::alloc::Allocator;
 
 /// A mark that is set or not, as 1 or 0.

@@ -13,10 +13,10 @@ use crate::node_lines::{push_counts, push_node_line};
 use pfl_base::NodeId;
 use pfl_edits::{InOrder, NoMemory};
 use pfl_link::{Link, Ticketed};
-use pfl_node::Node;
 use pfl_queue::Pending;
 use pfl_table::StateTable;
-use pfl_world::World;
+use pfl_timeline::node::Node;
+use pfl_timeline::world::World;
 use std::alloc::Allocator;
 
 /// Puts the line of a branch behind a text.

@@ -9,9 +9,9 @@ use Rattle.pfl_language.specs.declared.command.Command.TheVariants as command
 use Rattle.pfl_language.specs.declared.refused.Refused.{Refused}
 use Rattle.pfl_language.specs.declared.refused.Refused.TheVariants as refused
 use Rattle.pfl_language.specs.BranchWords.{same_name}
-use Rattle.pfl_desk.specs.Nodes.{refused_by}
-use Rattle.pfl_world.specs.Events.{step}
-use Rattle.pfl_world.specs.Worlds.{World}
+use Rattle.pfl_timeline.specs.desk.Nodes.{refused_by}
+use Rattle.pfl_timeline.specs.world.Events.{step}
+use Rattle.pfl_timeline.specs.world.Worlds.{World}
 use Rattle.pfl_timeline.specs.Commands.{replied, reply_unless, with_branch, with_changed, extended, undone, at_cursor, step_answered, step_reply, back_reply, forward_reply, first_events, fork_refusal, fork_reply, drop_reply, show_reply, excise_reply, restore_reply, step_command, back_command, forward_command, fork_command, drop_command, show_command, excise_command, restore_command, log_reply, log_command, names_command, command_step}
 use Rattle.pfl_timeline.specs.Excisions.{has_event, excised, fallen_places, restored}
 use Rattle.pfl_timeline.specs.Replies.{Reply, Replied, Forked, Removed, Shown, Excised, Restored, Refused as Refusing}

@@ -6,9 +6,9 @@ use Rattle.std.proofs.Common.{sym, ◌∙◌, ap, subst, arith}
 use Rattle.std.proofs.lemmas.List.{length-map}
 use Rattle.std.proofs.lemmas.List.Sums.{fold_more}
 use Rattle.pfl_edits.specs.Maps as maps
-use Rattle.pfl_queue.specs.Queues.{pending}
-use Rattle.pfl_world.specs.Runs.{run}
-use Rattle.pfl_world.specs.Worlds.{World}
+use Rattle.pfl_timeline.specs.queue.Queues.{pending}
+use Rattle.pfl_timeline.specs.world.Runs.{run}
+use Rattle.pfl_timeline.specs.world.Worlds.{World}
 use Rattle.pfl_timeline.specs.Rooted.{Rooted, shown}
 use Rattle.pfl_timeline.specs.Summaries.{summary, over_worlds}
 use Rattle.pfl_timeline.specs.Timelines.{Branch, Timeline, standing, world_of}

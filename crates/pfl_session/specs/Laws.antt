@@ -6,7 +6,7 @@ use Rattle.pfl_timeline.specs.Commands.{replayed}
 use Rattle.pfl_timeline.specs.Laws.{ShowsItsRun}
 use Rattle.pfl_timeline.specs.Summaries.{summary}
 use Rattle.pfl_timeline.specs.Timelines.{Timeline, new_timeline}
-use Rattle.pfl_world.specs.Worlds.{World, IsWorld}
+use Rattle.pfl_timeline.specs.world.Worlds.{World, IsWorld}
 use Rattle.pfl_session.specs.declared.entry.Entry.{Entry}
 use Rattle.pfl_session.specs.declared.mark.Mark.{Mark}
 use Rattle.pfl_session.specs.Journals.{replay, revisions_of, calls_in}

@@ -3,8 +3,8 @@ use Rattle.std.specs.Prelude.{◌≤◌, ℕ, ◌+◌, List, length, IfSome}
 use Rattle.std.specs.List.{fold, AllByRecursion}
 use Rattle.std.specs.Option.{option_map_or}
 use Rattle.pfl_edits.specs.Maps as maps
-use Rattle.pfl_queue.specs.Queues.{pending}
-use Rattle.pfl_world.specs.Worlds.{World}
+use Rattle.pfl_timeline.specs.queue.Queues.{pending}
+use Rattle.pfl_timeline.specs.world.Worlds.{World}
 use Rattle.pfl_timeline.specs.Rooted.{Rooted, shown}
 use Rattle.pfl_timeline.specs.Timelines.{Branch, Timeline}
 use Rattle.pfl_session.specs.declared.counts.Counts.{Counts}

@@ -10,7 +10,7 @@ use Rattle.pfl_language.specs.declared.command.Command.{Command}
 use Rattle.pfl_language.specs.declared.command.Command.TheVariants as command
 use Rattle.pfl_language.specs.declared.refused.Refused.{Refused}
 use Rattle.pfl_language.specs.declared.refused.Refused.TheVariants as refused
-use Rattle.pfl_desk.specs.Nodes.{refused_by}
+use Rattle.pfl_world.specs.desk.Nodes.{refused_by}
 use Rattle.pfl_world.specs.Events.{step, IsEventRefusal}
 use Rattle.pfl_world.specs.Runs.{run}
 use Rattle.pfl_world.specs.Worlds.{World}

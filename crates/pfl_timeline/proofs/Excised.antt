@@ -9,7 +9,7 @@ use Rattle.pfl_language.specs.declared.event.Event.{Event}
 use Rattle.pfl_language.specs.declared.command.Command.TheVariants as command
 use Rattle.pfl_language.specs.declared.refused.Refused.TheVariants as refused
 use Rattle.pfl_language.specs.BranchWords.{same_name}
-use Rattle.pfl_desk.specs.Nodes.{refused_by}
+use Rattle.pfl_world.specs.desk.Nodes.{refused_by}
 use Rattle.pfl_world.specs.Runs.{run}
 use Rattle.pfl_world.specs.Worlds.{World}
 use Rattle.pfl_timeline.specs.Commands.{replied, reply_unless, with_changed, excise_reply, restore_reply, excise_command, restore_command, command_step, replayed}

@@ -13,7 +13,7 @@ use Rattle.pfl_language.specs.declared.command.Command.TheVariants as command
 use Rattle.pfl_language.specs.declared.refused.Refused.{Refused}
 use Rattle.pfl_language.specs.declared.refused.Refused.TheVariants as refused
 use Rattle.pfl_language.specs.BranchWords.{is_branch_name, same_name}
-use Rattle.pfl_desk.specs.Nodes.{refused_by}
+use Rattle.pfl_world.specs.desk.Nodes.{refused_by}
 use Rattle.pfl_world.specs.Events.{step}
 use Rattle.pfl_world.specs.Meanings.{Stepped}
 use Rattle.pfl_world.specs.Runs.{run, world_after}

@@ -17,23 +17,23 @@ use Rattle.pfl_language.specs.declared.command.Command.{Command}
 use Rattle.pfl_language.specs.declared.command.Command.TheVariants as command
 use Rattle.pfl_language.specs.declared.refused.Refused.TheVariants as refused
 use Rattle.pfl_language.specs.BranchWords.{is_branch_name, same_name}
-use Rattle.pfl_link.specs.Links.{InFlight, is_full, is_counted_out}
-use Rattle.pfl_queue.specs.Queues.{pending}
-use Rattle.pfl_node.specs.Purging.{purge_points}
-use Rattle.pfl_desk.specs.Nodes.{Node, refused_by, unless_refused, points_refusal, full_tests, is_overfull, is_overcounted, last_millisecond}
-use Rattle.pfl_desk.specs.Changes.{count_broken}
-use Rattle.pfl_receive.specs.Delivering.{receive_points}
-use Rattle.pfl_wire.specs.declared.fault.BadFrame.{BadFrame}
-use Rattle.pfl_wire.specs.Frames.{Frame}
-use Rattle.pfl_wire.specs.Reading.{reading}
-use Rattle.pfl_node.specs.Stepping.{NodeStepped, node_refusal, node_after}
-use Rattle.pfl_node.specs.Killing.{killed}
-use Rattle.pfl_node.specs.Packets.{packet_points}
-use Rattle.pfl_node.specs.Clearing.{cleared}
-use Rattle.pfl_node.specs.Releasing.{due_names, released_due}
-use Rattle.pfl_node.specs.Retrying.{retried_client}
-use Rattle.pfl_node.specs.Turning.{turned}
-use Rattle.pfl_bulk.specs.Bulk.{is_serving, is_waiting, is_due}
+use Rattle.pfl_world.specs.link.Links.{InFlight, is_full, is_counted_out}
+use Rattle.pfl_world.specs.queue.Queues.{pending}
+use Rattle.pfl_world.specs.node.Purging.{purge_points}
+use Rattle.pfl_world.specs.desk.Nodes.{Node, refused_by, unless_refused, points_refusal, full_tests, is_overfull, is_overcounted, last_millisecond}
+use Rattle.pfl_world.specs.desk.Changes.{count_broken}
+use Rattle.pfl_world.specs.receive.Delivering.{receive_points}
+use Rattle.pfl_world.specs.wire.declared.fault.BadFrame.{BadFrame}
+use Rattle.pfl_world.specs.wire.Frames.{Frame}
+use Rattle.pfl_world.specs.wire.Reading.{reading}
+use Rattle.pfl_world.specs.node.Stepping.{NodeStepped, node_refusal, node_after}
+use Rattle.pfl_world.specs.node.Killing.{killed}
+use Rattle.pfl_world.specs.node.Packets.{packet_points}
+use Rattle.pfl_world.specs.node.Clearing.{cleared}
+use Rattle.pfl_world.specs.node.Releasing.{due_names, released_due}
+use Rattle.pfl_world.specs.node.Retrying.{retried_client}
+use Rattle.pfl_world.specs.node.Turning.{turned}
+use Rattle.pfl_world.specs.bulk.Bulk.{is_serving, is_waiting, is_due}
 use Rattle.pfl_world.specs.Events.{step, IsRefusalOf, IsEventRefusal}
 use Rattle.pfl_world.specs.Meanings.{Stepped}
 use Rattle.pfl_world.specs.AtNodes.{from_node}

@@ -9,7 +9,7 @@ use Rattle.pfl_language.specs.declared.command.Command.TheVariants as command
 use Rattle.pfl_language.specs.declared.refused.Refused.{Refused}
 use Rattle.pfl_language.specs.declared.refused.Refused.TheVariants as refused
 use Rattle.pfl_language.specs.BranchWords.{same_name, is_branch_name}
-use Rattle.pfl_desk.specs.Nodes.{refused_by}
+use Rattle.pfl_world.specs.desk.Nodes.{refused_by}
 use Rattle.pfl_world.specs.Meanings.{Stepped}
 use Rattle.pfl_world.specs.Events.{step}
 use Rattle.pfl_timeline.specs.Excisions.{has_event, excised, fallen_places, restored}

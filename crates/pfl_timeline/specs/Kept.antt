@@ -6,7 +6,7 @@ use Rattle.std.specs.Map.{values_of}
 use Rattle.std.specs.Option.{option_map}
 use Rattle.pfl_edits.specs.Changes.{back, Fits}
 use Rattle.pfl_edits.specs.Tapes.{above}
-use Rattle.pfl_rules.specs.Rules.{Rules}
+use Rattle.pfl_world.specs.rules.Rules.{Rules}
 use Rattle.pfl_language.specs.declared.event.Event.{Event}
 use Rattle.pfl_language.specs.BranchWords.{is_branch_name}
 use Rattle.pfl_language.specs.Limits.{default_limits}

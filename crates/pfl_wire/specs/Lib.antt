@@ -7,3 +7,5 @@ pub mod Records
 pub mod Reading
 pub mod Answers
 pub mod inner
+pub use Rattle.pfl_base.specs as base
+pub use Rattle.pfl_track.specs as track

@@ -3,7 +3,7 @@ use Rattle.std.specs.Prelude.{◌≡◌, [], ◌∷◌, Ok, Err, refl}
 use Rattle.pfl_base.specs.declared.refusal.Refusal.TheVariants as refusal
 use Rattle.pfl_base.specs.declared.node_id.NodeId.TheVariants.{A, B}
 use Rattle.pfl_wire.specs.declared.message.BulkStatus.TheVariants as status
-use Rattle.pfl_bulk.specs.declared.BulkClient.TheVariants as client
+use Rattle.pfl_node.specs.bulk.declared.BulkClient.TheVariants as client
 use Rattle.pfl_language.specs.declared.outcome.Outcome.TheVariants as outcome
 use Rattle.pfl_language.specs.declared.node_event.NodeOutcome.TheVariants as given
 use Rattle.pfl_language.specs.declared.retried.Retried.TheVariants as retried

@@ -12,8 +12,8 @@ use Rattle.pfl_wire.specs.declared.fault.BadFrame.{BadFrame}
 use Rattle.pfl_wire.specs.Frames.{Frame}
 use Rattle.pfl_wire.specs.Reading.{reading}
 use Rattle.pfl_language.specs.declared.outcome.Outcome.{Outcome}
-use Rattle.pfl_desk.specs.declared.edit.NodeEdit.{NodeEdit}
-use Rattle.pfl_desk.specs.Nodes.{Node, IsRefusal, points_refusal, unless_refused}
+use Rattle.pfl_node.specs.desk.declared.edit.NodeEdit.{NodeEdit}
+use Rattle.pfl_node.specs.desk.Nodes.{Node, IsRefusal, points_refusal, unless_refused}
 use Rattle.pfl_node.specs.Weights.{edits_for}
 use Rattle.pfl_link.specs.declared.fault.LinkFault.{LinkFault}
 use Rattle.pfl_link.specs.declared.fault.LinkFault.TheVariants as link_fault

@@ -5,7 +5,7 @@ use Rattle.pfl_base.specs.declared.refusal.Refusal.TheVariants as refusal
 use Rattle.pfl_base.specs.declared.class.Class.TheVariants.{UdpSingle}
 use Rattle.pfl_base.specs.declared.node_id.NodeId.TheVariants.{A, B}
 use Rattle.pfl_wire.specs.declared.fault.BadFrame.TheVariants as fault
-use Rattle.pfl_queue.specs.declared.Kind.TheVariants.{Insert, Update, UpdateShort, Delete}
+use Rattle.pfl_node.specs.queue.declared.Kind.TheVariants.{Insert, Update, UpdateShort, Delete}
 use Rattle.std.specs.Prelude.{take, replicate, slice_set}
 use Rattle.pfl_edits.specs.Maps as maps
 use Rattle.std.specs.List.{range_with_len, fold}
@@ -16,9 +16,9 @@ use Rattle.pfl_wire.specs.Spelling.{spelling}
 use Rattle.pfl_wire.specs.Reading.{reading}
 use Rattle.pfl_language.specs.declared.outcome.Outcome.TheVariants as outcome
 use Rattle.pfl_language.specs.declared.node_event.NodeOutcome.TheVariants as given
-use Rattle.pfl_desk.specs.Nodes.{Node, new_node}
+use Rattle.pfl_node.specs.desk.Nodes.{Node, new_node}
 use Rattle.pfl_node.specs.Flushing.{frame_of, remaining}
-use Rattle.pfl_receive.specs.Receiving.{taken as take_record}
+use Rattle.pfl_node.specs.receive.Receiving.{taken as take_record}
 use Rattle.pfl_world.specs.Weights.{weight}
 use Rattle.pfl_node.specs.Weights.{edits_for}
 use Rattle.pfl_world.specs.Delivering.{deliver_work}

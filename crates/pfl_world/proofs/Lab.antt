@@ -18,11 +18,11 @@ use Rattle.pfl_rules.specs.declared.rule.Rule.{Rule}
 use Rattle.pfl_rules.specs.declared.action.Action.TheVariants.{Pass}
 use Rattle.pfl_rules.specs.declared.rule_dir.RuleDir.TheVariants.{Out}
 use Rattle.pfl_rules.specs.Rules.{Rules}
-use Rattle.pfl_track.specs.declared.peer.Peer.{Peer}
-use Rattle.pfl_track.specs.declared.state.State.{State}
-use Rattle.pfl_queue.specs.declared.Kind.{Kind}
-use Rattle.pfl_queue.specs.declared.Entry.{Entry}
-use Rattle.pfl_queue.specs.declared.Entry.TheVariants.{Marked}
+use Rattle.pfl_node.specs.track.declared.peer.Peer.{Peer}
+use Rattle.pfl_node.specs.track.declared.state.State.{State}
+use Rattle.pfl_node.specs.queue.declared.Kind.{Kind}
+use Rattle.pfl_node.specs.queue.declared.Entry.{Entry}
+use Rattle.pfl_node.specs.queue.declared.Entry.TheVariants.{Marked}
 use Rattle.pfl_language.specs.declared.limits.Limits.{Limits}
 use Rattle.pfl_language.specs.Limits.{default_limits}
 use Rattle.pfl_language.specs.declared.node_event.NodeEvent.TheVariants as own
@@ -36,16 +36,16 @@ use Rattle.pfl_language.specs.declared.event.Event.TheVariants as event
 use Rattle.pfl_language.specs.declared.event.FrameEvent.TheVariants as frame
 use Rattle.pfl_language.specs.declared.outcome.Outcome.TheVariants as outcome
 use Rattle.pfl_language.specs.declared.outcome.Outcome.{Outcome}
-use Rattle.pfl_desk.specs.declared.counters.Counters.{Counters}
-use Rattle.pfl_queue.specs.Taking.{in_turn}
-use Rattle.pfl_desk.specs.Nodes.{Node}
+use Rattle.pfl_node.specs.desk.declared.counters.Counters.{Counters}
+use Rattle.pfl_node.specs.queue.Taking.{in_turn}
+use Rattle.pfl_node.specs.desk.Nodes.{Node}
 use Rattle.pfl_link.specs.Links.{InFlight}
-use Rattle.pfl_queue.specs.declared.Mark.{Mark}
-use Rattle.pfl_queue.specs.declared.Cleared.{Cleared}
+use Rattle.pfl_node.specs.queue.declared.Mark.{Mark}
+use Rattle.pfl_node.specs.queue.declared.Cleared.{Cleared}
 use Rattle.pfl_wire.specs.declared.message.BulkStatus.{BulkStatus}
-use Rattle.pfl_defer.specs.declared.Held.{Held}
-use Rattle.pfl_bulk.specs.declared.BulkServer.{BulkServer}
-use Rattle.pfl_bulk.specs.declared.BulkClient.{BulkClient}
+use Rattle.pfl_node.specs.defer.declared.Held.{Held}
+use Rattle.pfl_node.specs.bulk.declared.BulkServer.{BulkServer}
+use Rattle.pfl_node.specs.bulk.declared.BulkClient.{BulkClient}
 use Rattle.pfl_world.specs.Meanings.{Stepped}
 use Rattle.pfl_world.specs.Worlds.{World, new_world, node_at}
 use Rattle.pfl_world.specs.Events as one
@@ -57,12 +57,12 @@ use Rattle.pfl_world.specs.Restarting as restarts
 use Rattle.pfl_world.specs.Tickets as tickets
 use Rattle.pfl_wire.specs.Spelling as spelling
 use Rattle.pfl_wire.proofs.ForCallers as reading
-use Rattle.pfl_queue.specs.Taking as taking
-use Rattle.pfl_desk.specs.Changes as changes
+use Rattle.pfl_node.specs.queue.Taking as taking
+use Rattle.pfl_node.specs.desk.Changes as changes
 use Rattle.pfl_node.specs.Starting as starting
 use Rattle.pfl_node.specs.Packets as packets
-use Rattle.pfl_receive.specs.Delivering as delivering
-use Rattle.pfl_receive.specs.Receiving as receiving
+use Rattle.pfl_node.specs.receive.Delivering as delivering
+use Rattle.pfl_node.specs.receive.Receiving as receiving
 use Rattle.pfl_node.specs.Flushing as flushing
 use Rattle.pfl_node.specs.Purging as purging
 use Rattle.pfl_node.specs.Releasing as releasing

@@ -7,11 +7,11 @@ use Rattle.pfl_base.specs.declared.node_id.NodeId.TheVariants.{A, B}
 use Rattle.pfl_edits.specs.Changes.{back, Fits}
 use Rattle.pfl_edits.proofs.ForCallers.{LeadsBack-embedded}
 use Rattle.pfl_language.specs.declared.limits.Limits.{Limits}
-use Rattle.pfl_desk.specs.declared.edit.NodeEdit.{NodeEdit}
-use Rattle.pfl_desk.specs.declared.edit.NodeEdit.TheVariants.{OfState, Moved, OfQueue, OfHeld, Server, Client, Clock, NextId, Push, Count}
-use Rattle.pfl_desk.specs.Edits as nodes
-use Rattle.pfl_desk.specs.Edits.{NodeLeadsBack}
-use Rattle.pfl_desk.specs.Nodes.{Node, IsNode}
+use Rattle.pfl_node.specs.desk.declared.edit.NodeEdit.{NodeEdit}
+use Rattle.pfl_node.specs.desk.declared.edit.NodeEdit.TheVariants.{OfState, Moved, OfQueue, OfHeld, Server, Client, Clock, NextId, Push, Count}
+use Rattle.pfl_node.specs.desk.Edits as nodes
+use Rattle.pfl_node.specs.desk.Edits.{NodeLeadsBack}
+use Rattle.pfl_node.specs.desk.Nodes.{Node, IsNode}
 use Rattle.pfl_world.specs.declared.edit.WorldEdit.{WorldEdit}
 use Rattle.pfl_world.specs.declared.edit.WorldEdit.TheVariants.{OfNode}
 use Rattle.pfl_world.specs.WorldEdits.{Finds, put_back, WorldLeadsBack}

@@ -4,7 +4,7 @@ use Rattle.std.specs.Ordering.{nat_cmp}
 use Rattle.std.proofs.Common.{◌∙◌, sym, subst, arith}
 use Rattle.pfl_base.specs.Numbers.{greatest}
 use Rattle.pfl_edits.proofs.ForCallers.{get-empty, len-empty, some_is_none}
-use Rattle.pfl_desk.proofs.ForCallers.{new_node-is}
+use Rattle.pfl_node.proofs.ForCallers.desk.{new_node-is}
 use Rattle.pfl_link.specs.Links.{InFlight, IsLink, empty_link}
 use Rattle.pfl_world.specs.Laws.{NewWorldsAreWorlds, LateWorldsAreWorlds}
 

@@ -8,13 +8,13 @@ use Rattle.pfl_base.specs.Packets.{bad_packet}
 use Rattle.pfl_base.specs.declared.refusal.Refusal.TheVariants as refusal
 use Rattle.pfl_base.specs.declared.class.Class.TheVariants.{TcpClosed, UdpFirst, UdpSingle, UdpMultiple, IcmpFirst, IcmpError, OtherFirst}
 use Rattle.pfl_base.specs.declared.node_id.NodeId.TheVariants.{A}
-use Rattle.pfl_bulk.specs.declared.BulkServer.TheVariants as server
-use Rattle.pfl_bulk.specs.declared.BulkClient.TheVariants as client
-use Rattle.pfl_track.specs.declared.state.State.{State}
+use Rattle.pfl_node.specs.bulk.declared.BulkServer.TheVariants as server
+use Rattle.pfl_node.specs.bulk.declared.BulkClient.TheVariants as client
+use Rattle.pfl_node.specs.track.declared.state.State.{State}
 use Rattle.pfl_rules.specs.declared.rule.Rule.{Rule}
 use Rattle.pfl_rules.specs.declared.action.Action.TheVariants.{Block}
 use Rattle.pfl_rules.specs.declared.rule_dir.RuleDir.TheVariants.{Any}
-use Rattle.pfl_queue.specs.declared.Kind.TheVariants.{Insert}
+use Rattle.pfl_node.specs.queue.declared.Kind.TheVariants.{Insert}
 use Rattle.pfl_language.specs.declared.fate.Reason.TheVariants as reason
 use Rattle.pfl_language.specs.declared.event.Event.{Event}
 use Rattle.pfl_language.specs.declared.node_event.NodeOutcome.TheVariants as given

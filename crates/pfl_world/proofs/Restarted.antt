@@ -12,7 +12,7 @@ use Rattle.pfl_edits.proofs.ForCallers.{LeadsBack-one}
 use Rattle.pfl_language.specs.declared.event.Event.{Event}
 use Rattle.pfl_language.specs.declared.event.Event.TheVariants as event
 use Rattle.pfl_language.specs.declared.outcome.Outcome.TheVariants as outcome
-use Rattle.pfl_desk.specs.Nodes.{Node}
+use Rattle.pfl_node.specs.desk.Nodes.{Node}
 use Rattle.pfl_node.specs.Events.{restarted}
 use Rattle.pfl_world.specs.declared.edit.WorldEdit.{WorldEdit}
 use Rattle.pfl_world.specs.declared.edit.WorldEdit.TheVariants.{OfRestart}

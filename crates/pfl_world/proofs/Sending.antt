@@ -15,9 +15,9 @@ use Rattle.pfl_language.specs.declared.event.Event.TheVariants as event
 use Rattle.pfl_language.specs.declared.limits.Limits.{Limits}
 use Rattle.pfl_language.specs.declared.outcome.Outcome.{Outcome}
 use Rattle.pfl_language.specs.declared.outcome.Outcome.TheVariants as outcome
-use Rattle.pfl_desk.specs.declared.edit.NodeEdit.{NodeEdit}
+use Rattle.pfl_node.specs.desk.declared.edit.NodeEdit.{NodeEdit}
 use Rattle.pfl_node.specs.Flushing.{flushed, frame_of}
-use Rattle.pfl_desk.specs.Nodes.{Node, IsRefusal, refused_by, unless_refused}
+use Rattle.pfl_node.specs.desk.Nodes.{Node, IsRefusal, refused_by, unless_refused}
 use Rattle.pfl_link.specs.declared.fault.LinkFault.{LinkFault}
 use Rattle.pfl_link.specs.declared.fault.LinkFault.TheVariants.{LinkFull, CountFull}
 use Rattle.pfl_link.specs.Faults as links

@@ -10,7 +10,7 @@ use Rattle.pfl_language.specs.declared.event.Event.TheVariants as event
 use Rattle.pfl_language.specs.declared.event.FrameEvent.{FrameEvent}
 use Rattle.pfl_language.specs.declared.outcome.Outcome.{Outcome}
 use Rattle.pfl_language.specs.declared.outcome.Outcome.TheVariants as outcome
-use Rattle.pfl_desk.specs.Nodes.{Node, IsRefusal, unless_refused}
+use Rattle.pfl_node.specs.desk.Nodes.{Node, IsRefusal, unless_refused}
 use Rattle.pfl_node.specs.Stepping.{NodeStepped, node_refusal, node_after, node_step}
 use Rattle.pfl_world.specs.Events.{step, IsRefusalOf, IsEventRefusal, frame_event}
 use Rattle.pfl_world.specs.Meanings.{Stepped}

@@ -10,7 +10,7 @@ use Rattle.pfl_link.specs.declared.fault.LinkFault.{LinkFault}
 use Rattle.pfl_link.specs.declared.fault.LinkFault.TheVariants.{NoSuchFrame, LinkFull, CountFull}
 use Rattle.pfl_link.specs.Faults.{room_fault, missing_fault, copy_fault, or_no_memory, refusal_of}
 use Rattle.pfl_link.specs.Links.{InFlight, is_full, is_counted_out, sent, with_frame, cut_to}
-use Rattle.pfl_desk.specs.Nodes.{refused_by, unless_refused}
+use Rattle.pfl_node.specs.desk.Nodes.{refused_by, unless_refused}
 use Rattle.pfl_world.specs.Events.{IsRefusalOf}
 use Rattle.pfl_world.specs.Meanings.{Stepped}
 use Rattle.pfl_world.specs.Tickets.{without_ticket, with_ticket, lose_step, repeat_step, cut_step}

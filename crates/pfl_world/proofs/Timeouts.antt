@@ -3,7 +3,7 @@ use Rattle.std.specs.Prelude.{◌≡◌, ℕ, List, [], ◌∷◌, ◌++◌, map
 use Rattle.pfl_base.specs.declared.proto.Proto.TheVariants.{Udp}
 use Rattle.pfl_base.specs.declared.packet.Packet.{Packet}
 use Rattle.pfl_base.specs.declared.node_id.NodeId.TheVariants.{A, B}
-use Rattle.pfl_queue.specs.declared.Kind.TheVariants.{Delete}
+use Rattle.pfl_node.specs.queue.declared.Kind.TheVariants.{Delete}
 use Rattle.pfl_language.specs.declared.event.Event.{Event}
 use Rattle.pfl_language.specs.declared.node_event.NodeOutcome.TheVariants as given
 use Rattle.pfl_world.specs.Worlds.{World}

@@ -1,8 +1,8 @@
 -- A world and its nodes as nested pairs, by which the logic tells two of them apart. It says nothing of worlds.
 use Rattle.std.specs.Prelude.{ℕ, refl}
 use Rattle.std.specs.Coded.{Coded, code_by, coded×, coded_ℕ}
-use Rattle.pfl_desk.specs.Nodes.{Node}
-use Rattle.pfl_desk.specs.Codes.{coded_node}
+use Rattle.pfl_node.specs.desk.Nodes.{Node}
+use Rattle.pfl_node.specs.desk.Codes.{coded_node}
 use Rattle.pfl_link.specs.Links.{Link, coded_link}
 use Rattle.pfl_world.specs.Worlds.{Nodes, World}
 

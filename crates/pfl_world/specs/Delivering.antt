@@ -9,9 +9,9 @@ use Rattle.pfl_wire.specs.declared.fault.BadFrame.{BadFrame}
 use Rattle.pfl_wire.specs.Frames.{Frame, records_of}
 use Rattle.pfl_wire.specs.Reading.{reading}
 use Rattle.pfl_language.specs.declared.outcome.Outcome.TheVariants.{Taken, Broken}
-use Rattle.pfl_desk.specs.Nodes.{Node, full_tests}
-use Rattle.pfl_desk.specs.Changes.{count_broken}
-use Rattle.pfl_receive.specs.Delivering.{received, receive_points, frame_work}
+use Rattle.pfl_node.specs.desk.Nodes.{Node, full_tests}
+use Rattle.pfl_node.specs.desk.Changes.{count_broken}
+use Rattle.pfl_node.specs.receive.Delivering.{received, receive_points, frame_work}
 use Rattle.pfl_link.specs.Links.{InFlight}
 use Rattle.pfl_world.specs.Meanings.{Meaning, Stepped}
 use Rattle.pfl_world.specs.Tickets.{step_unless, with_ticket, without_ticket}

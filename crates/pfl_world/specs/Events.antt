@@ -7,7 +7,7 @@ use Rattle.pfl_language.specs.declared.event.Event.{Event}
 use Rattle.pfl_language.specs.declared.event.Event.TheVariants as event
 use Rattle.pfl_language.specs.declared.event.FrameEvent.{FrameEvent}
 use Rattle.pfl_language.specs.declared.event.FrameEvent.TheVariants as frame
-use Rattle.pfl_desk.specs.Nodes.{Node}
+use Rattle.pfl_node.specs.desk.Nodes.{Node}
 use Rattle.pfl_world.specs.AtNodes.{at_node_meaning}
 use Rattle.pfl_world.specs.Delivering.{deliver_meaning}
 use Rattle.pfl_world.specs.Flushing.{flush_meaning}

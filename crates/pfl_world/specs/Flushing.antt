@@ -5,10 +5,10 @@ use Rattle.pfl_base.specs.declared.refusal.Refusal.{Refusal}
 use Rattle.pfl_base.specs.declared.refusal.Refusal.TheVariants.{NothingPending, LinkFull, CountFull}
 use Rattle.pfl_base.specs.declared.node_id.NodeId.{NodeId}
 use Rattle.pfl_wire.specs.Spelling.{spelling}
-use Rattle.pfl_queue.specs.Queues.{pending}
-use Rattle.pfl_queue.specs.Taking.{next_frame}
+use Rattle.pfl_node.specs.queue.Queues.{pending}
+use Rattle.pfl_node.specs.queue.Taking.{next_frame}
 use Rattle.pfl_language.specs.declared.outcome.Outcome.TheVariants.{Sent}
-use Rattle.pfl_desk.specs.Nodes.{refused_by, unless_refused}
+use Rattle.pfl_node.specs.desk.Nodes.{refused_by, unless_refused}
 use Rattle.pfl_node.specs.Flushing.{frame_of, flushed}
 use Rattle.pfl_link.specs.Links.{InFlight, is_full, is_counted_out, sent}
 use Rattle.pfl_world.specs.Meanings.{Meaning, Stepped}

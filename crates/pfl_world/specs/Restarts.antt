@@ -3,8 +3,8 @@ use Rattle.std.specs.Prelude.{ℕ, refl}
 use Rattle.std.specs.Coded.{Coded, code_by, coded×, coded_ℕ}
 use Rattle.pfl_base.specs.declared.node_id.NodeId.{NodeId}
 use Rattle.pfl_base.specs.contracts.node_id.NodeId as node_id
-use Rattle.pfl_desk.specs.Nodes.{Node}
-use Rattle.pfl_desk.specs.Codes.{coded_node}
+use Rattle.pfl_node.specs.desk.Nodes.{Node}
+use Rattle.pfl_node.specs.desk.Codes.{coded_node}
 
 -- the node that began anew as this boot, as it was before: what it is after follows from that
 pub record RestartEdit : Type 0 where

@@ -6,7 +6,7 @@ use Rattle.pfl_base.specs.declared.refusal.Refusal.TheVariants.{NoSuchFrame, Lin
 use Rattle.pfl_edits.specs.Maps as maps
 use Rattle.pfl_language.specs.declared.outcome.Outcome.{Outcome}
 use Rattle.pfl_language.specs.declared.outcome.Outcome.TheVariants.{Sent, Lost, CutTo}
-use Rattle.pfl_desk.specs.Nodes.{refused_by, unless_refused}
+use Rattle.pfl_node.specs.desk.Nodes.{refused_by, unless_refused}
 use Rattle.pfl_link.specs.Links.{InFlight, is_full, is_counted_out, sent, without_frame, with_frame, cut_to}
 use Rattle.pfl_world.specs.Meanings.{Meaning, Stepped}
 use Rattle.pfl_world.specs.Worlds.{World, with_link}

@@ -3,22 +3,22 @@
 use Rattle.std.specs.Prelude.{◌≡◌, ℕ, ◌+◌, Bool, true, false, List, [], ◌∷◌, ◌++◌, map, Option}
 use Rattle.std.specs.Option.{option_to_list}
 use Rattle.pfl_base.specs.declared.state_name.StateName.{StateName}
-use Rattle.pfl_track.specs.declared.motion.Motion.{Motion}
-use Rattle.pfl_track.specs.declared.state.State.{State}
+use Rattle.pfl_node.specs.track.declared.motion.Motion.{Motion}
+use Rattle.pfl_node.specs.track.declared.state.State.{State}
 use Rattle.pfl_wire.specs.declared.message.BulkStatus.{BulkStatus}
-use Rattle.pfl_queue.specs.declared.Cleared.{Cleared}
-use Rattle.pfl_queue.specs.declared.Mark.{Mark}
-use Rattle.pfl_queue.specs.declared.edits.QueueEdit.{QueueEdit}
-use Rattle.pfl_queue.specs.declared.edits.QueueEdit.TheVariants.{OfMark, OfName, OfRequest, OfStatus, OfClear}
-use Rattle.pfl_defer.specs.declared.Held.{Held}
-use Rattle.pfl_defer.specs.Edits as deferrals
-use Rattle.pfl_bulk.specs.declared.BulkClient.{BulkClient}
-use Rattle.pfl_bulk.specs.declared.BulkServer.{BulkServer}
+use Rattle.pfl_node.specs.queue.declared.Cleared.{Cleared}
+use Rattle.pfl_node.specs.queue.declared.Mark.{Mark}
+use Rattle.pfl_node.specs.queue.declared.edits.QueueEdit.{QueueEdit}
+use Rattle.pfl_node.specs.queue.declared.edits.QueueEdit.TheVariants.{OfMark, OfName, OfRequest, OfStatus, OfClear}
+use Rattle.pfl_node.specs.defer.declared.Held.{Held}
+use Rattle.pfl_node.specs.defer.Edits as deferrals
+use Rattle.pfl_node.specs.bulk.declared.BulkClient.{BulkClient}
+use Rattle.pfl_node.specs.bulk.declared.BulkServer.{BulkServer}
 use Rattle.pfl_language.specs.declared.event.Event.{Event}
 use Rattle.pfl_language.specs.declared.event.Event.TheVariants as event
-use Rattle.pfl_desk.specs.declared.edit.NodeEdit.{NodeEdit}
-use Rattle.pfl_desk.specs.declared.edit.NodeEdit.TheVariants.{OfState, Moved, OfQueue, OfHeld, Server, Client, Clock, NextId, Push, Count}
-use Rattle.pfl_desk.specs.Nodes.{Node}
+use Rattle.pfl_node.specs.desk.declared.edit.NodeEdit.{NodeEdit}
+use Rattle.pfl_node.specs.desk.declared.edit.NodeEdit.TheVariants.{OfState, Moved, OfQueue, OfHeld, Server, Client, Clock, NextId, Push, Count}
+use Rattle.pfl_node.specs.desk.Nodes.{Node}
 use Rattle.pfl_node.specs.Events.{restarted}
 use Rattle.pfl_link.specs.declared.change.LinkChange.{LinkChange}
 use Rattle.pfl_link.specs.declared.change.LinkChange.TheVariants.{Sent, Taken, Cut}

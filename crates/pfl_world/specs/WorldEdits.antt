@@ -3,8 +3,8 @@
 use Rattle.std.specs.Prelude.{◌≡◌, ℕ, ◌+◌, List}
 use Rattle.pfl_base.specs.declared.node_id.NodeId.{NodeId}
 use Rattle.pfl_edits.specs.Changes.{LeadsBack}
-use Rattle.pfl_desk.specs.Edits as nodes
-use Rattle.pfl_desk.specs.Nodes.{Node}
+use Rattle.pfl_node.specs.desk.Edits as nodes
+use Rattle.pfl_node.specs.desk.Nodes.{Node}
 use Rattle.pfl_node.specs.Events.{restarted}
 use Rattle.pfl_link.specs.LinkEdits as links
 use Rattle.pfl_world.specs.declared.edit.WorldEdit.{WorldEdit}

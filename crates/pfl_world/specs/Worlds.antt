@@ -8,7 +8,7 @@ use Rattle.pfl_language.specs.declared.limits.Limits.{Limits}
 use Rattle.pfl_language.specs.declared.limits.LimitFault.{LimitFault}
 use Rattle.pfl_language.specs.declared.limits.LimitFault.TheVariants as limit
 use Rattle.pfl_language.specs.Limits.{limit_fault}
-use Rattle.pfl_desk.specs.Nodes.{Node, IsNode, new_node}
+use Rattle.pfl_node.specs.desk.Nodes.{Node, IsNode, new_node}
 use Rattle.pfl_link.specs.Links.{Link, IsLink, empty_link}
 use Rattle.pfl_world.specs.declared.fault.WorldFault.{WorldFault}
 use Rattle.pfl_world.specs.declared.fault.WorldFault.TheVariants.{TooSmall, TooLarge, NoMemory}

@@ -4,7 +4,7 @@ ghost use Rattle.std.specs.Prelude.{◌≡◌, ◌≤◌, ◌+◌, ◌*◌, None
 ghost use Rattle.std.specs.List.{AllByRecursion};
 ghost use Rattle.pfl_edits.specs.Changes.{Fits, back};
 ghost use Rattle.pfl_node.specs.Flushing as flushing;
-ghost use Rattle.pfl_desk.specs.Nodes.{IsRefusal};
+ghost use Rattle.pfl_node.specs.desk.Nodes.{IsRefusal};
 ghost use Rattle.pfl_link.specs.Faults.{room_fault};
 ghost use Rattle.pfl_link.specs.Links.{sent};
 ghost use Rattle.pfl_world.specs.Flushing.{flush_refusal, sent_frame, flush_work};

@@ -21,6 +21,8 @@ mod world;
 pub use edit::{WorldChange, WorldEdit, WorldTape};
 pub use fault::WorldFault;
 pub use laws::new_worlds_are_worlds;
+pub use pfl_node as node;
+pub use pfl_node::desk;
 pub use restart_edit::RestartEdit;
 pub use small_edit::{MovedEdit, SmallEdit};
 pub use world::World;

@@ -3,8 +3,8 @@
 ghost use Rattle.std.specs.Prelude.{◌≡◌, ◌≤◌, [], ◌∷◌, ◌++◌, length, IfOk, IfErr, OnOk, OnErr};
 ghost use Rattle.std.specs.List.{AllByRecursion};
 ghost use Rattle.pfl_edits.specs.Changes.{Fits, back};
-ghost use Rattle.pfl_desk.specs.Edits as nodes;
-ghost use Rattle.pfl_desk.specs.Nodes.{IsNode};
+ghost use Rattle.pfl_node.specs.desk.Edits as nodes;
+ghost use Rattle.pfl_node.specs.desk.Nodes.{IsNode};
 ghost use Rattle.pfl_link.specs.LinkEdits as links;
 ghost use Rattle.pfl_link.specs.Links.{IsLink};
 ghost use Rattle.pfl_world.specs.Values.{HoldsLittle};
@@ -17,7 +17,7 @@ use crate::world::World;
 use pfl_base::{NodeId, Refusal};
 use pfl_edits::{Change, Reversible, undo_all};
 use pfl_link::LinkEdit;
-use pfl_desk::NodeEdit;
+use pfl_node::desk::NodeEdit;
 use std::alloc::Allocator;
 
 /// Records the edits of a node as edits of the pair.

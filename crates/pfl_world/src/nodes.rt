@@ -3,7 +3,7 @@
 ghost use Rattle.std.specs.Prelude.{◌≡◌, IfOk};
 ghost use Rattle.std.specs.Borrow.{sem};
 ghost use Rattle.pfl_language.specs.Limits.{AreLimits};
-ghost use Rattle.pfl_desk.specs.Nodes.{IsNode, new_node};
+ghost use Rattle.pfl_node.specs.desk.Nodes.{IsNode, new_node};
 ghost use Rattle.pfl_world.specs.Worlds.{of_name};
 
 use pfl_base::NodeId;

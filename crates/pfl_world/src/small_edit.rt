@@ -2,13 +2,13 @@
 
 ghost use Rattle.std.specs.Prelude.{◌≡◌, MatchOption};
 ghost use Rattle.pfl_world.specs.inner.SmallEdits.{node_of, edit_of, IsLarger, IsNoMotion};
-ghost use Rattle.pfl_desk.specs.declared.edit.NodeEdit.TheVariants.{Moved};
+ghost use Rattle.pfl_node.specs.desk.declared.edit.NodeEdit.TheVariants.{Moved};
 
 use crate::edit::WorldEdit;
 use pfl_base::{Millis, NodeId};
-use pfl_bulk::BulkClient;
 use pfl_edits::{Packed, Packing};
-use pfl_desk::{Counter, MotionEdit, NodeEdit};
+use pfl_node::bulk::BulkClient;
+use pfl_node::desk::{Counter, MotionEdit, NodeEdit};
 use std::alloc::Allocator;
 use std::mem::size_of;
 

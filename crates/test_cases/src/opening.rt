@@ -4,11 +4,11 @@ ghost use Rattle.std.specs.Prelude.{◌≡◌};
 
 use pfl_base::{Input, Output};
 use pfl_edits::NoMemory;
-use pfl_reader::LineReader;
+use pfl_run::reader::LineReader;
+use pfl_run::script::{Setup, read_setup, run_lines};
+use pfl_run::timeline::Timeline;
+use pfl_run::world::{World, WorldFault};
 use pfl_run::{LabFault, run_lab, set_up, tell};
-use pfl_script::{Setup, read_setup, run_lines};
-use pfl_timeline::Timeline;
-use pfl_world::{World, WorldFault};
 use std::alloc::Allocator;
 
 /// The mark in front of the numbers.

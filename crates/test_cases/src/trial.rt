@@ -3,8 +3,8 @@
 use crate::opening::Opening;
 use crate::script::{Replies, Script};
 use pfl_base::Std;
-use pfl_reader::LineReader;
 use pfl_run::check_lab;
+use pfl_run::reader::LineReader;
 use std::alloc::{AllocError, Allocator, Global};
 use std::cell::Cell;
 

@@ -2,8 +2,8 @@
 
 use pfl_base::{NodeId, Refusal, Std};
 use pfl_language::{Outcome, Refused};
+use pfl_run::timeline::Reply;
 use pfl_script::{FrameLine, LinkLine, write_reply};
-use pfl_timeline::Reply;
 use std::alloc::Global;
 use std::test::Fail;
 

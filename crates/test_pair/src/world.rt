@@ -5,7 +5,7 @@ use pfl_base::{Millis, NodeId, Refusal};
 use pfl_edits::NoMemory;
 use pfl_language::{Event, Limits, NodeEvent, NodeOutcome, Outcome};
 use pfl_rules::RuleSet;
-use pfl_world::{World, WorldFault};
+use pfl_timeline::world::{World, WorldFault};
 use std::alloc::{Allocator, Global};
 
 /// The bytes that the nodes of a pair keep for the edits of an event, where each holds one state.

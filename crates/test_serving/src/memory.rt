@@ -6,7 +6,7 @@ ghost use Rattle.pfl_session.specs.Passes.{IsPassOf};
 use super::dialogues::alone;
 use super::lab::{Spoken, opened, replays, speak_to_heap, take};
 use pfl_host::Open;
-use pfl_script::{Ended, EngineFault};
+use pfl_host::script::{Ended, EngineFault};
 use pfl_session::{Closed, Lab, Opened, Pass, Which};
 use std::alloc::Global;
 use std::marker::Brand;

@@ -3,10 +3,10 @@
 use super::lab::opening;
 use pfl_base::NodeId;
 use pfl_language::{BranchWord, Command, Limits};
-use pfl_node::Node;
+use pfl_session::node::Node;
+use pfl_session::timeline::{Branch, Reply, Timeline};
+use pfl_session::world::World;
 use pfl_session::{Closed, Entry};
-use pfl_timeline::{Branch, Reply, Timeline};
-use pfl_world::World;
 use std::alloc::Allocator;
 
 /// The same word.

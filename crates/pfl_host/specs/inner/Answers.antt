@@ -1,15 +1,15 @@
 -- The answer to one line, and how it fails.
 use Rattle.std.specs.Prelude.{ℕ, List, take, if◌then◌else◌, Option, Some, None, Result, Ok}
 use Rattle.std.specs.Io.KnownBytes.{Appends, Keeps as KeepsBytes}
-use Rattle.pfl_timeline.specs.Timelines.{Timeline}
+use Rattle.pfl_run.specs.timeline.Timelines.{Timeline}
 use Rattle.pfl_session.specs.Passes.{Seen}
-use Rattle.pfl_lines.specs.declared.fault.LineFault.{LineFault}
-use Rattle.pfl_lines.specs.declared.session.SessionLine.{SessionLine}
-use Rattle.pfl_lines.specs.declared.session.SessionLine.TheVariants.{Ask}
-use Rattle.pfl_reader.specs.Saids.{kept_session}
-use Rattle.pfl_reader.specs.Scans.{Kept, has_word}
-use Rattle.pfl_script.specs.declared.fault.EngineFault.{EngineFault}
-use Rattle.pfl_script.specs.declared.fault.EngineFault.TheVariants as engine
+use Rattle.pfl_run.specs.lines.declared.fault.LineFault.{LineFault}
+use Rattle.pfl_run.specs.lines.declared.session.SessionLine.{SessionLine}
+use Rattle.pfl_run.specs.lines.declared.session.SessionLine.TheVariants.{Ask}
+use Rattle.pfl_run.specs.reader.Saids.{kept_session}
+use Rattle.pfl_run.specs.reader.Scans.{Kept, has_word}
+use Rattle.pfl_run.specs.script.declared.fault.EngineFault.{EngineFault}
+use Rattle.pfl_run.specs.script.declared.fault.EngineFault.TheVariants as engine
 use Rattle.pfl_host.specs.Sessions.{IsUnanswered}
 
 -- what a line of which this is kept says to a session

@@ -1,10 +1,10 @@
 -- How a packet is carried out on the desk of a node.
 use Rattle.std.specs.Prelude.{◌≡◌, ℕ, Result, IfOk, OnErr, true, List, Bool}
 use Rattle.pfl_language.specs.declared.fate.Fate.{Fate}
-use Rattle.pfl_desk.specs.declared.parts.judge.Overfull.{Overfull}
-use Rattle.pfl_desk.specs.Drafts.{Draft, Writes}
-use Rattle.pfl_desk.specs.Nodes.{Node, is_overfull}
-use Rattle.pfl_desk.specs.inner.Judging.{Went}
+use Rattle.pfl_receive.specs.desk.declared.parts.judge.Overfull.{Overfull}
+use Rattle.pfl_receive.specs.desk.Drafts.{Draft, Writes}
+use Rattle.pfl_receive.specs.desk.Nodes.{Node, is_overfull}
+use Rattle.pfl_receive.specs.desk.inner.Judging.{Went}
 use Rattle.pfl_node.specs.Starting.{Handled}
 
 -- a packet gives h, by at most k edits, or stops where too much is pending

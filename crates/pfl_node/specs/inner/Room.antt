@@ -2,7 +2,7 @@
 use Rattle.std.specs.Prelude.{ℕ, ◌+◌, ◌*◌, max, ◌≡◌, []}
 use Rattle.pfl_edits.specs.Changes.{Edits}
 use Rattle.pfl_language.specs.declared.limits.Limits.{Limits}
-use Rattle.pfl_desk.specs.declared.edit.NodeEdit.{NodeEdit}
+use Rattle.pfl_receive.specs.desk.declared.edit.NodeEdit.{NodeEdit}
 use Rattle.pfl_receive.specs.inner.Delivering.{frame_room}
 use Rattle.pfl_node.specs.Weights.{packet_edits}
 

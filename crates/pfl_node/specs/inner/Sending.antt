@@ -7,12 +7,12 @@ use Rattle.pfl_edits.specs.Maps as maps
 use Rattle.pfl_wire.specs.declared.action.Action.{Action}
 use Rattle.pfl_wire.specs.declared.message.Message.{Message}
 use Rattle.pfl_wire.specs.Frames.{action_of, Frame}
-use Rattle.pfl_queue.specs.declared.Kind.{Kind}
-use Rattle.pfl_queue.specs.declared.Kind.TheVariants.{Delete}
-use Rattle.pfl_queue.specs.declared.Entry.{Entry}
-use Rattle.pfl_queue.specs.declared.Entry.TheVariants.{Marked}
-use Rattle.pfl_queue.specs.Taking.{entry_action, one_action}
-use Rattle.pfl_desk.specs.Nodes.{Node}
+use Rattle.pfl_receive.specs.queue.declared.Kind.{Kind}
+use Rattle.pfl_receive.specs.queue.declared.Kind.TheVariants.{Delete}
+use Rattle.pfl_receive.specs.queue.declared.Entry.{Entry}
+use Rattle.pfl_receive.specs.queue.declared.Entry.TheVariants.{Marked}
+use Rattle.pfl_receive.specs.queue.Taking.{entry_action, one_action}
+use Rattle.pfl_receive.specs.desk.Nodes.{Node}
 use Rattle.pfl_node.specs.Flushing.{messages_of}
 
 -- what is told of a name by the kind is there: its state, except of a deletion

@@ -3,20 +3,20 @@
 ghost use Rattle.std.specs.Prelude.{◌≡◌, ◌≤◌, Some};
 ghost use Rattle.pfl_base.specs.declared.state_name.StateName.{StateName};
 ghost use Rattle.pfl_edits.specs.Maps as maps;
-ghost use Rattle.pfl_desk.specs.Nodes.{last_millisecond};
+ghost use Rattle.pfl_receive.specs.desk.Nodes.{last_millisecond};
 ghost use Rattle.pfl_rules.specs.Rules.{timeout};
-ghost use Rattle.pfl_table.specs.Tables.{states_of};
-ghost use Rattle.pfl_table.specs.declared.row.Row.{Row};
+ghost use Rattle.pfl_receive.specs.table.Tables.{states_of};
+ghost use Rattle.pfl_receive.specs.table.declared.row.Row.{Row};
 
 use crate::node::Node;
 use pfl_base::Millis;
 use pfl_bulk::{BulkClient, BulkServer};
-use pfl_defer::Deferrals;
 use pfl_language::Limits;
-use pfl_desk::Counters;
-use pfl_queue::Pending;
+use pfl_receive::defer::Deferrals;
+use pfl_receive::desk::Counters;
+use pfl_receive::queue::Pending;
+use pfl_receive::table::StateTable;
 use pfl_rules::RuleSet;
-use pfl_table::StateTable;
 use std::alloc::Allocator;
 
 impl<A: Allocator> Node<A> {

@@ -1,16 +1,16 @@
 //! A packet that is held back until the peer knows of its state (ifconfig(8), `defer`).
 
 ghost use Rattle.std.specs.Prelude.{◌≡◌, ◌≤◌, ◌<◌, None, Some, length, true};
-ghost use Rattle.pfl_defer.specs.Deferring as deferring;
+ghost use Rattle.pfl_receive.specs.defer.Deferring as deferring;
 ghost use Rattle.pfl_edits.specs.Maps as maps;
-ghost use Rattle.pfl_desk.specs.Drafts.{Writes};
-ghost use Rattle.pfl_desk.specs.inner.Kept.{MayReplace};
-ghost use Rattle.pfl_desk.specs.Nodes.{Node as Whole, AreParts};
+ghost use Rattle.pfl_receive.specs.desk.Drafts.{Writes};
+ghost use Rattle.pfl_receive.specs.desk.inner.Kept.{MayReplace};
+ghost use Rattle.pfl_receive.specs.desk.Nodes.{Node as Whole, AreParts};
 ghost use Rattle.pfl_node.specs.Starting as starting;
 
 use pfl_base::{Dir, Packet};
 use pfl_language::Fate;
-use pfl_desk::Desk;
+use pfl_receive::desk::Desk;
 use pfl_track::State;
 use std::alloc::Allocator;
 

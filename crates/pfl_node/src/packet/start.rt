@@ -3,20 +3,20 @@
 ghost use Rattle.std.specs.Prelude.{◌≡◌, ◌≤◌, Some, true, slice_get, ◌<◌, None, false};
 ghost use Rattle.pfl_base.specs.Keys.{key as flow_of};
 ghost use Rattle.pfl_base.specs.Packets.{IsPacket};
-ghost use Rattle.pfl_desk.specs.Drafts.{Writes};
+ghost use Rattle.pfl_receive.specs.desk.Drafts.{Writes};
 ghost use Rattle.pfl_node.specs.inner.Carried.{Tried};
-ghost use Rattle.pfl_desk.specs.inner.Kept.{MayStart};
-ghost use Rattle.pfl_desk.specs.Nodes.{Node as Whole, AreParts};
+ghost use Rattle.pfl_receive.specs.desk.inner.Kept.{MayStart};
+ghost use Rattle.pfl_receive.specs.desk.Nodes.{Node as Whole, AreParts};
 ghost use Rattle.pfl_node.specs.Starting.{pass, drop as dropped};
 ghost use Rattle.pfl_node.specs.Starting as starting;
-ghost use Rattle.pfl_table.specs.Tables.{key_in_use as is_in_use};
+ghost use Rattle.pfl_receive.specs.table.Tables.{key_in_use as is_in_use};
 ghost use Rattle.pfl_track.specs.Keys.{AreKeys, fits_family};
 
 use crate::packet::hold::{hold_back, is_deferred};
 use pfl_base::{Dir, Packet, StateName};
 use pfl_language::{Fate, Reason};
-use pfl_desk::{Counter, Desk, Overfull};
-use pfl_queue::Kind;
+use pfl_receive::desk::{Counter, Desk, Overfull};
+use pfl_receive::queue::Kind;
 use pfl_rules::Rule;
 use pfl_track::{KeyPair, State, start_state};
 use std::alloc::Allocator;

@@ -1,6 +1,6 @@
 -- Why limits of a setup are none.
 use Rattle.std.specs.Prelude.{◌≡◌, ℕ, Option, Some}
-use Rattle.pfl_world.specs.declared.fault.WorldFault.{WorldFault}
+use Rattle.pfl_script.specs.world.declared.fault.WorldFault.{WorldFault}
 use Rattle.pfl_run.specs.declared.fault.LabFault.{LabFault}
 use Rattle.pfl_run.specs.declared.fault.LabFault.TheVariants as fault
 

@@ -2,7 +2,7 @@
 use Rattle.std.specs.Prelude.{◌≡◌, ℕ, List, length, take, Option, ◌⊎◌}
 use Rattle.std.specs.Io.KnownBytes.{Appends, Keeps as KeepsBytes}
 use Rattle.pfl_timeline.specs.Timelines.{Branch, Timeline}
-use Rattle.pfl_world.specs.Worlds.{World}
+use Rattle.pfl_timeline.specs.world.Worlds.{World}
 use Rattle.pfl_script.specs.Shows.{show_text}
 use Rattle.pfl_script.specs.Answers.{Answer}
 

@@ -5,8 +5,8 @@ use Rattle.pfl_base.specs.declared.node_id.NodeId.{NodeId}
 use Rattle.pfl_base.specs.declared.node_id.NodeId.TheVariants.{A, B}
 use Rattle.pfl_edits.specs.Changes.{LeadsBothWays}
 use Rattle.pfl_edits.proofs.ForCallers.{part-both_ways}
-use Rattle.pfl_desk.specs.Nodes.{Node}
-use Rattle.pfl_desk.specs.inner.BothWays as nodes
+use Rattle.pfl_node.specs.desk.Nodes.{Node}
+use Rattle.pfl_node.specs.desk.inner.BothWays as nodes
 use Rattle.pfl_node.specs.Events.{restarted}
 use Rattle.pfl_link.specs.inner.BothWays as links
 use Rattle.pfl_world.specs.declared.edit.WorldEdit.{WorldEdit}

@@ -4,9 +4,9 @@ use Rattle.pfl_wire.specs.declared.fault.BadFrame.{BadFrame}
 use Rattle.pfl_wire.specs.Frames.{Frame, records_of}
 use Rattle.pfl_language.specs.declared.outcome.Outcome.{Outcome}
 use Rattle.pfl_language.specs.declared.outcome.Outcome.TheVariants.{Taken, Broken}
-use Rattle.pfl_desk.specs.Nodes.{Node}
-use Rattle.pfl_desk.specs.Changes.{count_broken}
-use Rattle.pfl_receive.specs.Delivering.{received}
+use Rattle.pfl_node.specs.desk.Nodes.{Node}
+use Rattle.pfl_node.specs.desk.Changes.{count_broken}
+use Rattle.pfl_node.specs.receive.Delivering.{received}
 
 -- the node after a frame that it can read, or with one more counted that it cannot
 abbrev pub arrived : Node → Result Frame BadFrame → Node

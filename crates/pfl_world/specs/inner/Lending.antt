@@ -2,7 +2,7 @@
 use Rattle.std.specs.Borrow.{Lends, MutBor, Fml, RattleType}
 use Rattle.std.specs.declared.alloc.Allocator.{Ghosts}
 use Rattle.pfl_base.specs.declared.node_id.NodeId.{NodeId}
-use Rattle.pfl_desk.specs.Nodes.{Node}
+use Rattle.pfl_node.specs.desk.Nodes.{Node}
 use Rattle.pfl_node.specs.contracts.node.Node as node
 use Rattle.pfl_world.specs.contracts.nodes.Nodes.{the_row}
 use Rattle.pfl_world.specs.Worlds.{Nodes, of_name}

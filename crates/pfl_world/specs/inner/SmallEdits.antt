@@ -1,7 +1,7 @@
 -- Small edits and those of middle size, and the edits of the pair that they are.
 use Rattle.pfl_base.specs.declared.node_id.NodeId.{NodeId}
-use Rattle.pfl_desk.specs.declared.edit.NodeEdit.{NodeEdit}
-use Rattle.pfl_desk.specs.declared.edit.NodeEdit.TheVariants as nodes
+use Rattle.pfl_node.specs.desk.declared.edit.NodeEdit.{NodeEdit}
+use Rattle.pfl_node.specs.desk.declared.edit.NodeEdit.TheVariants as nodes
 use Rattle.pfl_world.specs.declared.edit.WorldEdit.{WorldEdit}
 use Rattle.pfl_world.specs.declared.edit.WorldEdit.TheVariants.{OfNode}
 use Rattle.pfl_world.specs.declared.small_edit.SmallEdit.{SmallEdit}

@@ -1,7 +1,7 @@
 -- The edits of a node and of the link as those of the pair.
 use Rattle.std.specs.Prelude.{List, map}
 use Rattle.pfl_base.specs.declared.node_id.NodeId.{NodeId}
-use Rattle.pfl_desk.specs.declared.edit.NodeEdit.{NodeEdit}
+use Rattle.pfl_node.specs.desk.declared.edit.NodeEdit.{NodeEdit}
 use Rattle.pfl_link.specs.LinkEdits.{LinkEdit}
 use Rattle.pfl_world.specs.declared.edit.WorldEdit.{WorldEdit}
 use Rattle.pfl_world.specs.declared.edit.WorldEdit.TheVariants.{OfNode, OfLink}

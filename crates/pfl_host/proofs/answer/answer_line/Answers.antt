@@ -1,5 +1,5 @@
 use Rattle.std.proofs.Common.{rules, ◌≡◌, Some, Ok}
-use Rattle.pfl_lines.specs.declared.session.SessionLine.TheVariants.{View}
+use Rattle.pfl_run.specs.lines.declared.session.SessionLine.TheVariants.{View}
 use Rattle.pfl_host.specs.inner.Answers.{kept_said}
 use Rattle.pfl_host.proofs.Broken.{kept-says}
 use Rattle.pfl_host.proofs.answer.answer_line.Goals as goal

@@ -1,7 +1,7 @@
 use Rattle.std.proofs.Common.{arith, ◌∙◌, refl}
 use Rattle.std.proofs.lemmas.Result.{err_from_is_err_and}
-use Rattle.pfl_reader.proofs.ForCallers.{Counts-begun, Counts-more, counted-line, counted-none, gave-line, gave-none}
-use Rattle.pfl_script.proofs.ForCallers.{one_if-le}
+use Rattle.pfl_run.proofs.ForCallers.reader.{Counts-begun, Counts-more, counted-line, counted-none, gave-line, gave-none}
+use Rattle.pfl_run.proofs.ForCallers.script.{one_if-le}
 use Rattle.pfl_session.proofs.ForCallers.{goes-on}
 use Rattle.pfl_host.proofs.ServedLines.{Served-none, Served-more, Served-whole, goes-none, until-read, until-answer}
 use Rattle.pfl_host.proofs.session.serve_session.Goals as goal

@@ -1,7 +1,7 @@
 use Rattle.std.proofs.Common.{◌≡◌, ◌+◌, ◌≤◌, ◌^◌, length}
 use Rattle.pfl_base.specs.Counts.{Counts}
-use Rattle.pfl_reader.specs.Readers.{room}
-use Rattle.pfl_script.specs.Readers.{counted_on}
+use Rattle.pfl_run.specs.reader.Readers.{room}
+use Rattle.pfl_run.specs.script.Readers.{counted_on}
 use Rattle.pfl_session.specs.Passes.{GoesOn, IsPassOf}
 use Rattle.pfl_host.proofs.ServedLines.{Served}
 use Rattle.pfl_host.proofs.session.serve_session.Given as goal

@@ -1,10 +1,10 @@
 use Rattle.std.proofs.Common.{◌≡◌, ℕ, ◌-◌, ◌*◌, ◌∙◌, ap, sym}
 use Rattle.std.proofs.lemmas.Result.{err_from_is_err_and}
 use Rattle.pfl_edits.specs.Maps as maps
-use Rattle.pfl_table.specs.Tables.{States}
+use Rattle.pfl_receive.specs.table.Tables.{States}
 use Rattle.pfl_node.specs.Clearing.{cleared}
-use Rattle.pfl_desk.specs.Nodes.{is_overfull}
-use Rattle.pfl_desk.proofs.ForCallers.{writes-then}
+use Rattle.pfl_receive.specs.desk.Nodes.{is_overfull}
+use Rattle.pfl_receive.proofs.ForCallers.desk.{writes-then}
 use Rattle.pfl_node.proofs.Cleared.{cleared-is}
 use Rattle.pfl_node.proofs.OnePoint.{stops-there, ends-there}
 use Rattle.pfl_node.proofs.clear.clear.Goals as goal

@@ -1,5 +1,5 @@
 use Rattle.std.proofs.Common.{length}
-use Rattle.pfl_desk.proofs.ForCallers.{writes-then}
+use Rattle.pfl_receive.proofs.ForCallers.desk.{writes-then}
 use Rattle.pfl_node.proofs.flush.clear_told.Goals as goal
 
 pub returns-clause-writes : goal.returns-clause-writes

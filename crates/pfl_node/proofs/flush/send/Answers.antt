@@ -1,6 +1,6 @@
 use Rattle.std.proofs.Common.{◌≡◌, ◌+◌, ◌*◌, ◌∙◌, ap, length, List, arith}
-use Rattle.pfl_queue.specs.declared.Entry.{Entry}
-use Rattle.pfl_desk.proofs.ForCallers.{writes-then, writes-more, frame_entries}
+use Rattle.pfl_receive.specs.queue.declared.Entry.{Entry}
+use Rattle.pfl_receive.proofs.ForCallers.desk.{writes-then, writes-more, frame_entries}
 use Rattle.pfl_node.proofs.Sent.{flushed-is}
 use Rattle.pfl_node.proofs.flush.send.Goals as goal
 

@@ -1,9 +1,9 @@
 use Rattle.std.proofs.Common.{◌≡◌, Some, false, ◌∙◌, ap, sym, arith}
 use Rattle.std.proofs.lemmas.Result.{err_from_is_err_and}
-use Rattle.pfl_desk.specs.Changes as to
-use Rattle.pfl_desk.specs.Nodes.{is_overfull}
+use Rattle.pfl_receive.specs.desk.Changes as to
+use Rattle.pfl_receive.specs.desk.Nodes.{is_overfull}
 use Rattle.pfl_node.specs.Starting.{pass}
-use Rattle.pfl_desk.proofs.ForCallers.{freed-may, wanted-may, writes-then, writes-more}
+use Rattle.pfl_receive.proofs.ForCallers.desk.{freed-may, wanted-may, writes-then, writes-more}
 use Rattle.pfl_node.proofs.packet.accept.Goals as goal
 
 pub change_state-requires-clause-known : goal.change_state-requires-clause-known

@@ -3,7 +3,7 @@ use Rattle.std.proofs.lemmas.Result.{err_from_is_err_and}
 use Rattle.pfl_base.specs.Keys.{key}
 use Rattle.pfl_track.specs.declared.tracked.Tracked.TheVariants.{Moved, OutOfWindow, Reused}
 use Rattle.pfl_track.specs.Tracking.{tracked}
-use Rattle.pfl_table.proofs.ForCallers.{found-stands}
+use Rattle.pfl_receive.proofs.ForCallers.table.{found-stands}
 use Rattle.pfl_node.specs.Packets.{followed}
 use Rattle.pfl_node.proofs.Fated.{found-replaces}
 use Rattle.pfl_node.proofs.Points.{stops-last, ends, handles-tracked}

@@ -1,7 +1,7 @@
 use Rattle.std.proofs.Common.{◌≡◌, Some, None, ◌∙◌, ap, sym, arith}
 use Rattle.std.proofs.lemmas.Result.{err_from_is_err_and}
 use Rattle.pfl_base.specs.Keys.{key}
-use Rattle.pfl_table.specs.Tables.{States, found, states_of}
+use Rattle.pfl_receive.specs.table.Tables.{States, found, states_of}
 use Rattle.pfl_node.specs.Starting.{judged}
 use Rattle.pfl_node.proofs.Fated.{handled-none, points-none, handled-some, points-some}
 use Rattle.pfl_node.proofs.Points.{stops-last, ends, handles-as}

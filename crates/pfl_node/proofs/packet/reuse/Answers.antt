@@ -1,11 +1,11 @@
 use Rattle.std.proofs.Common.{◌≡◌, ◌∙◌, ap, sym, arith}
 use Rattle.std.proofs.lemmas.Result.{err_from_is_err_and}
 use Rattle.std.specs.Prelude.{◌||◌}
-use Rattle.pfl_desk.specs.Changes.{deleted}
-use Rattle.pfl_desk.specs.Nodes.{Node, is_overfull, is_overcounted}
+use Rattle.pfl_receive.specs.desk.Changes.{deleted}
+use Rattle.pfl_receive.specs.desk.Nodes.{Node, is_overfull, is_overcounted}
 use Rattle.pfl_node.specs.Starting.{judged}
 use Rattle.pfl_node.proofs.Points.{stops-first, stops-last, ends-after}
-use Rattle.pfl_desk.proofs.ForCallers.{writes-then}
+use Rattle.pfl_receive.proofs.ForCallers.desk.{writes-then}
 use Rattle.pfl_node.proofs.packet.reuse.Goals as goal
 
 pub returns-in_err-delete : goal.returns-in_err-delete

@@ -7,11 +7,11 @@ use Rattle.pfl_rules.specs.Scaling.{scaled}
 use Rattle.pfl_language.specs.declared.limits.Limits.{Limits}
 use Rattle.pfl_language.specs.Limits.{adaptive}
 use Rattle.pfl_track.specs.Tracking.{expired}
-use Rattle.pfl_table.specs.declared.row.Row.{Row}
-use Rattle.pfl_table.specs.Tables.{Table, States, states_of, first_expiring}
-use Rattle.pfl_table.proofs.ForCallers.{TimedBy}
-use Rattle.pfl_desk.specs.Nodes.{Node}
-use Rattle.pfl_desk.specs.inner.Kept.{timeout_by}
+use Rattle.pfl_receive.specs.table.declared.row.Row.{Row}
+use Rattle.pfl_receive.specs.table.Tables.{Table, States, states_of, first_expiring}
+use Rattle.pfl_receive.proofs.ForCallers.table.{TimedBy}
+use Rattle.pfl_receive.specs.desk.Nodes.{Node}
+use Rattle.pfl_receive.specs.desk.inner.Kept.{timeout_by}
 use Rattle.pfl_node.specs.Purging.{expired_among}
 use Rattle.pfl_node.proofs.Expired.{due_state, first-row}
 use Rattle.pfl_node.proofs.purge.first_expired.Goals as goal

@@ -1,8 +1,8 @@
 use Rattle.std.proofs.Common.{◌≡◌, true, false, ◌∙◌, ap, sym, arith, refl}
 use Rattle.pfl_bulk.specs.Bulk.{no_name}
-use Rattle.pfl_desk.specs.Changes.{ask}
-use Rattle.pfl_desk.specs.Nodes.{Node, is_overfull}
-use Rattle.pfl_desk.proofs.ForCallers.{writes-then}
+use Rattle.pfl_receive.specs.desk.Changes.{ask}
+use Rattle.pfl_receive.specs.desk.Nodes.{Node, is_overfull}
+use Rattle.pfl_receive.proofs.ForCallers.desk.{writes-then}
 use Rattle.pfl_node.proofs.restart.ask_first.Goals as goal
 
 pub set_clock-requires : goal.set_clock-requires

@@ -5,7 +5,7 @@ use Rattle.pfl_bulk.specs.declared.BulkClient.{BulkClient}
 use Rattle.pfl_language.specs.declared.retried.Retried.{Retried}
 use Rattle.pfl_language.specs.declared.retried.Retried.TheVariants.{Asked, Served}
 use Rattle.pfl_node.specs.Retrying.{retried_client}
-use Rattle.pfl_desk.proofs.ForCallers.{writes-then, writes-more}
+use Rattle.pfl_receive.proofs.ForCallers.desk.{writes-then, writes-more}
 use Rattle.pfl_node.proofs.Asking.{from_not, asked-is, asked-full, served-is, answer-served, answer-asked}
 use Rattle.pfl_node.proofs.OnePoint.{stops-there, ends-there}
 use Rattle.pfl_node.proofs.retry.ask_again.Goals as goal

@@ -1,7 +1,7 @@
 use Rattle.std.proofs.Common.{◌≡◌, None, Some, ◌∙◌, ap, sym, arith}
 use Rattle.pfl_bulk.specs.declared.BulkServer.TheVariants as server
 use Rattle.pfl_edits.specs.Maps as maps
-use Rattle.pfl_table.specs.Tables.{States, state_after}
+use Rattle.pfl_receive.specs.table.Tables.{States, state_after}
 use Rattle.pfl_node.specs.Turning.{is_eligible}
 use Rattle.pfl_node.proofs.Risen.{after-none, next-passes, next-skipped, fewer-behind, gathered-first, gathered-more, gathered-skip, gathered-full, gathered-all}
 use Rattle.pfl_node.proofs.Turned.{first-names}

@@ -3,10 +3,10 @@ use Rattle.std.proofs.lemmas.Result.{err_from_is_err_and}
 use Rattle.std.specs.List.{AllByRecursion}
 use Rattle.pfl_base.specs.declared.state_name.StateName.{StateName}
 use Rattle.pfl_bulk.specs.Bulk.{first_names}
-use Rattle.pfl_queue.specs.declared.Kind.TheVariants.{Update}
+use Rattle.pfl_receive.specs.queue.declared.Kind.TheVariants.{Update}
 use Rattle.pfl_language.specs.declared.limits.Limits.{Limits}
-use Rattle.pfl_desk.specs.inner.Kept.{MayMark}
-use Rattle.pfl_desk.proofs.ForCallers.{writes-then, writes-more}
+use Rattle.pfl_receive.specs.desk.inner.Kept.{MayMark}
+use Rattle.pfl_receive.proofs.ForCallers.desk.{writes-then, writes-more}
 use Rattle.pfl_node.specs.Turning.{turn_of, turned}
 use Rattle.pfl_node.proofs.OnePoint.{stops-there, ends-there}
 use Rattle.pfl_node.proofs.Turned.{all_eligible, first-rising, turn-by, turn-may, turned-full, ended-full, turned-is, turned-past}

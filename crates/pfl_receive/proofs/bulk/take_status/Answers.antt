@@ -1,5 +1,5 @@
 use Rattle.std.proofs.Common.{◌∙◌, sym, subst}
-use Rattle.pfl_bulk.specs.Bulk.{after_status}
+use Rattle.pfl_desk.specs.bulk.Bulk.{after_status}
 use Rattle.pfl_desk.specs.Nodes.{AskedAt}
 use Rattle.pfl_receive.proofs.Serving.{heard-past}
 use Rattle.pfl_receive.proofs.bulk.take_status.Goals as goal

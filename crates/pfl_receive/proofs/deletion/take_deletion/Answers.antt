@@ -4,7 +4,7 @@ use Rattle.std.specs.Borrow.{Bor}
 use Rattle.std.specs.Option.{option_copied}
 use Rattle.pfl_edits.specs.Maps as maps
 use Rattle.pfl_track.specs.declared.state.State.{State}
-use Rattle.pfl_table.specs.Tables.{States}
+use Rattle.pfl_desk.specs.table.Tables.{States}
 use Rattle.pfl_receive.proofs.Paying.{paid-forgotten, paid-more}
 use Rattle.pfl_receive.proofs.deletion.take_deletion.Goals as goal
 

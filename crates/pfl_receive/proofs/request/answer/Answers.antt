@@ -1,5 +1,5 @@
 use Rattle.std.proofs.Common.{◌∙◌, sym}
-use Rattle.pfl_queue.specs.declared.Kind.TheVariants.{Update}
+use Rattle.pfl_desk.specs.queue.declared.Kind.TheVariants.{Update}
 use Rattle.pfl_desk.proofs.ForCallers.{told-may, writes-then}
 use Rattle.pfl_receive.proofs.Serving.{is-synced}
 use Rattle.pfl_receive.proofs.request.answer.Goals as goal

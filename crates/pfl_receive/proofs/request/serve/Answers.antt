@@ -1,6 +1,6 @@
 use Rattle.std.proofs.Common.{◌∙◌, ap, sym, subst, arith}
 use Rattle.std.specs.Prelude.{nat_lt}
-use Rattle.pfl_bulk.specs.Bulk.{server_started}
+use Rattle.pfl_desk.specs.bulk.Bulk.{server_started}
 use Rattle.pfl_desk.specs.Nodes.{Node, ServesSince}
 use Rattle.pfl_desk.proofs.ForCallers.{writes-then, writes-more}
 use Rattle.pfl_receive.proofs.Serving.{started-past}

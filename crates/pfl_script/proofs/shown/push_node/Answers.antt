@@ -3,7 +3,7 @@ use Rattle.std.specs.List.{flat_map}
 use Rattle.std.proofs.lemmas.Result.{IfOk-weaker}
 use Rattle.pfl_edits.specs.Maps as maps
 use Rattle.pfl_table.specs.Tables.{States}
-use Rattle.pfl_desk.specs.declared.counters.Counters.{Counters}
+use Rattle.pfl_timeline.specs.desk.declared.counters.Counters.{Counters}
 use Rattle.pfl_script.specs.Shows.{node_line, count_line, state_line, queue_lines, held_line, node_lines}
 use Rattle.pfl_script.proofs.Lists.{pushed_five}
 use Rattle.pfl_script.proofs.shown.push_node.Goals as goal

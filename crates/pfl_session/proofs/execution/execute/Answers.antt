@@ -1,4 +1,4 @@
-use Rattle.pfl_world.proofs.ForCallers.{where_err}
+use Rattle.pfl_timeline.proofs.ForCallers.world.{where_err}
 use Rattle.pfl_session.proofs.Listed.{listing-keeps}
 use Rattle.pfl_session.proofs.Telling.{room-is-enough}
 use Rattle.pfl_session.proofs.execution.execute.Goals as goal

@@ -2,7 +2,7 @@ use Rattle.std.proofs.Common.{sym, ◌∙◌, ap, subst, arith}
 use Rattle.std.specs.List.{flat_map}
 use Rattle.std.proofs.lemmas.List.Sums.{prefix_len-le-length}
 use Rattle.pfl_wire.specs.Frames.{lists}
-use Rattle.pfl_queue.specs.Taking.{entry_action, one_action}
+use Rattle.pfl_receive.specs.queue.Taking.{entry_action, one_action}
 use Rattle.pfl_node.specs.Flushing.{messages_of}
 use Rattle.pfl_node.specs.inner.Sending.{run_of}
 use Rattle.pfl_node.proofs.Grouped.{IsGrouped, grouped-more, lists-more}

@@ -1,6 +1,6 @@
 use Rattle.std.proofs.Common.{arith}
 use Rattle.std.proofs.lemmas.List.Sums.{prefix_len-drop_all}
-use Rattle.pfl_queue.specs.Taking.{entry_action, one_action}
+use Rattle.pfl_receive.specs.queue.Taking.{entry_action, one_action}
 use Rattle.pfl_node.proofs.flush.frame.run_of.Goals as goal
 
 pub returns : goal.returns

@@ -4,7 +4,7 @@ use Rattle.pfl_base.specs.declared.refusal.Refusal.{Refusal}
 use Rattle.pfl_bulk.specs.Bulk as bulk
 use Rattle.pfl_language.specs.declared.limits.Limits.{Limits}
 use Rattle.pfl_node.specs.Retrying.{retried_client, retry_answer}
-use Rattle.pfl_desk.specs.Nodes.{Node, IsRefusal}
+use Rattle.pfl_receive.specs.desk.Nodes.{Node, IsRefusal}
 use Rattle.pfl_node.proofs.Ready.{begins, may-settle, settled, settled-answer}
 use Rattle.pfl_node.proofs.Asking.{retry-early, retry-late}
 use Rattle.pfl_node.proofs.OnePoint.{point-ends, refused-as, not_refused-as}

@@ -4,7 +4,7 @@ use Rattle.pfl_base.specs.declared.refusal.Refusal.{Refusal}
 use Rattle.pfl_base.specs.declared.refusal.Refusal.TheVariants.{NotSyncing}
 use Rattle.pfl_bulk.specs.Bulk.{is_serving}
 use Rattle.pfl_node.specs.Turning.{turn_of, turned, turn_refusal}
-use Rattle.pfl_desk.specs.Nodes.{Node, IsRefusal, full_tests, refused_by, points_refusal}
+use Rattle.pfl_receive.specs.desk.Nodes.{Node, IsRefusal, full_tests, refused_by, points_refusal}
 use Rattle.pfl_node.proofs.Ready.{begins, may-settle, settled, settled-answer}
 use Rattle.pfl_node.proofs.OnePoint.{point-ends, refused-as, not_refused-as}
 use Rattle.pfl_node.proofs.Turned.{turn-few}

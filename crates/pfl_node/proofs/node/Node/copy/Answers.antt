@@ -1,6 +1,6 @@
 use Rattle.std.proofs.Common.{◌∙◌, ap, sym, subst}
 use Rattle.pfl_node.specs.inner.Room.{most_edits}
-use Rattle.pfl_desk.specs.Nodes.{Node, IsNode}
+use Rattle.pfl_receive.specs.desk.Nodes.{Node, IsNode}
 use Rattle.pfl_node.proofs.Ready.{most-few}
 use Rattle.pfl_node.proofs.node.Node.copy.Goals as goal
 

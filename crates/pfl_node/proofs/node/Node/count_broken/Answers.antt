@@ -1,5 +1,5 @@
 use Rattle.std.proofs.Common.{◌≡◌, ◌∷◌, [], arith}
-use Rattle.pfl_desk.specs.Changes.{count_broken}
+use Rattle.pfl_receive.specs.desk.Changes.{count_broken}
 use Rattle.pfl_node.proofs.Ready.{begins, may-settle, settled, settled-answer}
 use Rattle.pfl_node.proofs.OnePoint.{point-ends}
 use Rattle.pfl_node.proofs.node.Node.count_broken.Goals as goal

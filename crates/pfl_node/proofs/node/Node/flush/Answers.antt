@@ -3,8 +3,8 @@ use Rattle.std.specs.Prelude.{Ok, IfErr}
 use Rattle.pfl_base.specs.declared.refusal.Refusal.{Refusal}
 use Rattle.pfl_wire.specs.Spelling.{spelling}
 use Rattle.pfl_node.specs.Flushing.{send_refusal, frame_of}
-use Rattle.pfl_desk.specs.Nodes.{IsRefusal}
-use Rattle.pfl_desk.proofs.ForCallers.{frame_entries}
+use Rattle.pfl_receive.specs.desk.Nodes.{IsRefusal}
+use Rattle.pfl_receive.proofs.ForCallers.desk.{frame_entries}
 use Rattle.pfl_node.proofs.Sent.{frame-few, sent-carries, flushed-ends, flushed-counts, wants-memory, sent-answer, sent-node, where_ok}
 use Rattle.pfl_node.proofs.Ready.{begins, concluded}
 use Rattle.pfl_node.proofs.node.Node.flush.Goals as goal

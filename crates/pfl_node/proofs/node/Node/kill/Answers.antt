@@ -5,11 +5,11 @@ use Rattle.std.specs.Option.{option_map_or}
 use Rattle.pfl_base.specs.declared.refusal.Refusal.{Refusal}
 use Rattle.pfl_base.specs.declared.refusal.Refusal.TheVariants.{NoSuchState}
 use Rattle.pfl_edits.specs.Maps as maps
-use Rattle.pfl_table.specs.Tables.{States}
+use Rattle.pfl_receive.specs.table.Tables.{States}
 use Rattle.pfl_track.specs.declared.state.State.{State}
 use Rattle.pfl_node.specs.Killing.{kill_refusal, killed}
-use Rattle.pfl_desk.specs.Changes.{deleted}
-use Rattle.pfl_desk.specs.Nodes.{Node, IsRefusal, points_refusal, refused_by, full_tests}
+use Rattle.pfl_receive.specs.desk.Changes.{deleted}
+use Rattle.pfl_receive.specs.desk.Nodes.{Node, IsRefusal, points_refusal, refused_by, full_tests}
 use Rattle.pfl_node.proofs.Ready.{begins, may-settle, settled, settled-answer}
 use Rattle.pfl_node.proofs.OnePoint.{point-ends, refused-as, not_refused-as}
 use Rattle.pfl_node.proofs.node.Node.kill.Goals as goal

@@ -1,7 +1,7 @@
 use Rattle.std.proofs.Common.{◌∙◌, ap, sym, arith}
 use Rattle.pfl_node.specs.inner.Room.{most_edits}
-use Rattle.pfl_desk.specs.Nodes.{Node, is_overcounted}
-use Rattle.pfl_desk.proofs.ForCallers.{new_node-counts}
+use Rattle.pfl_receive.specs.desk.Nodes.{Node, is_overcounted}
+use Rattle.pfl_receive.proofs.ForCallers.desk.{new_node-counts}
 use Rattle.pfl_node.proofs.Ready.{most-few}
 use Rattle.pfl_node.proofs.node.Node.new_at.Goals as goal
 

@@ -3,10 +3,10 @@ use Rattle.std.proofs.lemmas.Result.{on_ok_weaker, IfOk-weaker}
 use Rattle.std.specs.Prelude.{◌==◌, Ok}
 use Rattle.pfl_base.specs.declared.refusal.Refusal.{Refusal}
 use Rattle.pfl_base.specs.declared.refusal.Refusal.TheVariants.{NothingPending, CountFull, TooEarly}
-use Rattle.pfl_defer.specs.Deferring.{Deferrals}
+use Rattle.pfl_receive.specs.defer.Deferring.{Deferrals}
 use Rattle.pfl_node.specs.Releasing.{release_refusal, released_due, due_names}
-use Rattle.pfl_desk.specs.inner.Judging.{judged_as}
-use Rattle.pfl_desk.specs.Nodes.{Node, IsRefusal, is_overcounted, refused_by}
+use Rattle.pfl_receive.specs.desk.inner.Judging.{judged_as}
+use Rattle.pfl_receive.specs.desk.Nodes.{Node, IsRefusal, is_overcounted, refused_by}
 use Rattle.pfl_node.proofs.Ready.{begins, concluded}
 use Rattle.pfl_node.proofs.OnePoint.{refused-as, not_refused-as}
 use Rattle.pfl_node.proofs.Released.{due-few, judged-low, judged-none}

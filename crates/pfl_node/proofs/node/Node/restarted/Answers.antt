@@ -2,8 +2,8 @@ use Rattle.std.proofs.Common.{◌≡◌, ◌≤◌, ◌∙◌, ap, sym, subst, a
 use Rattle.pfl_language.specs.declared.limits.Limits.{Limits}
 use Rattle.pfl_language.specs.Limits.{AreLimits}
 use Rattle.pfl_node.specs.inner.Room.{most_edits}
-use Rattle.pfl_desk.specs.declared.edit.NodeEdit.{NodeEdit}
-use Rattle.pfl_desk.specs.Nodes.{Node, AreParts, is_overcounted}
+use Rattle.pfl_receive.specs.desk.declared.edit.NodeEdit.{NodeEdit}
+use Rattle.pfl_receive.specs.desk.Nodes.{Node, AreParts, is_overcounted}
 use Rattle.pfl_node.proofs.Anew.{asks-as, anew-is, anew-counts, anew-limits}
 use Rattle.pfl_node.proofs.Ready.{most-few}
 use Rattle.pfl_node.proofs.node.Node.restarted.Goals as goal

@@ -3,10 +3,10 @@ use Rattle.std.specs.Prelude.{Ok, Err, IfErr, OnOk}
 use Rattle.std.specs.List.{list_any}
 use Rattle.pfl_base.specs.declared.refusal.Refusal.{Refusal}
 use Rattle.pfl_edits.specs.Changes.{Edits}
-use Rattle.pfl_desk.specs.declared.edit.NodeEdit.{NodeEdit}
-use Rattle.pfl_desk.specs.declared.parts.judge.Overfull.{Overfull}
+use Rattle.pfl_receive.specs.desk.declared.edit.NodeEdit.{NodeEdit}
+use Rattle.pfl_receive.specs.desk.declared.parts.judge.Overfull.{Overfull}
 use Rattle.pfl_node.specs.Ticking.{tick_refusal, ticked}
-use Rattle.pfl_desk.specs.Nodes.{Node, IsRefusal, is_overcounted}
+use Rattle.pfl_receive.specs.desk.Nodes.{Node, IsRefusal, is_overcounted}
 use Rattle.pfl_node.proofs.Ready.{settled, settled-answer}
 use Rattle.pfl_node.proofs.node.Node.tick.Goals as goal
 

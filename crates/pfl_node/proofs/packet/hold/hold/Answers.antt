@@ -1,6 +1,6 @@
 use Rattle.std.proofs.Common.{refl}
-use Rattle.pfl_defer.specs.Deferring.{with_held}
-use Rattle.pfl_desk.proofs.ForCallers.{writes-then, held-may}
+use Rattle.pfl_receive.specs.defer.Deferring.{with_held}
+use Rattle.pfl_receive.proofs.ForCallers.desk.{writes-then, held-may}
 use Rattle.pfl_node.proofs.Holding.{waits-is}
 use Rattle.pfl_node.proofs.packet.hold.hold.Goals as goal
 

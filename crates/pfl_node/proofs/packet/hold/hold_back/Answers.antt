@@ -2,7 +2,7 @@ use Rattle.std.proofs.Common.{true, ◌∙◌, ap}
 use Rattle.pfl_track.specs.declared.state.State.{State}
 use Rattle.pfl_node.specs.Starting.{with_room, hold}
 use Rattle.pfl_node.proofs.Holding.{room-may, room-made}
-use Rattle.pfl_desk.proofs.ForCallers.{wanted-may, writes-then}
+use Rattle.pfl_receive.proofs.ForCallers.desk.{wanted-may, writes-then}
 use Rattle.pfl_node.proofs.packet.hold.hold_back.Goals as goal
 
 pub hold-requires-clause-waits : goal.hold-requires-clause-waits

@@ -1,5 +1,5 @@
 use Rattle.std.proofs.Common.{◌≡◌, None, Some, ◌∙◌, ap, sym}
-use Rattle.pfl_defer.specs.Deferring.{pushed_out}
+use Rattle.pfl_receive.specs.defer.Deferring.{pushed_out}
 use Rattle.pfl_node.proofs.Holding.{room-some, room-none}
 use Rattle.pfl_node.proofs.packet.hold.make_room.Goals as goal
 

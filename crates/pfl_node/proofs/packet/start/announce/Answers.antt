@@ -2,14 +2,14 @@ use Rattle.std.proofs.Common.{◌≡◌, Some, ◌∙◌, ap, sym, arith}
 use Rattle.std.proofs.lemmas.Result.{err_from_is_err_and}
 use Rattle.pfl_base.proofs.ForCallers.{names_total, names_exact}
 use Rattle.pfl_edits.proofs.ForCallers.{get-set_at_same}
-use Rattle.pfl_queue.specs.declared.Kind.TheVariants.{Insert}
-use Rattle.pfl_queue.specs.Queues.{Queue, pending}
+use Rattle.pfl_receive.specs.queue.declared.Kind.TheVariants.{Insert}
+use Rattle.pfl_receive.specs.queue.Queues.{Queue, pending}
 use Rattle.std.specs.Prelude.{nat_lt}
-use Rattle.pfl_desk.specs.Changes.{mark}
-use Rattle.pfl_desk.specs.Nodes.{Node, is_overfull}
+use Rattle.pfl_receive.specs.desk.Changes.{mark}
+use Rattle.pfl_receive.specs.desk.Nodes.{Node, is_overfull}
 use Rattle.pfl_node.specs.Starting.{with_new, with_room, pass, hold, is_deferred}
 use Rattle.pfl_node.proofs.Holding.{announced-queue, announced-quiet, announced-held, announced-passed, fresh-held}
-use Rattle.pfl_desk.proofs.ForCallers.{told-may, writes-then, writes-more}
+use Rattle.pfl_receive.proofs.ForCallers.desk.{told-may, writes-then, writes-more}
 use Rattle.pfl_node.proofs.packet.start.announce.Goals as goal
 
 pub returns-then-no_sync : goal.returns-then-no_sync

@@ -5,7 +5,7 @@ use Rattle.pfl_rules.specs.Rules.{Rules, verdict}
 use Rattle.pfl_node.specs.inner.Carried.{Tried}
 use Rattle.pfl_node.specs.Starting.{Handled}
 use Rattle.pfl_node.proofs.Matched.{judged-fits}
-use Rattle.pfl_desk.proofs.ForCallers.{writes-more}
+use Rattle.pfl_receive.proofs.ForCallers.desk.{writes-more}
 use Rattle.pfl_node.proofs.Started.{judged-block, judged-none, judged-rule}
 use Rattle.pfl_node.proofs.packet.start.judge.Goals as goal
 

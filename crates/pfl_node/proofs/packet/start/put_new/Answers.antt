@@ -1,4 +1,4 @@
-use Rattle.pfl_desk.proofs.ForCallers.{writes-then}
+use Rattle.pfl_receive.proofs.ForCallers.desk.{writes-then}
 use Rattle.pfl_node.proofs.Beginning.{started-node, started-may}
 use Rattle.pfl_node.proofs.packet.start.put_new.Goals as goal
 

@@ -6,12 +6,12 @@ use Rattle.pfl_track.specs.declared.key_pair.KeyFields.{KeyFields}
 use Rattle.pfl_track.specs.declared.state.State.{State}
 use Rattle.pfl_track.specs.Keys.{wire_key, fits_family}
 use Rattle.pfl_track.specs.Tracking.{start_state}
-use Rattle.pfl_table.specs.Tables.{key_in_use}
+use Rattle.pfl_receive.specs.table.Tables.{key_in_use}
 use Rattle.pfl_node.specs.inner.Carried.{Tried}
-use Rattle.pfl_desk.specs.inner.Kept.{MayStart}
+use Rattle.pfl_receive.specs.desk.inner.Kept.{MayStart}
 use Rattle.pfl_node.specs.Starting.{Handled, announced, with_new, new_state}
 use Rattle.pfl_node.proofs.Fated.{pair-is, new-starts}
-use Rattle.pfl_desk.proofs.ForCallers.{writes-more}
+use Rattle.pfl_receive.proofs.ForCallers.desk.{writes-more}
 use Rattle.pfl_node.proofs.Started.{started-max, started-full, started-key, started-new}
 use Rattle.pfl_node.proofs.packet.start.start.Goals as goal
 

@@ -1,6 +1,6 @@
 use Rattle.std.proofs.Common.{◌≡◌, ◌<◌, length, ap, sym, subst, ◌∙◌, arith}
 use Rattle.std.proofs.lemmas.Result.{err_from_is_err_and}
-use Rattle.pfl_world.proofs.ForCallers.{where_err}
+use Rattle.pfl_timeline.proofs.ForCallers.world.{where_err}
 use Rattle.pfl_session.specs.Passes.{Seen, seen_in, HasSeenJournal, AddsOthers}
 use Rattle.pfl_session.proofs.Asked.{met-journal, met-length, met-others, met-counted, met-called, entered-journal}
 use Rattle.pfl_session.proofs.desk.Desk.ask.Goals as goal

@@ -1,7 +1,7 @@
 use Rattle.std.proofs.Common.{◌≡◌, ◌<◌, ◌+◌, ◌∙◌, sym, ap, subst, arith}
 use Rattle.std.specs.Prelude.{[], ◌∷◌, ◌++◌, List}
 use Rattle.pfl_base.specs.Numbers.{greatest}
-use Rattle.pfl_desk.specs.Nodes.{Node}
+use Rattle.pfl_node.specs.desk.Nodes.{Node}
 use Rattle.pfl_node.specs.Events.{restarted}
 use Rattle.pfl_world.specs.declared.edit.WorldEdit.{WorldEdit}
 use Rattle.pfl_world.specs.declared.edit.WorldEdit.TheVariants.{OfRestart}

@@ -2,10 +2,10 @@ use Rattle.std.specs.Prelude.{◌==◌}
 use Rattle.std.proofs.Common.{◌∙◌, ◌≤◌, ◌+◌, ◌*◌, ℕ, List, length, ap, sym, subst}
 use Rattle.pfl_link.specs.Faults.{room_fault}
 use Rattle.pfl_link.specs.Links.{is_full, is_counted_out}
-use Rattle.pfl_queue.specs.Queues.{pending}
-use Rattle.pfl_queue.specs.Taking.{next_frame}
+use Rattle.pfl_node.specs.queue.Queues.{pending}
+use Rattle.pfl_node.specs.queue.Taking.{next_frame}
 use Rattle.pfl_node.specs.Flushing.{flushed, frame_of}
-use Rattle.pfl_desk.specs.Nodes.{Node}
+use Rattle.pfl_node.specs.desk.Nodes.{Node}
 use Rattle.pfl_wire.specs.Spelling.{spelling}
 use Rattle.pfl_world.specs.Worlds.{World, node_at, joined}
 use Rattle.pfl_world.proofs.Leads.{agrees_after, fits_after, back_after, leads_from, made_as, lent_from, where_err}

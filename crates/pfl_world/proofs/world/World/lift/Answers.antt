@@ -1,5 +1,5 @@
 use Rattle.std.proofs.Common.{arith, ◌≤◌, ◌∙◌, sym, ap}
-use Rattle.pfl_desk.specs.Nodes.{Node}
+use Rattle.pfl_node.specs.desk.Nodes.{Node}
 use Rattle.pfl_world.proofs.Leads.{back_limits, agrees_with, lifted, where_ok}
 use Rattle.pfl_world.proofs.Little.{node_edits-little}
 use Rattle.pfl_world.proofs.world.World.lift.Goals as goal

@@ -1,0 +1,3 @@
+-- What proofs of other crates may cite of this crate's proofs; the rest of proofs/ is its own.
+pub use Rattle.pfl_script.proofs.ForCallers.reader as reader
+pub use Rattle.pfl_script.proofs.ForCallers as script

@@ -1,0 +1,47 @@
+#!/usr/bin/env python3
+"""Refuses lists of libraries in crates.txt that make the kit's `rt` slow, and libraries that a crate lists and nowhere names.
+
+`rt` reckons the checksum of a crate from those of the libraries that its line lists, theirs from theirs, anew on each way
+down: so what a check, a build or a test costs before it begins grows with the number of these ways. A crate lists what its
+own code and clauses name, and what it names of crates further down comes from those that pass it on (`specs/Lib.antt`,
+`proofs/ForCallers.antt` and `src/lib.rt` of each).
+"""
+from __future__ import annotations
+
+import re
+import sys
+from pathlib import Path
+from typing import Iterator
+
+TOP = Path(__file__).resolve().parent.parent
+sys.dont_write_bytecode = True
+sys.path.insert(0, str(TOP))
+from proving.crates import PARTS, listed, paths
+
+MOST = 1000
+
+
+def named(crate: str) -> set[str]:
+    """The names that a crate's sources begin a path with."""
+    files = (path for part in PARTS for path in (TOP / "crates" / crate / part).rglob("*") if path.suffix in (".rt", ".antt"))
+    return {name for path in files for pair in re.findall(r"\bRattle\.(\w+)|\b(\w+)::", path.read_text()) for name in pair}
+
+
+def faults() -> Iterator[str]:
+    for name, many in paths(listed()).items():
+        if many > MOST:
+            yield f"{many} ways lead down from {name}, more than {MOST}: list what it names, and name what its neighbours pass on"
+    for name, crate in listed().items():
+        for library in sorted(set(crate.libraries) - named(name)):
+            yield f"{name} lists {library}, and names nothing of it"
+
+
+def main() -> int:
+    found = list(faults())
+    for fault in found:
+        print(f"docs/libraries.py: crates.txt: {fault}", file=sys.stderr)
+    return 1 if found else 0
+
+
+if __name__ == "__main__":
+    sys.exit(main())

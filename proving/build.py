@@ -1,0 +1,175 @@
+"""Proves and builds crates side by side: of those whose libraries are built, the one at the foot of the dearest chain first."""
+from __future__ import annotations
+
+import os
+import re
+import shutil
+import signal
+import subprocess
+import sys
+import time
+from contextlib import suppress
+from dataclasses import dataclass
+from typing import Dict, List, Optional, Set
+
+from .costs import checks_at_once, files_of, jobs_of_check
+from .crates import PARTS, TOP, Crate, Crates, below, chains
+
+LOGS = f"{TOP}/out/lab"
+# How much a check that is not on the dearest chain gives way to the one that is.
+NICE = "10"
+
+
+def made_of(crate: Crate, what: str) -> bool:
+    """Whether a file of the crate's is there, and no source of the crate and of those below it is newer."""
+    if not os.path.exists(f"{crate.folder}/{what}"):
+        return False
+    made = os.stat(f"{crate.folder}/{what}").st_mtime
+    files = [f"{TOP}/crates.txt", *(file for it in below(crate.name).values() for file in files_of(it.folder))]
+    return all(os.stat(it).st_mtime <= made for it in files)
+
+
+def functions_of(name: str) -> Optional[List[int]]:
+    """How many of a crate's functions its check has seen, and of how many, as far as its log says."""
+    with suppress(OSError):
+        with open(f"{LOGS}/{name}.log", encoding="utf-8", errors="replace") as it:
+            told = re.findall(r"^so far: (\d+) of (\d+) functions", it.read(), re.M)
+        if told:
+            return [int(it) for it in told[-1]]
+    return None
+
+
+class Progress:
+    """Says on standard error how far the work is: on a terminal in one line that renews itself, elsewhere in a line a crate."""
+
+    def __init__(self, costs: Dict[str, float]):
+        self.costs, self.done, self.start = costs, 0.0, time.monotonic()
+        self.is_terminal = sys.stderr.isatty()
+
+    def so_far(self, running: List[str]) -> str:
+        """The time, and the share of the whole work."""
+        done = self.done
+        for name in running:
+            seen, all_of_them = functions_of(name) or (0, 1)
+            done += self.costs[name] * seen / max(1, all_of_them)
+        return f"{(time.monotonic() - self.start) / 60:.0f} min, {100 * done / sum(self.costs.values()):.0f} % of the work"
+
+    def show(self, running: List[str]) -> None:
+        if self.is_terminal:
+            each = ", ".join(f"{name} {'/'.join(map(str, functions_of(name) or []))}".strip() for name in running)
+            line = f"lab: {self.so_far(running)}: {each}"
+            print(f"\r\033[K{line[: shutil.get_terminal_size().columns - 1]}", end="", file=sys.stderr, flush=True)
+
+    def proved(self, name: str, running: List[str]) -> None:
+        self.done += self.costs[name]
+        if not self.is_terminal:
+            print(f"lab: {self.so_far(running)}: {name} is proved", file=sys.stderr, flush=True)
+
+    def end(self) -> None:
+        if self.is_terminal:
+            print("\r\033[K", end="", file=sys.stderr, flush=True)
+
+
+class Lane:
+    """A view of the repository by hard links, since rt works in one crate at a time and holds the libraries below it."""
+
+    def __init__(self, folder: str):
+        self.folder = folder
+        self.taken: Set[str] = set()
+        os.makedirs(f"{folder}/crates")
+
+    def take(self, crate: Crate) -> None:
+        if crate.name in self.taken:
+            return
+        self.taken.add(crate.name)
+        to = f"{self.folder}/crates/{crate.name}"
+        os.mkdir(to)
+        for part in (*PARTS, "out"):
+            if os.path.isdir(f"{crate.folder}/{part}"):
+                subprocess.run(["cp", "-al", f"{crate.folder}/{part}", to], check=True)
+        with open(f"{self.folder}/crates.txt", "a", encoding="utf-8") as it:
+            it.write(f"{crate.line}\n")
+
+    def prove(self, name: str, words: List[str], is_first: bool) -> subprocess.Popen:
+        """Begins to prove and build a crate, whose libraries are built, in a group of processes of its own."""
+        for it in below(name).values():
+            self.take(it)
+        command = [*([] if is_first else ["nice", "-n", NICE]), "rt", *words]
+        with open(f"{LOGS}/{name}.log", "w", encoding="utf-8") as log:
+            how = {"stdin": subprocess.DEVNULL, "stdout": log, "stderr": log, "preexec_fn": os.setpgrp}
+            return subprocess.Popen(command, cwd=f"{self.folder}/crates/{name}", **how)
+
+    def give(self, crate: Crate) -> None:
+        """Puts what was made into the repository, whole."""
+        new, to = f"{self.folder}/{crate.name}.new", f"{crate.folder}/out"
+        subprocess.run(["cp", "-al", f"{self.folder}/crates/{crate.name}/out", new], check=True)
+        if os.path.isdir(to):
+            os.rename(to, f"{self.folder}/{crate.name}.old")
+        os.rename(new, to)
+
+
+def stop(checks: List[subprocess.Popen]) -> None:
+    """Ends checks with all that they started."""
+    for sign in (signal.SIGTERM, signal.SIGKILL):
+        for it in checks:
+            with suppress(OSError):
+                os.killpg(it.pid, sign)
+        with suppress(subprocess.TimeoutExpired):
+            for it in checks:
+                it.wait(timeout=5)
+
+
+@dataclass
+class Check:
+    """A check under way, and where it works."""
+
+    lane: Lane
+    process: subprocess.Popen
+
+
+class Build:
+    """The proofs of crates, those of a program's last. `program` is the one that is built whole, and each other a library."""
+
+    def __init__(self, crates: Crates, program: str, room: str, progress: Progress):
+        self.crates, self.program, self.progress = crates, program, progress
+        self.idle = [Lane(f"{room}/{it}") for it in range(checks_at_once())]
+        self.jobs = str(jobs_of_check())
+        length = chains(crates, progress.costs)
+        self.left = sorted(crates, key=lambda it: -length[it])
+        self.running: Dict[str, Check] = {}
+
+    def run(self) -> Optional[str]:
+        """Proves all; the name of one that is not proved, if any."""
+        try:
+            while self.left or self.running:
+                self.begin()
+                time.sleep(0.3)
+                self.progress.show(list(self.running))
+                failed = self.take_done()
+                if failed:
+                    return failed
+            return None
+        finally:
+            stop([it.process for it in self.running.values()])
+
+    def is_ready(self, name: str) -> bool:
+        return not any(it in self.left or it in self.running for it in self.crates[name].libraries)
+
+    def begin(self) -> None:
+        """Begins the checks for which there is a lane, the one with the dearest chain above it first."""
+        for name in [it for it in self.left if self.is_ready(it)][: len(self.idle)]:
+            words = ["run", "--jobs", self.jobs, "--", "--help"] if name == self.program else ["lib", "--jobs", self.jobs]
+            self.left.remove(name)
+            lane = self.idle.pop()
+            self.running[name] = Check(lane, lane.prove(name, words, not self.running))
+
+    def take_done(self) -> Optional[str]:
+        """Keeps what the checks have made that have ended; the name of one that failed, if any."""
+        for name in [it for it, check in self.running.items() if check.process.poll() is not None]:
+            check = self.running.pop(name)
+            if check.process.returncode:
+                return name
+            check.lane.give(self.crates[name])
+            self.idle.append(check.lane)
+            self.progress.proved(name, list(self.running))
+        return None
