@@ -13,15 +13,17 @@ A page quotes by a comment on a line of its own, and the fenced block behind it 
     <!-- reached CRATE NAME .. -->           how many definitions these definitions of specs/ are made of, crate by crate
     <!-- reached PAGE -->                    the same of the definitions that the contracts cite which the page quotes
 
-Names are looked up in the crate, whatever file they stand in; a name that is gone or that stands twice is an error. On a page that
-says what is reached, a definition that is quoted and not reached is an error: nobody has to believe it. Where it says so of
-another page's contracts, a definition that one of their clauses cites and that it does not quote is an error, too.
+Names are looked up in the crate, whatever file they stand in; a name that is gone or that stands twice is an error. A contract stands
+on one page alone: a function that is quoted twice over all pages, by `contracts` or by `function`, is an error. On a page that says
+what is reached, a definition that is quoted and not reached is an error: nobody has to believe it. Where it says so of another
+page's contracts, a definition that one of their clauses cites and that it does not quote is an error, too.
 
     docs/reading.py            writes the blocks
     docs/reading.py --check    changes nothing, and ends with 1 where a block is stale or a name is not found
 """
 
 import collections
+import functools
 import re
 import sys
 import textwrap
@@ -134,6 +136,7 @@ def owner(lines, at):
     return re.split(r" for |^impl ", head)[-1].strip()
 
 
+@functools.lru_cache(maxsize=None)
 def find_function(family, name):
     """The one function of the name, which has its type before it if it is a method."""
     kind, _, last = name.rpartition("::")
@@ -266,6 +269,28 @@ def not_shown(page):
             for other in told for module, name in sorted(cited_on(other) - shown)]
 
 
+def quoted_functions(page):
+    """The functions that a page quotes, each with the place of the comment by which it does."""
+    for number, found in enumerate(map(MARKER.match, page.read_text().splitlines()), 1):
+        if found and found[1] in ("contracts", "function"):
+            family, *names = found[2].split()
+            yield from ((family, name, f"{page.relative_to(TOP)}:{number}") for name in names)
+
+
+def quoted_twice():
+    """The functions that are quoted again, wherever they are quoted first. What is not found is told page by page."""
+    first, faults = {}, []
+    for family, name, at in (its for page in pages() for its in quoted_functions(page)):
+        try:
+            path, _lines, line = find_function(family, name)
+        except Missing:
+            continue
+        if (path, line) in first:
+            faults.append(f"{at}: {name} of {family} is quoted at {first[path, line]}, too")
+        first.setdefault((path, line), at)
+    return faults
+
+
 LANGUAGES = {definition: "antt", theorem: "antt", contracts: "rust", function: "rust", file: "text", naming: "text", reached: "text",
              refusals: "text"}
 QUOTES = {quote.__name__: quote for quote in LANGUAGES}
@@ -311,6 +336,7 @@ def main(words):
         else:
             page.write_text(text)
             print(f"{page.relative_to(TOP)}: written")
+    faults += quoted_twice()
     for fault in faults:
         print(f"docs/reading.py: {fault}", file=sys.stderr)
     return 1 if faults else 0
