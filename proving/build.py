@@ -119,6 +119,15 @@ def stop(checks: List[subprocess.Popen]) -> None:
                 it.wait(timeout=5)
 
 
+def seconds_of(process: subprocess.Popen) -> Optional[float]:
+    """The processor seconds of a check that has ended, and of all that it started; None while it runs."""
+    number, status, used = os.wait4(process.pid, os.WNOHANG)
+    if not number:
+        return None
+    process.returncode = os.WEXITSTATUS(status) if os.WIFEXITED(status) else -os.WTERMSIG(status)
+    return used.ru_utime + used.ru_stime
+
+
 @dataclass
 class Check:
     """A check under way, and where it works."""
@@ -137,6 +146,7 @@ class Build:
         length = chains(crates, progress.costs)
         self.left = sorted(crates, key=lambda it: -length[it])
         self.running: Dict[str, Check] = {}
+        self.seconds: Dict[str, float] = {}
 
     def run(self) -> Optional[str]:
         """Proves all; the name of one that is not proved, if any."""
@@ -165,8 +175,12 @@ class Build:
 
     def take_done(self) -> Optional[str]:
         """Keeps what the checks have made that have ended; the name of one that failed, if any."""
-        for name in [it for it, check in self.running.items() if check.process.poll() is not None]:
-            check = self.running.pop(name)
+        for name, check in list(self.running.items()):
+            seconds = seconds_of(check.process)
+            if seconds is None:
+                continue
+            del self.running[name]
+            self.seconds[name] = seconds
             if check.process.returncode:
                 return name
             check.lane.give(self.crates[name])

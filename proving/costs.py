@@ -1,4 +1,4 @@
-"""What it costs to prove a crate from nothing, as the table of docs/GATE.md has it, and how that comes out on this machine."""
+"""What it costs to prove a crate from nothing, as seconds.txt has it, and how that comes out on this machine."""
 from __future__ import annotations
 
 import bz2
@@ -9,18 +9,20 @@ from typing import Dict, Set
 
 from .crates import PARTS, TOP, Crates, chains
 
-ROW = re.compile(r"^\| (\w+) \| (\d+) \|", re.MULTILINE)
-MACHINE = re.compile(r"`bzip2` in (\d+\.\d+) s")
+KNOWN = f"{TOP}/proving/seconds.txt"
+HEAD = "# Processor seconds of each crate in a first ./lab build, where one processor packs the text of proving/costs.py in {:.3f} s"
+MACHINE = re.compile(r"in (\d+\.\d+) s$", re.MULTILINE)
+ROW = re.compile(r"^(\w+) (\d+)$", re.MULTILINE)
 # What a check of a large crate takes at most with one job, and what each further job takes.
 MEMORY, MEMORY_OF_JOB = 3_000_000_000, 1_000_000_000
-# The share of a check that further jobs take over; the rest is reading the libraries.
-LOADING = 8.0
-# Processor seconds for a kilobyte of sources, where the table has no row.
+# The share of a check that one processor does alone: it reads the libraries, and takes the parts together.
+ALONE = 0.3
+# Processor seconds for a kilobyte of sources, of a crate that has no row.
 SECONDS_OF_KILOBYTE = 1.2
 
 
-def of_page() -> str:
-    with open(f"{TOP}/docs/GATE.md", encoding="utf-8") as it:
+def known() -> str:
+    with open(KNOWN, encoding="utf-8") as it:
         return it.read()
 
 
@@ -31,8 +33,13 @@ def files_of(folder: str) -> Set[str]:
 
 def costs(crates: Crates) -> Dict[str, float]:
     """The processor seconds of each crate's proof on the machine of the table; of one that is not in it, by the size of its sources."""
-    known = {name: float(seconds) for name, seconds in ROW.findall(of_page())}
-    return {name: known.get(name) or SECONDS_OF_KILOBYTE * sum(map(os.path.getsize, files_of(it.folder))) / 1000 for name, it in crates.items()}
+    rows = {name: float(seconds) for name, seconds in ROW.findall(known())}
+    return {name: rows.get(name) or SECONDS_OF_KILOBYTE * sum(map(os.path.getsize, files_of(it.folder))) / 1000 for name, it in crates.items()}
+
+
+def table(seconds: Dict[str, float]) -> str:
+    """The table of a build on this machine."""
+    return "".join([f"{HEAD.format(bzip2_seconds())}\n", *(f"{name} {it:.0f}\n" for name, it in seconds.items())])
 
 
 def bzip2_seconds() -> float:
@@ -48,8 +55,8 @@ def bzip2_seconds() -> float:
 
 def slowness() -> float:
     """How much slower than the machine of the table this one is."""
-    known = MACHINE.search(of_page())
-    return bzip2_seconds() / float(known[1]) if known else 1.0
+    there = MACHINE.search(known())
+    return bzip2_seconds() / float(there[1]) if there else 1.0
 
 
 def memory() -> int:
@@ -72,30 +79,30 @@ def jobs_of_check() -> int:
 
 
 class Estimate:
-    """The course of a build, second by second, as it would be where each check took an equal share of the processors."""
+    """The course of a build, second by second, as it would be where the checks under way took equal shares of the processors."""
 
     def __init__(self, crates: Crates, seconds: Dict[str, float], at_once: int):
         self.crates, self.at_once = crates, at_once
         self.chains = chains(crates, seconds)
-        self.loading = {name: min(LOADING, seconds[name]) for name in crates}
-        self.proving = {name: seconds[name] - self.loading[name] for name in crates}
+        self.alone = {name: ALONE * seconds[name] for name in crates}
+        self.shared = {name: seconds[name] - self.alone[name] for name in crates}
 
     def minutes(self) -> float:
         seconds = 0
-        while self.loading:
+        while self.alone:
             self.go_on()
             seconds += 1
         return seconds / 60
 
     def go_on(self) -> None:
         """A second passes."""
-        ready = [it for it in self.loading if not any(lib in self.loading for lib in self.crates[it].libraries)]
+        ready = [it for it in self.alone if not any(lib in self.alone for lib in self.crates[it].libraries)]
         running = sorted(ready, key=lambda it: -self.chains[it])[: self.at_once]
         share = processors() / len(running)
         for name in running:
-            if self.loading[name] > 0:
-                self.loading[name] -= min(1.0, share)
+            if self.alone[name] > 0:
+                self.alone[name] -= min(1.0, share)
             else:
-                self.proving[name] -= share
-            if self.loading[name] <= 0 and self.proving[name] <= 0:
-                del self.loading[name]
+                self.shared[name] -= share
+            if self.alone[name] <= 0 and self.shared[name] <= 0:
+                del self.alone[name]

@@ -1,3 +1,5 @@
+pub mod ForCallers
+pub mod LimitStops
 pub mod Passing
 pub mod Numbers
 pub mod Modes

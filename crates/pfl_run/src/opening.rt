@@ -14,7 +14,7 @@ use pfl_script::{Setup, read_setup};
 use std::alloc::Allocator;
 
 /// Tests the limits of a setup, whose line `open` has the number.
-#[tactic(auto, using(pfl_script::proofs::ForCallers::world::too_small, pfl_script::proofs::ForCallers::world::too_large, pfl_script::proofs::ForCallers::world::no_fault))]
+#[tactic(auto, using(crate::proofs::LimitStops::too_small, crate::proofs::LimitStops::too_large, crate::proofs::LimitStops::no_fault))]
 fn judge(limits: &Limits, number: u64) -> Result<(), LabFault>
     ensures faultless { OnOk result (world_fault limits.now ≡ None) }
     ensures fault { IfErr result (λ fault. IsLimitsStop fault number (world_fault limits.now)) }
