@@ -1,5 +1,1 @@
-pub mod Broken
-pub mod ServedLines
-pub mod Told
-pub mod ServedSeats
 pub mod Settled

@@ -8,9 +8,9 @@ use Rattle.pfl_run.specs.script.declared.engine.Ended.{Ended}
 use Rattle.pfl_run.specs.script.declared.fault.EngineFault.{EngineFault}
 use Rattle.pfl_session.specs.Passes.{IsPassOf}
 use Rattle.pfl_session.specs.declared.which.Which as Which
-use Rattle.pfl_host.specs.Seats.{AreServed}
-use Rattle.pfl_host.specs.declared.seat.Seat.{Seat}
-use Rattle.pfl_host.specs.declared.seat.Served.{Served}
+use Rattle.pfl_serve.specs.Seats.{AreServed}
+use Rattle.pfl_serve.specs.declared.seat.Seat.{Seat}
+use Rattle.pfl_serve.specs.declared.seat.Served.{Served}
 use Rattle.pfl_host.specs.Servers.{fault_in, first_of, first_fault}
 
 -- one more was taken

@@ -1,16 +1,9 @@
-pub mod Texts
-pub mod Sessions
-pub mod Seats
-pub mod Laws
 pub mod Servers
 pub mod Obeys
-pub mod inner
 pub use Rattle.pfl_base.specs as base
-pub use Rattle.pfl_session.specs.publish as publish
-pub use Rattle.pfl_language.specs as language
 pub use Rattle.pfl_run.specs.timeline as timeline
 pub use Rattle.pfl_session.specs as session
-pub use Rattle.pfl_run.specs.lines as lines
 pub use Rattle.pfl_run.specs.reader as reader
 pub use Rattle.pfl_run.specs.script as script
+pub use Rattle.pfl_serve.specs as serve
 pub use Rattle.pfl_run.specs as run

@@ -7,13 +7,11 @@ ghost use Rattle.pfl_run.specs.declared.fault.LabFault.TheVariants as fault;
 ghost use Rattle.pfl_host.specs.Servers.{Closes, fault_in, first_fault, first_of};
 
 use crate::doors::Doors;
-use crate::gate::Gate;
 use crate::network::seats;
-use crate::seat::{Seat, ServeFault, Served};
-use crate::threads::serve_all;
 use pfl_base::{Input, Output};
 use pfl_run::LabFault;
 use pfl_run::script::{Ended, EngineFault};
+use pfl_serve::{Gate, Seat, ServeFault, Served, serve_all};
 use pfl_session::{Lab, Opened, Pass, Which};
 use std::alloc::Global;
 use std::net::TcpStream;

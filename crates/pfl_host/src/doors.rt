@@ -1,6 +1,6 @@
 //! The gate of sessions that are served over connections.
 
-use crate::gate::Gate;
+use pfl_serve::Gate;
 use std::net::{Shutdown, TcpStream};
 use std::sync::Wait;
 

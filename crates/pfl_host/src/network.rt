@@ -3,10 +3,10 @@
 ghost use Rattle.std.specs.Prelude.{◌≡◌, ◌⊎◌, length, map, IfOk, IfErr};
 ghost use Rattle.pfl_run.specs.declared.fault.LabFault.TheVariants as fault;
 
-use crate::seat::Seat;
 use pfl_base::Std;
 use pfl_run::LabFault;
 use pfl_run::reader::LineReader;
+use pfl_serve::Seat;
 use pfl_session::Pass;
 use std::alloc::Allocator;
 use std::net::{Ipv4Addr, Net, SocketAddr, TcpListener, TcpStream};

@@ -3,12 +3,12 @@
 ghost use Rattle.std.specs.Prelude.{◌≡◌, map};
 ghost use Rattle.pfl_host.specs.Obeys.{seen, Obeys};
 
-use crate::gate::Gate;
 use crate::report::tell_words;
 use crate::server::serve_lab;
 use pfl_base::{Input, Output};
 use pfl_run::reader::LineReader;
 use pfl_run::{Mode, check_lab, mode_of, run_lab};
+use pfl_serve::Gate;
 use std::alloc::Global;
 use std::convert::AsStr;
 use std::net::{Net, TcpListener, TcpStream};

@@ -9,13 +9,13 @@ ghost use Rattle.pfl_run.specs.declared.fault.LabFault.TheVariants as fault;
 ghost use Rattle.pfl_host.specs.Servers.{closed_text, listening_text, ClosesTold, IsAwaitStop, IsCloseStop, IsLabStop, IsServeStop, HostServes, ServesToEnd, HostServesWhole};
 
 use crate::closing::serve_streams;
-use crate::gate::Gate;
 use crate::network::{accept_all, listen};
 use pfl_base::{Input, Output};
 use pfl_run::reader::LineReader;
 use pfl_run::script::{EngineFault, ShortLine, plain_line, push_number, write_text};
 use pfl_run::timeline::Timeline;
 use pfl_run::{LabFault, set_up, tell};
+use pfl_serve::Gate;
 use pfl_session::Opened;
 use std::alloc::Global;
 use std::marker::Brand;

@@ -5,9 +5,10 @@
 ghost use Rattle.std.specs.Prelude.{◌≡◌};
 
 use pfl_base::Std;
+use pfl_host::obey;
 use pfl_host::reader::LineReader;
 use pfl_host::run::{LabFault, tell};
-use pfl_host::{Open, obey};
+use pfl_host::serve::Open;
 use std::env;
 use std::io::{self, ErrorKind};
 use std::process::ExitCode;

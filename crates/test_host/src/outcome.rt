@@ -1,8 +1,9 @@
 //! What the program gives with some words, over lines in memory.
 
 use pfl_base::Std;
+use pfl_host::obey;
 use pfl_host::reader::LineReader;
-use pfl_host::{Gate, obey};
+use pfl_host::serve::Gate;
 use std::alloc::Global;
 use std::net::{Net, TcpListener, TcpStream};
 use std::sync::Wait;

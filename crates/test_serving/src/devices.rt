@@ -4,9 +4,9 @@ ghost use Rattle.pfl_session.specs.Passes.{IsPassOf};
 
 use super::lab::{opened, speak, take, tells};
 use pfl_base::Std;
-use pfl_host::reader::LineReader;
-use pfl_host::script::EngineFault;
-use pfl_host::{Open, serve_session};
+use pfl_run::reader::LineReader;
+use pfl_run::script::EngineFault;
+use pfl_serve::{Open, serve_session};
 use pfl_session::{Closed, Lab, Opened, Pass, Which};
 use std::alloc::Global;
 use std::marker::Brand;

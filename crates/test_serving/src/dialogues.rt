@@ -2,7 +2,7 @@
 ghost use Rattle.std.specs.Prelude.{◌≡◌};
 
 use super::lab::{Spoken, opened, speak, take};
-use pfl_host::Open;
+use pfl_serve::Open;
 use pfl_session::{Opened, Which};
 use std::alloc::Global;
 use std::marker::Brand;

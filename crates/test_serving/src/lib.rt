@@ -1,4 +1,4 @@
-//! Worked sessions that are served by lines, through the public calls of pfl_host.
+//! Worked sessions that are served by lines, through the public calls of pfl_serve.
 #![tactic(auto)]
 
 #[cfg(test)]

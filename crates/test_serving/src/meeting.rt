@@ -3,7 +3,7 @@ ghost use Rattle.std.specs.Prelude.{◌≡◌};
 
 use super::lab::opened;
 use super::served::{Heard, served, spoken};
-use pfl_host::Gate;
+use pfl_serve::Gate;
 use std::alloc::{AllocError, Global};
 use std::marker::Brand;
 use std::sync::Wait;

@@ -1,7 +1,7 @@
 use Rattle.std.proofs.Common.{◌≡◌, length, arith}
 use Rattle.std.specs.Vec.Iter.{into_iter_items}
 use Rattle.std.specs.declared.alloc.Global.{Global}
-use Rattle.pfl_host.specs.declared.seat.Served.{Served}
+use Rattle.pfl_serve.specs.declared.seat.Served.{Served}
 use Rattle.pfl_host.proofs.Settled.{taken-more, taken-all, first-more, first-all}
 use Rattle.pfl_host.proofs.closing.settle.Goals as goal
 

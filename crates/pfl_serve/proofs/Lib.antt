@@ -1,0 +1,4 @@
+pub mod Broken
+pub mod ServedLines
+pub mod Told
+pub mod ServedSeats

@@ -1,0 +1,175 @@
+-- A session is served line by line.
+use Rattle.std.proofs.Common.{◌≡◌, ℕ, ◌+◌, List, [], ◌∷◌, ◌++◌, length, take, refl, sym, ◌∙◌, ap, subst, arith, length-append, append_assoc, inl, inr, Option, Some, None, Ok, Err}
+use Rattle.std.specs.Prelude.{Result}
+use Rattle.std.specs.Io.KnownBytes.{Appends, Keeps as KeepsBytes}
+use Rattle.std.proofs.lemmas.Bool.{lt-ltb, le-ltb, cases_lt}
+use Rattle.std.proofs.lemmas.List.{append-nil, take_all}
+use Rattle.pfl_session.proofs.ForCallers.publish.{begun_all}
+use Rattle.pfl_script.specs.timeline.Timelines.{Timeline}
+use Rattle.pfl_session.specs.Passes.{Seen, GoesOn}
+use Rattle.pfl_script.specs.lines.declared.fault.LineFault.{LineFault}
+use Rattle.pfl_script.specs.lines.declared.session.SessionLine.{SessionLine}
+use Rattle.pfl_script.specs.lines.declared.session.SessionLine.TheVariants.{View, Ask}
+use Rattle.pfl_script.specs.lines.Session.{parsed_session}
+use Rattle.pfl_script.specs.reader.Saids.{kept_session}
+use Rattle.pfl_script.specs.Answers.{one_if}
+use Rattle.pfl_script.specs.reader.Scans.{Kept, Keeps, ReadsLine, TakesLines, IsOver}
+use Rattle.pfl_script.specs.declared.fault.EngineFault.{EngineFault}
+use Rattle.pfl_script.specs.declared.fault.EngineFault.TheVariants as engine
+use Rattle.pfl_script.specs.reader.declared.fault.ReadFault.{ReadFault}
+use Rattle.pfl_script.specs.reader.declared.fault.ReadFault.TheVariants as read
+use Rattle.pfl_script.specs.Readers.{of_read}
+use Rattle.pfl_script.proofs.ForCallers.{appends_none, appends_then, taken-none, taken-line, taken-first, taken-all, taken-drained, appends-keeps}
+use Rattle.pfl_serve.specs.Sessions.{said, is_fault, bad_lines, IsAnswer, Serves, ServesWhole, ServesFirst, ServesPart, ServesUnanswered, ServesUntil}
+use Rattle.pfl_serve.specs.inner.Answers.{kept_said, Writes, Breaks, Lacks}
+
+-- what is kept of a line says to a session what the line says
+session-kept : (k : Kept) (body : List ℕ) → Keeps k body → kept_session k ≡ parsed_session body
+unfolding parsed_session
+session-kept k body h = elim (cases_lt 512 (length body)) [
+  | inl long ↦ rw (h.long, lt-ltb 512 (length body) long) refl
+  | inr short ↦ rw (h.long, le-ltb 512 (length body) short, h.bytes, take_all 512 body short, le-ltb 512 (length body) short) refl
+]
+
+said-kept : (k : Kept) (body : List ℕ) → Keeps k body → kept_said k ≡ said body
+unfolding kept_said said
+said-kept k body h = rw (h.head, session-kept k body h) refl
+
+-- the faulty ones of one line more
+bad_lines-push : (lines : List (List ℕ)) (line : List ℕ) → bad_lines (lines ++ line ∷ []) ≡ bad_lines lines + one_if (is_fault (said line))
+bad_lines-push [] line = omega arith
+bad_lines-push (x ∷ lines) line = omega (arith, bad_lines-push lines line)
+
+module _ {M : Type 0} where
+  -- a pass goes on from itself
+  pub goes-none : (p : Seen M) → GoesOn p p
+  goes-none p = record { session = refl; tally = refl; publisher = refl; seen = begun_all p.viewer.seen }
+
+  module _ (opening : Timeline) (n limit : ℕ) where
+    -- one line more
+    serves-push : (lines : List (List ℕ)) (line : List ℕ) (old mid new : Seen M) (text answer : List ℕ) →
+        Serves opening n limit lines old mid text → IsAnswer opening n limit (said line) mid new answer →
+        Serves opening n limit (lines ++ line ∷ []) old new (text ++ answer)
+    serves-push [] line old mid new text answer h a =
+        (new, answer, [], subst (λ (p : Seen M). IsAnswer opening n limit (said line) p new answer) h.0 a, (refl, refl), rw h.1 (sym (append-nil answer)))
+    serves-push (x ∷ lines) line old mid new text answer h a =
+        let m = h.0 in
+        let first = h.1 in
+        let rest = h.2 in (
+          m,
+          first,
+          rest ++ answer,
+          h.3,
+          serves-push lines line m mid new rest answer h.4 a,
+          ap (λ (s : List ℕ). s ++ answer) h.5 ∙ append_assoc first rest answer,
+        )
+
+    -- lines were answered so far
+    pub record Served (left rest : Option (List ℕ)) (old new : Seen M) (w v : Option (List ℕ)) (count bad : ℕ) : Type 0 where
+      pub lines : List (List ℕ)
+      pub taken : TakesLines left rest lines
+      pub text : List ℕ
+      pub serves : Serves opening n limit lines old new text
+      pub written : Appends w v text
+      pub counted : count ≡ length lines
+      pub faulty : bad ≡ bad_lines lines
+
+    -- no line yet
+    pub Served-none : (left rest : Option (List ℕ)) (old : Seen M) (w : Option (List ℕ)) → rest ≡ left → Served left rest old old w w 0 0
+    Served-none left rest old w e = record {
+      lines = [];
+      taken = rw e (taken-none left);
+      text = [];
+      serves = (refl, refl);
+      written = appends_none w;
+      counted = refl;
+      faulty = refl;
+    }
+
+    module _ (left mid rest : Option (List ℕ)) (old p q : Seen M) (w v x : Option (List ℕ)) (count bad : ℕ) (k : Kept) (so_far : Served left mid old p w v count bad) (reads : ReadsLine k mid rest) where
+      -- the answer to what is kept of the line is the answer to the line
+      answered : (text : List ℕ) → IsAnswer opening n limit (kept_said k) p q text → IsAnswer opening n limit (said reads.body) p q text
+      answered text a = subst (λ (s : Option (Result SessionLine LineFault)). IsAnswer opening n limit s p q text) (said-kept k reads.body reads.keeps) a
+
+      taken-more : TakesLines left rest (so_far.lines ++ reads.body ∷ [])
+      taken-more = taken-line left mid rest so_far.lines reads.body so_far.taken reads.takes
+
+      -- one line more
+      pub Served-more : Writes (IsAnswer opening n limit (kept_said k) p q) v x → Served left rest old q w x (count + 1) (bad + one_if (is_fault (kept_said k)))
+      Served-more writes = record {
+        lines = so_far.lines ++ reads.body ∷ [];
+        taken = taken-more;
+        text = so_far.text ++ writes.0;
+        serves = serves-push so_far.lines reads.body old p q so_far.text writes.0 so_far.serves (answered writes.0 writes.1);
+        written = appends_then w v x so_far.text writes.0 so_far.written writes.2;
+        counted = omega (arith, so_far.counted, length-append so_far.lines (reads.body ∷ []));
+        faulty = rw (so_far.faulty, said-kept k reads.body reads.keeps, bad_lines-push so_far.lines reads.body) refl;
+      }
+
+      -- the last line's text was written in part
+      served-part : (text : List ℕ) (part : ℕ) → IsAnswer opening n limit (kept_said k) p q text → Appends v x (take part text) → ServesPart opening n limit left rest old q w x
+      served-part text part a appends = record {
+        lines = so_far.lines;
+        last = reads.body;
+        taken = taken-more;
+        mid = p;
+        text = so_far.text;
+        serves = so_far.serves;
+        answer = text;
+        answers = answered text a;
+        part = part;
+        written = appends_then w v x so_far.text (take part text) so_far.written appends;
+      }
+
+      -- the last line has no answer
+      served-unanswered : (s : Option (Result SessionLine LineFault)) → kept_said k ≡ s → Lacks opening n limit s p q → KeepsBytes v x → ServesUnanswered opening n limit left rest old q w x
+      served-unanswered None is lacks same = absurd lacks
+      served-unanswered (Some (Err fault)) is lacks same = absurd lacks
+      served-unanswered (Some (Ok View)) is lacks same = absurd lacks
+      served-unanswered (Some (Ok (Ask command))) is lacks same = record {
+        lines = so_far.lines;
+        last = reads.body;
+        taken = taken-more;
+        mid = p;
+        text = so_far.text;
+        serves = so_far.serves;
+        command = command;
+        asks = sym (said-kept k reads.body reads.keeps) ∙ is;
+        unanswered = lacks;
+        written = appends-keeps w v x so_far.text so_far.written same;
+      }
+
+      -- the last line's answer failed, for this reason
+      pub until-answer : (e : EngineFault) → Breaks (IsAnswer opening n limit (kept_said k) p q) (Lacks opening n limit (kept_said k) p q) e v x → ServesUntil opening n limit e left rest old q w x
+      until-answer engine.Write breaks = served-part breaks.0 breaks.2.0 breaks.1 breaks.2.1
+      until-answer engine.NoMemory breaks = served-unanswered (kept_said k) refl breaks.0 breaks.1
+      until-answer engine.Read breaks = absurd breaks
+      until-answer engine.TooManyTurns breaks = absurd breaks
+
+    module _ (left mid : Option (List ℕ)) (old new : Seen M) (w v : Option (List ℕ)) (count bad : ℕ) (so_far : Served left mid old new w v count bad) where
+      -- the end was reached
+      pub Served-whole : (rest : Option (List ℕ)) → IsOver mid rest → ServesWhole opening n limit left rest old new w v count bad
+      Served-whole rest over = record {
+        lines = so_far.lines;
+        all = taken-all left mid rest so_far.lines so_far.taken over;
+        end = taken-drained left mid rest so_far.lines so_far.taken over;
+        text = so_far.text;
+        serves = so_far.serves;
+        written = so_far.written;
+        counted = so_far.counted;
+        faulty = so_far.faulty;
+      }
+
+      served-first : ServesFirst opening n limit left old new w v
+      served-first = record {
+        lines = so_far.lines;
+        first = taken-first left mid so_far.lines so_far.taken;
+        text = so_far.text;
+        serves = so_far.serves;
+        written = so_far.written;
+      }
+
+      -- no further line came, for this reason
+      pub until-read : (e : ReadFault) (rest : Option (List ℕ)) → ServesUntil opening n limit (of_read e) left rest old new w v
+      until-read read.Read rest = served-first
+      until-read read.TooManyTurns rest = served-first

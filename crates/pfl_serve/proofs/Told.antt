@@ -1,0 +1,182 @@
+-- What a session is told are the replies of its own entries.
+use Rattle.std.proofs.Common.{◌≡◌, ℕ, ◌+◌, ◌≤◌, Bool, true, false, cond, List, [], ◌∷◌, ◌++◌, length, drop, refl, sym, ◌∙◌, ap, subst, arith, append_assoc, eq-eqb, inl, inr, Option, Some, None, Ok, Err}
+use Rattle.std.specs.Prelude.{nat_eq, Result, ◌⊎◌}
+use Rattle.std.proofs.lemmas.List.{append-nil}
+use Rattle.pfl_language.specs.declared.command.Command.{Command}
+use Rattle.pfl_script.specs.timeline.Replies.{Reply, reply_of}
+use Rattle.pfl_script.specs.timeline.Timelines.{Timeline}
+use Rattle.pfl_session.specs.declared.entry.Entry.{Entry}
+use Rattle.pfl_session.specs.Journals.{calls_in, count_of}
+use Rattle.pfl_session.specs.Passes.{Seen, seen_in}
+use Rattle.pfl_session.proofs.ForCallers.{calls-since, count-append, count-begun, count-own}
+use Rattle.pfl_script.specs.lines.declared.fault.LineFault.{LineFault}
+use Rattle.pfl_script.specs.lines.declared.session.SessionLine.{SessionLine}
+use Rattle.pfl_script.specs.lines.declared.session.SessionLine.TheVariants.{View, Ask}
+use Rattle.pfl_serve.specs.Sessions.{said, IsAnswer, IsViewed, IsReplied, IsCalled, IsNotCalled, TellsRevision, TellsOvertaken, Serves}
+use Rattle.pfl_serve.specs.Laws.{Call, calls_of, TellsLine, TellsView, Tells, HasSeenItsCalls, SessionsAreToldTheirCalls}
+
+-- a list that may begin with one element more, before another list
+cond-append : {X : Type 0} (b : Bool) (x : X) (xs ys : List X) → cond b (x ∷ xs ++ ys) (xs ++ ys) ≡ cond b (x ∷ xs) xs ++ ys
+cond-append true x xs ys = refl
+cond-append false x xs ys = refl
+
+-- where nothing is counted, nothing is there
+cond-none : {X : Type 0} (b : Bool) (x : X) (xs : List X) (n : ℕ) → cond b 1 0 + n ≡ 0 → (n ≡ 0 → xs ≡ []) → cond b (x ∷ xs) xs ≡ []
+cond-none true x xs n none others = absurd (omega (arith, none))
+cond-none false x xs n none others = others (omega (arith, none))
+
+module _ {M : Type 0} where
+  abbrev call_in : Entry M → Call
+  call_in e = record { command = e.command; reply = reply_of e.reply }
+
+  calls_of-append : (s : ℕ) (xs ys : List (Entry M)) → calls_of s (xs ++ ys) ≡ calls_of s xs ++ calls_of s ys
+  calls_of-append s [] ys = refl
+  calls_of-append s (e ∷ xs) ys =
+      let b = nat_eq e.session s in
+      ap (λ (l : List Call). cond b (call_in e ∷ l) l) (calls_of-append s xs ys) ∙ cond-append b (call_in e) (calls_of s xs) (calls_of s ys)
+
+  calls_of-none : (s : ℕ) (js : List (Entry M)) → count_of s js ≡ 0 → calls_of s js ≡ []
+  calls_of-none s [] none = refl
+  calls_of-none s (e ∷ js) none = cond-none (nat_eq e.session s) (call_in e) (calls_of s js) (count_of s js) none (calls_of-none s js)
+
+  calls_of-one : (s : ℕ) (e : Entry M) → e.session ≡ s → calls_of s (e ∷ []) ≡ call_in e ∷ []
+  calls_of-one s e own = let hit : nat_eq e.session s ≡ true = eq-eqb e.session s own in ap {B = List Call} (λ (b : Bool). cond b (call_in e ∷ []) []) hit
+
+  -- the calls after entries of others
+  calls-others : (s : ℕ) (js others : List (Entry M)) → count_of s others ≡ 0 → calls_of s (js ++ others) ≡ calls_of s js
+  calls-others s js others none = calls_of-append s js others ∙ (ap (λ (l : List Call). calls_of s js ++ l) (calls_of-none s others none) ∙ append-nil (calls_of s js))
+
+  -- the calls after entries of others, and one of the session
+  calls-call : (s : ℕ) (js others : List (Entry M)) (e : Entry M) → count_of s others ≡ 0 → e.session ≡ s → calls_of s ((js ++ others) ++ e ∷ []) ≡ calls_of s js ++ call_in e ∷ []
+  calls-call s js others e none own =
+      calls_of-append s (js ++ others) (e ∷ [])
+      ∙ (ap (λ (l : List Call). l ++ calls_of s (e ∷ [])) (calls-others s js others none) ∙ ap (λ (l : List Call). calls_of s js ++ l) (calls_of-one s e own))
+
+  -- how many entries of its session the pass has seen
+  abbrev own : Seen M → ℕ
+  own p = count_of p.session (seen_in p)
+
+  view-told : {old new : Seen M} {text : List ℕ} → (TellsRevision old new text ⊎ TellsOvertaken old new text) → TellsView text
+  view-told (inl t) = inl (t.words, t.told)
+  view-told (inr t) = inr (t.at, t.now, t.told)
+
+  -- ---- a call, and none
+
+  called-own : (old new : Seen M) (c : Command) (r : Reply) → new.session ≡ old.session → IsCalled old new c r → own new ≡ own old + 1
+  called-own old new c r same is =
+      let js = seen_in old ++ is.call.others in
+      omega (
+        arith,
+        ap (λ (s : ℕ). count_of s (seen_in new)) same,
+        ap (count_of old.session) is.call.seen,
+        count-own old.session js is.call.entry is.call.session,
+        count-append old.session (seen_in old) is.call.others,
+        is.call.none_own,
+      )
+
+  not-called-own : (old new : Seen M) → new.session ≡ old.session → IsNotCalled old new → own new ≡ own old
+  not-called-own old new same is =
+      omega (
+        arith,
+        ap (λ (s : ℕ). count_of s (seen_in new)) same,
+        ap (count_of old.session) is.others.seen,
+        count-append old.session (seen_in old) is.others.others,
+        is.others.none_own,
+      )
+
+  module _ (opening : Timeline) (n limit : ℕ) where
+    -- whoever was answered a command has seen its calls
+    replied-seen : (old new : Seen M) (c : Command) (text : List ℕ) → IsReplied opening n limit old new c text → HasSeenItsCalls new
+    replied-seen old new c text is = elim is.told [
+      | inl t ↦ omega (arith, called-own old new c t.reply is.asked.goes_on.session t.called, is.asked.own, ap (λ h. h.count) t.called.half)
+      | inr t ↦ omega (arith, not-called-own old new is.asked.goes_on.session t.not_called, is.asked.own, ap (λ h. h.count) t.not_called.half)
+    ]
+
+    -- no pass has called more than it has seen of its session
+    forward : (what : Option (Result SessionLine LineFault)) (old new : Seen M) (text : List ℕ) → IsAnswer opening n limit what old new text → old.half.count ≤ own old → new.half.count ≤ own new
+    forward None old new text is below = subst (λ (p : Seen M). p.half.count ≤ own p) (sym is.0) below
+    forward (Some (Err fault)) old new text is below = subst (λ (p : Seen M). p.half.count ≤ own p) (sym is.0) below
+    forward (Some (Ok View)) old new text is below =
+        let more = count-begun old.session old.half.count new.viewer.seen old.viewer.seen is.goes_on.seen below in
+        omega (arith, more, ap (λ h. h.count) is.half, ap (λ (s : ℕ). count_of s (seen_in new)) is.goes_on.session)
+    forward (Some (Ok (Ask command))) old new text is below = let same = replied-seen old new command text is in omega (arith, same)
+
+    -- an answer, where the pass has seen its calls behind it: so it has before it, and the line is told the calls between
+    pub record Told (what : Option (Result SessionLine LineFault)) (old new : Seen M) (text : List ℕ) : Type 0 where
+      pub before : HasSeenItsCalls old
+      pub calls : List Call
+      pub all : calls_of new.session (seen_in new) ≡ calls_of old.session (seen_in old) ++ calls
+      pub tells : (rest : List Call) → TellsLine what (calls ++ rest) rest text
+
+    told-same : (what : Option (Result SessionLine LineFault)) (old new : Seen M) (text : List ℕ) → new ≡ old → HasSeenItsCalls new → ((rest : List Call) → TellsLine what rest rest text) → Told what old new text
+    told-same what old new text same seen tells = record {
+      before = subst HasSeenItsCalls same seen;
+      calls = [];
+      all = ap (λ (p : Seen M). calls_of p.session (seen_in p)) same ∙ sym (append-nil (calls_of old.session (seen_in old)));
+      tells = tells;
+    }
+
+    told-view : (old new : Seen M) (text : List ℕ) → IsViewed old new text → old.half.count ≤ own old → HasSeenItsCalls new → Told (Some (Ok View)) old new text
+    told-view old new text is below seen =
+        let later = calls_in (drop (length old.viewer.seen) new.viewer.seen) in
+        let parts : seen_in new ≡ seen_in old ++ later = calls-since new.viewer.seen old.viewer.seen is.goes_on.seen in
+        let s = ap (λ (s : ℕ). count_of s (seen_in new)) is.goes_on.session in
+        let count = ap (count_of old.session) parts in
+        let sum = count-append old.session (seen_in old) later in
+        let half = ap (λ h. h.count) is.half in
+        let none : count_of old.session later ≡ 0 = omega (arith, below, seen, s, count, sum, half) in
+        record {
+          before = omega (arith, below, seen, s, count, sum, half, none);
+          calls = [];
+          all = ap (λ (s : ℕ). calls_of s (seen_in new)) is.goes_on.session ∙ (ap (calls_of old.session) parts ∙ (calls-others old.session (seen_in old) later none ∙ sym (append-nil (calls_of old.session (seen_in old)))));
+          tells = λ rest. (refl, view-told is.told);
+        }
+
+    told-reply : (old new : Seen M) (c : Command) (text : List ℕ) → IsReplied opening n limit old new c text → Told (Some (Ok (Ask c))) old new text
+    told-reply old new c text is = elim is.told [
+      | inl t ↦ record {
+        before = is.asked.own;
+        calls = record { command = c; reply = t.reply } ∷ [];
+        all = ap (λ (s : ℕ). calls_of s (seen_in new)) is.asked.goes_on.session
+            ∙ (ap (calls_of old.session) t.called.call.seen
+            ∙ (calls-call old.session (seen_in old) t.called.call.others t.called.call.entry t.called.call.none_own t.called.call.session
+            ∙ (λ z. calls_of old.session (seen_in old) ++ record { command = t.called.call.command_is z; reply = t.called.call.reply_is z } ∷ [])));
+        tells = λ rest. inl (t.reply, refl, t.told);
+      }
+      | inr t ↦ record {
+        before = is.asked.own;
+        calls = [];
+        all = ap (λ (s : ℕ). calls_of s (seen_in new)) is.asked.goes_on.session
+            ∙ (ap (calls_of old.session) t.not_called.others.seen
+            ∙ (calls-others old.session (seen_in old) t.not_called.others.others t.not_called.others.none_own ∙ sym (append-nil (calls_of old.session (seen_in old)))));
+        tells = λ rest. inr (refl, t.told);
+      }
+    ]
+
+    told : (what : Option (Result SessionLine LineFault)) (old new : Seen M) (text : List ℕ) → IsAnswer opening n limit what old new text → old.half.count ≤ own old → HasSeenItsCalls new → Told what old new text
+    told None old new text is below seen = told-same None old new text is.0 seen (λ rest. (refl, is.1))
+    told (Some (Err fault)) old new text is below seen = told-same (Some (Err fault)) old new text is.0 seen (λ rest. (refl, is.1))
+    told (Some (Ok View)) old new text is below seen = told-view old new text is below seen
+    told (Some (Ok (Ask command))) old new text is below seen = told-reply old new command text is
+
+    -- the same of lines
+    told-lines : (lines : List (List ℕ)) (old new : Seen M) (text : List ℕ) → Serves opening n limit lines old new text → old.half.count ≤ own old → HasSeenItsCalls new
+        → HasSeenItsCalls old × ((calls : List Call) × (calls_of new.session (seen_in new) ≡ calls_of old.session (seen_in old) ++ calls) × Tells lines calls text)
+    told-lines [] old new text is below seen =
+        (subst HasSeenItsCalls is.0 seen, ([], ap (λ (p : Seen M). calls_of p.session (seen_in p)) is.0 ∙ sym (append-nil (calls_of old.session (seen_in old))), (refl, is.1)))
+    told-lines (line ∷ lines) old new text is below seen =
+        let mid = is.0 in
+        let first = is.1 in
+        let others = is.2 in
+        let next = told-lines lines mid new others is.4 (forward (said line) old mid first is.3 below) seen in
+        let here = told (said line) old mid first is.3 below next.0 in (
+          here.before,
+          (
+            here.calls ++ next.1.0,
+            next.1.1 ∙ (ap (λ (l : List Call). l ++ next.1.0) here.all ∙ append_assoc (calls_of old.session (seen_in old)) here.calls next.1.0),
+            (next.1.0, first, others, here.tells next.1.0, next.1.2, is.5),
+          ),
+        )
+
+  pub sessions-are-told : SessionsAreToldTheirCalls M
+  sessions-are-told opening n limit lines old new text serves below behind = (told-lines opening n limit lines old new text serves below behind).1

@@ -1,0 +1,55 @@
+-- What the answers of a session tell, in the words of the journal (this project's profile).
+use Rattle.std.specs.Prelude.{◌≡◌, ◌≤◌, ℕ, List, [], ◌∷◌, ◌++◌, cond, nat_eq, Option, Some, None, Result, Ok, Err, ◌⊎◌}
+use Rattle.pfl_language.specs.declared.command.Command.{Command}
+use Rattle.pfl_script.specs.timeline.Replies.{Reply, reply_of}
+use Rattle.pfl_script.specs.timeline.Timelines.{Timeline}
+use Rattle.pfl_session.specs.declared.entry.Entry.{Entry}
+use Rattle.pfl_session.specs.Journals.{count_of}
+use Rattle.pfl_session.specs.Passes.{Seen, seen_in}
+use Rattle.pfl_script.specs.lines.declared.fault.LineFault.{LineFault}
+use Rattle.pfl_script.specs.lines.declared.session.SessionLine.{SessionLine}
+use Rattle.pfl_script.specs.lines.declared.session.SessionLine.TheVariants.{View, Ask}
+use Rattle.pfl_script.specs.Replies.{reply_text}
+use Rattle.pfl_script.specs.Texts.{bad_text}
+use Rattle.pfl_serve.specs.Sessions.{said, Serves}
+use Rattle.pfl_serve.specs.Texts.{view_text, overtaken_text, full_text}
+
+-- a call: a command, and its reply
+pub record Call : Type 0 where
+  pub command : Command
+  pub reply : Reply
+
+-- the calls of a session among entries
+abbrev pub calls_of : {M : Type 0} → ℕ → List (Entry M) → List Call
+calls_of session [] = []
+calls_of session (e ∷ js) = cond (nat_eq e.session session) (record { command = e.command; reply = reply_of e.reply } ∷ calls_of session js) (calls_of session js)
+
+-- the text tells a revision, or that none was read
+abbrev pub TellsView : List ℕ → Type 0
+TellsView text = ((words : List ℕ) × (text ≡ view_text words)) ⊎ ((at : ℕ) × (now : ℕ) × (text ≡ overtaken_text at now))
+
+-- the answer to what a line says to a session that makes these calls, and then the rest of them: a command is told the reply of the next one, or that the journal is full
+abbrev pub TellsLine : Option (Result SessionLine LineFault) → List Call → List Call → List ℕ → Type 0
+TellsLine None calls rest text = (calls ≡ rest) × (text ≡ [])
+TellsLine (Some (Err fault)) calls rest text = (calls ≡ rest) × (text ≡ bad_text fault)
+TellsLine (Some (Ok View)) calls rest text = (calls ≡ rest) × TellsView text
+TellsLine (Some (Ok (Ask command))) calls rest text =
+    ((reply : Reply) × (calls ≡ record { command = command; reply = reply } ∷ rest) × (text ≡ reply_text reply))
+    ⊎ ((calls ≡ rest) × (text ≡ full_text))
+
+-- the answers to the lines of a session that makes these calls, and no others
+abbrev pub Tells : List (List ℕ) → List Call → List ℕ → Type 0
+Tells [] calls text = (calls ≡ []) × (text ≡ [])
+Tells (line ∷ lines) calls text =
+    (rest : List Call) × (first : List ℕ) × (others : List ℕ) × TellsLine (said line) calls rest first × Tells lines rest others × (text ≡ first ++ others)
+
+-- the pass has seen as many entries of its session as it has called
+abbrev pub HasSeenItsCalls : {M : Type 0} → Seen M → Type 0
+HasSeenItsCalls p = p.half.count ≡ count_of p.session (seen_in p)
+
+-- What a session is told are the replies of its own entries, one after another, and each of its entries is told: from any moment on, for no pass has called more than it has seen, to one at which it has seen as many entries of its session as it has called, as it has whenever it was answered a command
+abbrev pub SessionsAreToldTheirCalls : Type 0 → Type 0
+SessionsAreToldTheirCalls M =
+    (opening : Timeline) (n limit : ℕ) (lines : List (List ℕ)) (old new : Seen M) (text : List ℕ) → Serves opening n limit lines old new text
+    → old.half.count ≤ count_of old.session (seen_in old) → HasSeenItsCalls new
+    → (calls : List Call) × (calls_of new.session (seen_in new) ≡ calls_of old.session (seen_in old) ++ calls) × Tells lines calls text
