@@ -1,4 +1,4 @@
-"""The words of `./lab` that need the shell: shell, verify, annotate and chart."""
+"""The words that need the shell, of `./lab` and of the installed `pfl_shell`: shell, verify, annotate and chart."""
 from __future__ import annotations
 
 import argparse
@@ -21,8 +21,10 @@ HISTORY = "~/.pfl_lab_history"
 INTERRUPTED_STATUS = 130
 
 
-def parser() -> argparse.ArgumentParser:
-    words = argparse.ArgumentParser(prog="./lab", description="What stands around the laboratory's program.")
+def parser(name: str = "./lab") -> argparse.ArgumentParser:
+    """What may stand behind the command's name, which is also what it calls itself in messages, without a folder."""
+    words = argparse.ArgumentParser(prog=name, description="What stands around the laboratory's program.")
+    words.set_defaults(name=os.path.basename(name))
     words.add_argument("--program", required=True, help=argparse.SUPPRESS)
     kinds = words.add_subparsers(dest="word", required=True)
     shell = kinds.add_parser(
@@ -62,9 +64,9 @@ def picture(word: str) -> str:
     return word
 
 
-def main(arguments: Sequence[str]) -> int:
-    """Carries out the words behind `./lab`: the status."""
-    kinds = parser()
+def main(arguments: Sequence[str], name: str = "./lab") -> int:
+    """Carries out the words behind the command's name: the status."""
+    kinds = parser(name)
     words = kinds.parse_args(arguments)
     if words.word == "shell" and words.setup and not words.port:
         kinds.error("--setup tells what a server read, and goes with --port; a pair of your own has its setup from lines")
@@ -81,12 +83,17 @@ def main(arguments: Sequence[str]) -> int:
         os.dup2(os.open(os.devnull, os.O_WRONLY), sys.stdout.fileno())
         return 1
     except OSError as error:
-        print(f"lab: {error.filename}: {error.strerror}" if error.filename else f"lab: {error}", file=sys.stderr)
+        say(words, f"{error.filename}: {error.strerror}" if error.filename else error)
     except SetupFault as fault:
-        print(f"lab: setup line {fault.line}: {fault.words}", file=sys.stderr)
+        say(words, f"setup line {fault.line}: {fault.words}")
     except (Ended, Unknown, scripts.NotWritten) as why:
-        print(f"lab: {why}", file=sys.stderr)
+        say(words, why)
     return 1
+
+
+def say(words: argparse.Namespace, what: object) -> None:
+    """A line on standard error, with the command's name before it."""
+    print(f"{words.name}: {what}", file=sys.stderr)
 
 
 def verify(words: argparse.Namespace) -> int:
@@ -105,7 +112,7 @@ def chart(words: argparse.Namespace) -> int:
     script = lines_of(scripts.read(words.file))
     faulty = list(faulty_lines(words.program, script))
     for line in faulty:
-        print(f"lab: {words.file}:{line}", file=sys.stderr)
+        say(words, f"{words.file}:{line}")
     if faulty:
         return 1
     drawn = drawn_from(words.program, script, words.branch)
@@ -158,6 +165,7 @@ def shell(words: argparse.Namespace) -> int:
     setup = setup_from(words.program, words.setup) if words.setup else None
     lab = Laboratory(words.program, words.port, setup)
     if isinstance(lab.session, Client):
+        say(words, "connected; the server answers once all its sessions are")
         wait(lab.session)
     it = Shell(lab, sys.stdout, paint(sys.stdout.isatty()), words.strict, is_typed)
     try:
@@ -167,7 +175,7 @@ def shell(words: argparse.Namespace) -> int:
         elif not ended:
             it.take((line.rstrip("\n") for line in sys.stdin), words.echo)
     except Stopped as why:
-        print(f"lab: stopped at {why}", file=sys.stderr)
+        say(words, f"stopped at {why}")
         return STRICT_STATUS
     finally:
         lab.close()
@@ -175,8 +183,7 @@ def shell(words: argparse.Namespace) -> int:
 
 
 def wait(session: Client) -> None:
-    """Waits for the other sessions of a server, and says so; an interrupt gives up."""
-    print("lab: connected; the server answers once all its sessions are", file=sys.stderr)
+    """Waits for the other sessions of a server; an interrupt gives up."""
     try:
         session.wait()
     except KeyboardInterrupt:

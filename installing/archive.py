@@ -1,0 +1,31 @@
+"""A Python package as one file that python3 runs, with the same bytes whenever and wherever it is made."""
+from __future__ import annotations
+
+import io
+import zipfile
+from pathlib import Path
+from typing import Dict
+
+FIRST_LINE = b"#!/usr/bin/env python3\n"
+# The first day that an archive can name.
+TIME = (1980, 1, 1, 0, 0, 0)
+MODE = 0o100644
+UNIX = 3
+
+
+def archive(package: Path, start: str) -> bytes:
+    """A package without its tests, and a module that is run at its start, as a file in the form of Python's `zipapp`."""
+    out = io.BytesIO()
+    out.write(FIRST_LINE)
+    with zipfile.ZipFile(out, "w", zipfile.ZIP_STORED) as its:
+        for name, content in sorted({"__main__.py": start.encode(), **modules(package)}.items()):
+            entry = zipfile.ZipInfo(name, TIME)
+            entry.create_system, entry.external_attr = UNIX, MODE << 16
+            its.writestr(entry, content)
+    return out.getvalue()
+
+
+def modules(package: Path) -> Dict[str, bytes]:
+    """The modules of a package by their names in an archive; its tests are left out."""
+    found = (it for it in package.rglob("*.py") if "tests" not in it.relative_to(package).parts)
+    return {f"{package.name}/{it.relative_to(package).as_posix()}": it.read_bytes() for it in found}

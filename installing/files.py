@@ -1,0 +1,56 @@
+"""What is installed: each file's name below the chosen folder, its mode and its bytes."""
+from __future__ import annotations
+
+from pathlib import Path
+from typing import Iterator, List, NamedTuple
+
+from .archive import archive
+
+TOP = Path(__file__).resolve().parent.parent
+COMMANDS = ("pfl_lab", "pfl_shell")
+EXAMPLES = "share/pfl_lab/examples"
+START = "import sys\n\nfrom shell.installed import main\n\nsys.exit(main())\n"
+RUNNABLE, READABLE = 0o755, 0o644
+# What examples say of the checkout's commands, and what stands for it where there is no checkout.
+INSTALLED_WORDS = (
+    *((f"./lab {word}", f"pfl_lab {word}") for word in ("run", "check", "serve")),
+    *((f"./lab {word}", f"pfl_shell {word}") for word in ("shell", "verify", "annotate", "chart")),
+    ("[docs/FORMATS.md](../docs/FORMATS.md)", "pfl_lab(1)"),
+)
+
+
+class File(NamedTuple):
+    """A file to install."""
+
+    name: str
+    mode: int
+    content: bytes
+
+
+def files(program: str) -> List[File]:
+    """All that is installed where this is the proved program."""
+    return [
+        File("bin/pfl_lab", RUNNABLE, Path(program).read_bytes()),
+        File("bin/pfl_shell", RUNNABLE, archive(TOP / "shell", START)),
+        *(File(f"share/man/man1/{it}.1", READABLE, (TOP / f"docs/man/{it}.1").read_bytes()) for it in COMMANDS),
+        *completions(),
+        *examples(),
+    ]
+
+
+def completions() -> Iterator[File]:
+    """The words that bash and zsh complete, at the places where they look for them."""
+    folder = TOP / "installing/completions"
+    for it in COMMANDS:
+        yield File(f"share/bash-completion/completions/{it}", READABLE, (folder / f"bash/{it}").read_bytes())
+        yield File(f"share/zsh/site-functions/_{it}", READABLE, (folder / f"zsh/_{it}").read_bytes())
+
+
+def examples() -> Iterator[File]:
+    """The examples with their pictures and the page about them, in the words of the installed commands."""
+    for path in sorted((TOP / "examples").iterdir()):
+        if path.suffix in (".pfl", ".md", ".svg"):
+            text = path.read_text(encoding="utf-8")
+            for old, new in INSTALLED_WORDS:
+                text = text.replace(old, new)
+            yield File(f"{EXAMPLES}/{path.name}", READABLE, text.encode())
