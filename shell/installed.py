@@ -13,7 +13,7 @@ NO_PROGRAM_STATUS = 125
 
 
 def main() -> int:
-    """Carries out the words of the command line, `shell` where there is none, by the program beside it or the one that PFL_LAB names."""
+    """Carries out the words of the command line, `shell` where there is none, by the program beside it or that of PFL_LAB."""
     words = sys.argv[1:] or ["shell"]
     program = os.environ.get("PFL_LAB") or os.path.join(os.path.dirname(os.path.realpath(sys.argv[0])), PROGRAM)
     if not shutil.which(program) and not {"-h", "--help"} & {*words}:

@@ -43,7 +43,7 @@ class AtOnce(unittest.TestCase):
     def test_help_lists_the_programs_words_and_its_own(self) -> None:
         ran = lab("--help")
         self.assertEqual((ran.returncode, ran.stderr), (0, ""))
-        for word in ("run", "check", "serve", "try", "build"):
+        for word in ("run", "check", "serve", "try", "build", "install", "uninstall"):
             self.assertRegex(ran.stdout, rf"(?m)^  {word} +\w")
 
     def test_no_word_is_a_fault_with_the_help(self) -> None:
@@ -66,8 +66,11 @@ class AtOnce(unittest.TestCase):
         self.assertIn("--port", lab("help", "shell").stdout)
         self.assertEqual(lab("help", "xyzzy").returncode, 2)
 
-    def test_try_knows_its_words(self) -> None:
+    def test_try_and_the_installer_know_their_words(self) -> None:
         self.assertEqual(lab("try", "serve").returncode, 2)
+        for word in ("install", "uninstall"):
+            self.assertEqual(lab(word, "a", "b").returncode, 2)
+            self.assertEqual(lab("help", word).stderr, f"lab: usage: ./lab {word} [PREFIX]\n")
 
 
 if __name__ == "__main__":
