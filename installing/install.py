@@ -101,8 +101,9 @@ def make_folder(path: str, made: List[str], undoing: ExitStack) -> None:
     if os.path.lexists(path):
         raise OSError(errno.ENOTDIR, os.strerror(errno.ENOTDIR), path)
     make_folder(os.path.dirname(path), made, undoing)
-    os.mkdir(path)
-    undoing.callback(remove_folder, path)
+    with uninterrupted():
+        os.mkdir(path)
+        undoing.callback(remove_folder, path)
     os.chmod(path, FOLDER_MODE)
     made.append(path)
 
@@ -112,8 +113,9 @@ def stage(prefix: str, it: File, undoing: ExitStack) -> Staged:
     target = os.path.join(prefix, it.name)
     folder, name = os.path.split(target)
     try:
-        number, path = tempfile.mkstemp(prefix=f".{name}-", dir=folder)
-        undoing.callback(remove, path)
+        with uninterrupted():
+            number, path = tempfile.mkstemp(prefix=f".{name}-", dir=folder)
+            undoing.callback(remove, path)
         with open(number, "wb") as out:
             out.write(it.content)
             out.flush()
@@ -137,7 +139,7 @@ def remove_folder(path: str) -> None:
 
 @contextmanager
 def uninterrupted() -> Iterator[None]:
-    """Has signals that end the installer wait until files have taken their places."""
+    """Has signals that end the installer wait: between making something and noting it, and until files have taken their places."""
     before = signal.pthread_sigmask(signal.SIG_BLOCK, ENDING)
     try:
         yield

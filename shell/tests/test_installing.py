@@ -5,6 +5,7 @@ import hashlib
 import os
 import re
 import shutil
+import signal
 import subprocess
 import sys
 import tempfile
@@ -245,6 +246,14 @@ class Interrupted(Room):
                     self.install()
                 self.assertEqual(tree(self.room), before)
 
+    def test_a_signal_just_when_a_file_is_made_leaves_no_file(self) -> None:
+        before = signal.signal(signal.SIGINT, signal.default_int_handler)
+        self.addCleanup(signal.signal, signal.SIGINT, before)
+        for name in ("tempfile.mkstemp", "os.mkdir"):
+            with mock.patch(name, interrupting(name)), self.assertRaises(KeyboardInterrupt):
+                self.install()
+            self.assertEqual({*tree(self.room)}, {"program"})
+
     def test_at_each_moment_the_list_names_what_is_there(self) -> None:
         self.install()
         for last in range(0, len(files(self.program)) + 2, 5):
@@ -282,6 +291,19 @@ def failing(last: int, what: BaseException) -> mock.Mock:
             real(*given)
 
     return mock.Mock(side_effect=called)
+
+
+def interrupting(name: str) -> Callable[..., object]:
+    """A function that does what it does, and has a signal come at its end."""
+    module, _, function = name.rpartition(".")
+    real = getattr(sys.modules[module], function)
+
+    def called(*given: object, **named: object) -> object:
+        found = real(*given, **named)
+        os.kill(os.getpid(), signal.SIGINT)
+        return found
+
+    return called
 
 
 class Command(Room):
@@ -344,6 +366,15 @@ class Command(Room):
         self.assertIn(f"installed in {self.room}/home/.local:\n", self.lab("install"))
         self.assertIn(f"removed {self.room}/home/.local/bin/pfl_lab\n", self.lab("uninstall"))
         self.assertFalse((self.room / "home").exists())
+
+    def test_where_nobody_reads_what_is_said_it_is_done_all_the_same(self) -> None:
+        for word in ("install", "uninstall"):
+            read, write = os.pipe()
+            os.close(read)
+            command = (sys.executable, str(self.checkout / "lab"), word, str(self.prefix))
+            self.assertEqual(subprocess.run(command, stdout=write, timeout=60).returncode, 0)
+            os.close(write)
+            self.assertEqual(self.prefix.exists(), word == "install")
 
     def test_links_to_folders_are_followed_and_kept(self) -> None:
         (self.room / "real").mkdir()
