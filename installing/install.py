@@ -92,10 +92,11 @@ def make_folders(prefix: str, wanted: Sequence[File], undoing: ExitStack) -> Lis
     made: List[str] = []
     for it in (*wanted, list_file(Installed())):
         make_folder(os.path.dirname(os.path.join(prefix, it.name)), made, undoing)
-    return [os.path.relpath(it, prefix) if it.startswith(os.path.join(prefix, "")) else "." if it == prefix else it for it in made]
+    return [it if os.path.relpath(it, prefix).startswith("..") else os.path.relpath(it, prefix) for it in made]
 
 
 def make_folder(path: str, made: List[str], undoing: ExitStack) -> None:
+    """Makes a folder with those above it that are not there."""
     if os.path.isdir(path):
         return
     if os.path.lexists(path):
