@@ -51,25 +51,18 @@ def install(program: str, prefix: str) -> List[str]:
         staged = [stage(prefix, it, undoing) for it in wanted]
         meanwhile, last = (stage(prefix, list_file(it), undoing) for it in (old.both(new), new))
         with uninterrupted():
-            undoing.pop_all()
             put(prefix, [meanwhile, *staged], [it for it in gone if old.has(prefix, it)], last)
+        # (what took its place is no more where it was written, and a folder with something in it stays)
     return report(prefix, wanted)
 
 
 def put(prefix: str, staged: Sequence[Staged], gone: Sequence[str], last: Staged) -> None:
     """Has files take their places, removes those that are no longer installed, and then writes the list."""
-    left = [*staged, last]
-    try:
-        for path, target in staged:
-            os.replace(path, target)
-            left.pop(0)
-        for name in gone:
-            os.unlink(os.path.join(prefix, name))
-        os.replace(*last)
-    except OSError:
-        for path, _ in left:
-            remove(path)
-        raise
+    for path, target in staged:
+        os.replace(path, target)
+    for name in gone:
+        os.unlink(os.path.join(prefix, name))
+    os.replace(*last)
 
 
 def list_file(its: Installed) -> File:

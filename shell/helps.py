@@ -52,7 +52,9 @@ COMMANDS: Dict[str, Help] = {
     ),
     "drop": Help("drop BRANCH", "removes a branch, unless it is the last", "Answers `removed`."),
     "show": Help(
-        "show BRANCH", "shows a branch for machines, in columns that docs/FORMATS.md names", "`view` shows the same for people."
+        "show BRANCH",
+        "shows a branch for machines, in columns that docs/FORMATS.md and pfl_lab(1) name",
+        "`view` shows the same for people.",
     ),
     "names": Help("names", "tells the names of the branches"),
     "excise": Help(
