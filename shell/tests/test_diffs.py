@@ -216,7 +216,7 @@ class BetweenBranches(unittest.TestCase):
         lab.close()
 
     def test_held_packets_that_differ_in_their_length(self) -> None:
-        longer = QUERY.removesuffix("40").replace("main", "other") + "1400"
+        longer = QUERY[: -len("40")].replace("main", "other") + "1400"
         lab = laboratory(f"set defer 1\n{self.SETUP}fork main 0 other\n{QUERY}\n{longer}")
         told = between_branches(lab, lab.branch("main"), lab.branch("other"), PLAIN)
         expected = [
