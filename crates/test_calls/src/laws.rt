@@ -1,0 +1,49 @@
+//! Ticks of a pair that are taken back at once.
+
+use pfl_base::{Millis, NodeId, Refusal};
+use pfl_language::{Event, Limits, NodeEvent};
+use pfl_laws::all_there_and_back;
+use pfl_rules::RuleSet;
+use pfl_run::world::World;
+use std::alloc::Global;
+
+/// A pair without rules.
+fn opening(alloc: Global) -> Option<World<Global>> {
+    let rules_a = RuleSet::new(alloc, Vec::new(alloc)).ok()?;
+    let rules_b = RuleSet::new(alloc, Vec::new(alloc)).ok()?;
+    World::new(alloc, Limits::default(), rules_a, rules_b).ok()
+}
+
+/// The clock of node A goes on.
+fn tick(ms: Millis) -> Event {
+    Event::At {
+        node: NodeId::A,
+        event: NodeEvent::Tick { ms },
+    }
+}
+
+/// What ticks answer that are taken back, and what the clock of node A shows then.
+fn there_and_back(
+    alloc: Global,
+    world: &mut World<Global>,
+    ticks: &[Event],
+) -> (Result<(), Refusal>, Millis) {
+    let told = all_there_and_back(alloc, world, ticks);
+    (told, world.node(NodeId::A).clock())
+}
+
+/// The same of a new pair.
+fn taken_back(alloc: Global, ticks: &[Event]) -> Option<(Result<(), Refusal>, Millis)> {
+    let mut world = opening(alloc)?;
+    Some(there_and_back(alloc, &mut world, ticks))
+}
+
+#[test]
+fn ticks_are_taken_back(rt: HostRuntime) {
+    let ticks = [tick(20), tick(500)];
+    assert!(rt; taken_back(rt.alloc(), &ticks) == Some((Ok(()), 0)));
+    // The last is refused.
+    let ticks = [tick(20), tick(1_000_000_000_000)];
+    let refused = Some((Err(Refusal::ClockFull), 0));
+    assert!(rt; taken_back(rt.alloc(), &ticks) == refused);
+}

@@ -1,0 +1,5 @@
+//! What only a call shows.
+#![tactic(auto)]
+
+#[cfg(test)]
+mod laws;
