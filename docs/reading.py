@@ -39,7 +39,6 @@ FAMILIES = {
     "pfl_lab": ("pfl_lab", "pfl_host", "pfl_run"),
     "pfl_node": ("pfl_node", "pfl_desk", "pfl_receive"),
     "test_publish": ("test_publish", "pfl_publish_tests"),
-    "test_states": ("test_states", "pfl_state_tests"),
 }
 WIDTH = 120
 MARKER = re.compile(r"<!-- (definition|theorem|contracts|function|file|naming|reached|refusals) (.+?) -->$")
