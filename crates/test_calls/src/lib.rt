@@ -1,4 +1,5 @@
-//! What only a call shows.
+//! What only a call shows: devices that fail, a check and a run without memory, faults that print, and events of a pair that are taken
+//! back at once. What a script shows is a case of test_cases.
 #![tactic(auto)]
 
 #[cfg(test)]
@@ -7,3 +8,5 @@ mod devices;
 mod faults;
 #[cfg(test)]
 mod laws;
+#[cfg(test)]
+mod scripts;

@@ -1,0 +1,98 @@
+"""What the program makes of its words, and of lines wherever the blocks end in which it reads its input."""
+from __future__ import annotations
+
+import subprocess
+import tempfile
+import unittest
+
+from . import program
+
+# So many bytes are read at once.
+BLOCK = 65536
+
+
+def ran(*words: str, given: bytes = b"") -> "subprocess.CompletedProcess[bytes]":
+    """What the program gives with these words; its input is a file, of which it gets whole blocks."""
+    with tempfile.TemporaryFile() as it:
+        it.write(given)
+        it.seek(0)
+        return subprocess.run((program(), *words), stdin=it, capture_output=True, timeout=60)
+
+
+class Words(unittest.TestCase):
+    def test_words_that_ask_for_nothing(self) -> None:
+        for words in (
+            "",
+            "fly",
+            "run now",
+            "check now",
+            "run --port 4000",
+            "serve",
+            "serve --port 4000",
+            "serve --sessions 3",
+            "serve --port=4000 --sessions=3 now",
+            "serve --port 0 --sessions 3",
+            "serve --port 65536 --sessions 3",
+            "serve --port high --sessions 3",
+            "serve --port 4000 --sessions 0",
+            "serve --port 4000 --sessions 9",
+            "serve --port 4000 --port 4001",
+        ):
+            with self.subTest(words):
+                it = ran(*words.split())
+                self.assertEqual((it.returncode, it.stdout, it.stderr[:7]), (2, b"", b"error: "))
+
+    def test_help_is_no_fault(self) -> None:
+        for words in ("--help", "serve --help"):
+            with self.subTest(words):
+                it = ran(*words.split())
+                self.assertEqual((it.returncode, it.stderr), (0, b""))
+
+    def test_words_with_an_empty_script(self) -> None:
+        for words in (
+            "run",
+            "check",
+            "serve --port 4000 --sessions 3",
+            "serve --sessions 8 --port 65535",
+            "serve --port 1 --sessions 1",
+            "serve --port=4000 --sessions=3",
+        ):
+            with self.subTest(words):
+                it = ran(*words.split())
+                self.assertEqual((it.returncode, it.stdout, it.stderr), (1, b"", b"pfl_lab: setup line 0: no open\n"))
+
+
+def way_back(length: int) -> bytes:
+    """A way back by no event, as a line of so many bytes."""
+    return b"back main ".ljust(length, b"0") + b"\n"
+
+
+class Blocks(unittest.TestCase):
+    def told(self, left: int, lines: bytes) -> bytes:
+        """What is told of lines that begin where so many bytes are left of the first block."""
+        setup = b"open\n"
+        comment = b"#".ljust(BLOCK - len(setup) - left - 1) + b"\n"
+        it = ran("run", given=setup + comment + lines)
+        self.assertEqual(it.stderr, b"")
+        return it.stdout
+
+    def test_a_line_ends_at_each_place_about_the_end_of_a_block(self) -> None:
+        # (a carriage return is dropped before a line feed alone)
+        lines = b"names\r\nback main 0\n\n# names\nnames\r"
+        for left in range(len(lines) + 2):
+            with self.subTest(left):
+                self.assertEqual(self.told(left, lines), b"names main\nat 0\nbad 2 NotAscii\n")
+
+    def test_the_longest_line_goes_on_in_the_next_block(self) -> None:
+        for left in (0, 1, 2, 100, 511, 512, 513, 514, 1000, 2000):
+            with self.subTest(left):
+                lines = way_back(512) + way_back(513) + b"x"
+                self.assertEqual(self.told(left, lines), b"at 0\nbad 1 Long\nbad 3 Unknown\n")
+
+    def test_a_script_without_commands(self) -> None:
+        it = ran("check", given=b"open\n# the end")
+        self.assertEqual((it.returncode, it.stdout, it.stderr), (0, b"good 0\n", b""))
+
+
+if __name__ == "__main__":
+    unittest.main()
