@@ -9,8 +9,7 @@ ghost use Rattle.pfl_host.specs.Servers.{Closes, fault_in, first_fault, first_of
 use crate::doors::Doors;
 use crate::network::seats;
 use pfl_base::{Input, Output};
-use pfl_run::LabFault;
-use pfl_run::script::{Ended, EngineFault};
+use pfl_run::{Ended, EngineFault, LabFault};
 use pfl_serve::{Gate, Seat, ServeFault, Served, serve_all};
 use pfl_session::{Lab, Opened, Pass, Which};
 use std::alloc::Global;

@@ -4,8 +4,7 @@ ghost use Rattle.std.specs.Prelude.{◌≡◌, ◌⊎◌, length, map, IfOk, IfE
 ghost use Rattle.pfl_run.specs.declared.fault.LabFault.TheVariants as fault;
 
 use pfl_base::Std;
-use pfl_run::LabFault;
-use pfl_run::reader::LineReader;
+use pfl_run::{LabFault, LineReader};
 use pfl_serve::Seat;
 use pfl_session::Pass;
 use std::alloc::Allocator;

@@ -11,10 +11,10 @@ ghost use Rattle.pfl_host.specs.Servers.{closed_text, listening_text, ClosesTold
 use crate::closing::serve_streams;
 use crate::network::{accept_all, listen};
 use pfl_base::{Input, Output};
-use pfl_run::reader::LineReader;
-use pfl_run::script::{EngineFault, ShortLine, plain_line, push_number, write_text};
-use pfl_run::timeline::Timeline;
-use pfl_run::{LabFault, set_up, tell};
+use pfl_run::{
+    EngineFault, LabFault, LineReader, ShortLine, Timeline, plain_line, push_number, set_up, tell,
+    write_text,
+};
 use pfl_serve::Gate;
 use pfl_session::Opened;
 use std::alloc::Global;

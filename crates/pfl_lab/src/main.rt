@@ -5,10 +5,7 @@
 ghost use Rattle.std.specs.Prelude.{◌≡◌};
 
 use pfl_base::Std;
-use pfl_host::obey;
-use pfl_host::reader::LineReader;
-use pfl_host::run::{LabFault, tell};
-use pfl_host::serve::Open;
+use pfl_host::{LabFault, LineReader, Open, obey, tell};
 use std::env;
 use std::io::{self, ErrorKind};
 use std::process::ExitCode;

@@ -14,7 +14,7 @@ ghost use Rattle.pfl_receive.specs.desk.Weights.{forgotten_edits, listed_edits};
 use crate::node::Node;
 use pfl_base::{Refusal, StateName};
 use pfl_edits::Change;
-use pfl_receive::desk::{Desk, NodeEdit, Overfull};
+use pfl_receive::{Desk, NodeEdit, Overfull};
 use std::alloc::Allocator;
 
 impl<A: Allocator + Copy> Node<A> {

@@ -18,8 +18,7 @@ use crate::flush::frame::bytes_of;
 use crate::node::Node;
 use pfl_base::Refusal;
 use pfl_edits::{Change, NoMemory};
-use pfl_receive::desk::{Desk, NodeEdit};
-use pfl_receive::queue::Entry;
+use pfl_receive::{Desk, Entry, NodeEdit};
 use std::alloc::Allocator;
 
 impl<A: Allocator + Copy> Node<A> {

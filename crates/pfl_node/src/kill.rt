@@ -13,7 +13,7 @@ ghost use Rattle.pfl_receive.specs.desk.Weights.{deleted_edits};
 use crate::node::Node;
 use pfl_base::{Refusal, StateName};
 use pfl_edits::Change;
-use pfl_receive::desk::{Desk, NodeEdit, Overfull};
+use pfl_receive::{Desk, NodeEdit, Overfull};
 use pfl_track::State;
 use std::alloc::Allocator;
 

@@ -18,5 +18,5 @@ mod turn;
 
 pub use laws::{one_state_per_key, records_leave_the_rest};
 pub use node::Node;
-pub use pfl_bulk as bulk;
-pub use pfl_receive::desk;
+pub use pfl_bulk::BulkClient;
+pub use pfl_receive::{Counter, Counters, MotionEdit, NodeEdit};

@@ -9,7 +9,7 @@ ghost use Rattle.pfl_receive.specs.desk.Nodes.{Node as Whole, IsNode, new_node};
 
 use pfl_edits::{NoMemory, Reversible};
 use pfl_language::Limits;
-use pfl_receive::desk::{Desk, NodeEdit};
+use pfl_receive::{Desk, NodeEdit};
 use pfl_rules::RuleSet;
 use std::alloc::Allocator;
 use std::marker::Model;

@@ -23,7 +23,7 @@ use crate::packet::start::{drop_packet, judge, pass};
 use pfl_base::{Dir, Packet, Refusal, key};
 use pfl_edits::Change;
 use pfl_language::{Fate, Reason};
-use pfl_receive::desk::{Desk, NodeEdit, Overfull};
+use pfl_receive::{Desk, NodeEdit, Overfull};
 use pfl_track::{State, Tracked, track};
 use std::alloc::Allocator;
 

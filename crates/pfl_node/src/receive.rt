@@ -13,8 +13,7 @@ ghost use Rattle.pfl_wire.specs.Frames.{frame_len, records_of};
 use crate::node::Node;
 use pfl_base::Refusal;
 use pfl_edits::Change;
-use pfl_receive::desk::{Counter, Desk, NodeEdit, Overfull};
-use pfl_receive::take_frame;
+use pfl_receive::{Counter, Desk, NodeEdit, Overfull, take_frame};
 use pfl_wire::FrameBytes;
 use std::alloc::Allocator;
 

@@ -13,7 +13,7 @@ ghost use Rattle.pfl_receive.specs.desk.Weights.{released_edits};
 use crate::node::Node;
 use pfl_base::{Refusal, StateName};
 use pfl_edits::Change;
-use pfl_receive::desk::{Desk, NodeEdit};
+use pfl_receive::{Desk, NodeEdit};
 use std::alloc::Allocator;
 
 impl<A: Allocator + Copy> Node<A> {

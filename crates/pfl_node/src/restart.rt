@@ -11,7 +11,7 @@ use crate::node::{Node, most_edits};
 use pfl_base::{Millis, StateName};
 use pfl_bulk::BulkClient;
 use pfl_edits::NoMemory;
-use pfl_receive::desk::Desk;
+use pfl_receive::Desk;
 use std::alloc::Allocator;
 
 /// As a request, this name asks for all states.

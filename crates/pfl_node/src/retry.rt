@@ -14,7 +14,7 @@ use pfl_base::{Refusal, StateName};
 use pfl_bulk::Retry;
 use pfl_edits::Change;
 use pfl_language::Retried;
-use pfl_receive::desk::{Desk, NodeEdit, Overfull};
+use pfl_receive::{Desk, NodeEdit, Overfull};
 use std::alloc::Allocator;
 
 /// As a request, this name asks for all states.

@@ -9,7 +9,7 @@ use crate::node::Node;
 use pfl_base::Refusal;
 use pfl_edits::Change;
 use pfl_language::{NodeEvent, NodeOutcome};
-use pfl_receive::desk::NodeEdit;
+use pfl_receive::NodeEdit;
 use std::alloc::Allocator;
 
 impl<A: Allocator + Copy> Node<A> {

@@ -9,7 +9,7 @@ ghost use Rattle.pfl_node.specs.Weights.{ticked_edits};
 use crate::node::Node;
 use pfl_base::{Millis, Refusal};
 use pfl_edits::Change;
-use pfl_receive::desk::NodeEdit;
+use pfl_receive::NodeEdit;
 use std::alloc::Allocator;
 
 /// The last millisecond that a clock shows.

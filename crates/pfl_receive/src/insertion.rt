@@ -9,8 +9,7 @@ ghost use Rattle.pfl_desk.specs.table.Tables.{key_in_use as is_in_use};
 ghost use Rattle.pfl_track.specs.States.{IsState};
 
 use pfl_base::StateName;
-use pfl_desk::queue::Kind;
-use pfl_desk::{Counter, Desk, Overfull};
+use pfl_desk::{Counter, Desk, Kind, Overfull};
 use pfl_merge::last_use;
 use pfl_track::{KeyPair, State, StateFields};
 use pfl_wire::StateRecord;

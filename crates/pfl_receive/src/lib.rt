@@ -12,6 +12,8 @@ mod request;
 mod update;
 
 pub use frame::take_frame;
-pub use pfl_desk as desk;
-pub use pfl_desk::{defer, queue, table};
+pub use pfl_desk::{
+    Counter, Counters, Deferrals, Desk, Entry, Kind, MotionEdit, NodeEdit, Overfull, Pending,
+    StateTable,
+};
 pub use records::take_record;

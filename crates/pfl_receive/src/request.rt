@@ -9,8 +9,7 @@ ghost use Rattle.pfl_receive.specs.Receiving as receiving;
 ghost use Rattle.pfl_wire.specs.declared.message.BulkStatus.TheVariants.{Start, End as Finish};
 
 use pfl_base::StateName;
-use pfl_desk::queue::Kind;
-use pfl_desk::{Counter, Desk, Overfull};
+use pfl_desk::{Counter, Desk, Kind, Overfull};
 use pfl_track::State;
 use pfl_wire::BulkStatus;
 use std::alloc::Allocator;

@@ -8,8 +8,7 @@ use crate::fault::LabFault;
 use crate::opening::read_opening;
 use crate::run::{ended_status, tell};
 use pfl_base::{Input, Output};
-use pfl_script::reader::LineReader;
-use pfl_script::{Checked, check_lines};
+use pfl_script::{Checked, LineReader, check_lines};
 use std::alloc::Allocator;
 
 /// Reads a setup by the first lines of the reader, and checks the others: what is wrong with them goes to the writer.

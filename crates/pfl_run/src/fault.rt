@@ -6,9 +6,9 @@ ghost use Rattle.arrayvec.specs.ArrayString.{array_string_len};
 ghost use Rattle.pfl_run.specs.Faults.{at_line, fault_text, fault_status};
 
 use pfl_rules::RuleFault;
-use pfl_script::lines::LineFault;
-use pfl_script::world::WorldFault;
-use pfl_script::{EngineFault, SetupFault, ShortLine, plain_line, push_number};
+use pfl_script::{
+    EngineFault, LineFault, SetupFault, ShortLine, WorldFault, plain_line, push_number,
+};
 
 /// Why a run of the laboratory stopped. Lines count from 1.
 #[derive(Clone, Copy, Debug, PartialEq, Eq)]

@@ -8,9 +8,7 @@ ghost use Rattle.pfl_run.specs.inner.Runs.{IsLimitsStop};
 use crate::fault::LabFault;
 use pfl_base::Input;
 use pfl_language::{LimitFault, Limits};
-use pfl_script::reader::LineReader;
-use pfl_script::world::WorldFault;
-use pfl_script::{Setup, read_setup};
+use pfl_script::{LineReader, Setup, WorldFault, read_setup};
 use std::alloc::Allocator;
 
 /// Tests the limits of a setup, whose line `open` has the number.

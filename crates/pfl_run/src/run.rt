@@ -10,10 +10,7 @@ use crate::fault::LabFault;
 use crate::opening::read_opening;
 use pfl_base::{Input, Output};
 use pfl_edits::NoMemory;
-use pfl_script::reader::LineReader;
-use pfl_script::timeline::Timeline;
-use pfl_script::world::{World, WorldFault};
-use pfl_script::{Ended, Setup, run_lines, write_text};
+use pfl_script::{Ended, LineReader, Setup, Timeline, World, WorldFault, run_lines, write_text};
 use std::alloc::Allocator;
 
 /// The pair of a setup, with an empty branch `main`.

@@ -8,8 +8,7 @@ use pfl_base::NodeId;
 use pfl_bulk::{BulkClient, BulkServer};
 use pfl_edits::NoMemory;
 use pfl_queue::Kind;
-use pfl_timeline::desk::Counters;
-use pfl_timeline::node::Node;
+use pfl_timeline::{Counters, Node};
 use std::alloc::Allocator;
 
 /// A mark that is set or not, as 1 or 0.

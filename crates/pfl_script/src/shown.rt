@@ -15,8 +15,7 @@ use pfl_edits::{InOrder, NoMemory};
 use pfl_link::{Link, Ticketed};
 use pfl_queue::Pending;
 use pfl_table::StateTable;
-use pfl_timeline::node::Node;
-use pfl_timeline::world::World;
+use pfl_timeline::{Node, World};
 use std::alloc::Allocator;
 
 /// Puts the line of a branch behind a text.

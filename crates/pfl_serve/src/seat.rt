@@ -1,8 +1,7 @@
 //! Seats of sessions.
 
 use pfl_base::{Input, Output};
-use pfl_script::reader::LineReader;
-use pfl_script::{Ended, EngineFault};
+use pfl_script::{Ended, EngineFault, LineReader};
 use pfl_session::Pass;
 use std::alloc::Allocator;
 use std::error::Error;

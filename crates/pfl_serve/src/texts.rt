@@ -6,7 +6,7 @@ ghost use Rattle.std.specs.List.{flat_map};
 ghost use Rattle.pfl_serve.specs.Texts.{numbered, overtaken_text, view_text};
 
 use pfl_script::{ShortLine, plain_line, push_number};
-use pfl_session::publish::{Overtaken, Revision};
+use pfl_session::{Overtaken, Revision};
 
 /// The line for a command that finds the journal full.
 pub(crate) const FULL: &str = "full\n";

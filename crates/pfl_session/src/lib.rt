@@ -30,7 +30,6 @@ pub use laws::{journals_are_commands, last_callers_have_seen_all, revisions_show
 pub use mark::Mark;
 pub use opened::Opened;
 pub use pass::Pass;
-pub use pfl_publish as publish;
-pub use pfl_timeline as timeline;
-pub use pfl_timeline::{node, world};
+pub use pfl_publish::{Overtaken, Revision};
+pub use pfl_timeline::{Branch, Node, Reply, Timeline, World};
 pub use which::Which;

@@ -13,7 +13,6 @@ pub use laws::{
     excisions_are_runs_without_the_event, new_timelines_are_timelines,
     no_reply_tells_want_of_memory, steps_are_runs,
 };
-pub use pfl_world as world;
-pub use pfl_world::{desk, node};
+pub use pfl_world::{Counters, Node, World, WorldFault};
 pub use reply::{Reply, boxed_copy};
 pub use timeline::Timeline;

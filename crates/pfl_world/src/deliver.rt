@@ -21,8 +21,7 @@ use crate::world::World;
 use pfl_base::Refusal;
 use pfl_edits::{Change, NoMemory};
 use pfl_language::Outcome;
-use pfl_node::Node;
-use pfl_node::desk::NodeEdit;
+use pfl_node::{Node, NodeEdit};
 use pfl_wire::FrameBytes;
 use std::alloc::Allocator;
 

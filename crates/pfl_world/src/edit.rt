@@ -6,7 +6,7 @@ use crate::restart_edit::RestartEdit;
 use pfl_base::NodeId;
 use pfl_edits::{Change, Copied, NoMemory, Tape};
 use pfl_link::LinkEdit;
-use pfl_node::desk::NodeEdit;
+use pfl_node::NodeEdit;
 use std::alloc::Allocator;
 
 /// A change of one place of the pair.

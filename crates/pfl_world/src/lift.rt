@@ -17,7 +17,7 @@ use crate::world::World;
 use pfl_base::{NodeId, Refusal};
 use pfl_edits::{Change, Reversible, undo_all};
 use pfl_link::LinkEdit;
-use pfl_node::desk::NodeEdit;
+use pfl_node::NodeEdit;
 use std::alloc::Allocator;
 
 /// Records the edits of a node as edits of the pair.

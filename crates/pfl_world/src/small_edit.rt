@@ -7,8 +7,7 @@ ghost use Rattle.pfl_node.specs.desk.declared.edit.NodeEdit.TheVariants.{Moved};
 use crate::edit::WorldEdit;
 use pfl_base::{Millis, NodeId};
 use pfl_edits::{Packed, Packing};
-use pfl_node::bulk::BulkClient;
-use pfl_node::desk::{Counter, MotionEdit, NodeEdit};
+use pfl_node::{BulkClient, Counter, MotionEdit, NodeEdit};
 use std::alloc::Allocator;
 use std::mem::size_of;
 

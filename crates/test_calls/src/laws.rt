@@ -4,7 +4,7 @@ use pfl_base::{Millis, NodeId, Refusal};
 use pfl_language::{Event, Limits, NodeEvent};
 use pfl_laws::all_there_and_back;
 use pfl_rules::RuleSet;
-use pfl_run::world::World;
+use pfl_run::World;
 use std::alloc::Global;
 
 /// A pair without rules.

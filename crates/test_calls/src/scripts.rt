@@ -4,8 +4,7 @@
 ghost use Rattle.std.specs.Prelude.{◌≡◌};
 
 use pfl_base::{Input, Std};
-use pfl_run::reader::LineReader;
-use pfl_run::{check_lab, run_lab};
+use pfl_run::{LineReader, check_lab, run_lab};
 use std::alloc::{Allocator, Global};
 use test_devices::{Bytewise, Endless, Narrow, Refusing};
 

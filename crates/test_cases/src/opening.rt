@@ -4,11 +4,10 @@ ghost use Rattle.std.specs.Prelude.{◌≡◌};
 
 use pfl_base::{Input, Output};
 use pfl_edits::NoMemory;
-use pfl_run::reader::LineReader;
-use pfl_run::script::{Setup, read_setup, run_lines};
-use pfl_run::timeline::Timeline;
-use pfl_run::world::{World, WorldFault};
-use pfl_run::{LabFault, run_lab, set_up, tell};
+use pfl_run::{
+    LabFault, LineReader, Setup, Timeline, World, WorldFault, read_setup, run_lab, run_lines,
+    set_up, tell,
+};
 use std::alloc::Allocator;
 
 /// The mark in front of the numbers.

@@ -3,8 +3,7 @@
 use crate::opening::Opening;
 use crate::script::{Replies, Script};
 use pfl_base::Std;
-use pfl_run::check_lab;
-use pfl_run::reader::LineReader;
+use pfl_run::{LineReader, check_lab};
 use std::alloc::{AllocError, Allocator, Global};
 use std::cell::Cell;
 

@@ -2,7 +2,7 @@
 
 use super::client::{connect, free_port, hear, say};
 use super::loopback::{SETUP, has_closed, served};
-use pfl_host::serve::Open;
+use pfl_host::Open;
 use std::alloc::Global;
 use std::net::TcpStream;
 use std::test::*;

@@ -2,7 +2,7 @@
 
 use super::client::{asked, connect, free_port, hear, is_heard, say};
 use super::loopback::{SETUP, both_heard, has_closed, served};
-use pfl_host::serve::Open;
+use pfl_host::Open;
 use std::io::Write;
 use std::test::*;
 use std::thread::join;

@@ -3,7 +3,7 @@
 use super::client::{connect, free_port, hear, is_heard, say};
 use super::loopback::{SETUP, served};
 use super::outcome::Outcome;
-use pfl_host::serve::Open;
+use pfl_host::Open;
 use std::alloc::Global;
 use std::io::Write;
 use std::net::TcpStream;

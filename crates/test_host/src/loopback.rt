@@ -3,7 +3,7 @@
 use super::client::{address, asked, connect, free_port, hear, is_heard, say};
 use super::meeting::Meeting;
 use super::outcome::{Outcome, outcome_of};
-use pfl_host::serve::{Gate, Open};
+use pfl_host::{Gate, Open};
 use std::alloc::Global;
 use std::net::{Net, TcpListener, TcpStream};
 use std::sync::Wait;

@@ -1,6 +1,6 @@
 //! A gate at which two sessions meet.
 
-use pfl_host::serve::Gate;
+use pfl_host::Gate;
 use std::sync::Wait;
 use std::sync::atomic::{AtomicBool, Ordering};
 use std::thread::yield_now;

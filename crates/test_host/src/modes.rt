@@ -1,7 +1,7 @@
 //! What the program does with its words, over memory.
 
 use super::outcome::{Outcome, outcome_of};
-use pfl_host::serve::Open;
+use pfl_host::Open;
 use std::alloc::Global;
 use std::net::{Net, TcpListener, TcpStream};
 use std::sync::Wait;

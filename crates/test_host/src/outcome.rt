@@ -1,9 +1,7 @@
 //! What the program gives with some words, over lines in memory.
 
 use pfl_base::Std;
-use pfl_host::obey;
-use pfl_host::reader::LineReader;
-use pfl_host::serve::Gate;
+use pfl_host::{Gate, LineReader, obey};
 use std::alloc::Global;
 use std::net::{Net, TcpListener, TcpStream};
 use std::sync::Wait;

@@ -4,8 +4,7 @@ ghost use Rattle.pfl_session.specs.Passes.{IsPassOf};
 
 use super::lab::{Spoken, opened, speak, take};
 use pfl_base::Std;
-use pfl_run::reader::LineReader;
-use pfl_run::script::EngineFault;
+use pfl_run::{EngineFault, LineReader};
 use pfl_serve::{Gate, serve_session};
 use pfl_session::{Lab, Opened, Pass, Which};
 use std::alloc::Global;

@@ -5,10 +5,7 @@ ghost use Rattle.pfl_session.specs.Passes.{IsPassOf};
 ghost use Rattle.pfl_session.specs.Totals.{HasFewEvents};
 
 use pfl_base::Std;
-use pfl_run::reader::LineReader;
-use pfl_run::script::{Ended, EngineFault, write_reply};
-use pfl_run::set_up;
-use pfl_run::timeline::Timeline;
+use pfl_run::{Ended, EngineFault, LineReader, Timeline, set_up, write_reply};
 use pfl_serve::{Gate, serve_session};
 use pfl_session::{Entry, Lab, LabFault, Opened, Pass, Which};
 use std::alloc::{Allocator, Global};

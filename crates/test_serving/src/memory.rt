@@ -5,7 +5,7 @@ ghost use Rattle.pfl_session.specs.Passes.{IsPassOf};
 
 use super::dialogues::alone;
 use super::lab::{Spoken, opened, replays, speak_to_heap, take};
-use pfl_run::script::{Ended, EngineFault};
+use pfl_run::{Ended, EngineFault};
 use pfl_serve::Open;
 use pfl_session::{Closed, Lab, Opened, Pass, Which};
 use std::alloc::Global;

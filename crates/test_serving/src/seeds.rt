@@ -3,7 +3,7 @@ ghost use Rattle.std.specs.Prelude.{◌≡◌, ◌<◌};
 
 use super::lab::{opened, replays, told};
 use super::served::{Heard, served, spoken};
-use pfl_run::script::Ended;
+use pfl_run::Ended;
 use pfl_serve::Open;
 use pfl_session::Entry;
 use std::alloc::{AllocError, Global};

@@ -5,7 +5,7 @@ ghost use Rattle.pfl_session.specs.Passes.{IsPassOf};
 
 use super::lab::{Spoken, take};
 use pfl_base::Std;
-use pfl_run::reader::LineReader;
+use pfl_run::LineReader;
 use pfl_serve::{Gate, Seat, Served, serve_all};
 use pfl_session::{Closed, Opened, Pass, Which};
 use std::alloc::Global;

@@ -7,10 +7,7 @@ ghost use Rattle.pfl_session.specs.Totals.{HasFewEvents};
 use pfl_base::{Addr, Dir, End, NodeId, Packet, PacketFields, Proto, TcpFlags};
 use pfl_language::{BranchWord, Command, Event, Limits, NodeEvent};
 use pfl_rules::{Action, Rule, RuleDir, RuleSet};
-use pfl_session::publish::Revision;
-use pfl_session::timeline::Timeline;
-use pfl_session::world::World;
-use pfl_session::{Lab, LabFault, Opened, Pass, Which};
+use pfl_session::{Lab, LabFault, Opened, Pass, Revision, Timeline, Which, World};
 use std::alloc::Allocator;
 
 /// Room for 64 states, as many messages and frames, and 16 held packets.

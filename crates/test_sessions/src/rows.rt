@@ -2,8 +2,7 @@
 
 use pfl_base::{NodeId, StateName};
 use pfl_language::{Command, Refused};
-use pfl_session::timeline::Reply;
-use pfl_session::world::World;
+use pfl_session::{Reply, World};
 use std::alloc::Allocator;
 
 /// What is wanted of an answer.

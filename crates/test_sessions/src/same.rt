@@ -3,10 +3,7 @@
 use super::lab::opening;
 use pfl_base::NodeId;
 use pfl_language::{BranchWord, Command, Limits};
-use pfl_session::node::Node;
-use pfl_session::timeline::{Branch, Reply, Timeline};
-use pfl_session::world::World;
-use pfl_session::{Closed, Entry};
+use pfl_session::{Branch, Closed, Entry, Node, Reply, Timeline, World};
 use std::alloc::Allocator;
 
 /// The same word.

@@ -12,8 +12,7 @@ ghost use Rattle.pfl_wire.specs.Spelling.{spelling};
 
 use pfl_base::StateName;
 use pfl_edits::NoMemory;
-use pfl_receive::desk::Desk;
-use pfl_receive::queue::{Entry, Kind};
+use pfl_receive::{Desk, Entry, Kind};
 use pfl_track::State;
 use pfl_wire::{Action, Frame, Message, StateRecord, UpdateRecord, encode};
 use std::alloc::{AllocError, Allocator};

@@ -12,10 +12,7 @@ use crate::node::Node;
 use pfl_base::Millis;
 use pfl_bulk::{BulkClient, BulkServer};
 use pfl_language::Limits;
-use pfl_receive::defer::Deferrals;
-use pfl_receive::desk::Counters;
-use pfl_receive::queue::Pending;
-use pfl_receive::table::StateTable;
+use pfl_receive::{Counters, Deferrals, Pending, StateTable};
 use pfl_rules::RuleSet;
 use std::alloc::Allocator;
 

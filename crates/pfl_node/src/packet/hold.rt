@@ -10,7 +10,7 @@ ghost use Rattle.pfl_node.specs.Starting as starting;
 
 use pfl_base::{Dir, Packet};
 use pfl_language::Fate;
-use pfl_receive::desk::Desk;
+use pfl_receive::Desk;
 use pfl_track::State;
 use std::alloc::Allocator;
 
