@@ -1,12 +1,8 @@
 """`./lab build` by a checker that proves nothing: in which order it proves, what it says, and that an interrupt ends all of it."""
 from __future__ import annotations
 
-import os
-import shutil
 import signal
 import subprocess
-import sys
-import tempfile
 import time
 import unittest
 from pathlib import Path
@@ -15,20 +11,9 @@ from typing import Dict, List
 from proving.costs import Estimate
 from proving.crates import Crate, Crates, chains, paths
 
-from . import TOP
+from .trees import QUICK, SmallTree
 
-# The crates of a small repository, and what each costs.
-CRATES = "pfl_low:\npfl_side:\npfl_high: pfl_low\npfl_lab: pfl_high pfl_side\n"
-COSTS = "# in 0.20 s\npfl_low 30\npfl_side 10\npfl_high 60\npfl_lab 5\n"
-# A checker that writes what `rt lib` and `rt run` leave, and one that waits with a process of its own.
-QUICK = """#!/bin/sh
-if [ "$1" = version ]; then exit; fi
-crate=$(basename "$PWD")
-echo "$crate" >> "$NOTES/order"
-mkdir -p out/rlib
-touch out/rlib/stamp
-if [ "$1" = run ]; then printf '#!/bin/sh\\n' > out/pfl_lab; chmod +x out/pfl_lab; fi
-"""
+# A checker that waits, with a process of its own.
 SLOW = """#!/bin/sh
 echo $$ > "$NOTES/checker-$$"
 sleep 300 &
@@ -57,36 +42,17 @@ class Lists(unittest.TestCase):
         self.assertGreaterEqual(Estimate(crates, {"a": 100.0, "b": 100.0, "c": 100.0}, 4).minutes(), 90 / 60)
 
 
-class Building(unittest.TestCase):
-    """A repository of four crates, with a checker that is none."""
-
-    def setUp(self) -> None:
-        self.top = Path(tempfile.mkdtemp())
-        self.addCleanup(shutil.rmtree, self.top)
-        shutil.copytree(f"{TOP}/proving", self.top / "proving", ignore=shutil.ignore_patterns("__pycache__"))
-        shutil.copy(f"{TOP}/lab", self.top)
-        (self.top / "crates.txt").write_text(CRATES)
-        for name in ("bin", "notes"):
-            (self.top / name).mkdir()
-        (self.top / "proving/seconds.txt").write_text(COSTS)
-        for line in CRATES.splitlines():
-            folder = self.top / "crates" / line.split(":")[0] / "src"
-            folder.mkdir(parents=True)
-            (folder / "lib.rt").write_text("//! Nothing.\n")
+class Building(SmallTree):
+    """What `./lab build` does."""
 
     def build(self, checker: str) -> "subprocess.Popen[str]":
-        path = self.top / "bin/rt"
-        path.write_text(checker)
-        path.chmod(0o755)
-        env = {**os.environ, "PATH": f"{path.parent}:{os.environ['PATH']}", "NOTES": str(self.top / "notes")}
-        command = (sys.executable, str(self.top / "lab"), "build")
-        return subprocess.Popen(command, env=env, stdout=subprocess.PIPE, stderr=subprocess.PIPE, text=True)
+        return self.start(checker, "lab", "build")
 
     def test_each_crate_is_proved_after_those_below_it(self) -> None:
         out, said = self.build(QUICK).communicate(timeout=60)
         order = (self.top / "notes/order").read_text().split()
-        self.assertEqual(sorted(order), ["pfl_high", "pfl_lab", "pfl_low", "pfl_side"])
-        self.assertLess(order.index("pfl_low"), order.index("pfl_high"))
+        self.assertEqual(sorted(order), ["pfl_lab", "pfl_low", "pfl_run", "pfl_side"])
+        self.assertLess(order.index("pfl_low"), order.index("pfl_run"))
         self.assertEqual(order[-1], "pfl_lab")
         self.assertEqual(out, f"{self.top}/crates/pfl_lab/out/pfl_lab\n")
         self.assertRegex(said, r"^lab: proving and building the program: about \d+ minutes on the \d+ processors here")

@@ -14,6 +14,7 @@ from . import TOP
 
 COMPLETIONS = f"{TOP}/installing/completions"
 OPTION = re.compile(r"--[a-z]+")
+LETTER = re.compile(r"(?<![\w-])-[a-zA-Z]\b")
 # Asks bash for what its words complete to: the last of them is the one that has begun.
 ASKING = """
 source "$0"
@@ -48,6 +49,14 @@ def shell_options() -> Options:
 
 
 OPTIONS = {"pfl_lab": program_options(), "pfl_shell": shell_options()}
+# The options of each command itself.
+_of_program = read("shell/texts/help.txt").partition("Options:")[2]
+OWN = {"pfl_lab": {*OPTION.findall(_of_program), *LETTER.findall(_of_program)}, "pfl_shell": {"-h", "--help"}}
+
+
+def long_options(command: str) -> Set[str]:
+    """All options of a command and of its words that have two dashes."""
+    return {it for it in OWN[command].union(*OPTIONS[command].values()) if it.startswith("--")}
 
 
 class Words(unittest.TestCase):
@@ -64,14 +73,14 @@ class Words(unittest.TestCase):
             text = read(f"installing/completions/zsh/_{command}")
             self.assertTrue(text.startswith(f"#compdef {command}\n"))
             self.assertEqual({*re.findall(r"^    '(\w+):", text, re.M)}, {*options})
-            self.assertEqual({*OPTION.findall(text)}, set().union(*options.values()))
+            self.assertEqual({*OPTION.findall(text)}, long_options(command))
 
     def test_bash_has_each_word_and_each_option(self) -> None:
         for command, options in OPTIONS.items():
             text = read(f"installing/completions/bash/{command}")
             for word in options:
                 self.assertRegex(text, rf"\b{word}\b")
-            self.assertEqual({*OPTION.findall(text)}, set().union(*options.values()))
+            self.assertEqual({*OPTION.findall(text)}, long_options(command))
             self.assertTrue(text.endswith(f"\ncomplete -F _{command} {command}\n"))
 
 
@@ -89,7 +98,7 @@ class Completed(unittest.TestCase):
         if not shutil.which("bash"):
             return
         for command, options in OPTIONS.items():
-            self.assertEqual({*self.completed(command, "")}, {"-h", "--help", *options})
+            self.assertEqual({*self.completed(command, "")}, {*OWN[command], *options})
             for word, its in options.items():
                 self.assertEqual({*self.completed(command, word, "--")}, its, word)
         self.assertEqual(self.completed("pfl_lab", "serve", "--sessions", ""), [*"12345678"])

@@ -7,6 +7,8 @@ import sys
 import unittest
 from typing import Sequence
 
+from proving import releases
+
 from . import TOP, program
 
 
@@ -39,11 +41,19 @@ class StoredHelp(unittest.TestCase):
                 self.assertEqual(lab(word, "--help").stdout, self.stored(word))
 
 
+class Version(unittest.TestCase):
+    def test_it_names_the_release(self) -> None:
+        told = f"pfl_lab {releases.Release.read().version()}\n"
+        for words in (("--version",), ("-V",)):
+            self.assertEqual(subprocess.run((program(), *words), capture_output=True, text=True, timeout=20).stdout, told)
+            self.assertEqual(lab(*words).stdout, told)
+
+
 class AtOnce(unittest.TestCase):
     def test_help_lists_the_programs_words_and_its_own(self) -> None:
         ran = lab("--help")
         self.assertEqual((ran.returncode, ran.stderr), (0, ""))
-        for word in ("run", "check", "serve", "try", "build", "install", "uninstall"):
+        for word in ("run", "check", "serve", "try", "build", "release", "install", "uninstall"):
             self.assertRegex(ran.stdout, rf"(?m)^  {word} +\w")
 
     def test_no_word_is_a_fault_with_the_help(self) -> None:

@@ -414,7 +414,7 @@ class Command(Room):
         for words in (("install", "a", "b"), ("install", "--prefix"), ("uninstall", ""), ("install", "a", "--help")):
             self.assertEqual(self.lab(*words, status=2), f"lab: usage: ./lab {words[0]} [PREFIX]\n")
         self.built.unlink()
-        self.assertIn("the program is not built", self.lab("install", "here", status=125))
+        self.assertIn("there is no release", self.lab("install", "here", status=125))
         self.assertFalse((self.room / "here").exists())
         self.assertIn("nothing is installed in", self.lab("uninstall", "here", status=125))
 

@@ -16,7 +16,7 @@ from ..programs import LIMIT_FAULTS, LINE_FAULTS, RULE_FAULTS
 from ..shell import STRICT_STATUS
 from . import TOP, program
 from .dialogues import printed, typed
-from .test_completed_words import OPTIONS
+from .test_completed_words import OPTIONS, long_options
 
 PAGES = ("pfl_lab", "pfl_shell")
 # The macros of mdoc(7) that stand at the start of a line here, and those that begin and end a block.
@@ -69,10 +69,10 @@ class Named(unittest.TestCase):
 
     def test_each_command_and_option(self) -> None:
         for page, options in OPTIONS.items():
-            for word, its in options.items():
+            for word in options:
                 self.assertRegex(source(page), rf"(?m)^\.It Cm {word}\b")
-                for option in its:
-                    self.assertRegex(source(page), rf"(?m)^\.It Fl (h , )?{option[1:]}\b")
+            for option in long_options(page):
+                self.assertRegex(source(page), rf"(?m)^\.It Fl (\w , )?{option[1:]}\b")
 
     def test_each_refusal_of_an_event_is_that_of_the_help(self) -> None:
         text = section("pfl_lab", "EVENTS")

@@ -26,12 +26,12 @@ number_rule option most = record (new_rule option) {
 abbrev pub serve_app : App
 serve_app = with_rule (with_rule (new_app (codes "serve")) (number_rule (codes "port") 65535)) (number_rule (codes "sessions") 8)
 
--- the program's command line: one of its subcommands is wanted
+-- the program's command line: one of its subcommands is wanted, or help, or the version
 abbrev pub lab_app : App
 lab_app =
     with_subcommand
     (with_subcommand
-    (with_subcommand (on_top (λ s. record s { disable_help_subcommand = true; subcommand_required = true }) (new_app (codes "pfl_lab")))
+    (with_subcommand (on_top (λ s. record s { disable_help_subcommand = true; subcommand_required = true; has_version = true }) (new_app (codes "pfl_lab")))
     (new_shape (codes "run")))
     (new_shape (codes "check")))
     serve_app.top

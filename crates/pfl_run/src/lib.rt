@@ -6,6 +6,7 @@ mod fault;
 mod mode;
 mod opening;
 mod run;
+mod version;
 
 pub use check::{check_lab, check_whole};
 pub use fault::LabFault;

@@ -9,6 +9,7 @@ ghost use Rattle.clap.specs.declared.builder.command.Command.TheViews.{out-Comma
 ghost use Rattle.pfl_run.specs.Modes.{kind_status, lab_app, mode_word, number_rule, serve_app, subcommand_name, words_status, HasNumbers, IsWordsFault, WritesNumber};
 ghost use Rattle.pfl_run.specs.inner.Modes.{HasNumber, IsMet, IsModeOf, IsServeOf};
 
+use crate::version::VERSION;
 use clap::builder::ValueParser;
 use clap::error::ErrorKind;
 use clap::{Arg, ArgMatches, Command, Error};
@@ -118,6 +119,7 @@ fn command_line<'a>(alloc: Global) -> Result<Command<'a>, AllocError>
     let serve = serve_command(alloc)?;
     Command::new(alloc, "pfl_lab")
         .about("A laboratory for a pair of pf firewalls that share states by pfsync")
+        .version(VERSION)
         .disable_help_subcommand(true)
         .subcommand_required(true)
         .subcommand(run)?

@@ -4,7 +4,7 @@ use Rattle.clap.specs.Simple.{App, app_of, new_app, new_shape, on_top, shape_of,
 use Rattle.pfl_run.proofs.mode.command_line.Goals as goal
 
 abbrev base : App
-base = on_top (λ s. record s { disable_help_subcommand = true; subcommand_required = true }) (new_app (codes "pfl_lab"))
+base = on_top (λ s. record s { disable_help_subcommand = true; subcommand_required = true; has_version = true }) (new_app (codes "pfl_lab"))
 
 pub returns : goal.returns
 returns c =

@@ -1,0 +1,110 @@
+"""The release that comes with the sources: when it is run, when it is refused, and that `./test` sees both."""
+from __future__ import annotations
+
+import shutil
+import unittest
+from typing import Tuple
+
+from proving import releases
+
+from . import program
+from .trees import QUICK, SmallTree
+
+NO_CHECKER = ""
+
+
+class Releases(SmallTree):
+    """A small repository with a release of its own, and nothing built."""
+
+    def setUp(self) -> None:
+        super().setUp()
+        self.assertEqual(self.run_it(QUICK, "lab", "release")[0], 0)
+        self.forget()
+
+    def forget(self) -> None:
+        """Nothing is built."""
+        for it in (self.top / "crates").glob("*/out"):
+            shutil.rmtree(it)
+
+    def run_it(self, checker: str, *words: str) -> Tuple[int, str, str]:
+        ran = self.start(checker, *words)
+        out, said = ran.communicate(timeout=60)
+        return ran.returncode, out, said
+
+    def change_source(self) -> None:
+        (self.top / "crates/pfl_low/src/lib.rt").write_text("//! nothing.\n")
+
+    def change_byte(self) -> None:
+        path = self.top / "release/pfl_lab.xz"
+        content = bytearray(path.read_bytes())
+        content[len(content) // 2] ^= 1
+        path.write_bytes(content)
+
+    def test_the_release_of_the_tree_is_run_at_once(self) -> None:
+        self.assertEqual(self.run_it(NO_CHECKER, "lab", "run", "now"), (0, "ran run now\n", ""))
+        self.assertEqual(self.run_it(NO_CHECKER, "lab", "serve", "--port", "99999"), (0, "ran serve --port 99999\n", ""))
+
+    def test_what_is_built_is_run_before_the_release(self) -> None:
+        self.change_source()
+        self.run_it(QUICK.replace("echo ran", "echo built"), "lab", "build")
+        self.assertEqual(self.run_it(NO_CHECKER, "lab", "run"), (0, "built run\n", ""))
+        self.assertEqual(self.run_it(NO_CHECKER, "lab", "--release", "run"), (0, "ran run\n", ""))
+
+    def test_a_tree_with_one_byte_changed_is_another(self) -> None:
+        self.change_source()
+        status, out, said = self.run_it(NO_CHECKER, "lab", "run")
+        self.assertEqual((status, out), (125, ""))
+        self.assertRegex(said, r"^lab: no program of this tree is built here, and release 1 is of another tree\. \./lab build .* in about \d+ minutes")
+        self.assertIn("./lab --release WORD takes that release", said)
+        self.assertEqual(self.run_it(NO_CHECKER, "lab", "--release", "run"), (0, "ran run\n", ""))
+
+    def test_a_release_with_one_byte_changed_is_refused(self) -> None:
+        self.change_byte()
+        for words in (("run",), ("--release", "run")):
+            status, out, said = self.run_it(NO_CHECKER, "lab", *words)
+            self.assertEqual((status, out), (125, ""))
+            self.assertRegex(said, r"^lab: release/pfl_lab\.xz (is not the program that release/RELEASE names|cannot be unpacked)")
+
+    def test_a_damaged_copy_is_unpacked_again(self) -> None:
+        self.run_it(NO_CHECKER, "lab", "run")
+        copies = list((self.top / "out/release").glob("*/pfl_lab"))
+        self.assertEqual(len(copies), 1)
+        copies[0].write_text("#!/bin/sh\necho another\n")
+        self.assertEqual(self.run_it(NO_CHECKER, "lab", "run"), (0, "ran run\n", ""))
+
+    def test_the_test_command_sees_another_tree(self) -> None:
+        self.change_source()
+        status, _, said = self.run_it(NO_CHECKER, "test")
+        self.assertEqual(status, 1)
+        self.assertIn("release: the release is of another tree than this one; renew it: ./lab release; git add", said)
+
+    def test_the_test_command_sees_another_release(self) -> None:
+        self.change_byte()
+        status, _, said = self.run_it(NO_CHECKER, "test")
+        self.assertEqual(status, 1)
+        self.assertIn("release: release/pfl_lab.xz ", said)
+        self.assertIn("renew it: ./lab release; git add", said)
+
+    def test_a_stamp_of_another_sum_is_seen(self) -> None:
+        path = self.top / releases.STAMP
+        path.write_text(path.read_text().replace("release 1", "release 2"))
+        self.assertEqual(self.run_it(NO_CHECKER, "test")[0], 1)
+
+    def test_a_changed_tree_has_the_next_number(self) -> None:
+        self.assertIn("release 1, sources ", (self.top / releases.STAMP).read_text())
+        self.run_it(QUICK, "lab", "release")
+        self.assertIn("release 1, sources ", (self.top / releases.STAMP).read_text())
+        self.change_source()
+        self.run_it(QUICK, "lab", "release")
+        self.assertIn("release 2, sources ", (self.top / releases.STAMP).read_text())
+
+
+class TheRelease(unittest.TestCase):
+    """The release of this repository."""
+
+    def test_it_is_the_program_that_was_built(self) -> None:
+        self.assertEqual(releases.fault(program()), "")
+
+
+if __name__ == "__main__":
+    unittest.main()
