@@ -7,9 +7,9 @@ release/RELEASE names it:
     program sha256 SUM
     kit NAME logic LOGIC
 
-The sum of the sources is that of the text which `sha256sum` prints for HANDLES, crates.txt and each file of `src`, `specs` and
-`proofs` of the program's crates, in the order of their bytes, with the kit's line after it. The stamp, which has that sum in it, is
-left out.
+The sum of the sources is that of a text: the lines of crates.txt for the program's crates, lowest first; what `sha256sum` prints for
+HANDLES and each file of their `src`, `specs` and `proofs`, in the order of their bytes; and the kit's line. The stamp, which has that
+sum in it, is left out.
 """
 from __future__ import annotations
 
@@ -63,8 +63,8 @@ def content_of(path: str) -> bytes:
 
 
 def sources() -> Iterator[str]:
-    """The files that the program is made from, but for the stamp."""
-    yield from ("HANDLES", "crates.txt")
+    """The files that the program is made from, but for the stamp and for its lines of crates.txt."""
+    yield "HANDLES"
     for crate in below(NAME).values():
         files = (os.path.relpath(it, TOP) for it in files_of(crate.folder) if os.path.isfile(it))
         yield from (it for it in files if it != STAMP)
@@ -72,8 +72,9 @@ def sources() -> Iterator[str]:
 
 def sources_sum(kit: str) -> str:
     """The sum of the tree's sources, as this kit proves them."""
-    listing = "".join(f"{sum_of(content_of(it))}  {it}\n" for it in sorted(sources()))
-    return sum_of(f"{listing}{kit}\n".encode())
+    lines = [crate.line for crate in below(NAME).values()]
+    files = [f"{sum_of(content_of(it))}  {it}" for it in sorted(sources())]
+    return sum_of("".join(f"{it}\n" for it in (*lines, *files, kit)).encode())
 
 
 @dataclass(frozen=True)

@@ -2,4 +2,4 @@
 
 /// The release, the sum of its sources, and the logic that proves them.
 pub(crate) const VERSION: &str =
-    "release 1, sources 88fd2a9f59c1f4cba7a640705285769602cf4a84387b686309605cb242510b82, logic dac8208d650f15bf";
+    "release 1, sources 5988d11b113947ab3176b3a9c2db38fda4e46d8c2ba3ada530cea0042a2370b5, logic dac8208d650f15bf";
