@@ -1,5 +1,5 @@
-//! What only a call shows: devices that fail, a check and a run without memory, faults that print, and events of a pair that are taken
-//! back at once. What a script shows is a case of test_cases.
+//! What only a call shows: devices that fail, a check and a run without memory, faults that print, events of a pair that are taken
+//! back at once, and searches. What a script shows is a case of test_cases.
 #![tactic(auto)]
 
 #[cfg(test)]
@@ -10,3 +10,5 @@ mod faults;
 mod laws;
 #[cfg(test)]
 mod scripts;
+#[cfg(test)]
+mod searches;

@@ -1,0 +1,126 @@
+-- What is found in lists that are made of others.
+use Rattle.std.specs.Prelude.{◌≡◌, ◌⊎◌, ℕ, zero, suc, ◌+◌, ◌<◌, ◌≤◌, Bool, true, false, cond, List, [], ◌∷◌, ◌++◌, length, map, find, Contains, slice_index_or, Option, Some, None, refl}
+use Rattle.std.specs.List.{flat_map}
+use Rattle.std.specs.Option.{option_map, option_or}
+use Rattle.std.proofs.Common.{◌∙◌, ap, sym, subst, inl, inr, arith}
+use Rattle.std.proofs.lemmas.List.{get_or-map, length-map}
+use Rattle.pfl_search.specs.Visits.{asked}
+use Rattle.std.proofs.lemmas.List.Elements.{Contains-append_left, Contains-append_right, Contains-append_cases}
+
+-- ---- one that is found
+
+module _ {X Y : Type 0} (f : X → Y) where
+  option_map-cond : (b : Bool) (x : X) (o : Option X) → option_map f (cond b (Some x) o) ≡ cond b (Some (f x)) (option_map f o)
+  option_map-cond true x o = refl
+  option_map-cond false x o = refl
+
+  pub find-map : (p : Y → Bool) (xs : List X) → find p (map f xs) ≡ option_map f (find (λ x. p (f x)) xs)
+  find-map p [] = refl
+  find-map p (x ∷ xs) =
+      ap (λ (o : Option Y). cond (p (f x)) (Some (f x)) o) (find-map p xs)
+      ∙ sym (option_map-cond (p (f x)) x (find (λ y. p (f y)) xs))
+
+  pub option_map-or : (a b : Option X) → option_map f (option_or a b) ≡ option_or (option_map f a) (option_map f b)
+  option_map-or None b = refl
+  option_map-or (Some x) b = refl
+
+-- ---- what a list has
+
+module _ {X : Type 0} where
+  pub nothing_in : (x : X) → Contains [] x → ⊥
+  nothing_in x h = let lt = h.1 in omega arith
+
+  front_at : (y : X) (ys : List X) (x : X) (k : ℕ) → k < length (y ∷ ys) → slice_index_or (y ∷ ys) k x ≡ x → (y ≡ x) ⊎ Contains ys x
+  front_at y ys x zero lt e = inl e
+  front_at y ys x (suc k) lt e = inr (k, omega arith, e)
+
+  -- the first, or a later one
+  pub in_cons : (y : X) (ys : List X) (x : X) → Contains (y ∷ ys) x → (y ≡ x) ⊎ Contains ys x
+  in_cons y ys x h = front_at y ys x h.0 h.1 h.2
+
+  pub in_front : (y : X) (ys : List X) (x : X) → y ≡ x → Contains (y ∷ ys) x
+  in_front y ys x e = (0, omega arith, e)
+
+  pub in_rest : (y : X) (ys : List X) (x : X) → Contains ys x → Contains (y ∷ ys) x
+  in_rest y ys x h = let lt = h.1 in (suc h.0, omega arith, h.2)
+
+module _ {X Y : Type 0} (f : X → Y) where
+  pub in_map : (xs : List X) (x : X) → Contains xs x → Contains (map f xs) (f x)
+  in_map xs x h = let lt = h.1 in (h.0, omega (arith, length-map xs f), get_or-map f xs h.0 x (f x) lt ∙ ap f h.2)
+
+  pub from_map : (xs : List X) (y : Y) → Contains (map f xs) y → (x : X) × Contains xs x × (f x ≡ y)
+  from_map [] y h = absurd (nothing_in y h)
+  from_map (x ∷ xs) y h = elim (in_cons (f x) (map f xs) y h) [
+    | inl e ↦ (x, in_front x xs x refl, e)
+    | inr r ↦ let at = from_map xs y r in (at.0, in_rest x xs at.0 at.1, at.2)
+  ]
+
+module _ {X Y : Type 0} (f : X → List Y) where
+  pub in_flat_map : (xs : List X) (x : X) (y : Y) → Contains xs x → Contains (f x) y → Contains (flat_map f xs) y
+  in_flat_map [] x y h k = absurd (nothing_in x h)
+  in_flat_map (z ∷ xs) x y h k = elim (in_cons z xs x h) [
+    | inl e ↦ Contains-append_left (f z) (flat_map f xs) y (subst (λ (v : X). Contains (f v) y) (sym e) k)
+    | inr r ↦ Contains-append_right (f z) (flat_map f xs) y (in_flat_map xs x y r k)
+  ]
+
+  pub from_flat_map : (xs : List X) (y : Y) → Contains (flat_map f xs) y → (x : X) × Contains xs x × Contains (f x) y
+  from_flat_map [] y h = absurd (nothing_in y h)
+  from_flat_map (z ∷ xs) y h = elim (Contains-append_cases (f z) (flat_map f xs) y h) [
+    | inl l ↦ (z, in_front z xs z refl, l)
+    | inr r ↦ let at = from_flat_map xs y r in (at.0, in_rest z xs at.0 at.1, at.2)
+  ]
+
+module _ {X : Type 0} (p : X → Bool) where
+  some_at : (y : X) (ys : List X) (x : X) (b : Bool) → p y ≡ b → (find p ys ≡ Some x → Contains ys x × (p x ≡ true)) → cond b (Some y) (find p ys) ≡ Some x → Contains (y ∷ ys) x × (p x ≡ true)
+  some_at y ys x true at later e = let same : y ≡ x = cc in (in_front y ys x same, ap p (sym same) ∙ at)
+  some_at y ys x false at later e = let so = later e in (in_rest y ys x so.0, so.1)
+
+  -- what is found is there, and passes
+  pub found_in : (xs : List X) (x : X) → find p xs ≡ Some x → Contains xs x × (p x ≡ true)
+  found_in [] x e = absurd cc
+  found_in (y ∷ ys) x e = some_at y ys x (p y) refl (found_in ys x) e
+
+  none_at : (y : X) (ys : List X) (x : X) (b : Bool) → p y ≡ b → (find p ys ≡ None → Contains ys x → p x ≡ false) → cond b (Some y) (find p ys) ≡ None → Contains (y ∷ ys) x → p x ≡ false
+  none_at y ys x true at later e h = absurd cc
+  none_at y ys x false at later e h = elim (in_cons y ys x h) [ inl same ↦ ap p (sym same) ∙ at | inr r ↦ later e r ]
+
+  -- where none is found, none passes
+  pub none_in : (xs : List X) (x : X) → find p xs ≡ None → Contains xs x → p x ≡ false
+  none_in [] x e h = absurd (nothing_in x h)
+  none_in (y ∷ ys) x e h = none_at y ys x (p y) refl (none_in ys x) e h
+
+-- ---- how many are asked
+
+pub asked-map : {X Y : Type 0} (f : X → Y) (p : Y → Bool) (xs : List X) → asked p (map f xs) ≡ asked (λ x. p (f x)) xs
+asked-map f p [] = refl
+asked-map f p (x ∷ xs) = ap (λ (n : ℕ). cond (p (f x)) 1 (n + 1)) (asked-map f p xs)
+
+module _ {X : Type 0} (p : X → Bool) where
+  all_asked : (x : X) (xs ys : List X) (b : Bool) → (find p xs ≡ None → asked p (xs ++ ys) ≡ asked p xs + asked p ys) → cond b (Some x) (find p xs) ≡ None
+      → cond b 1 (asked p (xs ++ ys) + 1) ≡ cond b 1 (asked p xs + 1) + asked p ys
+  all_asked x xs ys true later none = absurd cc
+  all_asked x xs ys false later none = let more = later none in omega arith
+
+  -- where none of the first passes, all of them are asked
+  pub asked-none : (xs ys : List X) → find p xs ≡ None → asked p (xs ++ ys) ≡ asked p xs + asked p ys
+  asked-none [] ys none = omega arith
+  asked-none (x ∷ xs) ys none = all_asked x xs ys (p x) (asked-none xs ys) none
+
+  some_asked : (x : X) (xs ys : List X) (z : X) (b : Bool) → (find p xs ≡ Some z → asked p (xs ++ ys) ≡ asked p xs) → cond b (Some x) (find p xs) ≡ Some z
+      → cond b 1 (asked p (xs ++ ys) + 1) ≡ cond b 1 (asked p xs + 1)
+  some_asked x xs ys z true later some = refl
+  some_asked x xs ys z false later some = ap (λ (n : ℕ). n + 1) (later some)
+
+  -- where one of the first passes, none after them is asked
+  pub asked-some : (xs ys : List X) (z : X) → find p xs ≡ Some z → asked p (xs ++ ys) ≡ asked p xs
+  asked-some [] ys z some = absurd cc
+  asked-some (x ∷ xs) ys z some = some_asked x xs ys z (p x) (asked-some xs ys z) some
+
+  less_asked : (x : X) (xs ys : List X) (b : Bool) → asked p xs ≤ asked p (xs ++ ys) → cond b 1 (asked p xs + 1) ≤ cond b 1 (asked p (xs ++ ys) + 1)
+  less_asked x xs ys true later = omega arith
+  less_asked x xs ys false later = omega arith
+
+  -- of more no fewer are asked
+  pub asked-more : (xs ys : List X) → asked p xs ≤ asked p (xs ++ ys)
+  asked-more [] ys = omega arith
+  asked-more (x ∷ xs) ys = less_asked x xs ys (p x) (asked-more xs ys)

@@ -1,0 +1,105 @@
+-- The search at one of its turns: what is left to find, and to count, before it and after it.
+use Rattle.std.specs.Prelude.{◌≡◌, ℕ, ◌+◌, ◌<◌, ◌≤◌, List, [], ◌∷◌, ◌++◌, length, drop, slice_index_or, slice_set, reverse, Contains, Some, None, Ok, Err}
+use Rattle.std.proofs.Common.{◌∙◌, ap, sym, subst, arith}
+use Rattle.std.proofs.lemmas.List.{drop_more, reverse-append}
+use Rattle.pfl_base.specs.declared.refusal.Refusal.{Refusal}
+use Rattle.pfl_language.specs.declared.event.Event.{Event}
+use Rattle.pfl_world.specs.Events.{step}
+use Rattle.pfl_world.specs.Meanings.{Stepped}
+use Rattle.pfl_world.specs.Worlds.{World}
+use Rattle.pfl_search.proofs.Turning.{get_read, get_within, given_back, length-used, of_turns}
+use Rattle.pfl_search.proofs.Visiting.{among_found, among_passed, among_refused, first_among, visited_among, visited_found, visited_part, visited_passed, visited_refused}
+use Rattle.pfl_search.specs.Choices.{turns, used}
+use Rattle.pfl_search.specs.Runs.{IsStop, first_run}
+use Rattle.pfl_search.specs.Visits.{worlds_visited}
+use Rattle.pfl_search.specs.declared.choice.Choice.{Choice}
+use Rattle.pfl_search.specs.declared.goal.Goal.{Goal}
+use Rattle.pfl_search.specs.declared.stopped.Stopped.{Stopped}
+use Rattle.pfl_search.specs.declared.stopped.Stopped.TheVariants.{NoMemory, TooMany}
+use Rattle.pfl_search.specs.declared.turns.Turn.{Turn}
+use Rattle.pfl_search.specs.inner.Turns.{IsOf}
+
+-- the turn that is tried next is of a choice with a use left
+pub is_of : (cs : List Choice) (w : World) (ts : List Turn) (i : ℕ) (t : Turn) → ts ≡ turns cs w → i < length ts → t ≡ slice_index_or ts i t → IsOf cs t
+is_of cs w ts i t all within is = of_turns cs w t (subst (λ (us : List Turn). Contains us t) all (i, within, sym is))
+
+pub held_of : (cs held : List Choice) (t : Turn) → held ≡ cs → IsOf cs t → IsOf held t
+held_of cs held t holds of = subst (λ (xs : List Choice). IsOf xs t) (sym holds) of
+
+pub place_within : (cs held : List Choice) (t : Turn) → held ≡ cs → IsOf cs t → t.place < length held
+place_within cs held t holds of = let lt = get_within cs t.place of.choice of.at in rw holds lt
+
+-- what was read is given back
+pub back_again : (cs held left : List Choice) (t : Turn) (read : Choice) → held ≡ cs → IsOf cs t → read ≡ slice_index_or held t.place read → left ≡ used held t.place → slice_set left t.place read ≡ cs
+back_again cs held left t read holds of is gone =
+    let same = get_read cs t.place of.choice read of.at (is ∙ ap (λ (xs : List Choice). slice_index_or xs t.place read) holds) in
+    ap (λ (xs : List Choice). slice_set xs t.place read) (gone ∙ ap (λ (xs : List Choice). used xs t.place) holds)
+    ∙ ap (λ (d : Choice). slice_set (used cs t.place) t.place d) same
+    ∙ given_back cs t.place of.choice of.at
+
+pub place_left : (cs held left : List Choice) (t : Turn) → held ≡ cs → IsOf cs t → left ≡ used held t.place → t.place < length left
+place_left cs held left t holds of gone =
+    let lt = get_within cs t.place of.choice of.at in
+    let long : length left ≡ length cs = ap length gone ∙ length-used held t.place ∙ ap length holds in
+    omega arith
+
+-- an event in front of a run whose newest event stands first
+pub reversed : (e : Event) (es fs : List Event) → fs ≡ es ++ e ∷ [] → reverse fs ≡ e ∷ reverse es
+reversed e es fs is = ap (λ (xs : List Event). reverse xs) is ∙ reverse-append es (e ∷ [])
+
+-- The search has come to a turn: the world and the choices are what they were.
+module _ (g : Goal) (d : ℕ) (cs : List Choice) (w : World) (ts : List Turn) (i : ℕ) (t : Turn) (within : i < length ts) (is : t ≡ slice_index_or ts i t)
+    (at : World) (same : at ≡ w) (held : List Choice) (holds : held ≡ cs) where
+  rest_is : drop i ts ≡ t ∷ drop (i + 1) ts
+  rest_is = drop_more ts i t within ∙ ap (λ (u : Turn). u ∷ drop (i + 1) ts) (sym is)
+
+  -- its event is refused
+  module _ (why : Refusal) (refused : step at t.event ≡ Err why) where
+    refused_here : step w t.event ≡ Err why
+    refused_here = subst (λ (u : World). step u t.event ≡ Err why) same refused
+
+    pub refused_first : first_among g d cs w (drop (i + 1) ts) ≡ first_among g d cs w (drop i ts)
+    refused_first = sym (ap (first_among g d cs w) rest_is ∙ among_refused g d cs w t (drop (i + 1) ts) why refused_here)
+
+    pub refused_count : visited_among g d cs w (drop i ts) ≡ visited_among g d cs w (drop (i + 1) ts)
+    refused_count = ap (visited_among g d cs w) rest_is ∙ visited_refused g d cs w t (drop (i + 1) ts) why refused_here
+
+  -- its event is accepted
+  module _ (v : World) (left : List Choice) (s : Stepped) (accepted : step at t.event ≡ Ok s) (went : v ≡ s.world) (gone : left ≡ used held t.place) where
+    accepted_here : step w t.event ≡ Ok s
+    accepted_here = subst (λ (u : World). step u t.event ≡ Ok s) same accepted
+
+    left_is : left ≡ used cs t.place
+    left_is = gone ∙ ap (λ (xs : List Choice). used xs t.place) holds
+
+    child : first_run g d (used cs t.place) s.world ≡ first_run g d left v
+    child = ap (λ (xs : List Choice). first_run g d xs s.world) (sym left_is) ∙ ap (λ (u : World). first_run g d left u) (sym went)
+
+    child_count : worlds_visited g d (used cs t.place) s.world ≡ worlds_visited g d left v
+    child_count = ap (λ (xs : List Choice). worlds_visited g d xs s.world) (sym left_is) ∙ ap (λ (u : World). worlds_visited g d left u) (sym went)
+
+    pub passed_first : first_run g d left v ≡ None → first_among g d cs w (drop (i + 1) ts) ≡ first_among g d cs w (drop i ts)
+    passed_first none = sym (ap (first_among g d cs w) rest_is ∙ among_passed g d cs w t (drop (i + 1) ts) s accepted_here (child ∙ none))
+
+    pub passed_count : first_run g d left v ≡ None → visited_among g d cs w (drop i ts) ≡ worlds_visited g d left v + visited_among g d cs w (drop (i + 1) ts)
+    passed_count none =
+        ap (visited_among g d cs w) rest_is ∙ visited_passed g d cs w t (drop (i + 1) ts) s accepted_here (child ∙ none)
+        ∙ ap (λ (n : ℕ). n + visited_among g d cs w (drop (i + 1) ts)) child_count
+
+    pub found_first : (es : List Event) → first_run g d left v ≡ Some es → first_among g d cs w (drop i ts) ≡ Some (t.event ∷ es)
+    found_first es found = ap (first_among g d cs w) rest_is ∙ among_found g d cs w t (drop (i + 1) ts) s es accepted_here (child ∙ found)
+
+    pub found_count : (es : List Event) → first_run g d left v ≡ Some es → visited_among g d cs w (drop i ts) ≡ worlds_visited g d left v
+    found_count es found = ap (visited_among g d cs w) rest_is ∙ visited_found g d cs w t (drop (i + 1) ts) s es accepted_here (child ∙ found) ∙ child_count
+
+    pub part_count : worlds_visited g d left v ≤ visited_among g d cs w (drop i ts)
+    part_count =
+        let part = visited_part g d cs w t (drop (i + 1) ts) s accepted_here in
+        let here : visited_among g d cs w (drop i ts) ≡ visited_among g d cs w (t ∷ drop (i + 1) ts) = ap (visited_among g d cs w) rest_is in
+        let same_child = child_count in
+        omega arith
+
+-- where too few worlds are left for the search after a turn, too few are left for all of them
+pub stops : (s : Stopped) (left child among worlds most : ℕ) → IsStop left child s → child ≤ among → left + worlds ≡ most + among → IsStop most worlds s
+stops NoMemory left child among worlds most is part count = tt
+stops TooMany left child among worlds most is part count = omega arith

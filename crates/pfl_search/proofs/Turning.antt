@@ -1,0 +1,150 @@
+-- Turns: each is of a choice that has a use left, and a use that was taken is given back.
+use Rattle.std.specs.Prelude.{◌≡◌, ℕ, zero, suc, ◌+◌, ◌<◌, ◌≤◌, Bool, true, false, nat_lt, cond, List, [], ◌∷◌, ◌++◌, length, map, Contains, slice_get, slice_index_or, slice_set, drop, Some, refl}
+use Rattle.std.proofs.Common.{◌∙◌, ap, sym, subst, inl, inr, arith, lt-ltb, ltb-true, append_assoc}
+use Rattle.std.proofs.lemmas.List.{append-nil, at_drop_more, at_drop_all}
+use Rattle.std.proofs.lemmas.List.Elements.{Contains-append_cases, Contains-append_left, Contains-append_right}
+use Rattle.pfl_language.specs.declared.event.Event.{Event}
+use Rattle.pfl_world.specs.Worlds.{World}
+use Rattle.pfl_edits.specs.Maps as maps
+use Rattle.pfl_language.specs.declared.event.Event.TheVariants as event
+use Rattle.pfl_language.specs.declared.event.FrameEvent.{FrameEvent}
+use Rattle.pfl_link.specs.Framed.{Ticketed, entry_of}
+use Rattle.pfl_link.specs.Links.{InFlight}
+use Rattle.pfl_search.proofs.Lists.{from_map, in_map, nothing_in}
+use Rattle.pfl_search.specs.declared.choice.Move.{Move}
+use Rattle.pfl_search.specs.declared.choice.Move.TheVariants.{AnyFrame}
+use Rattle.pfl_search.specs.Choices.{instances, once_less, turn, turn_on, turns, turns_from, turns_of, used}
+use Rattle.pfl_search.specs.declared.choice.Choice.{Choice}
+use Rattle.pfl_search.specs.declared.turns.Turn.{Turn}
+use Rattle.pfl_search.specs.inner.Turns.{IsOf}
+
+-- the turn is of a choice in a list whose first one stands at this place
+record Of (place : ℕ) (w : World) (cs : List Choice) (t : Turn) : Type 0 where
+  pub index : ℕ
+  pub is : t.place ≡ place + index
+  pub choice : Choice
+  pub at : slice_get cs index ≡ Some choice
+  pub left : 0 < choice.uses
+  pub fits : Contains (instances w choice.what) t.event
+
+own : (place : ℕ) (w : World) (c : Choice) (cs : List Choice) (t : Turn) (b : Bool) → nat_lt 0 c.uses ≡ b → Contains (cond b (map (turn place) (instances w c.what)) []) t → Of place w (c ∷ cs) t
+own place w c cs t true at h =
+    let from = from_map (turn place) (instances w c.what) t h in
+    record {
+      index = 0;
+      is = sym (ap (λ (s : Turn). s.place) from.2) ∙ (omega arith);
+      choice = c;
+      at = refl;
+      left = ltb-true 0 c.uses at;
+      fits = subst (λ (s : Turn). Contains (instances w c.what) s.event) from.2 from.1;
+    }
+own place w c cs t false at h = absurd (nothing_in t h)
+
+of_from : (place : ℕ) (w : World) (cs : List Choice) (t : Turn) → Contains (turns_from place w cs) t → Of place w cs t
+of_from place w [] t h = absurd (nothing_in t h)
+of_from place w (c ∷ cs) t h = elim (Contains-append_cases (turns_of w place c) (turns_from (place + 1) w cs) t h) [
+  | inl l ↦ own place w c cs t (nat_lt 0 c.uses) refl l
+  | inr r ↦
+      let later = of_from (place + 1) w cs t r in
+      let is = later.is in
+      record { index = suc later.index; is = omega arith; choice = later.choice; at = later.at; left = later.left; fits = later.fits }
+]
+
+-- an event of a choice that has a use left, at the place of the turn
+pub record Tried (cs : List Choice) (w : World) (t : Turn) : Type 0 where
+  pub choice : Choice
+  pub at : slice_get cs t.place ≡ Some choice
+  pub left : 0 < choice.uses
+  pub fits : Contains (instances w choice.what) t.event
+
+-- each turn is one
+pub tried : (cs : List Choice) (w : World) (t : Turn) → Contains (turns cs w) t → Tried cs w t
+unfolding turns
+tried cs w t h =
+    let from = of_from 0 w cs t h in
+    let e = from.is in
+    let same : from.index ≡ t.place = omega arith in
+    record { choice = from.choice; at = subst (λ (n : ℕ). slice_get cs n ≡ Some from.choice) same from.at; left = from.left; fits = from.fits }
+
+pub of_turns : (cs : List Choice) (w : World) (t : Turn) → Contains (turns cs w) t → IsOf cs t
+of_turns cs w t h = let parts = tried cs w t h in record { choice = parts.choice; at = parts.at; left = parts.left }
+
+has_own : (place : ℕ) (w : World) (c : Choice) (e : Event) → 0 < c.uses → Contains (instances w c.what) e → Contains (turns_of w place c) (turn place e)
+has_own place w c e left h = rw (lt-ltb 0 c.uses left) (in_map (turn place) (instances w c.what) e h)
+
+has_from : (cs : List Choice) (place : ℕ) (w : World) (n : ℕ) (c : Choice) (e : Event) → slice_get cs n ≡ Some c → 0 < c.uses → Contains (instances w c.what) e → (m : ℕ) → m ≡ place + n → Contains (turns_from place w cs) (turn m e)
+has_from [] place w n c e at left h m is = absurd cc
+has_from (d ∷ cs) place w zero c e at left h m is =
+    let same : c ≡ d = cc in
+    let here : place ≡ m = omega arith in
+    subst (λ (n : ℕ). Contains (turns_from place w (d ∷ cs)) (turn n e)) here
+    (Contains-append_left (turns_of w place d) (turns_from (place + 1) w cs) (turn place e)
+    (subst (λ (x : Choice). Contains (turns_of w place x) (turn place e)) same (has_own place w c e left h)))
+has_from (d ∷ cs) place w (suc n) c e at left h m is =
+    Contains-append_right (turns_of w place d) (turns_from (place + 1) w cs) (turn m e) (has_from cs (place + 1) w n c e at left h m (omega arith))
+
+-- and each such event is a turn
+pub has_turn : (cs : List Choice) (w : World) (place : ℕ) (c : Choice) (e : Event) → slice_get cs place ≡ Some c → 0 < c.uses → Contains (instances w c.what) e → Contains (turns cs w) (turn place e)
+unfolding turns
+has_turn cs w place c e at left h = has_from cs 0 w place c e at left h place (omega arith)
+
+-- ---- at a place
+
+pub get_within : {X : Type 0} (xs : List X) (n : ℕ) (x : X) → slice_get xs n ≡ Some x → n < length xs
+get_within [] n x e = absurd cc
+get_within (y ∷ ys) zero x e = omega arith
+get_within (y ∷ ys) (suc n) x e = let lt = get_within ys n x e in omega arith
+
+pub get_read : {X : Type 0} (xs : List X) (n : ℕ) (x y : X) → slice_get xs n ≡ Some x → y ≡ slice_index_or xs n y → y ≡ x
+get_read [] n x y e is = absurd cc
+get_read (z ∷ zs) zero x y e is = is ∙ (cc)
+get_read (z ∷ zs) (suc n) x y e is = get_read zs n x y e is
+
+-- a use is taken
+pub used-is : (cs : List Choice) (n : ℕ) (c : Choice) → slice_get cs n ≡ Some c → slice_set cs n (once_less c) ≡ used cs n
+unfolding used
+used-is [] n c e = absurd cc
+used-is (d ∷ cs) zero c e = let same : c ≡ d = cc in ap (λ (x : Choice). once_less x ∷ cs) same
+used-is (d ∷ cs) (suc n) c e = ap (λ (xs : List Choice). d ∷ xs) (used-is cs n c e)
+
+-- and given back
+pub given_back : (cs : List Choice) (n : ℕ) (c : Choice) → slice_get cs n ≡ Some c → slice_set (used cs n) n c ≡ cs
+unfolding used
+given_back [] n c e = absurd cc
+given_back (d ∷ cs) zero c e = let same : c ≡ d = cc in ap (λ (x : Choice). x ∷ cs) same
+given_back (d ∷ cs) (suc n) c e = ap (λ (xs : List Choice). d ∷ xs) (given_back cs n c e)
+
+pub length-used : (cs : List Choice) (n : ℕ) → length (used cs n) ≡ length cs
+unfolding used
+length-used [] n = refl
+length-used (d ∷ cs) zero = refl
+length-used (d ∷ cs) (suc n) = ap suc (length-used cs n)
+
+-- ---- as they are listed
+
+by_rows : (place : ℕ) (e : FrameEvent) (rows : List Ticketed) → map (λ t. turn_on place e t.ticket) rows ≡ map (turn place) (map (λ ticket. event.Of ticket e) (map (λ x. x.0) (map entry_of rows)))
+by_rows place e [] = refl
+by_rows place e (r ∷ rows) = ap (λ (ts : List Turn). turn_on place e r.ticket ∷ ts) (by_rows place e rows)
+
+-- the turns of the frames in flight
+pub frame_turns : (place : ℕ) (w : World) (e : FrameEvent) (what : Move) (rows : List Ticketed) → what ≡ AnyFrame e → map entry_of rows ≡ maps.entries w.link.frames
+    → map (λ t. turn_on place e t.ticket) rows ≡ map (turn place) (instances w what)
+frame_turns place w e what rows is all =
+    by_rows place e rows
+    ∙ ap (λ (es : List (ℕ × InFlight)). map (turn place) (map (λ ticket. event.Of ticket e) (map (λ x. x.0) es))) all
+    ∙ ap (λ (m : Move). map (turn place) (instances w m)) (sym is)
+
+-- a choice more
+pub turns_more : (w : World) (cs : List Choice) (place : ℕ) (c : Choice) (ts us : List Turn) → place < length cs → c ≡ slice_index_or cs place c → us ≡ ts ++ turns_of w place c
+    → us ++ turns_from (place + 1) w (drop (place + 1) cs) ≡ ts ++ turns_from place w (drop place cs)
+turns_more w cs place c ts us within is added =
+    ap (λ (xs : List Turn). xs ++ turns_from (place + 1) w (drop (place + 1) cs)) added
+    ∙ append_assoc ts (turns_of w place c) (turns_from (place + 1) w (drop (place + 1) cs))
+    ∙ ap (λ (xs : List Turn). ts ++ xs)
+    (ap (λ (d : Choice). turns_of w place d ++ turns_from (place + 1) w (drop (place + 1) cs)) is
+    ∙ sym (at_drop_more (turns_from place w) cs place c within))
+
+-- no choice is left
+pub turns_all : (w : World) (cs : List Choice) (place : ℕ) (ts : List Turn) → length cs ≤ place → ts ++ turns_from place w (drop place cs) ≡ turns_from 0 w cs → ts ≡ turns cs w
+unfolding turns
+turns_all w cs place ts past is = sym (append-nil ts) ∙ ap (λ (xs : List Turn). ts ++ xs) (sym (at_drop_all (turns_from place w) cs place past)) ∙ is

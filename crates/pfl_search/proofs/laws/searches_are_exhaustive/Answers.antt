@@ -1,0 +1,14 @@
+use Rattle.pfl_search.proofs.Leading.{none_exhaustive, runs_lead, runs_visited, visits_of_runs}
+use Rattle.pfl_search.proofs.laws.searches_are_exhaustive.Goals as goal
+
+pub returns-clause-runs : goal.returns-clause-runs
+returns-clause-runs c = runs_lead
+
+pub returns-clause-sound : goal.returns-clause-sound
+returns-clause-sound c = visits_of_runs
+
+pub returns-clause-complete : goal.returns-clause-complete
+returns-clause-complete c = runs_visited
+
+pub returns-clause-none : goal.returns-clause-none
+returns-clause-none c = none_exhaustive

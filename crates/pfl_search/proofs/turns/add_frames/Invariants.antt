@@ -1,0 +1,10 @@
+use Rattle.std.specs.Prelude.{◌≡◌, ◌++◌, length, map}
+use Rattle.pfl_search.specs.Choices.{turn_on}
+use Rattle.pfl_search.proofs.turns.add_frames.Given as goal
+
+abbrev pub invariant-loop-ticketed : goal.invariant-loop-ticketed
+invariant-loop-ticketed g l =
+    l.turns.items ++ map (λ t. turn_on l.place l.event t.ticket) l.frames ≡ l.initial.turns.items ++ map (λ t. turn_on l.place l.event t.ticket) l.initial.frames
+
+abbrev pub decreases-loop-ticketed : goal.decreases-loop-ticketed
+decreases-loop-ticketed g l = length l.frames

@@ -1,0 +1,34 @@
+-- Laws of searches, in words of runs (this project's profile).
+use Rattle.std.specs.Prelude.{◌≡◌, ◌≤◌, ℕ, List, length, Contains, Some, None, is_some, IsTrue, IsFalse}
+use Rattle.pfl_language.specs.declared.event.Event.{Event}
+use Rattle.pfl_world.specs.Runs.{run}
+use Rattle.pfl_world.specs.Worlds.{World}
+use Rattle.pfl_search.specs.Goals.{meets}
+use Rattle.pfl_search.specs.Runs.{IsRun, first_run}
+use Rattle.pfl_search.specs.Visits.{Visit, visits}
+use Rattle.pfl_search.specs.declared.choice.Choice.{Choice}
+use Rattle.pfl_search.specs.declared.goal.Goal.{Goal}
+
+-- a run of choices leads to a world
+abbrev pub RunsLeadSomewhere : Type 0
+RunsLeadSomewhere = (cs : List Choice) (w : World) (es : List Event) → IsRun cs w es → IsTrue (is_some (run w es))
+
+-- the visit is of a run of the choices, of at most `depth` events, and of the world that it leads to
+pub record IsVisit (depth : ℕ) (cs : List Choice) (w : World) (v : Visit) : Type 0 where
+  pub is_run : IsRun cs w v.run
+  pub within : length v.run ≤ depth
+  pub reached : run w v.run ≡ Some v.world
+
+-- each world that is visited is one that a run of the choices leads to
+abbrev pub VisitsAreOfRuns : Type 0
+VisitsAreOfRuns = (depth : ℕ) (cs : List Choice) (w : World) (v : Visit) → Contains (visits depth cs w) v → IsVisit depth cs w v
+
+-- and each world that a run of the choices leads to is visited
+abbrev pub RunsAreVisited : Type 0
+RunsAreVisited = (depth : ℕ) (cs : List Choice) (w : World) (v : Visit) → IsVisit depth cs w v → Contains (visits depth cs w) v
+
+-- where no run is found, none of the choices leads to a world that meets the goal
+abbrev pub NoneIsExhaustive : Type 0
+NoneIsExhaustive =
+    (goal : Goal) (depth : ℕ) (cs : List Choice) (w last : World) (es : List Event) → first_run goal depth cs w ≡ None
+    → IsRun cs w es → length es ≤ depth → run w es ≡ Some last → IsFalse (meets goal last)

@@ -1,0 +1,155 @@
+//! The search.
+
+ghost use Rattle.std.specs.Prelude.{◌≡◌, ◌+◌, ◌≤◌, List, length, reverse, IfOk, IfSome, IfNone, IfErr, OnErr, OnOk};
+ghost use Rattle.std.specs.Option.{option_map};
+ghost use Rattle.pfl_language.specs.declared.event.Event.{Event as Happening};
+ghost use Rattle.pfl_search.specs.Runs.{IsStop, LeadsTo, first_run};
+ghost use Rattle.pfl_search.specs.Visits.{worlds_visited};
+ghost use Rattle.pfl_search.specs.inner.Turns.{Enters, IsOf};
+
+use crate::append::append;
+use crate::choice::Choice;
+use crate::goal::{Goal, meets};
+use crate::stopped::Stopped;
+use crate::turns::{Turn, turns_in};
+use pfl_base::Refusal;
+use pfl_edits::{NoMemory, Tape, undo_to};
+use pfl_language::Event;
+use pfl_world::{World, WorldTape};
+use std::alloc::Allocator;
+
+/// What a search gives: the run that was found, if there is one, and how many worlds were visited.
+#[derive(Drop)]
+pub struct Searched<A: Allocator> {
+    pub found: Option<Vec<Event, A>>,
+    pub worlds: u64,
+}
+
+/// The choices, in memory of their own.
+fn copied<A: Allocator>(alloc: A, choices: &[Choice]) -> Result<Vec<Choice, A>, NoMemory>
+    ensures { IfOk result (λ v. v.items ≡ choices.now) }
+{
+    Ok(Vec::from_slice(alloc, choices)?)
+}
+
+/// Lets the event of a turn happen, and takes one use of its choice. Returns whether it was accepted; where it was not, or there
+/// is no memory, nothing changes.
+fn enter<A: Allocator + Copy>(
+    world: &mut World<A>,
+    tape: &mut WorldTape<A>,
+    choices: &mut [Choice],
+    turn: &Turn,
+) -> Result<bool, NoMemory>
+    requires turn { IsOf choices.old turn.now }
+    ensures unchanged_world { OnErr result (world.new ≡ world.old) }
+    ensures unchanged_tape { OnErr result (tape.new.list ≡ tape.old.list) }
+    ensures unchanged_choices { OnErr result (choices.new ≡ choices.old) }
+    ensures enters { IfOk result (λ entered. Enters turn.now world.old world.new tape.old.list tape.new.list choices.old choices.new entered) }
+{
+    match world.apply_on(&turn.event, tape) {
+        Ok(_) => {
+            let choice = choices[turn.place];
+            choices[turn.place] = Choice {
+                uses: choice.uses - 1,
+                ..choice
+            };
+            Ok(true)
+        }
+        Err(refusal) => match refusal {
+            Refusal::NoMemory => Err(NoMemory),
+            _ => Ok(false),
+        },
+    }
+}
+
+/// The first run from this world that leads to the goal, its newest event first. World, tape and choices are as they were before.
+/// `left`, the number of worlds that may still be visited, goes down by each one that was.
+fn search_from<A: Allocator + Copy>(
+    alloc: A,
+    world: &mut World<A>,
+    tape: &mut WorldTape<A>,
+    choices: &mut [Choice],
+    depth: u32,
+    goal: &Goal,
+    left: &mut u64,
+) -> Result<Option<Vec<Event, A>>, Stopped>
+    ensures world { world.new ≡ world.old }
+    ensures tape { tape.new.list ≡ tape.old.list }
+    ensures choices { choices.new ≡ choices.old }
+    ensures first { IfOk result (λ found. option_map (λ run. reverse run.items) found ≡ first_run goal.now depth choices.old world.old) }
+    ensures counted { OnOk result (left.new + worlds_visited goal.now depth choices.old world.old ≡ left.old) }
+    ensures stopped { IfErr result (IsStop left.old (worlds_visited goal.now depth choices.old world.old)) }
+{
+    if *left == 0 {
+        return Err(Stopped::TooMany);
+    }
+    *left -= 1;
+    if meets(world, tape, goal)? {
+        return Ok(Some(Vec::new(alloc)));
+    }
+    if depth == 0 {
+        return Ok(None);
+    }
+    let turns = turns_in(alloc, choices, world)?;
+    for turn in &turns {
+        let mark = tape.len();
+        let choice = choices[turn.place];
+        if enter(world, tape, choices, turn)? {
+            let found = search_from(alloc, world, tape, choices, depth - 1, goal, left);
+            choices[turn.place] = choice;
+            undo_to(world, tape, mark);
+            match found {
+                Err(stopped) => return Err(stopped),
+                Ok(found) => {
+                    if let Some(mut run) = found {
+                        append(&mut run, turn.event)?;
+                        return Ok(Some(run));
+                    }
+                }
+            }
+        }
+    }
+    Ok(None)
+}
+
+/// The run with its oldest event first.
+fn in_order<A: Allocator>(backwards: Option<Vec<Event, A>>) -> Option<Vec<Event, A>>
+    ensures { option_map (λ run. run.items) result ≡ option_map (λ run. reverse run.items) backwards }
+{
+    match backwards {
+        Some(mut run) => {
+            run.reverse();
+            Some(run)
+        }
+        None => None,
+    }
+}
+
+/// The first run of at most `depth` events of the choices that leads to the goal, or none where there is no such run; and how many
+/// worlds were visited for that, which are at most as many as `most`. Events come in the order of the choices, and those of one
+/// choice in the order of their tickets; a run comes before those that go on from it. Whatever the answer, the
+/// world is as it was before.
+pub fn search<A: Allocator + Copy>(
+    alloc: A,
+    world: &mut World<A>,
+    choices: &[Choice],
+    depth: u32,
+    goal: &Goal,
+    most: u64,
+) -> Result<Searched<A>, Stopped>
+    ensures unchanged { world.new ≡ world.old }
+    ensures first { IfOk result (λ s. option_map (λ run. run.items) s.found ≡ first_run goal.now depth choices.now world.old) }
+    ensures found { IfOk result (λ s. IfSome s.found (λ run. LeadsTo goal.now depth choices.now world.old run.items)) }
+    ensures none { IfOk result (λ s. IfNone s.found ((events : List Happening) → ¬ (LeadsTo goal.now depth choices.now world.old events))) }
+    ensures worlds { IfOk result (λ s. s.worlds ≡ worlds_visited goal.now depth choices.now world.old) }
+    ensures within { IfOk result (λ s. s.worlds ≤ most) }
+    ensures stopped { IfErr result (IsStop most (worlds_visited goal.now depth choices.now world.old)) }
+{
+    let mut tape = Tape::new(alloc);
+    let mut uses = copied(alloc, choices)?;
+    let mut left = most;
+    let backwards = search_from(alloc, world, &mut tape, &mut uses, depth, goal, &mut left)?;
+    let found = in_order(backwards);
+    let worlds = most - left;
+    Ok(Searched { found, worlds })
+}

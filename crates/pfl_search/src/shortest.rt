@@ -1,0 +1,57 @@
+//! A shortest run.
+
+ghost use Rattle.std.specs.Prelude.{◌≡◌, ◌≤◌, List, length, IfOk, IfSome, IfNone, IfErr};
+ghost use Rattle.std.specs.Option.{option_map};
+ghost use Rattle.pfl_language.specs.declared.event.Event.{Event as Happening};
+ghost use Rattle.pfl_search.specs.Runs.{IsStop, LeadsTo, shortest_run};
+ghost use Rattle.pfl_search.specs.Visits.{visited_to_shortest};
+
+use crate::choice::Choice;
+use crate::goal::Goal;
+use crate::runs::{Searched, search};
+use crate::stopped::Stopped;
+use pfl_world::World;
+use std::alloc::Allocator;
+
+/// A shortest run of at most `depth` events of the choices that leads to the goal, or none where there is no such run; and how many
+/// worlds were visited for that, which are at most as many as `most`. Runs of no event are searched, then those of at most one,
+/// and so on, so a world is visited again by each later search. Whatever the answer, the world is as it was before.
+pub fn search_shortest<A: Allocator + Copy>(
+    alloc: A,
+    world: &mut World<A>,
+    choices: &[Choice],
+    depth: u32,
+    goal: &Goal,
+    most: u64,
+) -> Result<Searched<A>, Stopped>
+    ensures unchanged { world.new ≡ world.old }
+    ensures first { IfOk result (λ s. option_map (λ run. run.items) s.found ≡ shortest_run goal.now depth choices.now world.old) }
+    ensures found { IfOk result (λ s. IfSome s.found (λ run. LeadsTo goal.now depth choices.now world.old run.items)) }
+    ensures shortest { IfOk result (λ s. IfSome s.found (λ run. (events : List Happening) → LeadsTo goal.now depth choices.now world.old events → length run.items ≤ length events)) }
+    ensures none { IfOk result (λ s. IfNone s.found ((events : List Happening) → ¬ (LeadsTo goal.now depth choices.now world.old events))) }
+    ensures worlds { IfOk result (λ s. s.worlds ≡ visited_to_shortest goal.now depth choices.now world.old) }
+    ensures within { IfOk result (λ s. s.worlds ≤ most) }
+    ensures stopped { IfErr result (IsStop most (visited_to_shortest goal.now depth choices.now world.old)) }
+{
+    let mut worlds = 0;
+    for few in 0..depth {
+        match search(alloc, world, choices, few, goal, most - worlds) {
+            Err(stopped) => return Err(stopped),
+            Ok(searched) => {
+                worlds += searched.worlds;
+                if searched.found.is_some() {
+                    let found = searched.found;
+                    return Ok(Searched { found, worlds });
+                }
+            }
+        }
+    }
+    match search(alloc, world, choices, depth, goal, most - worlds) {
+        Err(stopped) => Err(stopped),
+        Ok(searched) => {
+            worlds += searched.worlds;
+            let found = searched.found;
+            Ok(Searched { found, worlds })
+        }
+    }
+}
