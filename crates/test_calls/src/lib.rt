@@ -1,11 +1,13 @@
-//! What only a call shows: devices that fail, a check and a run without memory, faults that print, events of a pair that are taken
-//! back at once, and searches. What a script shows is a case of test_cases.
+//! What only a call shows: devices that fail, a check and a run without memory, faults that print, frames that are read, events of a
+//! pair that are taken back at once, and searches. What a script shows is a case of test_cases.
 #![tactic(auto)]
 
 #[cfg(test)]
 mod devices;
 #[cfg(test)]
 mod faults;
+#[cfg(test)]
+mod frames;
 #[cfg(test)]
 mod laws;
 #[cfg(test)]
