@@ -72,6 +72,13 @@ class Releases(SmallTree):
         copies[0].write_text("#!/bin/sh\necho another\n")
         self.assertEqual(self.run_it(NO_CHECKER, "lab", "run"), (0, "ran run\n", ""))
 
+    def test_a_folder_that_cannot_be_made_is_named(self) -> None:
+        (self.top / "out").mkdir(exist_ok=True)
+        (self.top / "out/release").write_text("")
+        status, out, said = self.run_it(NO_CHECKER, "lab", "run")
+        self.assertEqual((status, out), (125, ""))
+        self.assertRegex(said, r"^lab: the release could not be unpacked: \S+/out/release\S*: ")
+
     def test_the_test_command_sees_another_tree(self) -> None:
         self.change_source()
         status, _, said = self.run_it(NO_CHECKER, "test")
