@@ -79,7 +79,7 @@ pub(super) fn opened<A: Allocator + Copy>(
 }
 
 /// A query from this end, on its way to a name server.
-pub(super) fn query_from(src: End) -> Option<Packet> {
+fn query_from(src: End) -> Option<Packet> {
     let fields = PacketFields {
         seq: 0,
         ack: 0,
@@ -117,7 +117,7 @@ pub(super) fn on_main(event: Event) -> Command {
 }
 
 /// The packet, on its way out through node A, is the next event of `main`.
-pub(super) fn goes_out(packet: Packet) -> Command {
+fn goes_out(packet: Packet) -> Command {
     on_main(Event::At {
         node: NodeId::A,
         event: NodeEvent::Packet {

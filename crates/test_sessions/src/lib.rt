@@ -4,8 +4,6 @@
 #[cfg(test)]
 mod dice;
 #[cfg(test)]
-mod excising;
-#[cfg(test)]
 mod faults;
 #[cfg(test)]
 mod lab;
