@@ -62,6 +62,11 @@ def content_of(path: str) -> bytes:
         return it.read()
 
 
+def stamped() -> str:
+    """The stamp of the tree, empty where it has none."""
+    return content_of(STAMP).decode("utf-8", "replace") if os.path.exists(f"{TOP}/{STAMP}") else ""
+
+
 def sources() -> Iterator[str]:
     """The files that the program is made from, but for the stamp and for its lines of crates.txt."""
     yield "HANDLES"
@@ -109,7 +114,7 @@ class Release:
 
     def is_of_tree(self) -> bool:
         """Whether it was made from the tree's sources."""
-        return self.sources == sources_sum(self.kit) and content_of(STAMP).decode() == STAMP_TEXT.format(self.version())
+        return self.sources == sources_sum(self.kit) and stamped() == STAMP_TEXT.format(self.version())
 
     def content(self) -> bytes:
         """The program, unpacked."""
@@ -170,7 +175,7 @@ def stamp(kit: str) -> Release:
     number = 1 if former is None else former.number + (former.sources != its_sum)
     new = Release(number, its_sum, former.program if former else "", kit)
     text = STAMP_TEXT.format(new.version())
-    if not os.path.exists(f"{TOP}/{STAMP}") or content_of(STAMP).decode() != text:
+    if stamped() != text:
         with open(f"{TOP}/{STAMP}", "w", encoding="utf-8") as it:
             it.write(text)
     return new

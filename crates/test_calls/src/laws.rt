@@ -1,8 +1,8 @@
 //! Ticks of a pair that are taken back at once.
 
 use pfl_base::{Millis, NodeId, Refusal};
-use pfl_language::{Event, Limits, NodeEvent};
-use pfl_laws::all_there_and_back;
+use pfl_language::{Event, Limits, NodeEvent, NodeOutcome, Outcome};
+use pfl_laws::{all_there_and_back, there_and_back};
 use pfl_rules::RuleSet;
 use pfl_run::World;
 use std::alloc::Global;
@@ -23,7 +23,7 @@ fn tick(ms: Millis) -> Event {
 }
 
 /// What ticks answer that are taken back, and what the clock of node A shows then.
-fn there_and_back(
+fn ticks_there_and_back(
     alloc: Global,
     world: &mut World<Global>,
     ticks: &[Event],
@@ -35,7 +35,19 @@ fn there_and_back(
 /// The same of a new pair.
 fn taken_back(alloc: Global, ticks: &[Event]) -> Option<(Result<(), Refusal>, Millis)> {
     let mut world = opening(alloc)?;
-    Some(there_and_back(alloc, &mut world, ticks))
+    Some(ticks_there_and_back(alloc, &mut world, ticks))
+}
+
+/// What one event of a new pair answers that is taken back.
+fn answer_taken_back(alloc: Global, event: &Event) -> Option<Result<Outcome, Refusal>> {
+    let mut world = opening(alloc)?;
+    Some(there_and_back(&mut world, event))
+}
+
+#[test]
+fn a_tick_is_taken_back(rt: HostRuntime) {
+    let clock = Outcome::At(NodeOutcome::Clock(20));
+    assert!(rt; answer_taken_back(rt.alloc(), &tick(20)) == Some(Ok(clock)));
 }
 
 #[test]
