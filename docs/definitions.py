@@ -12,7 +12,7 @@ HEAD = re.compile(r" *(?:(?:abbrev|unfoldable) )?(?:pub )?(?:record |data )?(?P<
 STARTS = re.compile(r" *(?:abbrev|unfoldable|pub record|pub data) ")
 IMPORT = re.compile(r"(?:ghost )?use Rattle\.(?P<module>[\w.]+?)(?:\.\{(?P<names>.*)\}| as (?P<alias>\w+));?$")
 # A line by which a crate passes on the specs of one below it, or what that passes on.
-PASSES = re.compile(r"pub use Rattle\.(?P<crate>\w+)\.specs(?:\.(?P<alias>\w+))? as (?P<name>\w+)$", re.MULTILINE)
+PASSES = re.compile(r"pub use Rattle\.(?P<crate>\w+)\.specs(?:\.(?P<aliases>[\w.]+))? as (?P<name>\w+)$", re.MULTILINE)
 BINDERS = re.compile(r"λ ([^.]*)\.|\blet ([\w']+) |[({]([\w' ]+) :")
 # A name, with the names that stand before it and end with dots.
 NAME = re.compile(r"(?<![\w'.])(?P<before>(?:[^\W\d][\w']*\.)*)(?P<name>[^\W\d][\w']*)")
@@ -26,7 +26,14 @@ def passed_on(crate: str) -> Dict[str, str]:
     """The crates whose specs a crate passes on, by the names that it gives them."""
     path = CRATES / crate / "specs/Lib.antt"
     lines = PASSES.finditer(path.read_text()) if path.exists() else ()
-    return {it["name"]: passed_on(it["crate"])[it["alias"]] if it["alias"] else it["crate"] for it in lines}
+    return {it["name"]: _behind(it["crate"], (it["aliases"] or "").split(".")) for it in lines}
+
+
+def _behind(crate: str, aliases: Iterable[str]) -> str:
+    """The crate that these names lead to, each passed on by the crate before it."""
+    for alias in filter(None, aliases):
+        crate = passed_on(crate)[alias]
+    return crate
 
 
 def home(module: str) -> str:

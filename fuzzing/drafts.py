@@ -6,6 +6,7 @@ import re
 from typing import Callable, List, Sequence, Tuple
 
 from oracle.events import event
+from oracle.searches import line_of as search_line
 from oracle.setups import setup as small_setup
 from shell.names import NODES
 
@@ -91,7 +92,7 @@ class Draft:
         first = self.chance.choice((0, self.chance.randint(0, len(other))))
         name, at = self.name(), self.place()
         taken = other[first : first + self.chance.choice((1, 5, 10, 40))]
-        self.commands[at:at] = [re.sub(r"^(step|back|forward|excise|restore) main\b", rf"\1 {name}", it) for it in taken]
+        self.commands[at:at] = [re.sub(r"^(step|back|forward|excise|restore|search) main\b", rf"\1 {name}", it) for it in taken]
 
     def add_events(self) -> None:
         for _ in range(self.chance.choice((1, 1, 3, 10))):
@@ -122,6 +123,10 @@ class Draft:
         often = (*moves, f"fork {name} {few} {new}")
         rare = ("names", f"log {name}", f"show {name}", f"drop {name}", f"step {self.chance.choice(BRANCHES)} flush a")
         self.commands.insert(self.place(), self.chance.choice((*often, *often, *rare)))
+
+    def add_search(self) -> None:
+        """A search of few runs, mostly from a pair in which something is pending or in flight."""
+        self.commands.insert(self.place(), search_line(self.chance, self.name(), SHOWN))
 
     def change_word(self) -> None:
         change_some(self.chance, self.commands, with_other_word)
@@ -159,7 +164,7 @@ OF_COMMANDS: Tuple[Change, ...] = (
     *(Draft.repeat, Draft.delete, Draft.exchange, Draft.move, Draft.splice, Draft.splice, Draft.spread),
     *(Draft.add_events, Draft.add_events, Draft.add_exchange, Draft.add_exchange, Draft.add_flows),
     *(Draft.add_command, Draft.add_command, Draft.add_command),
-    *(Draft.change_word, Draft.change_number, Draft.change_number),
+    *(Draft.add_search, Draft.change_word, Draft.change_number, Draft.change_number),
 )
 OF_SETUPS: Tuple[Change, ...] = (
     *(Draft.change_word_of_setup, Draft.change_number_of_setup, Draft.change_lines_of_setup, Draft.add_rule, Draft.add_rule),

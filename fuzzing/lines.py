@@ -5,7 +5,9 @@ import random
 import re
 from typing import Callable, List
 
-from shell.names import CLASSES, NODES
+from oracle.searches import MOST_RUNS
+from shell.names import CLASSES, NODES, SEARCH
+from shell.reasons.word_forms import GREATEST
 
 from .vocabulary import ALIKE, EDGES, ENDS, LENGTHS, NETS, PROTOCOLS
 
@@ -54,6 +56,15 @@ def spread(chance: random.Random, line: str) -> str:
     if chance.random() < 0.2:
         return wide.ljust(chance.choice(LENGTHS[:5]))
     return wide + chance.choice(("", "", "\r", "\r\r"))
+
+
+def with_few_runs(text: str) -> str:
+    """A script whose searches try few runs; one whose number of runs is no number keeps it."""
+
+    def few(it: "re.Match[str]") -> str:
+        return it[1] + (it[2] if int(it[2]) > GREATEST else str(int(it[2]) % (MOST_RUNS + 1)))
+
+    return re.sub(rf"(?m)^([ \t]*{SEARCH}[ \t]+[^ \t\n]+[ \t]+[^ \t\n]+[ \t]+)([0-9]{{1,500}})", few, text)
 
 
 def rule(chance: random.Random) -> str:

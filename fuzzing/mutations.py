@@ -6,6 +6,7 @@ from typing import Sequence
 
 from .corpora import Script
 from .drafts import Draft
+from .lines import with_few_runs
 from .texts import OF_TEXTS
 
 
@@ -18,4 +19,4 @@ def mutated(chance: random.Random, scripts: Sequence[Script]) -> str:
     if chance.random() < 0.3:
         for _ in range(chance.choice((1, 1, 1, 2, 3, 5, 20))):
             text = chance.choice(OF_TEXTS)(chance, text)
-    return text
+    return with_few_runs(text)

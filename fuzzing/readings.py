@@ -1,4 +1,4 @@
-"""What the program reads in a script: lines, their faults, the setup, and the events that lines say (docs/FORMATS.md)."""
+"""What the program reads in a script: lines, their faults, and the setup (docs/FORMATS.md)."""
 from __future__ import annotations
 
 import functools
@@ -7,8 +7,8 @@ from typing import List, Optional, Sequence, Tuple
 
 from shell.programs import LIMIT_FAULTS, LINE_FAULTS, RULE_FAULTS
 from shell.reasons.faults import RANGES
-from shell.reasons.line_forms import LineFault, check_line
-from shell.reasons.packets import PacketEvent, read_packet
+from shell.reasons.line_forms import check_line
+from shell.reasons.readers import LineFault
 from shell.setups import Rule, Setup
 
 MOST_RULES = 256
@@ -103,23 +103,3 @@ def fault_of_limits(setup: Setup) -> str:
     if any(value < least for value, least, _ in ranged):
         return f"world {LIMIT_FAULTS.index('TooSmall') + 1}"
     return f"world {LIMIT_FAULTS.index('TooLarge') + 1}" if any(value > most for value, _, most in ranged) else ""
-
-
-def event_of(words: Sequence[str]) -> str:
-    """An event as a log tells it, out of the words of its line."""
-    if words[0] == "packet":
-        return packet_text(read_packet(" ".join(words)))
-    return " ".join([words[0], *map(_plain, words[1:])])
-
-
-def _plain(word: str) -> str:
-    """A node as it is, and a number or the name of a state without leading zeros."""
-    return word if word.isalpha() else ".".join(str(int(it)) for it in word.split("."))
-
-
-def packet_text(it: PacketEvent) -> str:
-    ends = f"packet {it.node} {it.direction} {it.protocol} {it.source} {it.destination}"
-    if not it.is_tcp:
-        return f"{ends} {it.length}"
-    scale = "" if it.scale is None else f" {it.scale}"
-    return f"{ends} {it.flags} {it.seq} {it.ack} {it.window} {it.length}{scale}"

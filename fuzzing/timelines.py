@@ -2,15 +2,19 @@
 from __future__ import annotations
 
 import contextlib
+import random
 import re
 from typing import ContextManager, Dict, Iterator, List, Sequence
 
 from oracle.branches import Branch, Room, compare, fork_for
 from oracle.laboratory import Differs, Laboratory
+from oracle.lines import event_of
+from oracle.searches import Search, compare_search
 from oracle.tallies import Seen
+from shell.names import SEARCH
 
 from .outcomes import compare_effect, compare_outcome, kind_of, outcome_of
-from .readings import Reading, event_of, fault_of, has_word
+from .readings import Reading, fault_of, has_word
 
 MOST_BRANCHES = 16
 BRANCH_NAME = "[a-z][a-z0-9-]{0,15}"
@@ -20,7 +24,7 @@ class Timeline:
     """The branches behind a setup that the laboratory was told."""
 
     def __init__(self, lab: Laboratory, seen: Seen):
-        self.lab, self.seen = lab, seen
+        self.lab, self.seen, self.chance = lab, seen, random.Random(0)
         self.branches: Dict[str, Branch] = {"main": Branch([], [lab.shown("main", 0, 0)], 0)}
 
     def take(self, line: str) -> List[str]:
@@ -32,6 +36,8 @@ class Timeline:
             return self.need(line, [f"bad {fault}"])
         if words[0] == "step" and words[1] in self.branches:
             return self.step(line, words[1], event_of(words[2:]))
+        if words[0] == SEARCH and words[1] in self.branches:
+            return self.search(line, words[1])
         reply = self.need(line, self.wanted(words[0], words[1:]))
         self.seen[words[0], how(reply[0])] += 1
         for name in [it for it in self.branches if it in words[1:]]:
@@ -56,6 +62,16 @@ class Timeline:
         branch.take(self.lab, name, event, reply[0])
         if branch.now() is not before:
             compare_effect(before, branch.now(), event, outcome)
+        return reply
+
+    def search(self, line: str, name: str) -> List[str]:
+        """A search from a branch: its reply, which is right as far as steps can tell. It has changed nothing."""
+        reply, branch = self.lab.answer(f"{line}\r" if line.endswith("\r") else line), self.branches[name]
+        self.seen[SEARCH, reply[0].split(" ")[0]] += 1
+        branch.compare(self.lab, name, line)
+        branch.compare_log(self.lab, name, line)
+        with self.room_for(name, branch.cursor) as room:
+            compare_search(room, Search.read(line), reply, self.chance)
         return reply
 
     def wanted(self, command: str, words: Sequence[str]) -> List[str]:

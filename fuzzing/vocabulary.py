@@ -3,7 +3,7 @@ from __future__ import annotations
 
 from typing import Sequence, Tuple
 
-from shell.names import CLASSES, COMMANDS, EVENTS, LIMITS, NODES, SETUP
+from shell.names import CLASSES, COMMANDS, EVENTS, GOALS, LIMITS, NODES, SCOPES, SEARCH, SETUP
 from shell.reasons.line_forms import OPTION_WORDS
 
 # The numbers at which something begins or ends, each with its neighbours.
@@ -35,7 +35,8 @@ STATES = (
 # Words that can stand in each other's places.
 ALIKE: Tuple[Sequence[str], ...] = (
     EVENTS,
-    (*COMMANDS, "log", "view"),
+    (*COMMANDS, "log", "view", SEARCH),
+    (*GOALS, *SCOPES, "any"),
     SETUP,
     (*NODES, "A", "ab"),
     ("in", "out", "any"),

@@ -6,8 +6,9 @@ from typing import Callable, Dict, Iterable, List, Sequence
 
 from .helps import WORDS
 from .laboratory import Laboratory
-from .names import CLASSES, EVENTS, LIMITS, NODES
+from .names import CLASSES, EVENTS, LIMITS, NODES, SEARCH
 from .pair import Pair
+from .searches.offers import offers
 
 Choice = Callable[[Laboratory, Sequence[str]], Sequence[str]]
 
@@ -61,15 +62,32 @@ def candidates(lab: Laboratory, before: Sequence[str], begun: str) -> List[str]:
     if before[0] in ("read", "save", "verify", "annotate"):
         return glob.glob(glob.escape(begun) + "*")
     words = list(before)
+    if words[0] == SEARCH:
+        return _search(lab, words, begun)
     if words[0] == "step" and len(words) == 1:
         return _matching(_branches(lab, words), begun)
     if words[0] == "step" and len(words) == 2:
         return _matching(EVENTS, begun)
     if words[0] == "rule" and len(words) > 3:
         return _matching([it for it, _ in CLASSES] if words[-1] == "timeout" else RULE_WORDS, begun)
-    word, behind = (words[2], words[3:]) if words[0] == "step" else (words[0], words[1:])
+    return _behind(lab, words, words[2:] if words[0] == "step" else words, begun)
+
+
+def _behind(lab: Laboratory, words: Sequence[str], part: Sequence[str], begun: str) -> List[str]:
+    """What can stand behind the words of a part of a line, by the first of them."""
+    word, *behind = part
     choices = EVENT_WORDS.get(word, OTHER_WORDS.get(word, []))
     return _matching(choices[len(behind)](lab, words), begun) if len(behind) < len(choices) else []
+
+
+def _search(lab: Laboratory, words: Sequence[str], begun: str) -> List[str]:
+    """What can stand in a search, in people's words and in the program's."""
+    found = offers(words)
+    if found.event:
+        branch = lab.in_use if found.is_for_people else words[1]
+        offered = _behind(lab, ("step", branch, *found.event), found.event, begun)
+        return offered if found.is_for_people else [it for it in offered if it not in ("all", "both")]
+    return _matching((*found.words, *(_branches(lab, words) if len(words) == 1 else ())), begun)
 
 
 def _matching(words: Iterable[str], begun: str) -> List[str]:

@@ -130,6 +130,25 @@ EVENTS: Dict[str, Help] = {
     ),
 }
 
+SEARCH_PARTS = "\n".join(
+    (
+        "The search goes on from where the branch in use stands, and changes nothing. A packet that is refused or held counts as "
+        "dropped. The nodes are apart where one has a state whose name the other one has not. Parts stand between commas:",
+        "settled: ask only where nothing is in flight or pending, and no bulk update is under way; the default.",
+        "landed: ask only where no frame is in flight.",
+        "anywhere: ask after each event.",
+        "within N: of runs of at most N events, up to 64; the default is 8.",
+        "deliver N: any frame is delivered, at most N times in all; the default is as often as there are events.",
+        "flush NODE N: the node flushes, at most N times; the default is as often as there are events, for both nodes.",
+        "lose N, repeat N, cut LENGTH N: any frame is lost, doubled, or cut to its first LENGTH bytes, at most N times in all; the "
+        "default is never.",
+        "EVENT [N times]: this event may happen, at most N times, or once; `lose 2 1 times` loses frame 2.",
+        "at most RUNS: give up where more runs than that are to be tried at a depth; the default is 1,000,000.",
+        "Runs of no event are searched first, then those of one, and so on. An interrupt (Ctrl-C) ends the search, and it reports how "
+        "far it came. `take` steps what was found. The last form is the program's own line (docs/FORMATS.md). A server does not search.",
+    )
+)
+
 SHELL: Dict[str, Help] = {
     "view": Help("view [BRANCH]", "shows the pair in the words of pfctl: states, counters, queues, held packets, frames"),
     "diff": Help(
@@ -143,6 +162,18 @@ SHELL: Dict[str, Help] = {
     "why": Help("why [[BRANCH] K]", "tells the reason of the last reply, or of what became of the K-th event"),
     "quiet": Help(
         "quiet [BRANCH]", "flushes and delivers, bulk turns too, until nothing is pending or in flight, telling each step"
+    ),
+    "search": Help(
+        "search drops packet .. [, PART]..\nsearch passes packet .. [, PART]..\nsearch apart [, PART]..\n"
+        "search BRANCH DEPTH RUNS GOAL [; CHOICE]..",
+        "finds a shortest run of events after which a packet would be dropped, or would pass, or the nodes have not the same "
+        "states; or proves that there is none",
+        SEARCH_PARTS,
+    ),
+    "take": Help(
+        "take [NAME]",
+        "steps what the last search found, on a new branch",
+        "The branch NAME (`found`, then `found-2`, .. if it is left out) is forked from the one that was searched, and is in use then.",
     ),
     "chart": Help(
         "chart [BRANCH] [FILE.svg]", "draws what happened: two lanes, frames as arrows; as text, or as a picture into a file"
@@ -181,4 +212,6 @@ def about(word: str) -> List[str]:
     it = WORDS[word]
     lines = [part for form in it.form.split("\n") for part in textwrap.wrap(form, 100, subsequent_indent="    ")]
     lines += textwrap.wrap(it.what, 100, initial_indent="  ", subsequent_indent="  ")
-    return lines + textwrap.wrap(it.more, 100, initial_indent="  ", subsequent_indent="  ")
+    first, *parts = it.more.split("\n")
+    lines += textwrap.wrap(first, 100, initial_indent="  ", subsequent_indent="  ")
+    return lines + [line for part in parts for line in textwrap.wrap(part, 100, initial_indent="  ", subsequent_indent="    ")]

@@ -1,11 +1,12 @@
 """A laboratory that a person works with: its setup, the program behind it, and the runs that answer her questions."""
 from __future__ import annotations
 
+import contextlib
 from dataclasses import dataclass
-from typing import List, Optional, Sequence, Tuple
+from typing import Iterator, List, Optional, Sequence, Tuple
 
 from .branches import Branch, read_log
-from .names import NODES
+from .names import NODES, SEARCH
 from .pair import Pair, read_shown
 from .programs import Client, Ended, Run, Session, check_setup, has_reply, run_lines
 from .setups import Setup
@@ -79,7 +80,7 @@ class Laboratory:
         if self.session is None:
             raise Unknown("the pair is not set up: say `rule NODE ..` for its rules, and then `open`")
         words = line.split()
-        reply = self.session.ask(line)
+        reply = self._searched(line) if words[0] == SEARCH and self.port is None else self.session.ask(line)
         self.last = Asked(" ".join(words), tuple(reply))
         if reply[0] == "removed" and words[1] == self.in_use:
             self.in_use = self.names()[0]
@@ -119,6 +120,14 @@ class Laboratory:
             raise Unknown("the pair is not set up: say `rule NODE ..` for its rules, and then `open`")
         return self.session.ask(line)
 
+    def _searched(self, line: str) -> List[str]:
+        """The reply to a search, which can take long: where its branch is there, it is asked of a run of its own."""
+        name = "".join(line.split()[1:2])
+        if name not in self.names():
+            return self._quietly(line)
+        with self.aside(self.branch(name)) as run:
+            return run.ask_freely(line)
+
     def close(self) -> None:
         if self.session is not None:
             self.session.close()
@@ -140,6 +149,21 @@ class Laboratory:
         shown = [read_shown(it) for it in replies[::2]]
         told = [outcome_of(it[0]) for it in replies[1::2]]
         return [Step(first + at, events[first - 1 + at], told[at], shown[at], shown[at + 1]) for at in range(len(told))]
+
+    @contextlib.contextmanager
+    def aside(self, branch: Branch) -> Iterator[Run]:
+        """A run of its own in which a branch stands as it does here. An interrupt may end what it is asked: the pair is here."""
+        run = Run(self.program, self.setup.lines)
+        try:
+            for event in branch.events[: branch.cursor]:
+                run.ask_freely(f"step main {event}")
+            if branch.name != "main":
+                run.ask_freely(f"fork main {branch.cursor} {branch.name}")
+            yield run
+        except Ended as why:
+            raise Unknown(f"{why}: that was a run of its own, and the pair is as it was") from why
+        finally:
+            run.kill()
 
     def run(self, lines: Sequence[str], setup: Optional[Sequence[str]] = None) -> List[List[str]]:
         """The replies to commands, on a new pair with this setup or another one."""

@@ -105,6 +105,10 @@ OF_TICKET = ("deliver", "lose", "repeat", "cut")
 EVENTS = (*OF_NODE, *OF_TICKET)
 COMMANDS = ("step", "back", "forward", "fork", "drop", "show", "names", "excise", "restore")
 SETUP = ("set", "rule", "open")
+# A line of scripts that asks for runs, and is no command: what it is asked where, and for what.
+SEARCH = "search"
+SCOPES = ("landed", "settled")
+GOALS = ("apart", "passed", "unpassed")
 
 
 class Name(NamedTuple):

@@ -9,7 +9,7 @@ import subprocess
 from typing import IO, Iterable, Iterator, List, Optional, Sequence
 
 # The first words of replies that end with a line `end`.
-MANY_LINES = ("branch", "log")
+MANY_LINES = ("branch", "log", "found")
 
 
 class Ended(Exception):
@@ -78,11 +78,15 @@ class Session:
 
     def ask(self, line: str) -> List[str]:
         """The reply to a line that has one."""
+        with uninterrupted():
+            return self.ask_freely(line)
+
+    def ask_freely(self, line: str) -> List[str]:
+        """The reply to a line that has one; after an interrupt the session is of no more use."""
         try:
-            with uninterrupted():
-                self._to.write(f"{line}\n")
-                self._to.flush()
-                reply = read_reply(self._replies)
+            self._to.write(f"{line}\n")
+            self._to.flush()
+            reply = read_reply(self._replies)
         except OSError as error:
             raise Ended(self.gone) from error
         if not reply:
@@ -113,6 +117,11 @@ class Run(Session):
         super().__init__(self.process.stdin, iter(self.process.stdout))
         for line in (*setup, "open"):
             self.process.stdin.write(f"{line}\n")
+
+    def kill(self) -> None:
+        """Ends it at once, whatever it does."""
+        self.process.kill()
+        self.close()
 
     def close(self) -> None:
         super().close()

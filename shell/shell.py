@@ -14,10 +14,11 @@ from .charts.text import text as chart_text
 from .colours import Paint
 from .completion import candidates
 from .laboratory import Laboratory, Unknown
-from .names import EVENTS, NODES, SETUP
+from .names import EVENTS, NODES, SEARCH, SETUP
 from .programs import Ended, SetupFault, has_reply, lines_of
 from .reasons.faults import explain_fault
 from .reasons.why import why_event, why_last
+from .searches.finder import Finder
 
 STRICT_STATUS = 4
 BAD_WORDS = ("bad", "refused")
@@ -41,6 +42,7 @@ class Shell(cmd.Cmd):
         self.has_faults = False
         # The files that are being read, the newest last.
         self.reading: List[str] = []
+        self.finder = Finder(self)
         self.set_prompt()
 
     # ---- the loop
@@ -113,6 +115,8 @@ class Shell(cmd.Cmd):
             raise Unknown(unknown_word(words[0]))
         elif words[0] in SETUP:
             self.setup_line(line)
+        elif words[0] == SEARCH:
+            self.finder.search(line)
         elif words[0] in EVENTS:
             self.events(self.lab.in_use, " ".join(words))
         elif words[0] == "step" and len(words) > 2:
@@ -176,7 +180,7 @@ class Shell(cmd.Cmd):
         words = line.split()
         if words[0] in BAD_WORDS or (words[0] == "step" and words[1] in BAD_OUTCOMES):
             return self.paint.bad(line)
-        return line
+        return self.paint.note(line) if words[:2] == ["gave", "up"] else line
 
     # ---- questions
 
@@ -231,6 +235,9 @@ class Shell(cmd.Cmd):
         name = words.strip() or self.lab.in_use
         taken = list(macros.steps_to_quiet(lambda event: self.step(name, event), lambda: self.lab.show(name)))
         self.tell([self.paint.dim(f"quiet: nothing is pending or in flight, after {len(taken)} steps")])
+
+    def do_take(self, words: str) -> None:
+        self.finder.take(words.split())
 
     def do_chart(self, words: str) -> None:
         names = words.split()

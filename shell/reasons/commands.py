@@ -5,6 +5,7 @@ from difflib import get_close_matches
 from typing import Callable, Dict, List, Sequence
 
 from ..laboratory import Laboratory
+from ..names import SEARCH
 from ..pair import Pair
 from .word_forms import BRANCH
 from ..words import counted
@@ -99,6 +100,14 @@ _REFUSALS: Dict[str, Callable[[Laboratory, Sequence[str]], List[str]]] = {
 }
 
 
+# What the first word of a reply to a search says.
+_SEARCHED = {
+    "found": "no run of these choices with fewer events leads to the goal: that is proved; `take` steps this one on a new branch",
+    "none": "no run of at most so many events of these choices leads to the goal: that is proved",
+    "gave": "more runs were to be tried, and nothing is known: allow more runs, or fewer events or choices",
+}
+
+
 def explain_command(lab: Laboratory, line: str, reply: str) -> List[str]:
     """Why a command was refused, by the name at the end of the reply, as the branches are now."""
     return _REFUSALS[reply.split()[-1]](lab, line.split())
@@ -107,6 +116,8 @@ def explain_command(lab: Laboratory, line: str, reply: str) -> List[str]:
 def explain_done(words: Sequence[str], reply: str) -> List[str]:
     """What a command that was done tells of reasons: of an excision, why other events fell out."""
     places = reply.split()[1:]
+    if words[0] == SEARCH:
+        return [_SEARCHED[reply.split()[0]]]
     if words[0] != "excise":
         return ["it was done: `why` has reasons of events, refusals and faulty lines"]
     if not places:

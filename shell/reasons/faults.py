@@ -4,7 +4,9 @@ from __future__ import annotations
 
 from typing import List, Optional, Sequence
 
-from .line_forms import LineFault, check_line, wanted_form
+from .line_forms import check_line, wanted_form
+from .readers import LineFault
+from .search_forms import words_of
 
 _WORDS = {
     "Long": "the line is too long",
@@ -65,7 +67,7 @@ def _marked(line: str, place: Optional[int]) -> List[str]:
     """The line, and under it a mark at the word."""
     if place is None:
         return []
-    words = line.split()
+    words = words_of(line)
     column = len(" ".join(words[:place])) + (1 if place else 0)
     width = len(words[place]) if place < len(words) else 1
     return [f"  {' '.join(words)}", f"  {' ' * column}{'^' * width}"]

@@ -1,12 +1,14 @@
 """The forms of whole lines, and the first fault of a line, read from the left as the program reads it (docs/FORMATS.md)."""
 from __future__ import annotations
 
-from typing import Dict, List, Optional, Sequence, Tuple
+from typing import Dict, List, Sequence, Tuple
 
 from . import word_forms as form
-from ..names import CLASSES, COMMANDS, EVENTS, LIMITS, OF_NODE, SETUP
-from .packets import PacketEvent, read_packet
-from .word_forms import Form, nearest, number, one_of
+from ..names import CLASSES, COMMANDS, LIMITS, SEARCH, SETUP
+from .event_forms import check_step, forms_of_event
+from .readers import LineFault, Reader
+from .search_forms import FORM, FOR_PEOPLE, check_search
+from .word_forms import Form, nearest, number
 
 LONGEST_LINE = 512
 RULE_FORM = (
@@ -27,18 +29,7 @@ _COMMANDS: Dict[str, Tuple[Form, ...]] = {
     # (no word of `COMMANDS`: the shell has a word of its own in its place)
     "log": (form.BRANCH,),
 }
-_EVENTS: Dict[str, Tuple[Form, ...]] = {
-    **{word: (form.NODE,) for word in OF_NODE},
-    "packet": (form.NODE, form.DIRECTION, form.PROTOCOL, form.SOURCE, form.DESTINATION),
-    "tick": (form.NODE, number("MS", form.GREATEST_LONG)),
-    "kill": (form.NODE, form.NAME),
-    "deliver": (form.TICKET,),
-    "lose": (form.TICKET,),
-    "repeat": (form.TICKET,),
-    "cut": (form.TICKET, number("LEN", form.GREATEST)),
-}
-_LENGTH = number("LEN", 65535)
-_TCP = (form.FLAGS, number("SEQ", form.GREATEST), number("ACK", form.GREATEST), number("WINDOW", 65535), _LENGTH)
+KNOWN = (*_COMMANDS, SEARCH)
 _OPTIONS: Tuple[Tuple[str, Tuple[Form, ...]], ...] = (
     ("quick", ()),
     ("proto", (form.PROTOCOL,)),
@@ -65,50 +56,6 @@ _OF_PF_CONF = {
 }
 
 
-class LineFault(Exception):
-    """The first fault of a line: its name, the place of its word, from 0 on (behind the last where one is missing), and why."""
-
-    def __init__(self, name: str, place: Optional[int], why: str):
-        super().__init__(why)
-        self.name, self.place, self.why = name, place, why
-
-
-class _Reader:
-    """Words that are read from the left."""
-
-    def __init__(self, words: Sequence[str], at: int = 0):
-        self.words, self.at = words, at
-
-    @property
-    def next(self) -> Optional[str]:
-        return self.words[self.at] if self.at < len(self.words) else None
-
-    def take(self, wanted: Form) -> str:
-        word = self._one(wanted.name, wanted.what)
-        wrong = wanted.wrong(word)
-        if wrong is not None:
-            raise LineFault("Number", self.at - 1, f"`{word}` {wrong}; {wanted.name} is {wanted.what}")
-        return word
-
-    def known(self, what: str, words: Sequence[str], hint: str = "") -> str:
-        """A word out of a list, by which the rest is read."""
-        word = self._one(f"the {what}", one_of(words))
-        if word not in words:
-            meant = hint or nearest(word, words) or f"; it is {one_of(words)}"
-            raise LineFault("Unknown", self.at - 1, f"`{word}` is no {what}{meant}")
-        return word
-
-    def _one(self, name: str, what: str) -> str:
-        if self.next is None:
-            raise LineFault("Missing", len(self.words), f"{name} is missing: {what}")
-        self.at += 1
-        return self.words[self.at - 1]
-
-    def finish(self) -> None:
-        if self.next is not None:
-            raise LineFault("Extra", self.at, f"the line was complete before `{self.next}`")
-
-
 def check_line(line: str, of_setup: bool) -> None:
     """Raises the first fault of a line of the setup, or of a command behind it."""
     if len(line) > LONGEST_LINE:
@@ -116,68 +63,28 @@ def check_line(line: str, of_setup: bool) -> None:
     for at, byte in enumerate(line):
         if byte != "\t" and not " " <= byte <= "~":
             raise LineFault("NotAscii", None, f"character {at + 1}, {byte!r}, is neither a tab nor printable ASCII")
-    reader = _Reader(line.split())
     if of_setup:
-        _check_setup(reader)
+        _check_setup(Reader(line.split()))
     else:
-        _check_command(reader)
+        _check_command(line)
 
 
-def _check_command(reader: _Reader) -> None:
-    word = reader.known("command", tuple(_COMMANDS), ": it belongs to the setup, before `open`" if reader.next in SETUP else "")
+def _check_command(line: str) -> None:
+    reader = Reader(line.split())
+    word = reader.known("command", KNOWN, ": it belongs to the setup, before `open`" if reader.next in SETUP else "")
+    if word == SEARCH:
+        check_search(line)
+        return
     for wanted in _COMMANDS[word]:
         reader.take(wanted)
-    if word != "step":
+    if word == "step":
+        check_step(reader)
+    else:
         reader.finish()
-        return
-    first = reader.at
-    event = reader.known("event", EVENTS)
-    for wanted in _EVENTS[event]:
-        reader.take(wanted)
-    if event != "packet":
-        reader.finish()
-        return
-    _check_segment(reader, first)
-    _check_packet(read_packet(" ".join(reader.words[first:])), first)
 
 
-def _is_tcp(word: str) -> bool:
-    return word == "tcp" or word.isdigit() and int(word) == 6
-
-
-def _check_segment(reader: _Reader, first: int) -> None:
-    """The words behind the ends of a packet, whose first word is `packet`."""
-    is_tcp = _is_tcp(reader.words[first + 3])
-    for wanted in _TCP if is_tcp else (_LENGTH,):
-        reader.take(wanted)
-    if is_tcp and reader.next is not None:
-        reader.take(number("SCALE", 255))
-    reader.finish()
-
-
-def _check_packet(packet: PacketEvent, first: int) -> None:
-    """What makes fields of the right forms no packet; `first` is the place of the word `packet`."""
-    last = first + (10 if packet.is_tcp else 6)
-    source, destination = first + 4, first + 5
-    if packet.length > 65495:
-        raise LineFault("Packet", last, f"LEN {packet.length} is above 65495, the most that an IP packet can carry")
-    if packet.scale is not None and "S" not in packet.flags:
-        raise LineFault("Packet", last + 1, f"only a packet with SYN has a SCALE, and the flags are {packet.flags}")
-    if packet.scale is not None and packet.scale > 14:
-        raise LineFault("Packet", last + 1, f"SCALE {packet.scale} is above 14")
-    if packet.source.startswith("[") != packet.destination.startswith("["):
-        raise LineFault("Packet", destination, "one end is IPv4 and the other IPv6")
-    ports = [end.rpartition(":")[2] for end in (packet.source, packet.destination)]
-    if packet.protocol == "icmp" and ports[0] != ports[1]:
-        same = "both ends of icmp have the same identifier in the place of a port"
-        raise LineFault("Packet", destination, f"{same}, and these are {ports[0]} and {ports[1]}")
-    if not packet.is_tcp and packet.protocol not in ("udp", "icmp") and ports != ["0", "0"]:
-        place = source if ports[0] != "0" else destination
-        raise LineFault("Packet", place, f"protocol {packet.protocol} has no ports: write port 0 at both ends")
-
-
-def _check_setup(reader: _Reader) -> None:
-    hint = ": it is a command, and those come behind `open`" if reader.next in COMMANDS else ""
+def _check_setup(reader: Reader) -> None:
+    hint = ": it is a command, and those come behind `open`" if reader.next in KNOWN else ""
     word = reader.known("line of a setup", SETUP, hint)
     if word == "set":
         limit = reader.known("limit", LIMITS)
@@ -190,7 +97,7 @@ def _check_setup(reader: _Reader) -> None:
         _check_rule(reader)
 
 
-def _check_rule(reader: _Reader) -> None:
+def _check_rule(reader: Reader) -> None:
     reader.take(form.ACTION)
     reader.take(form.RULE_DIRECTION)
     for word, values in _OPTIONS:
@@ -205,7 +112,7 @@ def _check_rule(reader: _Reader) -> None:
     _check_rule_end(reader)
 
 
-def _check_rule_end(reader: _Reader) -> None:
+def _check_rule_end(reader: Reader) -> None:
     word, place = reader.next, reader.at
     if word is None:
         return
@@ -226,16 +133,9 @@ def wanted_form(words: Sequence[str]) -> List[str]:
         return [f"rule NODE {RULE_FORM}"]
     if first in ("set", "open"):
         return ["set LIMIT N" if first == "set" else "open"]
+    if first == SEARCH:
+        return [FORM, *FOR_PEOPLE]
     if first not in COMMANDS:
         return []
     text = " ".join([first, *(it.name for it in _COMMANDS[first])])
-    if first != "step":
-        return [text]
-    event = words[2] if len(words) > 2 else ""
-    if event not in EVENTS:
-        return [f"{text} EVENT"]
-    text = " ".join([text, event, *(it.name for it in _EVENTS[event])])
-    if event != "packet":
-        return [text]
-    tcp = f"{text.replace('PROTO', 'tcp')} {' '.join(it.name for it in _TCP)} [SCALE]"
-    return [tcp] if len(words) > 5 and _is_tcp(words[5]) else [f"{text} LEN"] + ([] if len(words) > 5 else [tcp])
+    return list(forms_of_event(text, words[2:])) if first == "step" else [text]

@@ -45,6 +45,21 @@ COMMANDS = [
     (PACKET.replace("1.2.3.4:1", V6), "bad 7 Packet", "2.3.4.5:2", "one end is IPv4 and the other IPv6"),
     (PACKET.replace("udp", "icmp"), "bad 7 Packet", "2.3.4.5:2", "the same identifier"),
     (PACKET.replace("udp", "47"), "bad 7 Packet", "1.2.3.4:1", "has no ports"),
+    ("search main 65 9 apart", "bad 5 Number", "65", "is above 64"),
+    ("search main 8 4294967296 apart", "bad 5 Number", "4294967296", "is above 4294967295"),
+    ("search main 8 9 apert", "bad 3 Unknown", "apert", "did you mean `apart`?"),
+    ("search main 8 9 landed settled apart", "bad 3 Unknown", "settled", "is no goal"),
+    ("search main 8 9 landed", "bad 4 Missing", "", "the goal is missing: apart, passed or unpassed"),
+    ("search main 8 9 apart b; 1 flush", "bad 6 Extra", "b", "the goal was complete before `b`"),
+    ("search main 8 9 apart;", "bad 4 Missing", "", "N is missing"),
+    ("search main 8 9 apart; ; 1 x", "bad 4 Missing", ";", "N is missing"),
+    ("search main 8 9 apart; 1 any flush a", "bad 3 Unknown", "flush", "is no event of any frame"),
+    ("search main 8 9 apart;1 any cut;2 flush a", "bad 4 Missing", ";", "LEN is missing"),
+    ("search main 8 9 apart; 1 any cut 5 2", "bad 6 Extra", "2", "the choice was complete before `2`"),
+    ("search main 8 9 apart" + "; 1 flush a" * 16 + ";", "bad 6 Extra", ";", "a search has 16 choices at most"),
+    (PACKET.replace("step main", "search main 8 9 passed").replace("2 3", "2 65500 x"), "bad 7 Packet", "65500", "above 65495"),
+    (PACKET.replace("2 3", "2 65500 x"), "bad 6 Extra", "x", "the line was complete before `x`"),
+    ("search;", "bad 3 Unknown", "search;", "did you mean `search`?"),
 ]
 SETUPS = [
     ("set quee 3", "line 3 Unknown", "quee", "did you mean `queue`?"),
@@ -62,7 +77,8 @@ SETUPS = [
     ("rule a pass in timeout udp.first 5 timeout tcp.first 5", "line 6 Extra", "timeout", "in the order of their classes"),
 ]
 POOL = (
-    "a b c in out tcp UDP 6 47 256 1.2.3.4:5 1.2.3.4 ::1 S AS - 0 15 65496 65536 4294967296 1.1 1. main step flush packet x"
+    "a b c in out tcp UDP 6 47 256 1.2.3.4:5 1.2.3.4 ::1 S AS - 0 15 65496 65536 4294967296 1.1 1. main step flush packet x "
+    "search ; ; apart passed landed any deliver cut"
 ).split()
 
 
@@ -137,7 +153,12 @@ class FaultReasons(unittest.TestCase):
         """Lines with a word or two exchanged, left out or added, against the program's check."""
         chance = random.Random(1)
         steps = ["step main tick a 5", "step main kill a 1.1", "step main cut 1 5"]
-        good = [PACKET, TCP, *steps, "fork main 1 x", "back main 1", "names"]
+        searches = [
+            "search main 8 9 settled apart; 3 any deliver; 2 any cut 9; 1 flush a",
+            f"{TCP.replace('step main', 'search main 8 9 landed passed')} ; 1 lose 2",
+            f"search main 8 9 apart; 2 {PACKET[10:]}; 3 kill a 1.1",
+        ]
+        good = [PACKET, TCP, *steps, *searches, *searches, "fork main 1 x", "back main 1", "names"]
         lines = []
         for _ in range(3000):
             words = chance.choice(good).split()

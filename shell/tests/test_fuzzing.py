@@ -11,13 +11,16 @@ from unittest import mock
 
 from fuzzing import mutator, trials
 from fuzzing.corpora import Script, corpus
+from fuzzing.lines import with_few_runs
 from fuzzing.mutations import mutated
-from fuzzing.readings import read
+from fuzzing.readings import fault_of, read
 from fuzzing.timelines import replies_to
 from fuzzing.trials import Trial, minimised
 from fuzzing.wholes import pieces
 from oracle.laboratory import Differs, Laboratory
+from oracle.searches import Search, compare_search, is_allowed, line_of
 from oracle.tallies import Seen
+from shell.setups import Setup
 
 from . import TOP, program
 
@@ -42,6 +45,8 @@ step main purge a
 step main purge a x
 log main
 drop other
+search main 3 90 apart; 1 tick a 2; 1 packet b out udp 10.0.0.1:01000 192.0.2.9:53 40; 1 any lose
+search main 2 90 apart; 1 flush a; 1 tick a 5
 """
 # Of a right answer the text that is changed, what it becomes, and how often it stands as it is before.
 LIES = (
@@ -65,6 +70,16 @@ LIES = (
     ("next 2 boot", "next 1 boot", 1),
     ("event 1 step main packet a out udp 10.0.0.1:1000", "event 1 step main packet a out udp 10.0.0.1:01000", 0),
     ("cursor 2", "cursor 1", 0),
+    # A search.
+    ("found main events 1", "found main events 2", 0),
+    ("found main events 1 runs 4", "found main events 1 runs 91", 0),
+    ("found main events 1", "found other events 1", 0),
+    ("event 1 step main packet b out", "event 2 step main packet b out", 0),
+    ("event 1 step main packet b out", "event 1 step main packet a out", 0),
+    ("event 1 step main packet b out udp 10.0.0.1:1000 192.0.2.9:53 40", "event 1 step main tick a 2", 0),
+    ("none 2 ", "none 3 ", 0),
+    ("none 2 ", "none 2 9", 0),
+    ("none 2 ", "gave up ", 0),
 )
 
 
@@ -121,12 +136,83 @@ class WrongAnswers(unittest.TestCase):
                 self.assertNotEqual(Trial(path, 1).difference(SCRIPT, Seen()), "")
 
 
+QUERY = "packet b out udp 10.0.0.1:1000 192.0.2.9:53 40"
+# Of each search what it cannot be answered, on a pair that has had no event.
+SEARCHES = (
+    (f"1 9 apart; 1 {QUERY}", "none 1 2"),
+    (f"2 9 apart; 1 {QUERY}; 1 flush b", f"found main events 2 runs 4|event 1 step main {QUERY}|event 2 step main flush b|end"),
+    (f"2 9 passed {QUERY}; 1 {QUERY}", f"found main events 1 runs 2|event 1 step main {QUERY}|end"),
+    (f"2 9 settled apart; 1 {QUERY}", f"found main events 1 runs 2|event 1 step main {QUERY}|end"),
+    (f"2 9 landed unpassed {QUERY}; 1 clear a", "found main events 1 runs 2|event 1 step main clear a|end"),
+    (f"0 9 apart; 1 {QUERY}", f"found main events 1 runs 2|event 1 step main {QUERY}|end"),
+    (f"2 9 apart; 0 {QUERY}", f"found main events 1 runs 2|event 1 step main {QUERY}|end"),
+    (f"2 9 apart; 1 any deliver; 1 {QUERY}", "found main events 1 runs 2|event 1 step main deliver 1|end"),
+    ("2 9 apart; 1 clear a", "none 2 10"),
+    ("2 9 apart; 1 clear a", "none 2 0"),
+    ("2 9 apart; 1 clear a", "refused 1 NoBranch"),
+    ("2 9 apart; 1 clear a", "none 2 x"),
+)
+RIGHT = (
+    (f"1 9 apart; 1 {QUERY}", f"found main events 1 runs 2|event 1 step main {QUERY}|end"),
+    (f"2 9 passed {QUERY}; 1 {QUERY}", "found main events 0 runs 1|end"),
+    (f"2 9 landed unpassed {QUERY}; 1 clear a", "none 2 3"),
+    ("2 9 apart; 1 clear a", "gave up 9"),
+    (
+        f"2 99 apart; 1 any lose; 1 {QUERY}; 1 {QUERY.replace('b out', 'a out')}; 1 flush b",
+        f"found main events 1 runs 3|event 1 step main {QUERY}|end",
+    ),
+)
+
+
+class Searches(unittest.TestCase):
+    def compare(self, line: str, reply: str) -> None:
+        """What steps tell of a reply."""
+        with contextlib.closing(Laboratory(program(), 20)) as lab:
+            lab.open(Setup.of(["rule a pass out", "rule b pass out"]))
+            lab.need("fork main 0 spare", "forked")
+            compare_search((lab, "spare"), Search.read(f"search main {line}"), reply.split("|"), random.Random(1))
+
+    def test_wrong_answers_are_noticed(self) -> None:
+        for line, reply in SEARCHES:
+            with self.subTest(line, reply=reply), self.assertRaises(Differs):
+                self.compare(line, reply)
+
+    def test_right_answers_are_right(self) -> None:
+        for line, reply in RIGHT:
+            with self.subTest(line):
+                self.compare(line, reply)
+
+    def test_each_event_is_given_to_a_choice_of_its_own(self) -> None:
+        both = Search.read("search main 9 9 apart; 1 any cut 05; 1 cut 1 5; 2 lose 07")
+        self.assertTrue(is_allowed(both, ["cut 1 5", "cut 2 5", "lose 7", "lose 7"]))
+        self.assertTrue(is_allowed(both, ["cut 2 5", "cut 1 5"]))
+        self.assertFalse(is_allowed(both, ["cut 2 5", "cut 3 5"]))
+        self.assertFalse(is_allowed(both, ["cut 1 6"]))
+        self.assertFalse(is_allowed(both, ["lose 7"] * 3))
+
+    def test_lines_by_chance_have_no_fault_and_few_runs(self) -> None:
+        chance = random.Random(5)
+        lines = [line_of(chance, "main", ["frame 3 b -", "state a 1.1"]) for _ in range(300)]
+        self.assertEqual({fault_of(it, False) for it in lines}, {""})
+        self.assertEqual(with_few_runs("".join(f"{it}\n" for it in lines)).splitlines(), lines)
+
+    def test_a_script_is_left_with_few_runs(self) -> None:
+        for line, wanted in (
+            ("search main 8 1000 apart", "search main 8 97 apart"),
+            ("\tsearch  main 8 0300 apart; 1000 flush a\r", "\tsearch  main 8 300 apart; 1000 flush a\r"),
+            ("search main 8 4294967296 apart", "search main 8 4294967296 apart"),
+            ("search main 8 x apart", "search main 8 x apart"),
+            ("back main 1000", "back main 1000"),
+        ):
+            self.assertEqual(with_few_runs(f"open\n{line}\nnames"), f"open\n{wanted}\nnames")
+
+
 class Scripts(unittest.TestCase):
     def test_a_seed_gives_its_script(self) -> None:
         scripts = corpus(TOP)
         one, same = ([mutated(random.Random(seed), scripts) for seed in range(60)] for _ in range(2))
         self.assertEqual(one, same)
-        self.assertEqual(len({*one}), len(one))
+        self.assertGreater(len({*one}), 50)
         self.assertGreater(sum(not read(it).fault for it in one), 30)
 
     def test_scripts_without_lines_can_be_changed(self) -> None:

@@ -336,6 +336,15 @@ class Server(Dialogue):
         self.assertEqual(self.said(two, "summary", "summary"), [told, told])
         self.assertRegex(self.said(self.shell(), "summary")[0], "asks a server")
 
+    def test_a_server_does_not_search(self) -> None:
+        one, two = self.shells
+        told = (
+            "a server does not search: its `log` tells the events of a branch; in a shell of your own, after the same setup, step them "
+            "and search there"
+        )
+        self.assertEqual(self.said(one, "search apart", "search main 3 100 apart", QUERY), [told, told, "step pass 1.1 dropped 0"])
+        self.assertRegex(self.said(two, "take", "summary")[1], "after 1 commands of all sessions")
+
     def test_a_server_that_has_ended_is_told(self) -> None:
         self.server.kill()
         self.server.wait()

@@ -3,6 +3,8 @@ pub mod Values
 pub mod Fronts
 pub mod Timeouts
 pub mod Letters
+pub mod Searched
+mod Worked
 pub mod WrittenNumbers
 pub mod WrittenWords
 pub mod WrittenAddresses

@@ -10,6 +10,7 @@ pub mod Commands
 pub mod Rules
 pub mod Setup
 pub mod Session
+pub mod Search
 pub mod Written
 pub mod Laws
 pub mod inner

@@ -2,3 +2,4 @@
 -- pair or of a timeline says any of it.
 pub mod Words
 pub mod Readings
+pub mod Parts

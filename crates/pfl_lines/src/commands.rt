@@ -153,7 +153,7 @@ fn event_by<'a>(word: &[u8], line: &'a [u8]) -> Result<(EventDraft, &'a [u8]), L
 
 /// An event's word and what belongs to it.
 #[tactic(auto, unfolding(crate::specs::Commands::event_at))]
-fn event_at(line: &[u8]) -> Result<(EventDraft, &[u8]), LineFault>
+pub(crate) fn event_at(line: &[u8]) -> Result<(EventDraft, &[u8]), LineFault>
     ensures { Gives (λ x. (x.0, words x.1.now)) result (event_at (words line.now)) }
 {
     let (word, rest) = word_at(line)?;
@@ -306,7 +306,7 @@ fn command_at(line: &[u8]) -> Result<(CommandDraft, &[u8]), LineFault>
 }
 
 /// The event, once its packet is judged.
-fn whole_event(draft: EventDraft) -> Result<Event, LineFault>
+pub(crate) fn whole_event(draft: EventDraft) -> Result<Event, LineFault>
     ensures { result ≡ whole_event draft }
 {
     match draft {

@@ -1,4 +1,4 @@
-//! What lines say: the commands of a timeline, and the setup of a pair.
+//! What lines say: the commands of a timeline, the setup of a pair, and searches.
 #![tactic(auto)]
 
 mod addresses;
@@ -11,6 +11,7 @@ mod numbers;
 mod packets;
 mod parts;
 mod rules;
+mod search;
 mod session;
 mod setup;
 mod words;
@@ -19,6 +20,7 @@ mod written;
 pub use commands::{LONGEST, parse_line};
 pub use fault::LineFault;
 pub use laws::steps_read_back;
+pub use search::{ScriptLine, SearchLine, parse_script};
 pub use session::{SessionLine, parse_session};
 pub use setup::{SetupLine, parse_setup};
 pub use written::{EventWords, PacketWords};

@@ -1,18 +1,18 @@
 -- What a line of which this is kept says.
 use Rattle.std.specs.Prelude.{Result, Err, if◌then◌else◌}
-use Rattle.pfl_language.specs.declared.command.Command.{Command}
 use Rattle.pfl_lines.specs.declared.fault.LineFault.{LineFault}
 use Rattle.pfl_lines.specs.declared.fault.LineFault.TheVariants.{Long}
-use Rattle.pfl_lines.specs.Commands.{parsed}
+use Rattle.pfl_lines.specs.declared.search.ScriptLine.{ScriptLine}
+use Rattle.pfl_lines.specs.Search.{parsed_script}
 use Rattle.pfl_lines.specs.declared.setup.SetupLine.{SetupLine}
 use Rattle.pfl_lines.specs.Setup.{parsed_setup}
 use Rattle.pfl_lines.specs.declared.session.SessionLine.{SessionLine}
 use Rattle.pfl_lines.specs.Session.{parsed_session}
 use Rattle.pfl_reader.specs.Scans.{Kept}
 
--- what is kept of a line says
-abbrev pub kept_said : Kept → Result Command LineFault
-kept_said k = if k.long then Err Long else parsed k.bytes
+-- what is kept of a line says as one of a script
+abbrev pub kept_said : Kept → Result ScriptLine LineFault
+kept_said k = if k.long then Err Long else parsed_script k.bytes
 
 -- what is kept of a line says as one of a setup
 abbrev pub kept_setup : Kept → Result SetupLine LineFault

@@ -5,8 +5,9 @@ ghost use Rattle.pfl_reader.specs.Saids.{kept_said, kept_session, kept_setup};
 ghost use Rattle.pfl_reader.specs.Scans.{has_word};
 
 use crate::head::Head;
-use pfl_language::Command;
-use pfl_lines::{LineFault, SessionLine, SetupLine, parse_line, parse_session, parse_setup};
+use pfl_lines::{
+    LineFault, ScriptLine, SessionLine, SetupLine, parse_script, parse_session, parse_setup,
+};
 use std::marker::Model;
 
 /// A line where its reader has it.
@@ -42,14 +43,14 @@ impl<'a> Line<'a> {
         matches!(self.head, Head::Word)
     }
 
-    /// What the line says.
-    pub fn parse(&self) -> Result<Command, LineFault>
+    /// What the line says as one of a script.
+    pub fn parse(&self) -> Result<ScriptLine, LineFault>
         ensures { result ≡ kept_said self.now }
     {
         if self.long {
             return Err(LineFault::Long);
         }
-        parse_line(self.bytes)
+        parse_script(self.bytes)
     }
 
     /// What the line says as one of a setup.

@@ -2,4 +2,4 @@
 
 /// The release, the sum of its sources, and the logic that proves them.
 pub(crate) const VERSION: &str =
-    "release 1, sources 5988d11b113947ab3176b3a9c2db38fda4e46d8c2ba3ada530cea0042a2370b5, logic dac8208d650f15bf";
+    "release 3, sources 76347491b75fe08fb26f2054905c76061f8d53da331426e3a52a33a6332f1704, logic dac8208d650f15bf";

@@ -3,7 +3,7 @@ use Rattle.std.proofs.Common.{◌≡◌, ℕ, ◌+◌, ◌≤◌, Bool, true, fa
 use Rattle.std.specs.Io.KnownBytes.{Appends, Keeps as KeepsBytes}
 use Rattle.std.proofs.lemmas.Bool.{lt-ltb, le-ltb, cases_lt}
 use Rattle.std.proofs.lemmas.List.{append-nil, take_all}
-use Rattle.pfl_lines.specs.Commands.{parsed}
+use Rattle.pfl_lines.specs.Search.{parsed_script}
 use Rattle.pfl_timeline.specs.Timelines.{Timeline}
 use Rattle.pfl_reader.specs.Lines.{lines_of}
 use Rattle.pfl_reader.specs.Scans.{Kept, Keeps, ReadsLine, TakesLine, TakesLines, IsOver}
@@ -28,8 +28,8 @@ pub record Ran (old new : Option (List ℕ)) (t u : Timeline) (w v : Option (Lis
   pub faulty : bad ≡ bad_lines lines
 
 -- what is kept of a line says what the line says
-pub said-kept : (k : Kept) (body : List ℕ) → Keeps k body → kept_said k ≡ parsed body
-unfolding parsed
+pub said-kept : (k : Kept) (body : List ℕ) → Keeps k body → kept_said k ≡ parsed_script body
+unfolding parsed_script
 said-kept k body h = elim (cases_lt 512 (length body)) [
   | inl long ↦ rw (h.long, lt-ltb 512 (length body) long) refl
   | inr short ↦ rw (h.long, le-ltb 512 (length body) short, h.bytes, take_all 512 body short, le-ltb 512 (length body) short) refl

@@ -1,9 +1,11 @@
 -- What lines do to a timeline, and the text of their replies.
 use Rattle.std.specs.Prelude.{◌≡◌, ◌≤◌, ℕ, ◌+◌, Bool, true, false, not, ◌&&◌, is_err, List, [], ◌∷◌, ◌++◌, length, take, if◌then◌else◌, Option, Some, None, ⊤, Result, Ok, Err}
 use Rattle.std.specs.Io.KnownBytes.{Appends}
-use Rattle.pfl_language.specs.declared.command.Command.{Command}
 use Rattle.pfl_lines.specs.declared.fault.LineFault.{LineFault}
-use Rattle.pfl_lines.specs.Commands.{parsed}
+use Rattle.pfl_lines.specs.declared.search.ScriptLine.{ScriptLine}
+use Rattle.pfl_lines.specs.declared.search.ScriptLine.TheVariants as said
+use Rattle.pfl_lines.specs.declared.search.SearchLine.{SearchLine}
+use Rattle.pfl_lines.specs.Search.{parsed_script}
 use Rattle.pfl_timeline.specs.Timelines.{Timeline}
 use Rattle.pfl_reader.specs.Lines.{lines_of}
 use Rattle.pfl_reader.specs.Saids.{kept_said}
@@ -11,32 +13,39 @@ use Rattle.pfl_reader.specs.Scans.{Kept, head_of, has_word, TakesLines}
 use Rattle.pfl_script.specs.declared.fault.EngineFault.{EngineFault}
 use Rattle.pfl_script.specs.declared.fault.EngineFault.TheVariants as engine
 use Rattle.pfl_timeline.specs.Commands.{command_step}
+use Rattle.pfl_timeline.specs.Searches.{Sought, finding, sought}
 use Rattle.pfl_script.specs.Texts.{bad_text}
 use Rattle.pfl_script.specs.Replies.{reply_text}
+use Rattle.pfl_script.specs.Searches.{finding_text}
 
 -- what a line writes, and the timeline after it
 pub record Answer : Type 0 where
   pub text : List ℕ
   pub timeline : Timeline
 
--- the answer to what a line says
-abbrev pub answer_to : Result Command LineFault → Timeline → Answer
+-- what a line searches for
+abbrev pub sought_by : SearchLine → Sought
+sought_by s = sought s.goal s.depth s.choices.items s.most
+
+-- the answer to what a line says: a command gives its reply, and a search what it finds
+abbrev pub answer_to : Result ScriptLine LineFault → Timeline → Answer
 answer_to (Err fault) t = record { text = bad_text fault; timeline = t }
-answer_to (Ok command) t =
+answer_to (Ok (said.Command command)) t =
     let replied = command_step t command in
     record { text = reply_text replied.reply; timeline = replied.timeline }
+answer_to (Ok (said.Search s)) t = record { text = finding_text (finding t s.branch (sought_by s)); timeline = t }
 
 -- the answer to a line: none to a line without a word and to a comment
 unfoldable pub line_answer : List ℕ → Timeline → Answer
-line_answer line t = if has_word (head_of line) then answer_to (parsed line) t else record { text = []; timeline = t }
+line_answer line t = if has_word (head_of line) then answer_to (parsed_script line) t else record { text = []; timeline = t }
 
 -- the line is faulty
 unfoldable pub is_bad : List ℕ → Bool
-is_bad line = has_word (head_of line) && is_err (parsed line)
+is_bad line = has_word (head_of line) && is_err (parsed_script line)
 
--- the line is a command
+-- the line is a command or a search
 unfoldable pub is_command : List ℕ → Bool
-is_command line = has_word (head_of line) && not (is_err (parsed line))
+is_command line = has_word (head_of line) && not (is_err (parsed_script line))
 
 -- what is written for lines
 abbrev pub text : List (List ℕ) → Timeline → List ℕ
@@ -66,7 +75,7 @@ kept_answer k t = if has_word k.head then answer_to (kept_said k) t else record 
 unfoldable pub kept_bad : Kept → Bool
 kept_bad k = has_word k.head && is_err (kept_said k)
 
--- the line of which this is kept is a command
+-- the line of which this is kept is a command or a search
 unfoldable pub kept_command : Kept → Bool
 kept_command k = has_word k.head && not (is_err (kept_said k))
 
@@ -113,7 +122,7 @@ pub record RunsLines (old : Option (List ℕ)) (t u : Timeline) (w v : Option (L
   pub timeline : u ≡ timeline_after lines t
   pub written : Appends w v (text lines t)
 
--- First lines were read, the last of them a command: the timeline is the one that the lines before it give, and their whole text
+-- First lines were read, the last of them a command or a search: the timeline is the one that the lines before it give, and their whole text
 -- was written.
 pub record RunsUnanswered (old new : Option (List ℕ)) (t u : Timeline) (w v : Option (List ℕ)) : Type 0 where
   pub lines : List (List ℕ)

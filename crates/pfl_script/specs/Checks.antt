@@ -2,9 +2,9 @@
 use Rattle.std.specs.Prelude.{◌≡◌, ℕ, ◌+◌, List, [], ◌∷◌, ◌++◌, length, take, codes, if◌then◌else◌, Option, ◌⊎◌, Result, Ok, Err}
 use Rattle.std.specs.Fmt.{decimal}
 use Rattle.std.specs.Io.KnownBytes.{Appends}
-use Rattle.pfl_language.specs.declared.command.Command.{Command}
+use Rattle.pfl_lines.specs.declared.search.ScriptLine.{ScriptLine}
 use Rattle.pfl_lines.specs.declared.fault.LineFault.{LineFault}
-use Rattle.pfl_lines.specs.Commands.{parsed}
+use Rattle.pfl_lines.specs.Search.{parsed_script}
 use Rattle.pfl_reader.specs.Saids.{kept_said}
 use Rattle.pfl_reader.specs.Scans.{Kept, head_of, has_word}
 use Rattle.pfl_script.specs.Texts.{bad_text}
@@ -16,14 +16,14 @@ use Rattle.pfl_script.specs.declared.fault.EngineFault.TheVariants as engine
 abbrev pub faulty_text : ℕ → LineFault → List ℕ
 faulty_text n why = codes "line " ++ decimal n ++ codes " " ++ bad_text why
 
--- what is told of line n, which says this: nothing of a command
-abbrev pub said_text : ℕ → Result Command LineFault → List ℕ
-said_text n (Ok command) = []
+-- what is told of line n, which says this: nothing of a command and of a search
+abbrev pub said_text : ℕ → Result ScriptLine LineFault → List ℕ
+said_text n (Ok said) = []
 said_text n (Err why) = faulty_text n why
 
 -- what is told of line n: nothing where it has no word or is a comment
 unfoldable pub line_told : ℕ → List ℕ → List ℕ
-line_told n line = if has_word (head_of line) then said_text n (parsed line) else []
+line_told n line = if has_word (head_of line) then said_text n (parsed_script line) else []
 
 -- what is told of line n of which this is kept
 unfoldable pub kept_told : ℕ → Kept → List ℕ
@@ -34,7 +34,7 @@ abbrev pub lines_told : ℕ → List (List ℕ) → List ℕ
 lines_told n [] = []
 lines_told n (line ∷ lines) = line_told (n + 1) line ++ lines_told (n + 1) lines
 
--- how many lines are commands
+-- how many lines are commands or searches
 abbrev pub good_lines : List (List ℕ) → ℕ
 good_lines [] = 0
 good_lines (line ∷ lines) = one_if (is_command line) + good_lines lines

@@ -2,6 +2,7 @@ pub mod Readers
 pub mod Texts
 pub mod Shows
 pub mod Logs
+pub mod Searches
 pub mod Replies
 pub mod Answers
 pub mod Checks

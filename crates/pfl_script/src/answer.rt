@@ -2,17 +2,22 @@
 
 ghost use Rattle.std.specs.Prelude.{◌≡◌, ℕ, true, take, IfOk, OnOk, OnErr, IfErr};
 ghost use Rattle.std.specs.Io.KnownBytes.{Appends};
-ghost use Rattle.pfl_script.specs.Answers.{answer_to, kept_answer, kept_bad, kept_command};
+ghost use Rattle.pfl_lines.specs.declared.search.ScriptLine.TheVariants as said;
+ghost use Rattle.pfl_script.specs.Answers.{answer_to, kept_answer, kept_bad, kept_command, sought_by};
 ghost use Rattle.pfl_script.specs.inner.Answers.{Breaks};
 ghost use Rattle.pfl_script.specs.Readers.{IsWriteFault};
 ghost use Rattle.pfl_script.specs.Replies.{reply_text};
+ghost use Rattle.pfl_script.specs.Searches.{finding_text};
 ghost use Rattle.pfl_timeline.specs.Commands.{show_command};
+ghost use Rattle.pfl_timeline.specs.Searches.{finding};
 
 use crate::fault::EngineFault;
+use crate::found::write_finding;
 use crate::output::{write_reply, write_shown, write_text};
 use crate::replies::fault_line;
 use pfl_base::Output;
 use pfl_language::{BranchWord, Command};
+use pfl_lines::{ScriptLine, SearchLine};
 use pfl_reader::Line;
 use pfl_timeline::{Reply, Timeline};
 use std::alloc::Allocator;
@@ -47,10 +52,10 @@ fn answer_command<A: Allocator, B: Allocator + Copy, W: Output>(
     writer: &mut W,
     timeline: &mut Timeline<B>,
 ) -> Result<(), EngineFault>
-    ensures timeline { OnOk result (timeline.new ≡ (answer_to (Ok command) timeline.old).timeline) }
-    ensures text { OnOk result (Appends (W.written writer.old) (W.written writer.new) (answer_to (Ok command) timeline.old).text) }
+    ensures timeline { OnOk result (timeline.new ≡ (answer_to (Ok (said.Command command)) timeline.old).timeline) }
+    ensures text { OnOk result (Appends (W.written writer.old) (W.written writer.new) (answer_to (Ok (said.Command command)) timeline.old).text) }
     ensures stays { OnOk result (W.has_failed writer.new ≡ W.has_failed writer.old) }
-    ensures breaks { OnErr result (Breaks (answer_to (Ok command) timeline.old) timeline.old timeline.new (W.written writer.old) (W.written writer.new)) }
+    ensures breaks { OnErr result (Breaks (answer_to (Ok (said.Command command)) timeline.old) timeline.old timeline.new (W.written writer.old) (W.written writer.new)) }
     ensures untouched { IfErr result (λ e. e ≡ EngineFault.NoMemory → writer.new ≡ writer.old) }
     ensures unchanged { IfErr result (λ e. e ≡ EngineFault.NoMemory → timeline.new ≡ timeline.old) }
     ensures fault { IfErr result (λ e. IsWriteFault e (W.has_failed writer.new)) }
@@ -62,6 +67,55 @@ fn answer_command<A: Allocator, B: Allocator + Copy, W: Output>(
         return Err(EngineFault::NoMemory);
     };
     write_reply(alloc, &reply, writer)
+}
+
+/// Searches, and writes the answer. Nothing changes.
+fn answer_search<A: Allocator, B: Allocator + Copy, W: Output>(
+    alloc: A,
+    search: &SearchLine,
+    writer: &mut W,
+    timeline: &mut Timeline<B>,
+) -> Result<(), EngineFault>
+    ensures still { timeline.new ≡ timeline.old }
+    ensures text { OnOk result (Appends (W.written writer.old) (W.written writer.new) (finding_text (finding timeline.old search.now.branch (sought_by search.now)))) }
+    ensures stays { OnOk result (W.has_failed writer.new ≡ W.has_failed writer.old) }
+    ensures untouched { IfErr result (λ e. e ≡ EngineFault.NoMemory → writer.new ≡ writer.old) }
+    ensures part { OnErr result ((n : ℕ) × Appends (W.written writer.old) (W.written writer.new) (take n (finding_text (finding timeline.old search.now.branch (sought_by search.now))))) }
+    ensures fault { IfErr result (λ e. IsWriteFault e (W.has_failed writer.new)) }
+{
+    let choices = search.choices.as_slice();
+    let found = timeline.search(
+        &search.branch,
+        choices,
+        search.depth,
+        &search.goal,
+        search.most,
+    );
+    let Ok(finding) = found else {
+        return Err(EngineFault::NoMemory);
+    };
+    write_finding(alloc, &finding, writer)
+}
+
+/// Does what a line of a script says, and writes its answer. Where memory is wanting, nothing has changed.
+fn answer_said<A: Allocator, B: Allocator + Copy, W: Output>(
+    alloc: A,
+    said: ScriptLine,
+    writer: &mut W,
+    timeline: &mut Timeline<B>,
+) -> Result<(), EngineFault>
+    ensures timeline { OnOk result (timeline.new ≡ (answer_to (Ok said) timeline.old).timeline) }
+    ensures text { OnOk result (Appends (W.written writer.old) (W.written writer.new) (answer_to (Ok said) timeline.old).text) }
+    ensures stays { OnOk result (W.has_failed writer.new ≡ W.has_failed writer.old) }
+    ensures breaks { OnErr result (Breaks (answer_to (Ok said) timeline.old) timeline.old timeline.new (W.written writer.old) (W.written writer.new)) }
+    ensures untouched { IfErr result (λ e. e ≡ EngineFault.NoMemory → writer.new ≡ writer.old) }
+    ensures unchanged { IfErr result (λ e. e ≡ EngineFault.NoMemory → timeline.new ≡ timeline.old) }
+    ensures fault { IfErr result (λ e. IsWriteFault e (W.has_failed writer.new)) }
+{
+    match said {
+        ScriptLine::Command(command) => answer_command(alloc, command, writer, timeline),
+        ScriptLine::Search(search) => answer_search(alloc, &search, writer, timeline),
+    }
 }
 
 /// Executes a line, if it has a word and is no comment, writes its reply, and says whether it is faulty. Where memory is wanting,
@@ -91,7 +145,7 @@ pub fn answer_line<A: Allocator, B: Allocator + Copy, W: Output>(
             Ok(()) => Ok(true),
             Err(fault) => Err(fault),
         },
-        Ok(command) => match answer_command(alloc, command, writer, timeline) {
+        Ok(said) => match answer_said(alloc, said, writer, timeline) {
             Ok(()) => Ok(false),
             Err(fault) => Err(fault),
         },

@@ -5,6 +5,7 @@ mod answer;
 mod check;
 mod engine;
 mod fault;
+mod found;
 mod link_lines;
 mod listed;
 mod logged;

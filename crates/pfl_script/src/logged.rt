@@ -53,7 +53,7 @@ fn push_event<A: Allocator>(
 }
 
 /// Puts the lines of events behind a text, each with its place, counted from 1.
-fn push_events<A: Allocator>(
+pub(crate) fn push_events<A: Allocator>(
     text: &mut Vec<u8, A>,
     name: &[u8],
     events: &[Event],

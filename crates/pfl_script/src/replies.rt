@@ -68,7 +68,7 @@ fn restored_line(cursor: usize) -> ShortLine
 }
 
 /// The line of a command that is refused.
-fn refused_line(why: Refused) -> ShortLine
+pub(crate) fn refused_line(why: Refused) -> ShortLine
     ensures { result.bytes ≡ reply_text (Refusing why) }
 {
     let mut line = plain_line("refused ");

@@ -7,8 +7,8 @@ use Rattle.pfl_language.specs.declared.event.Event.{Event}
 use Rattle.pfl_world.specs.Worlds.{World}
 use Rattle.pfl_search.specs.Runs.{IsStop, LeadsTo, first_deeper, first_run, shortest_run}
 use Rattle.pfl_search.specs.Visits.{Visit, first_visit, visited_deeper, visited_to_shortest, worlds_visited}
-use Rattle.pfl_search.specs.declared.choice.Choice.{Choice}
-use Rattle.pfl_search.specs.declared.goal.Goal.{Goal}
+use Rattle.pfl_language.specs.declared.choice.Choice.{Choice}
+use Rattle.pfl_language.specs.declared.goal.Goal.{Goal}
 use Rattle.pfl_search.specs.declared.stopped.Stopped.{Stopped}
 use Rattle.pfl_search.specs.declared.stopped.Stopped.TheVariants.{NoMemory, TooMany}
 

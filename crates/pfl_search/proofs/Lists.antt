@@ -1,9 +1,10 @@
 -- What is found in lists that are made of others.
-use Rattle.std.specs.Prelude.{◌≡◌, ◌⊎◌, ℕ, zero, suc, ◌+◌, ◌<◌, ◌≤◌, Bool, true, false, cond, List, [], ◌∷◌, ◌++◌, length, map, find, Contains, slice_index_or, Option, Some, None, refl}
+use Rattle.std.specs.Prelude.{◌≡◌, ◌⊎◌, ℕ, zero, suc, ◌+◌, ◌-◌, ◌<◌, ◌≤◌, Bool, true, false, cond, List, [], ◌∷◌, ◌++◌, length, map, filter, find, drop, Contains, slice_index_or, Option, Some, None, refl}
 use Rattle.std.specs.List.{flat_map}
 use Rattle.std.specs.Option.{option_map, option_or}
 use Rattle.std.proofs.Common.{◌∙◌, ap, sym, subst, inl, inr, arith}
-use Rattle.std.proofs.lemmas.List.{get_or-map, length-map}
+use Rattle.std.proofs.Math.Seq.{drop-append_seam}
+use Rattle.std.proofs.lemmas.List.{get_or-append_right, get_or-map, length-append, length-map}
 use Rattle.pfl_search.specs.Visits.{asked}
 use Rattle.std.proofs.lemmas.List.Elements.{Contains-append_left, Contains-append_right, Contains-append_cases}
 
@@ -44,6 +45,17 @@ module _ {X : Type 0} where
   pub in_rest : (y : X) (ys : List X) (x : X) → Contains ys x → Contains (y ∷ ys) x
   in_rest y ys x h = let lt = h.1 in (suc h.0, omega arith, h.2)
 
+  -- behind the first ones stand the others
+  pub in_added : (xs ys zs : List X) (i : ℕ) (x : X) → zs ≡ xs ++ ys → length xs ≤ i → i < length zs → x ≡ slice_index_or zs i x → Contains ys x
+  in_added xs ys zs i x all past within is =
+      let long : length zs ≡ length xs + length ys = ap length all ∙ length-append xs ys in
+      let at : slice_index_or zs i x ≡ slice_index_or ys (i - length xs) x =
+      ap (λ (us : List X). slice_index_or us i x) all ∙ get_or-append_right xs ys (length xs) i x refl past in
+      (i - length xs, omega arith, sym (is ∙ at))
+
+  pub from_added : (xs ys zs : List X) (n : ℕ) → zs ≡ xs ++ ys → n ≡ length xs → drop n zs ≡ ys
+  from_added xs ys zs n all is = rw (all, is) (drop-append_seam xs ys)
+
 module _ {X Y : Type 0} (f : X → Y) where
   pub in_map : (xs : List X) (x : X) → Contains xs x → Contains (map f xs) (f x)
   in_map xs x h = let lt = h.1 in (h.0, omega (arith, length-map xs f), get_or-map f xs h.0 x (f x) lt ∙ ap f h.2)
@@ -71,6 +83,29 @@ module _ {X Y : Type 0} (f : X → List Y) where
   ]
 
 module _ {X : Type 0} (p : X → Bool) where
+  kept_at : (y : X) (ys : List X) (x : X) (b : Bool) → p y ≡ b → (Contains (filter p ys) x → Contains ys x × (p x ≡ true))
+      → Contains (cond b (y ∷ filter p ys) (filter p ys)) x → Contains (y ∷ ys) x × (p x ≡ true)
+  kept_at y ys x true at later h = elim (in_cons y (filter p ys) x h) [
+    | inl e ↦ (in_front y ys x e, ap p (sym e) ∙ at)
+    | inr r ↦ let so = later r in (in_rest y ys x so.0, so.1)
+  ]
+  kept_at y ys x false at later h = let so = later h in (in_rest y ys x so.0, so.1)
+
+  -- those that pass a test are there, and pass
+  pub from_filter : (xs : List X) (x : X) → Contains (filter p xs) x → Contains xs x × (p x ≡ true)
+  from_filter [] x h = absurd (nothing_in x h)
+  from_filter (y ∷ ys) x h = kept_at y ys x (p y) refl (from_filter ys x) h
+
+  keeps_at : (y : X) (ys : List X) (x : X) (b : Bool) → p y ≡ b → p x ≡ true → (Contains ys x → Contains (filter p ys) x) → Contains (y ∷ ys) x
+      → Contains (cond b (y ∷ filter p ys) (filter p ys)) x
+  keeps_at y ys x true at pass later h = elim (in_cons y ys x h) [ inl e ↦ in_front y (filter p ys) x e | inr r ↦ in_rest y (filter p ys) x (later r) ]
+  keeps_at y ys x false at pass later h = elim (in_cons y ys x h) [ inl e ↦ (let same : p y ≡ p x = ap p e in absurd cc) | inr r ↦ later r ]
+
+  -- and all that do are kept
+  pub in_filter : (xs : List X) (x : X) → Contains xs x → p x ≡ true → Contains (filter p xs) x
+  in_filter [] x h pass = absurd (nothing_in x h)
+  in_filter (y ∷ ys) x h pass = keeps_at y ys x (p y) refl pass (λ k. in_filter ys x k pass) h
+
   some_at : (y : X) (ys : List X) (x : X) (b : Bool) → p y ≡ b → (find p ys ≡ Some x → Contains ys x × (p x ≡ true)) → cond b (Some y) (find p ys) ≡ Some x → Contains (y ∷ ys) x × (p x ≡ true)
   some_at y ys x true at later e = let same : y ≡ x = cc in (in_front y ys x same, ap p (sym same) ∙ at)
   some_at y ys x false at later e = let so = later e in (in_rest y ys x so.0, so.1)

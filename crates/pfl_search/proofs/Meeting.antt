@@ -3,7 +3,7 @@ use Rattle.std.specs.Prelude.{◌≡◌, Bool, true, false, ◌&&◌}
 use Rattle.std.proofs.Common.{ap}
 use Rattle.pfl_world.specs.Worlds.{World}
 use Rattle.pfl_search.specs.Goals.{answer, is_asked, meets}
-use Rattle.pfl_search.specs.declared.goal.Goal.{Goal}
+use Rattle.pfl_language.specs.declared.goal.Goal.{Goal}
 
 -- where the question is not asked, it does not
 pub meets-not_asked : (g : Goal) (w : World) → false ≡ is_asked g.scope w → false ≡ meets g w

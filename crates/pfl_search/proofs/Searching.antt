@@ -1,5 +1,5 @@
 -- The search at one of its turns: what is left to find, and to count, before it and after it.
-use Rattle.std.specs.Prelude.{◌≡◌, ℕ, ◌+◌, ◌<◌, ◌≤◌, List, [], ◌∷◌, ◌++◌, length, drop, slice_index_or, slice_set, reverse, Contains, Some, None, Ok, Err}
+use Rattle.std.specs.Prelude.{◌≡◌, ℕ, ◌+◌, ◌<◌, ◌≤◌, List, [], ◌∷◌, ◌++◌, length, drop, slice_index_or, slice_set, reverse, Option, Some, None, Ok, Err}
 use Rattle.std.proofs.Common.{◌∙◌, ap, sym, subst, arith}
 use Rattle.std.proofs.lemmas.List.{drop_more, reverse-append}
 use Rattle.pfl_base.specs.declared.refusal.Refusal.{Refusal}
@@ -7,21 +7,27 @@ use Rattle.pfl_language.specs.declared.event.Event.{Event}
 use Rattle.pfl_world.specs.Events.{step}
 use Rattle.pfl_world.specs.Meanings.{Stepped}
 use Rattle.pfl_world.specs.Worlds.{World}
+use Rattle.pfl_search.proofs.Lists.{from_filter, in_added}
 use Rattle.pfl_search.proofs.Turning.{get_read, get_within, given_back, length-used, of_turns}
 use Rattle.pfl_search.proofs.Visiting.{among_found, among_passed, among_refused, first_among, visited_among, visited_found, visited_part, visited_passed, visited_refused}
 use Rattle.pfl_search.specs.Choices.{turns, used}
-use Rattle.pfl_search.specs.Runs.{IsStop, first_run}
-use Rattle.pfl_search.specs.Visits.{worlds_visited}
-use Rattle.pfl_search.specs.declared.choice.Choice.{Choice}
-use Rattle.pfl_search.specs.declared.goal.Goal.{Goal}
+use Rattle.pfl_search.specs.Orders.{is_in_turn, last_of}
+use Rattle.pfl_search.specs.Runs.{IsStop, first_run_after}
+use Rattle.pfl_search.specs.Visits.{in_turn, worlds_visited_after}
+use Rattle.pfl_language.specs.declared.choice.Choice.{Choice}
+use Rattle.pfl_language.specs.declared.goal.Goal.{Goal}
+use Rattle.pfl_search.specs.declared.order.Last.{Last}
 use Rattle.pfl_search.specs.declared.stopped.Stopped.{Stopped}
 use Rattle.pfl_search.specs.declared.stopped.Stopped.TheVariants.{NoMemory, TooMany}
 use Rattle.pfl_search.specs.declared.turns.Turn.{Turn}
 use Rattle.pfl_search.specs.inner.Turns.{IsOf}
 
 -- the turn that is tried next is of a choice with a use left
-pub is_of : (cs : List Choice) (w : World) (ts : List Turn) (i : ℕ) (t : Turn) → ts ≡ turns cs w → i < length ts → t ≡ slice_index_or ts i t → IsOf cs t
-is_of cs w ts i t all within is = of_turns cs w t (subst (λ (us : List Turn). Contains us t) all (i, within, sym is))
+pub is_of : (last : Option Last) (cs : List Choice) (w : World) (before ts : List Turn) (first i : ℕ) (t : Turn)
+    → ts ≡ before ++ in_turn last w (turns cs w) → first ≡ length before → first ≤ i → i < length ts → t ≡ slice_index_or ts i t → IsOf cs t
+is_of last cs w before ts first i t all begins past within is =
+    let there = in_added before (in_turn last w (turns cs w)) ts i t all (omega arith) within is in
+    of_turns cs w t (from_filter (λ (u : Turn). is_in_turn last w u.event) (turns cs w) t there).0
 
 pub held_of : (cs held : List Choice) (t : Turn) → held ≡ cs → IsOf cs t → IsOf held t
 held_of cs held t holds of = subst (λ (xs : List Choice). IsOf xs t) (sym holds) of
@@ -65,34 +71,46 @@ module _ (g : Goal) (d : ℕ) (cs : List Choice) (w : World) (ts : List Turn) (i
     refused_count = ap (visited_among g d cs w) rest_is ∙ visited_refused g d cs w t (drop (i + 1) ts) why refused_here
 
   -- its event is accepted
-  module _ (v : World) (left : List Choice) (s : Stepped) (accepted : step at t.event ≡ Ok s) (went : v ≡ s.world) (gone : left ≡ used held t.place) where
+  module _ (v : World) (left : List Choice) (latest : Last) (s : Stepped) (accepted : step at t.event ≡ Ok s) (went : v ≡ s.world) (gone : left ≡ used held t.place)
+      (kept : latest ≡ last_of at t.event) where
     accepted_here : step w t.event ≡ Ok s
     accepted_here = subst (λ (u : World). step u t.event ≡ Ok s) same accepted
 
     left_is : left ≡ used cs t.place
     left_is = gone ∙ ap (λ (xs : List Choice). used xs t.place) holds
 
-    child : first_run g d (used cs t.place) s.world ≡ first_run g d left v
-    child = ap (λ (xs : List Choice). first_run g d xs s.world) (sym left_is) ∙ ap (λ (u : World). first_run g d left u) (sym went)
+    latest_is : Some latest ≡ Some (last_of w t.event)
+    latest_is = ap Some (kept ∙ ap (λ (u : World). last_of u t.event) same)
 
-    child_count : worlds_visited g d (used cs t.place) s.world ≡ worlds_visited g d left v
-    child_count = ap (λ (xs : List Choice). worlds_visited g d xs s.world) (sym left_is) ∙ ap (λ (u : World). worlds_visited g d left u) (sym went)
+    child : first_run_after (Some (last_of w t.event)) g d (used cs t.place) s.world ≡ first_run_after (Some latest) g d left v
+    child =
+        ap (λ (xs : List Choice). first_run_after (Some (last_of w t.event)) g d xs s.world) (sym left_is)
+        ∙ ap (λ (u : World). first_run_after (Some (last_of w t.event)) g d left u) (sym went)
+        ∙ ap (λ (l : Option Last). first_run_after l g d left v) (sym latest_is)
 
-    pub passed_first : first_run g d left v ≡ None → first_among g d cs w (drop (i + 1) ts) ≡ first_among g d cs w (drop i ts)
+    child_count : worlds_visited_after (Some (last_of w t.event)) g d (used cs t.place) s.world ≡ worlds_visited_after (Some latest) g d left v
+    child_count =
+        ap (λ (xs : List Choice). worlds_visited_after (Some (last_of w t.event)) g d xs s.world) (sym left_is)
+        ∙ ap (λ (u : World). worlds_visited_after (Some (last_of w t.event)) g d left u) (sym went)
+        ∙ ap (λ (l : Option Last). worlds_visited_after l g d left v) (sym latest_is)
+
+    pub passed_first : first_run_after (Some latest) g d left v ≡ None → first_among g d cs w (drop (i + 1) ts) ≡ first_among g d cs w (drop i ts)
     passed_first none = sym (ap (first_among g d cs w) rest_is ∙ among_passed g d cs w t (drop (i + 1) ts) s accepted_here (child ∙ none))
 
-    pub passed_count : first_run g d left v ≡ None → visited_among g d cs w (drop i ts) ≡ worlds_visited g d left v + visited_among g d cs w (drop (i + 1) ts)
+    pub passed_count : first_run_after (Some latest) g d left v ≡ None
+        → visited_among g d cs w (drop i ts) ≡ worlds_visited_after (Some latest) g d left v + visited_among g d cs w (drop (i + 1) ts)
     passed_count none =
         ap (visited_among g d cs w) rest_is ∙ visited_passed g d cs w t (drop (i + 1) ts) s accepted_here (child ∙ none)
         ∙ ap (λ (n : ℕ). n + visited_among g d cs w (drop (i + 1) ts)) child_count
 
-    pub found_first : (es : List Event) → first_run g d left v ≡ Some es → first_among g d cs w (drop i ts) ≡ Some (t.event ∷ es)
+    pub found_first : (es : List Event) → first_run_after (Some latest) g d left v ≡ Some es → first_among g d cs w (drop i ts) ≡ Some (t.event ∷ es)
     found_first es found = ap (first_among g d cs w) rest_is ∙ among_found g d cs w t (drop (i + 1) ts) s es accepted_here (child ∙ found)
 
-    pub found_count : (es : List Event) → first_run g d left v ≡ Some es → visited_among g d cs w (drop i ts) ≡ worlds_visited g d left v
+    pub found_count : (es : List Event) → first_run_after (Some latest) g d left v ≡ Some es
+        → visited_among g d cs w (drop i ts) ≡ worlds_visited_after (Some latest) g d left v
     found_count es found = ap (visited_among g d cs w) rest_is ∙ visited_found g d cs w t (drop (i + 1) ts) s es accepted_here (child ∙ found) ∙ child_count
 
-    pub part_count : worlds_visited g d left v ≤ visited_among g d cs w (drop i ts)
+    pub part_count : worlds_visited_after (Some latest) g d left v ≤ visited_among g d cs w (drop i ts)
     part_count =
         let part = visited_part g d cs w t (drop (i + 1) ts) s accepted_here in
         let here : visited_among g d cs w (drop i ts) ≡ visited_among g d cs w (t ∷ drop (i + 1) ts) = ap (visited_among g d cs w) rest_is in
@@ -103,3 +121,8 @@ module _ (g : Goal) (d : ℕ) (cs : List Choice) (w : World) (ts : List Turn) (i
 pub stops : (s : Stopped) (left child among worlds most : ℕ) → IsStop left child s → child ≤ among → left + worlds ≡ most + among → IsStop most worlds s
 stops NoMemory left child among worlds most is part count = tt
 stops TooMany left child among worlds most is part count = omega arith
+
+-- where not even one may be visited, too few worlds are left
+pub stops_soon : (s : Stopped) (most worlds : ℕ) → IsStop most 1 s → 0 < worlds → IsStop most worlds s
+stops_soon NoMemory most worlds is some = tt
+stops_soon TooMany most worlds is some = omega arith

@@ -1,8 +1,8 @@
 -- Turns: each is of a choice that has a use left, and a use that was taken is given back.
-use Rattle.std.specs.Prelude.{◌≡◌, ℕ, zero, suc, ◌+◌, ◌<◌, ◌≤◌, Bool, true, false, nat_lt, cond, List, [], ◌∷◌, ◌++◌, length, map, Contains, slice_get, slice_index_or, slice_set, drop, Some, refl}
+use Rattle.std.specs.Prelude.{◌≡◌, ℕ, zero, suc, ◌+◌, ◌<◌, ◌≤◌, Bool, true, false, nat_lt, cond, List, [], ◌∷◌, ◌++◌, length, map, Contains, slice_get, slice_index_or, slice_set, drop, Option, Some, refl}
 use Rattle.std.proofs.Common.{◌∙◌, ap, sym, subst, inl, inr, arith, lt-ltb, ltb-true, append_assoc}
 use Rattle.std.proofs.lemmas.List.{append-nil, at_drop_more, at_drop_all}
-use Rattle.std.proofs.lemmas.List.Elements.{Contains-append_cases, Contains-append_left, Contains-append_right}
+use Rattle.std.proofs.lemmas.List.Elements.{Contains-append_cases, Contains-append_left, Contains-append_right, filter-append}
 use Rattle.pfl_language.specs.declared.event.Event.{Event}
 use Rattle.pfl_world.specs.Worlds.{World}
 use Rattle.pfl_edits.specs.Maps as maps
@@ -11,11 +11,14 @@ use Rattle.pfl_language.specs.declared.event.FrameEvent.{FrameEvent}
 use Rattle.pfl_link.specs.Framed.{Ticketed, entry_of}
 use Rattle.pfl_link.specs.Links.{InFlight}
 use Rattle.pfl_search.proofs.Lists.{from_map, in_map, nothing_in}
-use Rattle.pfl_search.specs.declared.choice.Move.{Move}
-use Rattle.pfl_search.specs.declared.choice.Move.TheVariants.{AnyFrame}
+use Rattle.pfl_language.specs.declared.choice.Move.{Move}
+use Rattle.pfl_language.specs.declared.choice.Move.TheVariants.{AnyFrame}
 use Rattle.pfl_search.specs.Choices.{instances, once_less, turn, turn_on, turns, turns_from, turns_of, used}
-use Rattle.pfl_search.specs.declared.choice.Choice.{Choice}
+use Rattle.pfl_language.specs.declared.choice.Choice.{Choice}
 use Rattle.pfl_search.specs.declared.turns.Turn.{Turn}
+use Rattle.pfl_search.specs.declared.order.Last.{Last}
+use Rattle.pfl_search.specs.Orders.{is_in_turn}
+use Rattle.pfl_search.specs.Visits.{in_turn}
 use Rattle.pfl_search.specs.inner.Turns.{IsOf}
 
 -- the turn is of a choice in a list whose first one stands at this place
@@ -134,17 +137,36 @@ frame_turns place w e what rows is all =
     ∙ ap (λ (es : List (ℕ × InFlight)). map (turn place) (map (λ ticket. event.Of ticket e) (map (λ x. x.0) es))) all
     ∙ ap (λ (m : Move). map (turn place) (instances w m)) (sym is)
 
+-- a frame more
+pub frames_more : (last : Option Last) (w : World) (place : ℕ) (e : FrameEvent) (row : Ticketed) (rows : List Ticketed) (ts us : List Turn)
+    → us ≡ ts ++ in_turn last w (turn_on place e row.ticket ∷ [])
+    → us ++ in_turn last w (map (λ t. turn_on place e t.ticket) rows) ≡ ts ++ in_turn last w (map (λ t. turn_on place e t.ticket) (row ∷ rows))
+frames_more last w place e row rows ts us added =
+    let p : Turn → Bool = λ t. is_in_turn last w t.event in
+    let one = turn_on place e row.ticket in
+    let others : List Turn = map (λ t. turn_on place e t.ticket) rows in
+    ap (λ (xs : List Turn). xs ++ in_turn last w others) added
+    ∙ append_assoc ts (in_turn last w (one ∷ [])) (in_turn last w others)
+    ∙ ap (λ (xs : List Turn). ts ++ xs) (sym (filter-append p (one ∷ []) others))
+
 -- a choice more
-pub turns_more : (w : World) (cs : List Choice) (place : ℕ) (c : Choice) (ts us : List Turn) → place < length cs → c ≡ slice_index_or cs place c → us ≡ ts ++ turns_of w place c
-    → us ++ turns_from (place + 1) w (drop (place + 1) cs) ≡ ts ++ turns_from place w (drop place cs)
-turns_more w cs place c ts us within is added =
-    ap (λ (xs : List Turn). xs ++ turns_from (place + 1) w (drop (place + 1) cs)) added
-    ∙ append_assoc ts (turns_of w place c) (turns_from (place + 1) w (drop (place + 1) cs))
-    ∙ ap (λ (xs : List Turn). ts ++ xs)
-    (ap (λ (d : Choice). turns_of w place d ++ turns_from (place + 1) w (drop (place + 1) cs)) is
-    ∙ sym (at_drop_more (turns_from place w) cs place c within))
+pub turns_more : (last : Option Last) (w : World) (cs : List Choice) (place : ℕ) (c : Choice) (ts us : List Turn) → place < length cs
+    → c ≡ slice_index_or cs place c → us ≡ ts ++ in_turn last w (turns_of w place c)
+    → us ++ in_turn last w (turns_from (place + 1) w (drop (place + 1) cs)) ≡ ts ++ in_turn last w (turns_from place w (drop place cs))
+turns_more last w cs place c ts us within is added =
+    let p : Turn → Bool = λ t. is_in_turn last w t.event in
+    let others = turns_from (place + 1) w (drop (place + 1) cs) in
+    let here : turns_of w place c ++ others ≡ turns_from place w (drop place cs) =
+    ap (λ (d : Choice). turns_of w place d ++ others) is ∙ sym (at_drop_more (turns_from place w) cs place c within) in
+    ap (λ (xs : List Turn). xs ++ in_turn last w others) added
+    ∙ append_assoc ts (in_turn last w (turns_of w place c)) (in_turn last w others)
+    ∙ ap (λ (xs : List Turn). ts ++ xs) (sym (filter-append p (turns_of w place c) others) ∙ ap (in_turn last w) here)
 
 -- no choice is left
-pub turns_all : (w : World) (cs : List Choice) (place : ℕ) (ts : List Turn) → length cs ≤ place → ts ++ turns_from place w (drop place cs) ≡ turns_from 0 w cs → ts ≡ turns cs w
+pub turns_all : (last : Option Last) (w : World) (cs : List Choice) (place : ℕ) (before ts : List Turn) → length cs ≤ place
+    → ts ++ in_turn last w (turns_from place w (drop place cs)) ≡ before ++ in_turn last w (turns_from 0 w cs)
+    → ts ≡ before ++ in_turn last w (turns cs w)
 unfolding turns
-turns_all w cs place ts past is = sym (append-nil ts) ∙ ap (λ (xs : List Turn). ts ++ xs) (sym (at_drop_all (turns_from place w) cs place past)) ∙ is
+turns_all last w cs place before ts past is =
+    let none = at_drop_all (λ (ds : List Choice). in_turn last w (turns_from place w ds)) cs place past in
+    sym (append-nil ts) ∙ ap (λ (xs : List Turn). ts ++ xs) (sym none) ∙ is

@@ -1,5 +1,5 @@
 -- Worked cases of searches, computed: a query left through a, which sent the frame that reports its state to b, and the answer comes to b.
-use Rattle.std.specs.Prelude.{◌≡◌, ℕ, false, [], ◌∷◌, replicate, Some, None, refl}
+use Rattle.std.specs.Prelude.{◌≡◌, ℕ, Bool, true, false, [], ◌∷◌, map, replicate, Some, None, refl}
 use Rattle.std.specs.Option.{unwrap_or}
 use Rattle.pfl_base.specs.declared.addr.Addr.TheVariants.{V4}
 use Rattle.pfl_base.specs.declared.addr.End.{End}
@@ -7,6 +7,7 @@ use Rattle.pfl_base.specs.declared.direction.Dir.TheVariants.{Inbound, Outbound}
 use Rattle.pfl_base.specs.declared.node_id.NodeId.TheVariants.{A, B}
 use Rattle.pfl_base.specs.declared.packet.Packet.{Packet}
 use Rattle.pfl_base.specs.declared.proto.Proto.TheVariants.{Udp}
+use Rattle.pfl_language.specs.declared.event.Event.{Event}
 use Rattle.pfl_language.specs.declared.event.Event.TheVariants as event
 use Rattle.pfl_language.specs.declared.event.FrameEvent.{FrameEvent}
 use Rattle.pfl_language.specs.declared.event.FrameEvent.TheVariants as frame
@@ -22,14 +23,15 @@ use Rattle.pfl_world.specs.Runs.{run}
 use Rattle.pfl_world.specs.Worlds.{World, new_world}
 use Rattle.pfl_search.specs.Choices.{turns, used}
 use Rattle.pfl_search.specs.Goals.{meets}
+use Rattle.pfl_search.specs.Orders.{comes_first, last_of}
 use Rattle.pfl_search.specs.Runs.{first_deeper, first_run, shortest_run}
 use Rattle.pfl_search.specs.Visits.{visited_deeper, visited_to_shortest, visits, worlds_visited}
-use Rattle.pfl_search.specs.declared.choice.Choice.{Choice}
-use Rattle.pfl_search.specs.declared.choice.Move.TheVariants.{AnyFrame, Given}
-use Rattle.pfl_search.specs.declared.goal.Goal.{Goal}
-use Rattle.pfl_search.specs.declared.goal.Question.TheVariants.{Apart, Unpassed}
-use Rattle.pfl_search.specs.declared.goal.Scope.{Scope}
-use Rattle.pfl_search.specs.declared.goal.Scope.TheVariants.{Everywhere, Landed, Settled}
+use Rattle.pfl_language.specs.declared.choice.Choice.{Choice}
+use Rattle.pfl_language.specs.declared.choice.Move.TheVariants.{AnyFrame, Given}
+use Rattle.pfl_language.specs.declared.goal.Goal.{Goal}
+use Rattle.pfl_language.specs.declared.goal.Question.TheVariants.{Apart, Unpassed}
+use Rattle.pfl_language.specs.declared.goal.Scope.{Scope}
+use Rattle.pfl_language.specs.declared.goal.Scope.TheVariants.{Everywhere, Landed, Settled}
 
 abbrev rule : Action → RuleDir → Rule
 rule action direction = record {
@@ -61,6 +63,9 @@ outside = record { addr = V4 0xc0000209; port = 53 }
 abbrev packet : End → End → Packet
 packet src dst = record { proto = Udp; src = src; dst = dst; flags = 0; seq = 0; ack = 0; window = 0; len = 40; scale = None }
 
+abbrev elsewhere : End
+elsewhere = record { addr = V4 0x0a000002; port = 1000 }
+
 abbrev opening : World
 opening = new_world limits rules rules
 
@@ -72,6 +77,14 @@ asked = unwrap_or (run opening (event.At A (own.Packet Outbound (packet inside o
 abbrev pair : World
 pair = unwrap_or (run asked (event.Flush A ∷ [])) opening
 
+-- the same after a query through b, whose frame to a is in flight, too
+abbrev crossing : World
+crossing = unwrap_or (run pair (event.At B (own.Packet Outbound (packet elsewhere outside)) ∷ event.Flush B ∷ [])) opening
+
+-- the pair whose nodes are both yet to send their states
+abbrev both_asked : World
+both_asked = unwrap_or (run asked (event.At B (own.Packet Outbound (packet elsewhere outside)) ∷ [])) opening
+
 abbrev once : FrameEvent → Choice
 once e = record { what = AnyFrame e; uses = 1 }
 
@@ -80,6 +93,9 @@ twice e = record { what = AnyFrame e; uses = 2 }
 
 abbrev flush : Choice
 flush = record { what = Given (event.Flush A); uses = 1 }
+
+abbrev flush_of_b : Choice
+flush_of_b = record { what = Given (event.Flush B); uses = 1 }
 
 -- the answer does not pass at b
 abbrev stuck : Scope → Goal
@@ -143,3 +159,54 @@ soonest_lost = refl
 soonest_lost_fourth : visited_to_shortest (stuck Landed) 3 (once frame.Repeat ∷ twice frame.Lose ∷ []) pair ≡ 4
 unfolding computing
 soonest_lost_fourth = refl
+
+-- frames that come to different nodes are delivered in one order alone, the one to a first
+one_order : map (λ v. v.run) (visits None 2 (twice frame.Deliver ∷ []) crossing)
+    ≡ [] ∷ (event.Of 1 frame.Deliver ∷ []) ∷ (event.Of 2 frame.Deliver ∷ []) ∷ (event.Of 2 frame.Deliver ∷ event.Of 1 frame.Deliver ∷ []) ∷ []
+unfolding computing
+one_order = refl
+
+-- two flushes take tickets in turn, so both orders are tried
+both_orders : map (λ v. v.run) (visits None 2 (flush ∷ flush_of_b ∷ []) both_asked)
+    ≡ [] ∷ (event.Flush A ∷ []) ∷ (event.Flush A ∷ event.Flush B ∷ []) ∷ (event.Flush B ∷ []) ∷ (event.Flush B ∷ event.Flush A ∷ []) ∷ []
+unfolding computing
+both_orders = refl
+
+-- ---- orders
+
+-- the second event is tried before the first, and not after it
+abbrev before : World → Event → Event → Bool
+before w f e = comes_first (last_of w f) (unwrap_or (run w (f ∷ [])) opening) e
+
+-- the pair with the frame in flight, whose node a began anew and has something to send
+abbrev anew : World
+anew = unwrap_or (run pair (event.Restart A ∷ [])) opening
+
+-- what happens at a is tried before a delivery to b,
+at_a_first : before pair (event.Of 1 frame.Deliver) (event.Restart A) ≡ true
+unfolding computing
+at_a_first = refl
+
+-- and the delivery is not tried before it too
+at_b_later : before pair (event.Restart A) (event.Of 1 frame.Deliver) ≡ false
+unfolding computing
+at_b_later = refl
+
+-- two events at a node keep their order
+at_one_node : before pair (event.Of 1 frame.Deliver) (event.Restart B) ≡ false
+unfolding computing
+at_one_node = refl
+
+-- a frame is lost before another one is sent, but not before it was sent itself
+lost_before_flush : before anew (event.Flush A) (event.Of 1 frame.Lose) ≡ true
+unfolding computing
+lost_before_flush = refl
+
+lost_after_its_flush : before asked (event.Flush A) (event.Of 1 frame.Lose) ≡ false
+unfolding computing
+lost_after_its_flush = refl
+
+-- a frame that a delivery made room for is sent after it
+sent_after_delivery : before anew (event.Of 1 frame.Deliver) (event.Flush A) ≡ false
+unfolding computing
+sent_after_delivery = refl

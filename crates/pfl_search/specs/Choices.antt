@@ -5,9 +5,9 @@ use Rattle.pfl_language.specs.declared.event.Event.{Event}
 use Rattle.pfl_language.specs.declared.event.Event.TheVariants.{Of}
 use Rattle.pfl_language.specs.declared.event.FrameEvent.{FrameEvent}
 use Rattle.pfl_world.specs.Worlds.{World}
-use Rattle.pfl_search.specs.declared.choice.Move.{Move}
-use Rattle.pfl_search.specs.declared.choice.Move.TheVariants.{Given, AnyFrame}
-use Rattle.pfl_search.specs.declared.choice.Choice.{Choice}
+use Rattle.pfl_language.specs.declared.choice.Move.{Move}
+use Rattle.pfl_language.specs.declared.choice.Move.TheVariants.{Given, AnyFrame}
+use Rattle.pfl_language.specs.declared.choice.Choice.{Choice}
 use Rattle.pfl_search.specs.declared.turns.Turn.{Turn}
 
 -- the tickets of the frames in flight, in order

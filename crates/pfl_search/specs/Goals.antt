@@ -5,6 +5,10 @@ use Rattle.pfl_base.specs.declared.node_id.NodeId.{NodeId}
 use Rattle.pfl_base.specs.declared.node_id.NodeId.TheVariants.{A, B}
 use Rattle.pfl_base.specs.declared.refusal.Refusal.{Refusal}
 use Rattle.pfl_base.specs.declared.state_name.StateName.{StateName}
+use Rattle.pfl_bulk.specs.declared.BulkClient.{BulkClient}
+use Rattle.pfl_bulk.specs.declared.BulkClient.TheVariants as client
+use Rattle.pfl_bulk.specs.declared.BulkServer.{BulkServer}
+use Rattle.pfl_bulk.specs.declared.BulkServer.TheVariants as server
 use Rattle.pfl_edits.specs.Maps as maps
 use Rattle.pfl_language.specs.declared.fate.Fate.{Fate}
 use Rattle.pfl_language.specs.declared.fate.Fate.TheVariants as fate
@@ -16,11 +20,11 @@ use Rattle.pfl_world.specs.queue.Queues.{pending}
 use Rattle.pfl_world.specs.Events.{step}
 use Rattle.pfl_world.specs.Meanings.{Stepped}
 use Rattle.pfl_world.specs.Worlds.{World, node_at}
-use Rattle.pfl_search.specs.declared.goal.Goal.{Goal}
-use Rattle.pfl_search.specs.declared.goal.Scope.{Scope}
-use Rattle.pfl_search.specs.declared.goal.Scope.TheVariants.{Everywhere, Landed, Settled}
-use Rattle.pfl_search.specs.declared.goal.Question.{Question}
-use Rattle.pfl_search.specs.declared.goal.Question.TheVariants.{Apart, Passed, Unpassed}
+use Rattle.pfl_language.specs.declared.goal.Goal.{Goal}
+use Rattle.pfl_language.specs.declared.goal.Scope.{Scope}
+use Rattle.pfl_language.specs.declared.goal.Scope.TheVariants.{Everywhere, Landed, Settled}
+use Rattle.pfl_language.specs.declared.goal.Question.{Question}
+use Rattle.pfl_language.specs.declared.goal.Question.TheVariants.{Apart, Passed, Unpassed}
 
 -- the packet goes on
 abbrev pub goes_on : Fate → Bool
@@ -61,9 +65,19 @@ are_apart w = not (same_names (names_at w A) (names_at w B))
 abbrev pub is_landed : World → Bool
 is_landed w = nat_eq (maps.len w.link.frames) 0
 
--- nothing is pending at a node
+-- a bulk update is served
+abbrev pub serves : BulkServer → Bool
+serves server.Idle = false
+serves _ = true
+
+-- a bulk update is waited for
+abbrev pub waits : BulkClient → Bool
+waits client.Idle = false
+waits _ = true
+
+-- nothing is pending at a node, which neither serves a bulk update nor waits for one
 abbrev pub is_idle : World → NodeId → Bool
-is_idle w id = nat_eq (pending (node_at w id).queue) 0
+is_idle w id = let n = node_at w id in nat_eq (pending n.queue) 0 && not (serves n.server) && not (waits n.client)
 
 -- the answer to a question in a world
 abbrev pub answer : Question → World → Bool

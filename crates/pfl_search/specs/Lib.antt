@@ -1,5 +1,7 @@
 pub mod Choices
 pub mod Goals
+pub mod Orders
+pub mod Ordered
 pub mod Visits
 pub mod Runs
 pub mod Laws

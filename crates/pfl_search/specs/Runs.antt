@@ -1,5 +1,5 @@
 -- Runs of choices, and where they lead (this project's profile).
-use Rattle.std.specs.Prelude.{◌≡◌, ◌≤◌, ◌<◌, ◌+◌, ℕ, zero, suc, List, [], ◌∷◌, length, slice_get, Contains, Option, Some, Ok, IsTrue}
+use Rattle.std.specs.Prelude.{◌≡◌, ◌≤◌, ◌<◌, ◌+◌, ℕ, zero, suc, List, [], ◌∷◌, length, slice_get, Contains, Option, Some, None, Ok, IsTrue}
 use Rattle.std.specs.Option.{option_map, option_or}
 use Rattle.pfl_language.specs.declared.event.Event.{Event}
 use Rattle.pfl_world.specs.Events.{step}
@@ -8,9 +8,10 @@ use Rattle.pfl_world.specs.Runs.{run}
 use Rattle.pfl_world.specs.Worlds.{World}
 use Rattle.pfl_search.specs.Choices.{instances, used}
 use Rattle.pfl_search.specs.Goals.{meets}
-use Rattle.pfl_search.specs.Visits.{first_visit}
-use Rattle.pfl_search.specs.declared.choice.Choice.{Choice}
-use Rattle.pfl_search.specs.declared.goal.Goal.{Goal}
+use Rattle.pfl_search.specs.Visits.{first_visit_after}
+use Rattle.pfl_search.specs.declared.order.Last.{Last}
+use Rattle.pfl_language.specs.declared.choice.Choice.{Choice}
+use Rattle.pfl_language.specs.declared.goal.Goal.{Goal}
 use Rattle.pfl_search.specs.declared.stopped.Stopped.{Stopped}
 use Rattle.pfl_search.specs.declared.stopped.Stopped.TheVariants.{NoMemory, TooMany}
 
@@ -38,9 +39,13 @@ pub record LeadsTo (goal : Goal) (depth : ℕ) (cs : List Choice) (w : World) (e
   pub reached : run w es ≡ Some world
   pub met : IsTrue (meets goal world)
 
--- the first run that leads to the goal: that of the first world which meets it
+-- the first run after the last event that leads to the goal: that of the first world which meets it
+abbrev pub first_run_after : Option Last → Goal → ℕ → List Choice → World → Option (List Event)
+first_run_after last goal depth cs w = option_map (λ v. v.run) (first_visit_after last goal depth cs w)
+
+-- the first run that leads to the goal, where no event came before
 abbrev pub first_run : Goal → ℕ → List Choice → World → Option (List Event)
-first_run goal depth cs w = option_map (λ v. v.run) (first_visit goal depth cs w)
+first_run goal depth cs w = first_run_after None goal depth cs w
 
 -- the run that searches of this depth and of each that is deeper by up to `more` find first
 unfoldable pub first_deeper : Goal → ℕ → ℕ → List Choice → World → Option (List Event)

@@ -1,5 +1,5 @@
--- All worlds that runs of choices lead to, in the order of the search (this project's profile).
-use Rattle.std.specs.Prelude.{ℕ, zero, suc, ◌+◌, Bool, cond, List, [], ◌∷◌, map, find, if◌then◌else◌, is_some, Option, Result, Ok, Err}
+-- All worlds that ordered runs of choices lead to, in the order of the search (this project's profile).
+use Rattle.std.specs.Prelude.{ℕ, zero, suc, ◌+◌, Bool, cond, List, [], ◌∷◌, map, filter, find, if◌then◌else◌, is_some, Option, Some, None, Result, Ok, Err}
 use Rattle.std.specs.List.{flat_map}
 use Rattle.pfl_base.specs.declared.refusal.Refusal.{Refusal}
 use Rattle.pfl_language.specs.declared.event.Event.{Event}
@@ -7,9 +7,12 @@ use Rattle.pfl_world.specs.Events.{step}
 use Rattle.pfl_world.specs.Meanings.{Stepped}
 use Rattle.pfl_world.specs.Worlds.{World}
 use Rattle.pfl_search.specs.Choices.{turns, used}
-use Rattle.pfl_search.specs.declared.choice.Choice.{Choice}
-use Rattle.pfl_search.specs.declared.goal.Goal.{Goal}
+use Rattle.pfl_language.specs.declared.choice.Choice.{Choice}
+use Rattle.pfl_language.specs.declared.goal.Goal.{Goal}
 use Rattle.pfl_search.specs.Goals.{meets}
+use Rattle.pfl_search.specs.Orders.{is_in_turn, last_of}
+use Rattle.pfl_search.specs.declared.order.Last.{Last}
+use Rattle.pfl_search.specs.declared.turns.Turn.{Turn}
 
 -- a world, and the run that leads to it
 pub record Visit : Type 0 where
@@ -29,23 +32,37 @@ abbrev pub onward : Event → (World → List Visit) → Result Stepped Refusal 
 onward e later (Ok s) = map (after e) (later s.world)
 onward e later (Err why) = []
 
--- the worlds to which runs of at most `depth` events lead: the world itself, and then those after each turn, turn after turn
-unfoldable pub visits : ℕ → List Choice → World → List Visit
-visits zero cs w = here w ∷ []
-visits (suc depth) cs w = here w ∷ flat_map (λ t. onward t.event (λ v. visits depth (used cs t.place) v) (step w t.event)) (turns cs w)
+-- those turns whose events are in turn after the last event
+abbrev pub in_turn : Option Last → World → List Turn → List Turn
+in_turn last w ts = filter (λ t. is_in_turn last w t.event) ts
+
+-- The worlds to which ordered runs of at most `depth` events lead after the last event: the world itself, and then those after each
+-- event that is in turn, turn after turn.
+unfoldable pub visits : Option Last → ℕ → List Choice → World → List Visit
+visits last zero cs w = here w ∷ []
+visits last (suc depth) cs w =
+    here w ∷ flat_map (λ t. onward t.event (λ v. visits (Some (last_of w t.event)) depth (used cs t.place) v) (step w t.event)) (in_turn last w (turns cs w))
 
 -- the first of them that meets the goal
+abbrev pub first_visit_after : Option Last → Goal → ℕ → List Choice → World → Option Visit
+first_visit_after last goal depth cs w = find (λ v. meets goal v.world) (visits last depth cs w)
+
+-- the same where no event came before
 abbrev pub first_visit : Goal → ℕ → List Choice → World → Option Visit
-first_visit goal depth cs w = find (λ v. meets goal v.world) (visits depth cs w)
+first_visit goal depth cs w = first_visit_after None goal depth cs w
 
 -- how many of a list are asked until one passes a test
 abbrev pub asked : {X : Type 0} → (X → Bool) → List X → ℕ
 asked p [] = 0
 asked p (x ∷ xs) = cond (p x) 1 (asked p xs + 1)
 
--- how many worlds are visited until one meets the goal
+-- how many worlds are visited after the last event until one meets the goal
+abbrev pub worlds_visited_after : Option Last → Goal → ℕ → List Choice → World → ℕ
+worlds_visited_after last goal depth cs w = asked (λ v. meets goal v.world) (visits last depth cs w)
+
+-- the same where no event came before
 abbrev pub worlds_visited : Goal → ℕ → List Choice → World → ℕ
-worlds_visited goal depth cs w = asked (λ v. meets goal v.world) (visits depth cs w)
+worlds_visited goal depth cs w = worlds_visited_after None goal depth cs w
 
 -- how many worlds are visited by searches of this depth and of each that is deeper by up to `more`, until one finds a run
 unfoldable pub visited_deeper : Goal → ℕ → ℕ → List Choice → World → ℕ

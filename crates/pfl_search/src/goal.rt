@@ -6,39 +6,11 @@ ghost use Rattle.pfl_search.specs.Goals.{answer, is_asked, is_idle, is_landed, i
 
 use crate::names::are_apart;
 use pfl_base::{NodeId, Refusal};
+use pfl_bulk::{BulkClient, BulkServer};
 use pfl_edits::{NoMemory, undo_to};
-use pfl_language::{Event, Fate, NodeOutcome, Outcome};
+use pfl_language::{Event, Fate, Goal, NodeOutcome, Outcome, Question, Scope};
 use pfl_world::{World, WorldTape};
 use std::alloc::Allocator;
-
-/// What is asked of a world.
-#[derive(Clone, Copy)]
-pub enum Question {
-    /// Do the nodes not have states of the same names?
-    Apart,
-    /// Would a packet pass by this event?
-    Passed(Event),
-    /// Would none, since the event is refused or the packet held or dropped?
-    Unpassed(Event),
-}
-
-/// In which worlds a question is asked.
-#[derive(Clone, Copy)]
-pub enum Scope {
-    /// In every world.
-    Everywhere,
-    /// Where no frame is in flight.
-    Landed,
-    /// Where no frame is in flight, and nothing is pending at either node.
-    Settled,
-}
-
-/// A question, and in which worlds it is asked.
-#[derive(Clone, Copy)]
-pub struct Goal {
-    pub question: Question,
-    pub scope: Scope,
-}
 
 /// Whether a packet passed.
 fn is_pass(outcome: &Outcome) -> bool
@@ -106,11 +78,14 @@ fn is_landed<A: Allocator>(world: &World<A>) -> bool
     world.link().len() == 0
 }
 
-/// Whether nothing is pending at the node.
+/// Whether nothing is pending at the node, which neither serves a bulk update nor waits for one.
 fn is_idle<A: Allocator>(world: &World<A>, id: NodeId) -> bool
     ensures { result ≡ is_idle world.now id }
 {
-    world.node(id).queue().is_empty()
+    let node = world.node(id);
+    let serves = !matches!(node.server(), BulkServer::Idle);
+    let waits = !matches!(node.client(), BulkClient::Idle);
+    node.queue().is_empty() && !serves && !waits
 }
 
 /// Whether a question of this scope is asked in the world.

@@ -1,12 +1,13 @@
 //! Laws of searches. They have no code: each is a theorem over the definitions, which a function's contract names.
 
-ghost use Rattle.pfl_search.specs.Laws.{NoneIsExhaustive, RunsAreVisited, RunsLeadSomewhere, VisitsAreOfRuns};
+ghost use Rattle.pfl_search.specs.Laws.{NoneIsExhaustive, RunsAreVisited, RunsLeadSomewhere, VisitsAreOfRuns, VisitsAreOrdered};
 
-/// What a search visits is exactly what runs of the choices lead to. Where none is found, no run of the choices leads to a world
-/// that meets the goal.
+/// What a search visits is exactly what runs of the choices lead to, and it visits by ordered runs alone. Where none is found, no run
+/// of the choices leads to a world that meets the goal.
 pub fn searches_are_exhaustive()
     ensures runs { RunsLeadSomewhere }
     ensures sound { VisitsAreOfRuns }
     ensures complete { RunsAreVisited }
+    ensures ordered { VisitsAreOrdered }
     ensures none { NoneIsExhaustive }
 {}

@@ -3,18 +3,19 @@
 ghost use Rattle.std.specs.Prelude.{◌≡◌, ◌+◌, ◌≤◌, List, length, reverse, IfOk, IfSome, IfNone, IfErr, OnErr, OnOk};
 ghost use Rattle.std.specs.Option.{option_map};
 ghost use Rattle.pfl_language.specs.declared.event.Event.{Event as Happening};
-ghost use Rattle.pfl_search.specs.Runs.{IsStop, LeadsTo, first_run};
-ghost use Rattle.pfl_search.specs.Visits.{worlds_visited};
+ghost use Rattle.pfl_search.specs.Goals.{meets};
+ghost use Rattle.pfl_search.specs.Runs.{IsStop, LeadsTo, first_run, first_run_after};
+ghost use Rattle.pfl_search.specs.Visits.{worlds_visited, worlds_visited_after};
 ghost use Rattle.pfl_search.specs.inner.Turns.{Enters, IsOf};
 
 use crate::append::append;
-use crate::choice::Choice;
-use crate::goal::{Goal, meets};
+use crate::goal::meets;
+use crate::order::{Last, last_of};
 use crate::stopped::Stopped;
-use crate::turns::{Turn, turns_in};
+use crate::turns::{Turn, add_all};
 use pfl_base::Refusal;
 use pfl_edits::{NoMemory, Tape, undo_to};
-use pfl_language::Event;
+use pfl_language::{Choice, Event, Goal};
 use pfl_world::{World, WorldTape};
 use std::alloc::Allocator;
 
@@ -62,53 +63,82 @@ fn enter<A: Allocator + Copy>(
     }
 }
 
-/// The first run from this world that leads to the goal, its newest event first. World, tape and choices are as they were before.
-/// `left`, the number of worlds that may still be visited, goes down by each one that was.
+/// Counts a visit of the world, if one is left, and gives whether the world meets the goal.
+fn visit<A: Allocator + Copy>(
+    world: &mut World<A>,
+    tape: &mut WorldTape<A>,
+    goal: &Goal,
+    left: &mut u64,
+) -> Result<bool, Stopped>
+    ensures world { world.new ≡ world.old }
+    ensures tape { tape.new.list ≡ tape.old.list }
+    ensures meets { IfOk result (λ met. met ≡ meets goal.now world.old) }
+    ensures counted { OnOk result (left.new + 1 ≡ left.old) }
+    ensures stopped { IfErr result (IsStop left.old 1) }
+{
+    if *left == 0 {
+        return Err(Stopped::TooMany);
+    }
+    *left -= 1;
+    Ok(meets(world, tape, goal)?)
+}
+
+/// The first run from this world that leads to the goal, its newest event first; `before` is what is kept of the event that led here.
+/// World, tape and choices are as they were, and so are the turns where no run is found: those of this world stand after the others
+/// as long as they are tried. `left`, the number of worlds that may still be visited, goes down by each one that was.
 fn search_from<A: Allocator + Copy>(
     alloc: A,
     world: &mut World<A>,
     tape: &mut WorldTape<A>,
+    turns: &mut Vec<Turn, A>,
     choices: &mut [Choice],
+    before: Option<Last>,
     depth: u32,
     goal: &Goal,
     left: &mut u64,
 ) -> Result<Option<Vec<Event, A>>, Stopped>
     ensures world { world.new ≡ world.old }
     ensures tape { tape.new.list ≡ tape.old.list }
+    ensures turns { IfOk result (λ found. IfNone found (turns.new.items ≡ turns.old.items)) }
     ensures choices { choices.new ≡ choices.old }
-    ensures first { IfOk result (λ found. option_map (λ run. reverse run.items) found ≡ first_run goal.now depth choices.old world.old) }
-    ensures counted { OnOk result (left.new + worlds_visited goal.now depth choices.old world.old ≡ left.old) }
-    ensures stopped { IfErr result (IsStop left.old (worlds_visited goal.now depth choices.old world.old)) }
+    ensures first { IfOk result (λ found. option_map (λ run. reverse run.items) found ≡ first_run_after before goal.now depth choices.old world.old) }
+    ensures counted { OnOk result (left.new + worlds_visited_after before goal.now depth choices.old world.old ≡ left.old) }
+    ensures stopped { IfErr result (IsStop left.old (worlds_visited_after before goal.now depth choices.old world.old)) }
 {
-    if *left == 0 {
-        return Err(Stopped::TooMany);
-    }
-    *left -= 1;
-    if meets(world, tape, goal)? {
+    if visit(world, tape, goal, left)? {
         return Ok(Some(Vec::new(alloc)));
     }
     if depth == 0 {
         return Ok(None);
     }
-    let turns = turns_in(alloc, choices, world)?;
-    for turn in &turns {
+    let first = turns.len();
+    add_all(turns, before, world, choices)?;
+    for index in first..turns.len() {
+        let turn = turns[index];
         let mark = tape.len();
         let choice = choices[turn.place];
-        if enter(world, tape, choices, turn)? {
-            let found = search_from(alloc, world, tape, choices, depth - 1, goal, left);
+        let last = Some(last_of(world, &turn.event));
+        if enter(world, tape, choices, &turn)? {
+            let run = search_from(
+                alloc,
+                world,
+                tape,
+                turns,
+                choices,
+                last,
+                depth - 1,
+                goal,
+                left,
+            );
             choices[turn.place] = choice;
             undo_to(world, tape, mark);
-            match found {
-                Err(stopped) => return Err(stopped),
-                Ok(found) => {
-                    if let Some(mut run) = found {
-                        append(&mut run, turn.event)?;
-                        return Ok(Some(run));
-                    }
-                }
+            if let Some(mut run) = run? {
+                append(&mut run, turn.event)?;
+                return Ok(Some(run));
             }
         }
     }
+    turns.truncate(first);
     Ok(None)
 }
 
@@ -126,9 +156,9 @@ fn in_order<A: Allocator>(backwards: Option<Vec<Event, A>>) -> Option<Vec<Event,
 }
 
 /// The first run of at most `depth` events of the choices that leads to the goal, or none where there is no such run; and how many
-/// worlds were visited for that, which are at most as many as `most`. Events come in the order of the choices, and those of one
-/// choice in the order of their tickets; a run comes before those that go on from it. Whatever the answer, the
-/// world is as it was before.
+/// worlds were visited for that, which are at most as many as `most`. Ordered runs alone are tried: any other leads to the same
+/// world as one of them that is as long. Events come in the order of the choices, and those of one choice in the order of their
+/// tickets; a run comes before those that go on from it. Whatever the answer, the world is as it was before.
 pub fn search<A: Allocator + Copy>(
     alloc: A,
     world: &mut World<A>,
@@ -145,10 +175,14 @@ pub fn search<A: Allocator + Copy>(
     ensures within { IfOk result (λ s. s.worlds ≤ most) }
     ensures stopped { IfErr result (IsStop most (worlds_visited goal.now depth choices.now world.old)) }
 {
+    world.known();
     let mut tape = Tape::new(alloc);
+    let mut turns = Vec::new(alloc);
     let mut uses = copied(alloc, choices)?;
     let mut left = most;
-    let backwards = search_from(alloc, world, &mut tape, &mut uses, depth, goal, &mut left)?;
+    let backwards = search_from(
+        alloc, world, &mut tape, &mut turns, &mut uses, None, depth, goal, &mut left,
+    )?;
     let found = in_order(backwards);
     let worlds = most - left;
     Ok(Searched { found, worlds })

@@ -6,10 +6,9 @@ ghost use Rattle.pfl_language.specs.declared.event.Event.{Event as Happening};
 ghost use Rattle.pfl_search.specs.Runs.{IsStop, LeadsTo, shortest_run};
 ghost use Rattle.pfl_search.specs.Visits.{visited_to_shortest};
 
-use crate::choice::Choice;
-use crate::goal::Goal;
 use crate::runs::{Searched, search};
 use crate::stopped::Stopped;
+use pfl_language::{Choice, Goal};
 use pfl_world::World;
 use std::alloc::Allocator;
 

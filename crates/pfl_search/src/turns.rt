@@ -1,12 +1,13 @@
 //! What can be tried next.
 
-ghost use Rattle.std.specs.Prelude.{◌≡◌, ◌++◌, map, OnOk, IfOk};
-ghost use Rattle.pfl_search.specs.Choices.{instances, turns, turns_of, turn_on};
+ghost use Rattle.std.specs.Prelude.{◌≡◌, ◌++◌, ◌∷◌, [], map, OnOk};
+ghost use Rattle.pfl_search.specs.Choices.{instances, turn as turn_of, turns as all_turns, turns_of, turn_on};
+ghost use Rattle.pfl_search.specs.Visits.{in_turn};
 
 use crate::append::append;
-use crate::choice::{Choice, Move};
+use crate::order::{Last, is_in_turn};
 use pfl_edits::{InOrder, NoMemory};
-use pfl_language::{Event, FrameEvent};
+use pfl_language::{Choice, Event, FrameEvent, Move};
 use pfl_link::Ticketed;
 use pfl_world::World;
 use std::alloc::Allocator;
@@ -18,75 +19,96 @@ pub struct Turn {
     pub event: Event,
 }
 
-/// Puts a turn for each frame after the others.
+/// Puts a turn after the others, if its event is in turn.
+fn add_turn<A: Allocator, B: Allocator>(
+    turns: &mut Vec<Turn, A>,
+    last: Option<Last>,
+    world: &World<B>,
+    turn: Turn,
+) -> Result<(), NoMemory>
+    ensures { OnOk result (turns.new.items ≡ turns.old.items ++ in_turn last world.now (turn ∷ [])) }
+{
+    if !is_in_turn(last, world, &turn.event) {
+        return Ok(());
+    }
+    append(turns, turn)
+}
+
+/// Puts a turn for each frame after the others, if its event is in turn.
 fn add_frames<A: Allocator, B: Allocator>(
     turns: &mut Vec<Turn, A>,
+    last: Option<Last>,
+    world: &World<B>,
     place: usize,
     event: FrameEvent,
     mut frames: InOrder<'_, Ticketed<B>>,
 ) -> Result<(), NoMemory>
-    ensures { OnOk result (turns.new.items ≡ turns.old.items ++ map (λ t. turn_on place event t.ticket) frames.entry) }
+    ensures { OnOk result (turns.new.items ≡ turns.old.items ++ in_turn last world.now (map (λ t. turn_on place event t.ticket) frames.entry)) }
 {
     while let Some(ticketed) = frames.next() {
         let ticket = ticketed.ticket();
-        append(
-            turns,
-            Turn {
-                place,
-                event: Event::Of { ticket, event },
-            },
-        )?;
+        let turn = Turn {
+            place,
+            event: Event::Of { ticket, event },
+        };
+        add_turn(turns, last, world, turn)?;
     }
     Ok(())
 }
 
-/// Puts the turns of a move after the others.
+/// Puts those turns of a move after the others whose events are in turn.
 fn add_turns<A: Allocator, B: Allocator>(
     turns: &mut Vec<Turn, A>,
+    last: Option<Last>,
+    world: &World<B>,
     place: usize,
     what: &Move,
-    world: &World<B>,
 ) -> Result<(), NoMemory>
-    ensures { OnOk result (turns.new.items ≡ turns.old.items ++ map (λ e. record { place = place; event = e }) (instances world.now what.now)) }
+    ensures { OnOk result (turns.new.items ≡ turns.old.items ++ in_turn last world.now (map (turn_of place) (instances world.now what.now))) }
 {
     match what {
-        Move::Given(event) => append(
-            turns,
-            Turn {
+        Move::Given(event) => {
+            let turn = Turn {
                 place,
                 event: *event,
-            },
-        ),
-        Move::AnyFrame(event) => add_frames(turns, place, *event, world.link().frames()),
+            };
+            add_turn(turns, last, world, turn)
+        }
+        Move::AnyFrame(event) => {
+            let frames = world.link().frames();
+            add_frames(turns, last, world, place, *event, frames)
+        }
     }
 }
 
-/// Puts the turns of a choice after the others, if it has a use left.
+/// Puts the turns of a choice that are in turn after the others, if it has a use left.
 fn add_choice<A: Allocator, B: Allocator>(
     turns: &mut Vec<Turn, A>,
+    last: Option<Last>,
+    world: &World<B>,
     place: usize,
     choice: &Choice,
-    world: &World<B>,
 ) -> Result<(), NoMemory>
-    ensures { OnOk result (turns.new.items ≡ turns.old.items ++ turns_of world.now place choice.now) }
+    ensures { OnOk result (turns.new.items ≡ turns.old.items ++ in_turn last world.now (turns_of world.now place choice.now)) }
 {
     if choice.uses == 0 {
         return Ok(());
     }
-    add_turns(turns, place, &choice.what, world)
+    add_turns(turns, last, world, place, &choice.what)
 }
 
-/// What can be tried in the world, in the order of the choices, and of one choice in the order of the tickets.
-pub(crate) fn turns_in<A: Allocator, B: Allocator>(
-    alloc: A,
-    choices: &[Choice],
+/// Puts what is tried in the world after the others: what is in turn after the last event, in the order of the choices, and of one
+/// choice in the order of the tickets.
+pub(crate) fn add_all<A: Allocator, B: Allocator>(
+    turns: &mut Vec<Turn, A>,
+    last: Option<Last>,
     world: &World<B>,
-) -> Result<Vec<Turn, A>, NoMemory>
-    ensures { IfOk result (λ v. v.items ≡ turns choices.now world.now) }
+    choices: &[Choice],
+) -> Result<(), NoMemory>
+    ensures { OnOk result (turns.new.items ≡ turns.old.items ++ in_turn last world.now (all_turns choices.now world.now)) }
 {
-    let mut turns = Vec::new(alloc);
     for (place, choice) in choices.iter().enumerate() {
-        add_choice(&mut turns, place, choice, world)?;
+        add_choice(turns, last, world, place, choice)?;
     }
-    Ok(turns)
+    Ok(())
 }

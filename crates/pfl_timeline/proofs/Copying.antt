@@ -5,10 +5,10 @@ use Rattle.std.proofs.lemmas.List.{take-append-drop}
 use Rattle.pfl_edits.specs.Changes.{back, Fits}
 use Rattle.pfl_edits.specs.Tapes.{above, below}
 use Rattle.pfl_language.specs.declared.event.Event.{Event}
-use Rattle.pfl_world.specs.declared.edit.WorldEdit.{WorldEdit}
-use Rattle.pfl_world.specs.Runs.{run}
-use Rattle.pfl_world.specs.WorldEdits.{Finds, put_back}
-use Rattle.pfl_world.specs.Worlds.{World, IsWorld}
+use Rattle.pfl_search.specs.world.declared.edit.WorldEdit.{WorldEdit}
+use Rattle.pfl_search.specs.world.Runs.{run}
+use Rattle.pfl_search.specs.world.WorldEdits.{Finds, put_back}
+use Rattle.pfl_search.specs.world.Worlds.{World, IsWorld}
 use Rattle.pfl_timeline.specs.Histories.{History}
 use Rattle.pfl_timeline.specs.inner.Histories.{standing_at, first_of}
 use Rattle.pfl_timeline.specs.Kept.{IsKept, mark_at, history}

@@ -9,9 +9,9 @@ use Rattle.pfl_language.specs.declared.event.Event.{Event}
 use Rattle.pfl_language.specs.declared.command.Command.TheVariants as command
 use Rattle.pfl_language.specs.declared.refused.Refused.TheVariants as refused
 use Rattle.pfl_language.specs.BranchWords.{same_name}
-use Rattle.pfl_world.specs.desk.Nodes.{refused_by}
-use Rattle.pfl_world.specs.Runs.{run}
-use Rattle.pfl_world.specs.Worlds.{World}
+use Rattle.pfl_search.specs.world.desk.Nodes.{refused_by}
+use Rattle.pfl_search.specs.world.Runs.{run}
+use Rattle.pfl_search.specs.world.Worlds.{World}
 use Rattle.pfl_timeline.specs.Commands.{replied, reply_unless, with_changed, excise_reply, restore_reply, excise_command, restore_command, command_step, replayed}
 use Rattle.pfl_timeline.specs.Excisions.{placed, without, has_event, excised, fallen_places}
 use Rattle.pfl_timeline.specs.Laws.{ExcisionsAreRunsWithout, ExcisionsLeaveStanding, ExcisionsTellTheRefused, NothingElseFallsOut, RestorationsTakeBack, accepted_events, refused_behind, events_of}

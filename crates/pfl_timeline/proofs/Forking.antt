@@ -7,7 +7,7 @@ use Rattle.pfl_language.specs.declared.command.Command.TheVariants as command
 use Rattle.pfl_language.specs.declared.refused.Refused.{Refused}
 use Rattle.pfl_language.specs.declared.refused.Refused.TheVariants as refused
 use Rattle.pfl_language.specs.BranchWords.{same_name}
-use Rattle.pfl_world.specs.desk.Nodes.{refused_by}
+use Rattle.pfl_search.specs.world.desk.Nodes.{refused_by}
 use Rattle.pfl_timeline.specs.Commands.{replied, reply_unless, with_branch, first_events, fork_refusal, fork_reply, fork_command, drop_reply}
 use Rattle.pfl_timeline.specs.Kept.{opening_of, timeline_of, by_name, AreKept, StandByName}
 use Rattle.pfl_timeline.specs.Memory.{IsAccepted}

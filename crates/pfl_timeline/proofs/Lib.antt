@@ -17,6 +17,7 @@ pub mod Excised
 pub mod Keeping
 pub mod Forking
 pub mod Stepped
+pub mod Searched
 pub mod Others
 pub mod Shows
 pub mod Rooted

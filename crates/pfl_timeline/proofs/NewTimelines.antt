@@ -1,7 +1,7 @@
 -- The timeline that opens over a world is a timeline.
 use Rattle.std.specs.List.{IsDistinct}
 use Rattle.std.proofs.Common.{arith, refl}
-use Rattle.pfl_world.specs.Runs.{run}
+use Rattle.pfl_search.specs.world.Runs.{run}
 use Rattle.pfl_timeline.specs.Laws.{NewTimelinesAreTimelines}
 
 pub new_timeline-is : NewTimelinesAreTimelines

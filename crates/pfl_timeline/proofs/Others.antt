@@ -9,8 +9,8 @@ use Rattle.pfl_language.specs.declared.command.Command.TheVariants as command
 use Rattle.pfl_language.specs.declared.refused.Refused.{Refused}
 use Rattle.pfl_language.specs.declared.refused.Refused.TheVariants as refused
 use Rattle.pfl_language.specs.BranchWords.{same_name}
-use Rattle.pfl_world.specs.desk.Nodes.{refused_by}
-use Rattle.pfl_world.specs.Events.{step}
+use Rattle.pfl_search.specs.world.desk.Nodes.{refused_by}
+use Rattle.pfl_search.specs.world.Events.{step}
 use Rattle.pfl_timeline.specs.Commands.{replied, reply_unless, with_branch, with_changed, extended, undone, step_answered, step_reply, back_reply, forward_reply, first_events, fork_refusal, fork_reply, drop_reply, show_reply, step_command, back_command, forward_command, fork_command, drop_command, show_command, names_command, excise_reply, restore_reply, excise_command, restore_command, log_reply, log_command, command_step}
 use Rattle.pfl_timeline.specs.Excisions.{has_event, excised, restored}
 use Rattle.pfl_timeline.specs.Laws.{CommandsLeaveOthers}

@@ -8,9 +8,9 @@ use Rattle.std.proofs.lemmas.List.Elements.{filter-append}
 use Rattle.std.proofs.lemmas.List.Sums.{fold-append}
 use Rattle.std.proofs.Math.Seq.{take-append_seam}
 use Rattle.pfl_language.specs.declared.event.Event.{Event}
-use Rattle.pfl_world.specs.Events.{step}
-use Rattle.pfl_world.specs.Runs.{run}
-use Rattle.pfl_world.specs.Worlds.{World}
+use Rattle.pfl_search.specs.world.Events.{step}
+use Rattle.pfl_search.specs.world.Runs.{run}
+use Rattle.pfl_search.specs.world.Worlds.{World}
 use Rattle.pfl_timeline.specs.Excisions.{Placed, placed_behind, placed, without, Sieved, sifted, sift, sieve}
 use Rattle.pfl_timeline.specs.Laws.{accepted_events, refused_behind, refused_with}
 use Rattle.pfl_timeline.proofs.Sieving.{events_in, places_in, stand, events_placed, at_first, sieve-sound, sieve-accepted, sieve-keeps}

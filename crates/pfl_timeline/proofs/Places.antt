@@ -9,7 +9,7 @@ use Rattle.std.proofs.lemmas.List.{length-map, map-append}
 use Rattle.std.proofs.lemmas.Map.Entries.{length-values_of}
 use Rattle.pfl_language.specs.declared.refused.Refused.TheVariants as refused
 use Rattle.pfl_language.specs.BranchWords.{main_name, same_name}
-use Rattle.pfl_world.specs.Worlds.{World, IsWorld}
+use Rattle.pfl_search.specs.world.Worlds.{World, IsWorld}
 use Rattle.pfl_timeline.specs.Commands.{replied, with_branch, with_changed}
 use Rattle.pfl_timeline.specs.Kept.{opening_of, timeline_of, AreKept, StandByName}
 use Rattle.pfl_timeline.specs.Memory.{is_refusal, IsAccepted}
@@ -141,6 +141,10 @@ has_branch name es t view stand =
 pub how_many : (es : Entries) (t : Timeline) → timeline_of (values_of es) ≡ t → length t.branches ≡ length es
 how_many es t view = ap (λ (u : Timeline). length u.branches) (sym view) ∙ length-map (values_of es) (λ (r : Rooted). r.branch) ∙ length-values_of es
 
+-- no branch has the name
+pub none-at : (name : List ℕ) (es : Entries) (t : Timeline) → timeline_of (values_of es) ≡ t → StandByName es → None ≡ lookup (same_name name) es → branch_of t name ≡ None
+none-at name es t view stand none = ap (λ (u : Timeline). branch_of u name) (sym view) ∙ found_by name es None stand none
+
 -- What is asked of a name that a branch has: that branch answers.
 module _ (name : List ℕ) (es : Entries) (old : Rooted) (t : Timeline) (view : timeline_of (values_of es) ≡ t) (stand : StandByName es) (here : Some old ≡ lookup (same_name name) es) where
   at : Spot name es old
@@ -155,7 +159,8 @@ module _ (name : List ℕ) (es : Entries) (old : Rooted) (t : Timeline) (view : 
   is_t : t ≡ timeline_of (at.front ++ old ∷ at.rest)
   is_t = sym view ∙ ap timeline_of whole
 
-  found : branch_of t name ≡ Some old.branch
+  -- the timeline has it
+  pub found : branch_of t name ≡ Some old.branch
   found = ap (λ (u : Timeline). branch_of u name) is_t ∙ at.found
 
   stands_in : StandsIn t old

@@ -5,10 +5,10 @@ use Rattle.std.proofs.Common.{◌∙◌, ap, subst}
 use Rattle.std.proofs.lemmas.List.Sums.{fold-append}
 use Rattle.pfl_base.specs.declared.refusal.Refusal.{Refusal}
 use Rattle.pfl_language.specs.declared.event.Event.{Event}
-use Rattle.pfl_world.specs.Events.{step}
-use Rattle.pfl_world.specs.Meanings.{Stepped}
-use Rattle.pfl_world.specs.Runs.{run, world_after}
-use Rattle.pfl_world.specs.Worlds.{World}
+use Rattle.pfl_search.specs.world.Events.{step}
+use Rattle.pfl_search.specs.world.Meanings.{Stepped}
+use Rattle.pfl_search.specs.world.Runs.{run, world_after}
+use Rattle.pfl_search.specs.world.Worlds.{World}
 use Rattle.pfl_timeline.proofs.Runs.{run-last}
 
 -- an event more, where the events before it have a world

@@ -5,11 +5,11 @@ use Rattle.pfl_edits.specs.Changes.{back, Fits}
 use Rattle.pfl_edits.specs.Tapes.{above, below}
 use Rattle.pfl_language.specs.declared.event.Event.{Event}
 use Rattle.pfl_language.specs.declared.outcome.Outcome.{Outcome}
-use Rattle.pfl_world.specs.declared.edit.WorldEdit.{WorldEdit}
-use Rattle.pfl_world.specs.Events.{step}
-use Rattle.pfl_world.specs.WorldEdits.{Finds, put_back}
-use Rattle.pfl_world.specs.Worlds.{World, IsWorld}
-use Rattle.pfl_world.proofs.ForCallers.{split, no_shorter}
+use Rattle.pfl_search.specs.world.declared.edit.WorldEdit.{WorldEdit}
+use Rattle.pfl_search.specs.world.Events.{step}
+use Rattle.pfl_search.specs.world.WorldEdits.{Finds, put_back}
+use Rattle.pfl_search.specs.world.Worlds.{World, IsWorld}
+use Rattle.pfl_search.proofs.ForCallers.world.{split, no_shorter}
 use Rattle.pfl_timeline.specs.Kept.{IsKept, history}
 use Rattle.pfl_timeline.proofs.Runs.{of_parts, kept_as, history_as, kept-more, history-more, kept-again, history-again}
 

@@ -4,9 +4,9 @@ use Rattle.std.proofs.Common.{sym, ap}
 use Rattle.pfl_base.specs.declared.refusal.Refusal.{Refusal}
 use Rattle.pfl_base.specs.declared.refusal.Refusal.TheVariants.{NoMemory}
 use Rattle.pfl_language.specs.declared.event.Event.{Event}
-use Rattle.pfl_world.specs.Events.{step, IsRefusalOf, IsEventRefusal}
-use Rattle.pfl_world.specs.Meanings.{Stepped}
-use Rattle.pfl_world.specs.Worlds.{World}
+use Rattle.pfl_search.specs.world.Events.{step, IsRefusalOf, IsEventRefusal}
+use Rattle.pfl_search.specs.world.Meanings.{Stepped}
+use Rattle.pfl_search.specs.world.Worlds.{World}
 
 -- a refusal that is no want of memory is the step's
 the-first : (at : Result Stepped Refusal) (why : Refusal) → IsRefusalOf at why → why ≢ NoMemory → at ≡ Err why

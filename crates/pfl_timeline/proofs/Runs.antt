@@ -11,11 +11,11 @@ use Rattle.pfl_edits.specs.Tapes.{above, below}
 use Rattle.pfl_edits.proofs.ForCallers.{back-append, Fits-append, Fits-front, Fits-rest}
 use Rattle.pfl_language.specs.declared.event.Event.{Event}
 use Rattle.pfl_language.specs.declared.outcome.Outcome.{Outcome}
-use Rattle.pfl_world.specs.declared.edit.WorldEdit.{WorldEdit}
-use Rattle.pfl_world.specs.Events.{step}
-use Rattle.pfl_world.specs.Runs.{run, world_after}
-use Rattle.pfl_world.specs.WorldEdits.{Finds, put_back}
-use Rattle.pfl_world.specs.Worlds.{World, IsWorld}
+use Rattle.pfl_search.specs.world.declared.edit.WorldEdit.{WorldEdit}
+use Rattle.pfl_search.specs.world.Events.{step}
+use Rattle.pfl_search.specs.world.Runs.{run, world_after}
+use Rattle.pfl_search.specs.world.WorldEdits.{Finds, put_back}
+use Rattle.pfl_search.specs.world.Worlds.{World, IsWorld}
 use Rattle.pfl_timeline.specs.Histories.{History, reached}
 use Rattle.pfl_timeline.specs.Kept.{IsKept, mark_at, history}
 use Rattle.pfl_timeline.proofs.Marks.{mark-past, mark-within, mark-cut, rising-cut, above-cut, mark-more, mark-all, rising-more, above-more}

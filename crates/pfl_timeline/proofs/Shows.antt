@@ -10,10 +10,10 @@ use Rattle.pfl_language.specs.declared.command.Command.TheVariants as command
 use Rattle.pfl_language.specs.declared.refused.Refused.{Refused}
 use Rattle.pfl_language.specs.declared.refused.Refused.TheVariants as refused
 use Rattle.pfl_language.specs.BranchWords.{same_name}
-use Rattle.pfl_world.specs.desk.Nodes.{refused_by}
-use Rattle.pfl_world.specs.Events.{step}
-use Rattle.pfl_world.specs.Runs.{run}
-use Rattle.pfl_world.specs.Worlds.{World}
+use Rattle.pfl_search.specs.world.desk.Nodes.{refused_by}
+use Rattle.pfl_search.specs.world.Events.{step}
+use Rattle.pfl_search.specs.world.Runs.{run}
+use Rattle.pfl_search.specs.world.Worlds.{World}
 use Rattle.pfl_timeline.specs.Commands.{replied, reply_unless, with_branch, with_changed, undone, step_answered, step_reply, back_reply, forward_reply, fork_refusal, fork_reply, drop_reply, show_reply, step_command, back_command, forward_command, fork_command, drop_command, show_command, names_command, excise_reply, restore_reply, excise_command, restore_command, log_reply, log_command, command_step, replayed}
 use Rattle.pfl_timeline.specs.Excisions.{has_event, restored}
 use Rattle.pfl_timeline.specs.Laws.{ShowsItsRun, BranchesShowTheirRuns}

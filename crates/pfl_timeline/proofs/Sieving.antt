@@ -7,10 +7,10 @@ use Rattle.std.proofs.lemmas.List.{length-map, map-append, take-map, drop-map, t
 use Rattle.std.proofs.lemmas.List.Sums.{fold_push}
 use Rattle.pfl_base.specs.declared.refusal.Refusal.{Refusal}
 use Rattle.pfl_language.specs.declared.event.Event.{Event}
-use Rattle.pfl_world.specs.Events.{step}
-use Rattle.pfl_world.specs.Meanings.{Stepped}
-use Rattle.pfl_world.specs.Runs.{run, world_after}
-use Rattle.pfl_world.specs.Worlds.{World}
+use Rattle.pfl_search.specs.world.Events.{step}
+use Rattle.pfl_search.specs.world.Meanings.{Stepped}
+use Rattle.pfl_search.specs.world.Runs.{run, world_after}
+use Rattle.pfl_search.specs.world.Worlds.{World}
 use Rattle.pfl_timeline.specs.Excisions.{Placed, placed_behind, placed, without, Sieved, sifted, sift, sieve, sieved_without, has_event, excised}
 use Rattle.pfl_timeline.specs.Histories.{History, IsHistory, reached, continued}
 use Rattle.pfl_timeline.specs.inner.Histories.{standing_at, first_of, SiftedBy, Sifts, so_far}

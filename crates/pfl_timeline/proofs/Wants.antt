@@ -17,31 +17,31 @@ use Rattle.pfl_language.specs.declared.command.Command.{Command}
 use Rattle.pfl_language.specs.declared.command.Command.TheVariants as command
 use Rattle.pfl_language.specs.declared.refused.Refused.TheVariants as refused
 use Rattle.pfl_language.specs.BranchWords.{is_branch_name, same_name}
-use Rattle.pfl_world.specs.link.Links.{InFlight, is_full, is_counted_out}
-use Rattle.pfl_world.specs.queue.Queues.{pending}
-use Rattle.pfl_world.specs.node.Purging.{purge_points}
-use Rattle.pfl_world.specs.desk.Nodes.{Node, refused_by, unless_refused, points_refusal, full_tests, is_overfull, is_overcounted, last_millisecond}
-use Rattle.pfl_world.specs.desk.Changes.{count_broken}
-use Rattle.pfl_world.specs.receive.Delivering.{receive_points}
-use Rattle.pfl_world.specs.wire.declared.fault.BadFrame.{BadFrame}
-use Rattle.pfl_world.specs.wire.Frames.{Frame}
-use Rattle.pfl_world.specs.wire.Reading.{reading}
-use Rattle.pfl_world.specs.node.Stepping.{NodeStepped, node_refusal, node_after}
-use Rattle.pfl_world.specs.node.Killing.{killed}
-use Rattle.pfl_world.specs.node.Packets.{packet_points}
-use Rattle.pfl_world.specs.node.Clearing.{cleared}
-use Rattle.pfl_world.specs.node.Releasing.{due_names, released_due}
-use Rattle.pfl_world.specs.node.Retrying.{retried_client}
-use Rattle.pfl_world.specs.node.Turning.{turned}
-use Rattle.pfl_world.specs.bulk.Bulk.{is_serving, is_waiting, is_due}
-use Rattle.pfl_world.specs.Events.{step, IsRefusalOf, IsEventRefusal}
-use Rattle.pfl_world.specs.Meanings.{Stepped}
-use Rattle.pfl_world.specs.AtNodes.{from_node}
-use Rattle.pfl_world.specs.Tickets.{with_ticket, without_ticket, lose_step, repeat_step, cut_step}
-use Rattle.pfl_world.specs.Delivering.{read_taken, deliver_step}
-use Rattle.pfl_world.specs.Flushing.{flush_step}
-use Rattle.pfl_world.specs.Restarting.{restart_step}
-use Rattle.pfl_world.specs.Worlds.{World, node_at}
+use Rattle.pfl_search.specs.world.link.Links.{InFlight, is_full, is_counted_out}
+use Rattle.pfl_search.specs.world.queue.Queues.{pending}
+use Rattle.pfl_search.specs.world.node.Purging.{purge_points}
+use Rattle.pfl_search.specs.world.desk.Nodes.{Node, refused_by, unless_refused, points_refusal, full_tests, is_overfull, is_overcounted, last_millisecond}
+use Rattle.pfl_search.specs.world.desk.Changes.{count_broken}
+use Rattle.pfl_search.specs.world.receive.Delivering.{receive_points}
+use Rattle.pfl_search.specs.world.wire.declared.fault.BadFrame.{BadFrame}
+use Rattle.pfl_search.specs.world.wire.Frames.{Frame}
+use Rattle.pfl_search.specs.world.wire.Reading.{reading}
+use Rattle.pfl_search.specs.world.node.Stepping.{NodeStepped, node_refusal, node_after}
+use Rattle.pfl_search.specs.world.node.Killing.{killed}
+use Rattle.pfl_search.specs.world.node.Packets.{packet_points}
+use Rattle.pfl_search.specs.world.node.Clearing.{cleared}
+use Rattle.pfl_search.specs.world.node.Releasing.{due_names, released_due}
+use Rattle.pfl_search.specs.world.node.Retrying.{retried_client}
+use Rattle.pfl_search.specs.world.node.Turning.{turned}
+use Rattle.pfl_search.specs.world.bulk.Bulk.{is_serving, is_waiting, is_due}
+use Rattle.pfl_search.specs.world.Events.{step, IsRefusalOf, IsEventRefusal}
+use Rattle.pfl_search.specs.world.Meanings.{Stepped}
+use Rattle.pfl_search.specs.world.AtNodes.{from_node}
+use Rattle.pfl_search.specs.world.Tickets.{with_ticket, without_ticket, lose_step, repeat_step, cut_step}
+use Rattle.pfl_search.specs.world.Delivering.{read_taken, deliver_step}
+use Rattle.pfl_search.specs.world.Flushing.{flush_step}
+use Rattle.pfl_search.specs.world.Restarting.{restart_step}
+use Rattle.pfl_search.specs.world.Worlds.{World, node_at}
 use Rattle.pfl_timeline.specs.Commands.{replied, reply_unless, with_branch, with_changed, undone, at_cursor, step_answered, step_reply, back_reply, forward_reply, first_events, fork_reply, drop_reply, show_reply, step_command, back_command, forward_command, fork_command, drop_command, show_command, names_command, excise_reply, restore_reply, excise_command, restore_command, log_reply, log_command, command_step}
 use Rattle.pfl_timeline.specs.Excisions.{has_event, excised, fallen_places, restored}
 use Rattle.pfl_timeline.specs.Laws.{NoReplyTellsWantOfMemory}

@@ -15,7 +15,7 @@ use Rattle.pfl_language.specs.declared.command.Command.{Command}
 use Rattle.pfl_language.specs.declared.command.Command.TheVariants as command
 use Rattle.pfl_language.specs.declared.refused.Refused.TheVariants as refused
 use Rattle.pfl_language.specs.BranchWords.{main_name}
-use Rattle.pfl_world.proofs.ForCallers.{limits, opening, u1, u2, u3, name, computing as of_worlds}
+use Rattle.pfl_search.proofs.ForCallers.world.{limits, opening, u1, u2, u3, name, computing as of_worlds}
 use Rattle.pfl_timeline.specs.Timelines.{Timeline, new_timeline}
 use Rattle.pfl_timeline.specs.Timelines as timelines
 use Rattle.pfl_timeline.specs.Commands as commands

@@ -3,8 +3,8 @@ use Rattle.std.specs.Prelude.{ℕ, List, Option, refl}
 use Rattle.std.specs.Coded.{Coded, code_by, coded×, coded_ℕ, coded_list, coded_option}
 use Rattle.pfl_language.specs.declared.event.Event.{Event}
 use Rattle.pfl_language.specs.contracts.event.Event as event_type
-use Rattle.pfl_world.specs.Codes.{coded_world}
-use Rattle.pfl_world.specs.Worlds.{World}
+use Rattle.pfl_search.specs.world.Codes.{coded_world}
+use Rattle.pfl_search.specs.world.Worlds.{World}
 use Rattle.pfl_timeline.specs.Histories.{History}
 use Rattle.pfl_timeline.specs.Rooted.{Rooted}
 use Rattle.pfl_timeline.specs.Timelines.{Former, Branch, Timeline}

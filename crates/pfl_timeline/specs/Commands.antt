@@ -9,9 +9,9 @@ use Rattle.pfl_language.specs.declared.command.Command.TheVariants as command
 use Rattle.pfl_language.specs.declared.refused.Refused.{Refused}
 use Rattle.pfl_language.specs.declared.refused.Refused.TheVariants as refused
 use Rattle.pfl_language.specs.BranchWords.{same_name, is_branch_name}
-use Rattle.pfl_world.specs.desk.Nodes.{refused_by}
-use Rattle.pfl_world.specs.Meanings.{Stepped}
-use Rattle.pfl_world.specs.Events.{step}
+use Rattle.pfl_search.specs.world.desk.Nodes.{refused_by}
+use Rattle.pfl_search.specs.world.Meanings.{Stepped}
+use Rattle.pfl_search.specs.world.Events.{step}
 use Rattle.pfl_timeline.specs.Excisions.{has_event, excised, fallen_places, restored}
 use Rattle.pfl_timeline.specs.Replies.{Reply, Stepped as StepReply, At, Forked, Removed, Shown, Names, Excised, Restored, Logged, Refused as Refusing, Replied}
 use Rattle.pfl_timeline.specs.Timelines.{Branch, Timeline, branch_of, standing, world_of}

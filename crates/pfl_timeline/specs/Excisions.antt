@@ -3,9 +3,9 @@ use Rattle.std.specs.Prelude.{◌+◌, ◌-◌, ℕ, Bool, ◌&&◌, nat_le, Lis
 use Rattle.std.specs.List.{fold}
 use Rattle.pfl_base.specs.declared.refusal.Refusal.{Refusal}
 use Rattle.pfl_language.specs.declared.event.Event.{Event}
-use Rattle.pfl_world.specs.Events.{step}
-use Rattle.pfl_world.specs.Meanings.{Stepped}
-use Rattle.pfl_world.specs.Worlds.{World}
+use Rattle.pfl_search.specs.world.Events.{step}
+use Rattle.pfl_search.specs.world.Meanings.{Stepped}
+use Rattle.pfl_search.specs.world.Worlds.{World}
 use Rattle.pfl_timeline.specs.Timelines.{Branch, Former}
 
 -- an event, and its place in the list that it comes from

@@ -1,8 +1,8 @@
 -- Events over an opening world, the first of which stand (this project's profile).
 use Rattle.std.specs.Prelude.{◌+◌, ◌≤◌, ℕ, List, [], ◌∷◌, ◌++◌, length, take, Option, is_some, IsTrue}
 use Rattle.pfl_language.specs.declared.event.Event.{Event}
-use Rattle.pfl_world.specs.Runs.{run}
-use Rattle.pfl_world.specs.Worlds.{World, IsWorld}
+use Rattle.pfl_search.specs.world.Runs.{run}
+use Rattle.pfl_search.specs.world.Worlds.{World, IsWorld}
 
 -- events over an opening, and how many of them stand
 pub record History : Type 0 where

@@ -6,14 +6,14 @@ use Rattle.std.specs.Map.{values_of}
 use Rattle.std.specs.Option.{option_map}
 use Rattle.pfl_edits.specs.Changes.{back, Fits}
 use Rattle.pfl_edits.specs.Tapes.{above}
-use Rattle.pfl_world.specs.rules.Rules.{Rules}
+use Rattle.pfl_search.specs.world.rules.Rules.{Rules}
 use Rattle.pfl_language.specs.declared.event.Event.{Event}
 use Rattle.pfl_language.specs.BranchWords.{is_branch_name}
 use Rattle.pfl_language.specs.Limits.{default_limits}
-use Rattle.pfl_world.specs.declared.edit.WorldEdit.{WorldEdit}
-use Rattle.pfl_world.specs.Runs.{run}
-use Rattle.pfl_world.specs.WorldEdits.{Finds, put_back}
-use Rattle.pfl_world.specs.Worlds.{World, IsWorld, new_world}
+use Rattle.pfl_search.specs.world.declared.edit.WorldEdit.{WorldEdit}
+use Rattle.pfl_search.specs.world.Runs.{run}
+use Rattle.pfl_search.specs.world.WorldEdits.{Finds, put_back}
+use Rattle.pfl_search.specs.world.Worlds.{World, IsWorld, new_world}
 use Rattle.pfl_timeline.specs.Histories.{History}
 use Rattle.pfl_timeline.specs.Rooted.{Rooted}
 use Rattle.pfl_timeline.specs.Timelines.{Former, Timeline, IsTimeline}

@@ -9,10 +9,10 @@ use Rattle.pfl_language.specs.declared.command.Command.{Command}
 use Rattle.pfl_language.specs.declared.command.Command.TheVariants as command
 use Rattle.pfl_language.specs.declared.refused.Refused.TheVariants as refused
 use Rattle.pfl_language.specs.BranchWords.{main_name, same_name}
-use Rattle.pfl_world.specs.Events.{step}
-use Rattle.pfl_world.specs.Meanings.{Stepped}
-use Rattle.pfl_world.specs.Runs.{run}
-use Rattle.pfl_world.specs.Worlds.{World, IsWorld}
+use Rattle.pfl_search.specs.world.Events.{step}
+use Rattle.pfl_search.specs.world.Meanings.{Stepped}
+use Rattle.pfl_search.specs.world.Runs.{run}
+use Rattle.pfl_search.specs.world.Worlds.{World, IsWorld}
 use Rattle.pfl_timeline.specs.Commands.{show_command, log_command, command_step, replayed}
 use Rattle.pfl_timeline.specs.Excisions.{without, has_event}
 use Rattle.pfl_timeline.specs.Replies as reply

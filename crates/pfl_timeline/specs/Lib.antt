@@ -1,6 +1,7 @@
 pub mod Timelines
 pub mod Excisions
 pub mod Replies
+pub mod Searches
 pub mod Commands
 pub mod Memory
 pub mod Histories
@@ -12,8 +13,9 @@ pub mod Laws
 pub mod inner
 pub use Rattle.pfl_base.specs as base
 pub use Rattle.pfl_edits.specs as edits
-pub use Rattle.pfl_world.specs.rules as rules
-pub use Rattle.pfl_world.specs.queue as queue
+pub use Rattle.pfl_search.specs.world.rules as rules
+pub use Rattle.pfl_search.specs.world.queue as queue
 pub use Rattle.pfl_language.specs as language
-pub use Rattle.pfl_world.specs.desk as desk
-pub use Rattle.pfl_world.specs as world
+pub use Rattle.pfl_search.specs.world.desk as desk
+pub use Rattle.pfl_search.specs.world as world
+pub use Rattle.pfl_search.specs as search

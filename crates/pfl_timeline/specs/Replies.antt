@@ -3,7 +3,7 @@ use Rattle.std.specs.Prelude.{ℕ, List}
 use Rattle.pfl_language.specs.declared.event.Event.{Event}
 use Rattle.pfl_language.specs.declared.outcome.Outcome.{Outcome}
 use Rattle.pfl_language.specs.declared.refused.Refused.{Refused as Refusal}
-use Rattle.pfl_world.specs.Worlds.{World}
+use Rattle.pfl_search.specs.world.Worlds.{World}
 use Rattle.pfl_timeline.specs.declared.reply.Reply.{Reply as GivenReply}
 use Rattle.pfl_timeline.specs.declared.reply.Reply.TheVariants as given
 use Rattle.pfl_timeline.specs.Timelines.{Timeline}

@@ -1,7 +1,7 @@
 -- A branch beside the opening of its timeline, and what it answers for the timeline (this project's profile).
 use Rattle.std.specs.Prelude.{Option}
-use Rattle.pfl_world.specs.Worlds.{World}
-use Rattle.pfl_world.specs.Runs.{run}
+use Rattle.pfl_search.specs.world.Worlds.{World}
+use Rattle.pfl_search.specs.world.Runs.{run}
 use Rattle.pfl_timeline.specs.Timelines.{Branch, standing}
 
 -- a branch with the opening that it begins from

@@ -3,8 +3,8 @@ use Rattle.std.specs.Prelude.{◌≤◌, ℕ, List, [], ◌∷◌, length, map, 
 use Rattle.std.specs.List.{AllByRecursion, IsDistinct}
 use Rattle.pfl_language.specs.BranchWords.{is_branch_name, main_name, same_name}
 use Rattle.pfl_language.specs.declared.event.Event.{Event}
-use Rattle.pfl_world.specs.Worlds.{World, IsWorld}
-use Rattle.pfl_world.specs.Runs.{run}
+use Rattle.pfl_search.specs.world.Worlds.{World, IsWorld}
+use Rattle.pfl_search.specs.world.Runs.{run}
 
 -- events that a branch had, and how many of them stood
 pub record Former : Type 0 where

@@ -3,3 +3,4 @@
 pub mod Histories
 pub mod Replies
 pub mod Rooted
+pub mod Searching

@@ -3,19 +3,21 @@
 ghost use Rattle.std.specs.Prelude.{◌≡◌, ◌+◌, ◌-◌, ◌≤◌, true, false, nat_lt, [], length, Ok, Some, None, IfErr, IfOk, OnErr, OnOk, IsTrue, if◌then◌else◌};
 ghost use Rattle.std.specs.Option.{option_map, option_map_or};
 ghost use Rattle.pfl_language.specs.BranchWords.{is_branch_name};
-ghost use Rattle.pfl_world.specs.Events.{step, IsEventRefusal};
-ghost use Rattle.pfl_world.specs.Worlds.{World as Pair};
+ghost use Rattle.pfl_search.specs.world.Events.{step, IsEventRefusal};
+ghost use Rattle.pfl_search.specs.world.Worlds.{World as Pair};
 ghost use Rattle.pfl_timeline.specs.Commands.{extended, undone, first_events};
 ghost use Rattle.pfl_timeline.specs.Excisions.{has_event, excised, fallen_places};
 ghost use Rattle.pfl_timeline.specs.Rooted.{shown};
+ghost use Rattle.pfl_timeline.specs.Searches.{IsAnswer, finding_from, finding_of, sought};
 ghost use Rattle.pfl_timeline.specs.inner.Rooted.{with_cursor, with_former};
 ghost use Rattle.pfl_timeline.specs.Timelines.{IsBranch};
 
+use crate::finding::{Finding, found, stopped};
 use crate::history::History;
 use pfl_base::Refusal;
 use pfl_edits::NoMemory;
-use pfl_language::{BranchWord, Event, Outcome};
-use pfl_world::World;
+use pfl_language::{BranchWord, Choice, Event, Goal, Outcome};
+use pfl_search::World;
 use std::alloc::{AllocError, Allocator};
 use std::marker::Model;
 use std::mem;
@@ -205,6 +207,26 @@ impl<A: Allocator + Copy> Branch<A> {
         let history = boxed(*Box::allocator(&self.history), rest)?;
         self.former = Some(mem::replace(&mut self.history, history));
         Ok(Some(fallen))
+    }
+
+    /// Searches for a shortest run of the choices from where it stands to the goal. Nothing changes, whatever the answer.
+    pub(crate) fn search(
+        &mut self,
+        choices: &[Choice],
+        depth: u32,
+        goal: &Goal,
+        most: u64,
+    ) -> Result<Finding<A>, NoMemory>
+        ensures finding { IfOk result (λ f. (w : Pair) × (shown self.old ≡ Some w)
+            × (finding_of f ≡ finding_from (sought goal.now depth choices.now most) self.old.branch w)) }
+        ensures means { IfOk result (λ f. (w : Pair) × (shown self.old ≡ Some w)
+            × IsAnswer (sought goal.now depth choices.now most) w (finding_of f)) }
+        ensures unchanged { self.new ≡ self.old }
+    {
+        match self.history.search(choices, depth, goal, most) {
+            Ok(searched) => Ok(found(self.name, depth, searched)),
+            Err(why) => stopped(why, most),
+        }
     }
 
     /// A branch of the first events, all of which stand, in memory of its own. It can be taken back to the opening.

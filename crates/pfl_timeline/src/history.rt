@@ -1,17 +1,20 @@
 //! Histories.
 
 ghost use Rattle.std.specs.Prelude.{◌≡◌, ◌+◌, ◌-◌, ◌<◌, ◌≤◌, ℕ, [], ◌∷◌, ◌++◌, length, map, nat_le, min, take, filter, Ok, Some, IfErr, IfOk, OnErr, OnOk, vec_len, vec_capacity};
-ghost use Rattle.pfl_world.specs.Events.{step, IsEventRefusal};
-ghost use Rattle.pfl_world.specs.Worlds.{World as Pair};
+ghost use Rattle.pfl_search.specs.world.Events.{step, IsEventRefusal};
+ghost use Rattle.pfl_search.specs.world.Worlds.{World as Pair};
 ghost use Rattle.pfl_timeline.specs.Excisions.{placed, without, sieve};
 ghost use Rattle.pfl_timeline.specs.Histories.{IsHistory, reached, continued};
 ghost use Rattle.pfl_timeline.specs.Kept.{mark_at};
+ghost use Rattle.pfl_search.specs.Runs.{IsStop};
+ghost use Rattle.pfl_timeline.specs.Searches.{runs_to_try, sought};
 ghost use Rattle.pfl_timeline.specs.inner.Histories.{standing_at, first_of, Sifts, so_far};
+ghost use Rattle.pfl_timeline.specs.inner.Searching.{Gives};
 
 use pfl_base::Refusal;
 use pfl_edits::{NoMemory, Tape, undo_copies_to, undo_to};
-use pfl_language::{Event, Outcome};
-use pfl_world::{World, WorldTape};
+use pfl_language::{Choice, Event, Goal, Outcome};
+use pfl_search::{Searched, Stopped, World, WorldTape, search_shortest};
 use std::alloc::Allocator;
 use std::marker::Model;
 
@@ -260,6 +263,24 @@ impl<A: Allocator + Copy> History<A> {
                 _ => Ok(false),
             },
         }
+    }
+
+    /// Searches for a shortest run of the choices from where it stands to the goal. Whatever the answer, nothing changes.
+    pub fn search(
+        &mut self,
+        choices: &[Choice],
+        depth: u32,
+        goal: &Goal,
+        most: u64,
+    ) -> Result<Searched<A>, Stopped>
+        ensures gives { IfOk result (λ s. (w : Pair) × (reached self.old ≡ Some w)
+            × Gives (λ run. run.items) (sought goal.now depth choices.now most) w s.found s.worlds) }
+        ensures stopped { IfErr result (λ why. (w : Pair) × (reached self.old ≡ Some w)
+            × IsStop most (runs_to_try (sought goal.now depth choices.now most) w) why) }
+        ensures unchanged { self.new ≡ self.old }
+    {
+        let alloc = *self.events.allocator();
+        search_shortest(alloc, &mut self.world, choices, depth, goal, most)
     }
 
     /// What would have happened without the event at the place, counted from 1, in memory of its own; of the events that

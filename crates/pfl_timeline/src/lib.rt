@@ -2,17 +2,19 @@
 #![tactic(auto)]
 
 mod branch;
+mod finding;
 mod history;
 mod laws;
 mod reply;
 mod timeline;
 
 pub use branch::Branch;
+pub use finding::Finding;
 pub use laws::{
     branches_show_their_runs, commands_keep_timelines, commands_leave_others,
     excisions_are_runs_without_the_event, new_timelines_are_timelines,
     no_reply_tells_want_of_memory, steps_are_runs,
 };
-pub use pfl_world::{Counters, Node, World, WorldFault};
+pub use pfl_search::{Counters, Node, World, WorldFault};
 pub use reply::{Reply, boxed_copy};
 pub use timeline::Timeline;

@@ -4,7 +4,7 @@ ghost use Rattle.std.specs.Prelude.{◌≡◌, IfOk};
 
 use pfl_edits::NoMemory;
 use pfl_language::{BranchWord, Event, Outcome, Refused};
-use pfl_world::World;
+use pfl_search::World;
 use std::alloc::{AllocError, Allocator};
 
 /// The reply to a command. Clauses say by `reply_of` what it tells. The world that one shows is in a box, so that the others

@@ -1,22 +1,25 @@
 //! Timelines.
 
-ghost use Rattle.std.specs.Prelude.{◌≡◌, ◌≢◌, length, map, IfOk, IfErr, IsSomeAnd, OnErr};
+ghost use Rattle.std.specs.Prelude.{◌≡◌, ◌≢◌, length, map, Some, is_some, IfOk, IfErr, IsSomeAnd, IsTrue, OnErr};
 ghost use Rattle.std.specs.List.{AllByRecursion};
 ghost use Rattle.std.specs.Option.{option_map};
 ghost use Rattle.pfl_timeline.specs.Commands.{replied, step_command, back_command, forward_command, fork_refusal, fork_command, drop_command, show_command, names_command, excise_command, restore_command, log_command, command_step};
 ghost use Rattle.pfl_timeline.specs.Memory.{IsAccepted, MayWantMemory};
 ghost use Rattle.pfl_timeline.specs.Replies.{reply_of, Refused as Refusing, Shown};
 ghost use Rattle.pfl_timeline.specs.Rooted.{shown};
+ghost use Rattle.pfl_timeline.specs.Searches.{IsAnswer, finding, finding_of, sought};
 ghost use Rattle.pfl_timeline.specs.inner.Replies.{moved, fell_out, brought_back};
-ghost use Rattle.pfl_timeline.specs.Timelines.{IsTimeline, new_timeline};
+ghost use Rattle.pfl_timeline.specs.Timelines.{Branch as Branched, IsTimeline, branch_of, new_timeline, world_of};
+ghost use Rattle.pfl_search.specs.world.Worlds.{World as Pair};
 
 use crate::branch::Branch;
+use crate::finding::Finding;
 use crate::reply::{Reply, boxed_copy};
 use indexmap::IndexMap;
 use pfl_base::Refusal;
 use pfl_edits::NoMemory;
-use pfl_language::{BranchWord, Command, Event, Refused};
-use pfl_world::World;
+use pfl_language::{BranchWord, Choice, Command, Event, Goal, Refused};
+use pfl_search::World;
 use std::alloc::Allocator;
 use std::hash::{BuildHasherDefault, FoldHasher};
 use std::marker::Model;
@@ -311,6 +314,30 @@ impl<A: Allocator + Copy> Timeline<A> {
             events,
             cursor: branch.cursor(),
         })
+    }
+
+    /// Searches for a shortest run to the goal from where the branch stands: a run of events of the choices, at most `depth` of them.
+    /// At most `most` runs are tried. The timeline stays as it was, whatever the answer, and where there is no memory, too.
+    pub fn search(
+        &mut self,
+        name: &BranchWord,
+        choices: &[Choice],
+        depth: u32,
+        goal: &Goal,
+        most: u64,
+    ) -> Result<Finding<A>, NoMemory>
+        ensures finding { IfOk result (λ f. finding_of f ≡ finding self.old name.now (sought goal.now depth choices.now most)) }
+        ensures means { IfOk result (λ f. (b : Branched) (w : Pair) → branch_of self.old name.now ≡ Some b → world_of self.old b ≡ Some w
+            → IsAnswer (sought goal.now depth choices.now most) w (finding_of f)) }
+        ensures memory { OnErr result (IsTrue (is_some (branch_of self.old name.now))) }
+        ensures unchanged { self.new ≡ self.old }
+    {
+        let Some(branch) = self.branches.get_mut(name) else {
+            return Ok(Finding::Refused(Refused::NoBranch));
+        };
+        let searched = branch.search(choices, depth, goal, most);
+        branch.known();
+        searched
     }
 
     /// Carries a command out: the reply and the timeline are those of its definition, so a refusal changes nothing. Where

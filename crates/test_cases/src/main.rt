@@ -17,6 +17,9 @@ use std::{env, fs};
 use trial::{Action, Trial};
 use wanting::{Unlike, first_unlike};
 
+/// The folder of cases that make too many requests of memory for a run without each of them.
+const LONG: &str = "long/";
+
 /// Tells the first difference of a case, and answers whether there is none.
 fn passes(rt: &HostRuntime, path: &str) -> Result<bool> {
     let script = fs::read_to_string(rt, path).context(format_args!("reading {path}"))?;
@@ -25,6 +28,9 @@ fn passes(rt: &HostRuntime, path: &str) -> Result<bool> {
     if let Some(difference) = Difference::first(rt.alloc(), script.as_str(), &run, &check)? {
         eprintln!(rt; "{path}{difference}")?;
         return Ok(false);
+    }
+    if path.starts_with(LONG) {
+        return Ok(true);
     }
     match first_unlike(rt.alloc(), script.as_str(), &run) {
         None => Ok(true),

@@ -9,7 +9,7 @@ use Rattle.pfl_world.specs.Meanings.{Stepped}
 use Rattle.pfl_world.specs.WorldEdits.{Finds, put_back}
 use Rattle.pfl_world.specs.Worlds.{World, IsWorld}
 use Rattle.pfl_search.specs.Choices.{used}
-use Rattle.pfl_search.specs.declared.choice.Choice.{Choice}
+use Rattle.pfl_language.specs.declared.choice.Choice.{Choice}
 use Rattle.pfl_search.specs.declared.turns.Turn.{Turn}
 
 -- the turn is of a choice that has a use left

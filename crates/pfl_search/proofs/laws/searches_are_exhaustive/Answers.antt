@@ -1,4 +1,4 @@
-use Rattle.pfl_search.proofs.Leading.{none_exhaustive, runs_lead, runs_visited, visits_of_runs}
+use Rattle.pfl_search.proofs.Leading.{none_exhaustive, runs_lead, runs_visited, visits_of_runs, visits_ordered}
 use Rattle.pfl_search.proofs.laws.searches_are_exhaustive.Goals as goal
 
 pub returns-clause-runs : goal.returns-clause-runs
@@ -9,6 +9,9 @@ returns-clause-sound c = visits_of_runs
 
 pub returns-clause-complete : goal.returns-clause-complete
 returns-clause-complete c = runs_visited
+
+pub returns-clause-ordered : goal.returns-clause-ordered
+returns-clause-ordered c = visits_ordered
 
 pub returns-clause-none : goal.returns-clause-none
 returns-clause-none c = none_exhaustive

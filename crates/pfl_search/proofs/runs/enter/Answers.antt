@@ -1,7 +1,7 @@
 use Rattle.std.specs.Prelude.{◌≡◌, slice_get, Some, refl}
 use Rattle.std.proofs.Common.{sym, subst}
 use Rattle.pfl_search.proofs.Turning.{get_read, used-is}
-use Rattle.pfl_search.specs.declared.choice.Choice.{Choice}
+use Rattle.pfl_language.specs.declared.choice.Choice.{Choice}
 use Rattle.pfl_search.proofs.runs.enter.Goals as goal
 
 pub returns-in-Ok-clause-enters : goal.returns-in-Ok-clause-enters

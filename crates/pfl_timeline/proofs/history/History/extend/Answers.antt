@@ -3,7 +3,7 @@ use Rattle.std.proofs.Common.{◌∙◌, ap, sym}
 use Rattle.pfl_timeline.specs.Histories.{History, reached, continued}
 use Rattle.pfl_timeline.proofs.Recording.{kept-extended, history-extended, mark_on, fits_on}
 use Rattle.pfl_timeline.proofs.Runs.{reached-kept, put_as}
-use Rattle.pfl_world.proofs.ForCallers.{event_wants}
+use Rattle.pfl_search.proofs.ForCallers.world.{event_wants}
 use Rattle.pfl_timeline.proofs.history.History.extend.Goals as goal
 
 pub returns-in-Err-clause-refused : goal.returns-in-Err-clause-refused

@@ -1,7 +1,7 @@
 use Rattle.std.specs.Prelude.{false, true, Result, refl}
 use Rattle.std.proofs.Common.{sym, subst}
 use Rattle.pfl_base.specs.declared.refusal.Refusal.{Refusal}
-use Rattle.pfl_world.specs.Meanings.{Stepped}
+use Rattle.pfl_search.specs.world.Meanings.{Stepped}
 use Rattle.pfl_timeline.specs.inner.Histories.{SiftedBy}
 use Rattle.pfl_timeline.proofs.Refusals.{refusal_is}
 use Rattle.pfl_timeline.proofs.history.History.sift.Goals as goal

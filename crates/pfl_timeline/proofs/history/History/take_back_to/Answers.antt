@@ -2,8 +2,8 @@ use Rattle.std.specs.Prelude.{◌<◌, ◌≤◌, length}
 use Rattle.std.proofs.Common.{◌∙◌, ap, arith, subst, sym}
 use Rattle.pfl_edits.specs.Changes.{Fits}
 use Rattle.pfl_edits.specs.Tapes.{above}
-use Rattle.pfl_world.specs.WorldEdits.{Finds, put_back}
-use Rattle.pfl_world.specs.Worlds.{IsWorld}
+use Rattle.pfl_search.specs.world.WorldEdits.{Finds, put_back}
+use Rattle.pfl_search.specs.world.Worlds.{IsWorld}
 use Rattle.pfl_timeline.specs.Histories.{History}
 use Rattle.pfl_timeline.specs.inner.Histories.{standing_at}
 use Rattle.pfl_timeline.proofs.Marks.{mark-read}

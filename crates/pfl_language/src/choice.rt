@@ -1,9 +1,9 @@
 //! What may happen in a run that is searched for.
 
-use pfl_language::{Event, FrameEvent};
+use crate::event::{Event, FrameEvent};
 
 /// A pattern of events.
-#[derive(Clone, Copy)]
+#[derive(Clone, Copy, Debug)]
 pub enum Move {
     /// This event.
     Given(Event),
@@ -12,8 +12,18 @@ pub enum Move {
 }
 
 /// A move, and how many times it may be made at most.
-#[derive(Clone, Copy)]
+#[derive(Clone, Copy, Debug)]
 pub struct Choice {
     pub what: Move,
     pub uses: u32,
+}
+
+/// A choice that is never made.
+impl Default for Choice {
+    fn default() -> Choice {
+        Choice {
+            what: Move::AnyFrame(FrameEvent::Deliver),
+            uses: 0,
+        }
+    }
 }

@@ -1,0 +1,136 @@
+-- Worked cases of searches, computed.
+use Rattle.std.specs.Prelude.{◌≡◌, ℕ, zero, suc, List, [], ◌∷◌, ◌++◌, replicate, Ok, Err, None, refl, codes}
+use Rattle.pfl_base.specs.declared.addr.Addr.TheVariants.{V4}
+use Rattle.pfl_base.specs.declared.direction.Dir.TheVariants.{Inbound}
+use Rattle.pfl_base.specs.declared.node_id.NodeId.TheVariants.{A, B}
+use Rattle.pfl_base.specs.declared.fields.PacketFields.{PacketFields}
+use Rattle.pfl_base.specs.declared.fields.BadPacket.TheVariants.{Ports}
+use Rattle.pfl_base.specs.declared.proto.Proto.TheVariants.{Udp}
+use Rattle.pfl_language.specs.declared.choice.Choice.{Choice}
+use Rattle.pfl_language.specs.declared.choice.Move.{Move}
+use Rattle.pfl_language.specs.declared.choice.Move.TheVariants.{Given, AnyFrame}
+use Rattle.pfl_language.specs.declared.event.Event.TheVariants as event
+use Rattle.pfl_language.specs.declared.event.FrameEvent.TheVariants as frame
+use Rattle.pfl_language.specs.declared.goal.Question.{Question}
+use Rattle.pfl_language.specs.declared.goal.Question.TheVariants.{Apart, Unpassed}
+use Rattle.pfl_language.specs.declared.goal.Scope.{Scope}
+use Rattle.pfl_language.specs.declared.goal.Scope.TheVariants.{Everywhere, Landed, Settled}
+use Rattle.pfl_language.specs.BranchWords.{main_name}
+use Rattle.pfl_language.specs.declared.command.Command.TheVariants as command
+use Rattle.pfl_language.specs.declared.node_event.NodeEvent.TheVariants as own
+use Rattle.pfl_lines.specs.declared.fault.LineFault.TheVariants.{Unknown, Missing, Number, Extra, Packet}
+use Rattle.pfl_lines.specs.declared.search.ScriptLine.{ScriptLine}
+use Rattle.pfl_lines.specs.declared.search.ScriptLine.TheVariants as script
+use Rattle.pfl_lines.specs.Addresses.{end_of, v4_end, v4_of}
+use Rattle.pfl_lines.specs.Commands.{event_at, flush_at, packet_at, bare_frame_event_at, command_of, command_at, step_at, whole_step}
+use Rattle.pfl_lines.specs.Numbers.{number_of}
+use Rattle.pfl_lines.specs.Packets.{fields_at, plain_at}
+use Rattle.pfl_lines.specs.Search.{parsed_script, script_of, search_of, choices_of, each_choice, choice_of, move_of, move_at, given_at, any_frame_at, any_cut_at, goal_of, goal_at, question_at, passed_at, unpassed_at, judged_at}
+
+-- what events and commands need to compute on literals
+unfoldable of_commands : ℕ
+unfolding number_of v4_of v4_end end_of plain_at fields_at packet_at flush_at bare_frame_event_at event_at step_at command_at whole_step command_of
+of_commands = 0
+
+-- what goals need
+unfoldable of_goals : ℕ
+unfolding of_commands judged_at passed_at unpassed_at question_at goal_at goal_of
+of_goals = 0
+
+-- what lines of scripts need
+unfoldable computing : ℕ
+unfolding of_goals any_cut_at any_frame_at given_at move_at move_of choice_of each_choice choices_of search_of script_of parsed_script
+computing = 0
+
+-- ---- what is searched for
+
+-- a search of runs of at most 8 events on `main`, of which 100 are tried
+abbrev search_line : Question → Scope → List Choice → ScriptLine
+search_line question scope choices = script.Search (record {
+  branch = main_name;
+  depth = 8;
+  most = 100;
+  goal = record { question = question; scope = scope };
+  choices = record { items = choices };
+})
+
+abbrev times : ℕ → Move → Choice
+times n what = record { what = what; uses = n }
+
+no_choice : parsed_script (codes "search main 8 100 apart") ≡ Ok (search_line Apart Everywhere [])
+unfolding computing
+no_choice = refl
+
+any_frames : parsed_script (codes "search main 8 100 settled apart; 4 any deliver;2 any cut 40") ≡
+    Ok (search_line Apart Settled (times 4 (AnyFrame frame.Deliver) ∷ times 2 (AnyFrame (frame.Cut 40)) ∷ []))
+unfolding computing
+any_frames = refl
+
+query : PacketFields
+query = record {
+  seq = 0;
+  ack = 0;
+  window = 0;
+  len = 80;
+  proto = Udp;
+  src = record { addr = V4 0xc0000209; port = 53 };
+  dst = record { addr = V4 0x0a000001; port = 1000 };
+  flags = 0;
+  scale = None;
+}
+
+answers : parsed_script (codes "search main 8 100 landed unpassed packet b in udp 192.0.2.9:53 10.0.0.1:1000 80; 2 flush a ; 1 lose 7") ≡
+    Ok (search_line (Unpassed (event.At B (own.Packet Inbound query))) Landed (times 2 (Given (event.Flush A)) ∷ times 1 (Given (event.Of 7 frame.Lose)) ∷ []))
+unfolding computing query
+answers = refl
+
+-- ---- faults, from the left
+
+too_deep : parsed_script (codes "search main 65 100 nowhere; 0") ≡ Err Number
+unfolding computing
+too_deep = refl
+
+no_goal : parsed_script (codes "search main 8 100 landed settled apart") ≡ Err Unknown
+unfolding computing
+no_goal = refl
+
+goal_left_over : parsed_script (codes "search main 8 100 apart landed; 1 flush") ≡ Err Extra
+unfolding computing
+goal_left_over = refl
+
+packet_before_extra : parsed_script (codes "search main 8 100 passed packet a in icmp 10.0.0.1:1 10.0.0.2:2 80 80") ≡ Err (Packet Ports)
+unfolding computing
+packet_before_extra = refl
+
+empty_part : parsed_script (codes "search main 8 100 apart;") ≡ Err Missing
+unfolding computing
+empty_part = refl
+
+no_frame_by_ticket : parsed_script (codes "search main 8 100 apart; 1 any flush a") ≡ Err Unknown
+unfolding computing
+no_frame_by_ticket = refl
+
+-- a text, that many times
+abbrev repeated : ℕ → List ℕ → List ℕ
+repeated zero text = []
+repeated (suc n) text = text ++ repeated n text
+
+sixteen : parsed_script (codes "search main 8 100 apart" ++ repeated 16 (codes ";1 flush a")) ≡
+    Ok (search_line Apart Everywhere (replicate 16 (times 1 (Given (event.Flush A)))))
+unfolding computing
+sixteen = refl
+
+-- whatever the 17th says
+seventeen : parsed_script (codes "search main 8 100 apart" ++ repeated 16 (codes ";1 flush a") ++ codes ";nothing") ≡ Err Extra
+unfolding computing
+seventeen = refl
+
+-- ---- what is no search
+
+other_word : parsed_script (codes "search; main 8 100 apart") ≡ Err Unknown
+unfolding computing
+other_word = refl
+
+stepped : parsed_script (codes "step main flush a") ≡ Ok (script.Command (command.Step main_name (event.Flush A)))
+unfolding computing
+stepped = refl

@@ -1,0 +1,51 @@
+"""Words that are read from the left, and the first fault that is met."""
+from __future__ import annotations
+
+from typing import Optional, Sequence
+
+from .word_forms import Form, nearest, one_of
+
+
+class LineFault(Exception):
+    """The first fault of a line: its name, the place of its word, from 0 on (behind the last where one is missing), and why."""
+
+    def __init__(self, name: str, place: Optional[int], why: str):
+        super().__init__(why)
+        self.name, self.place, self.why = name, place, why
+
+
+class Reader:
+    """Words that are read from the left, all of them or those before an end."""
+
+    def __init__(self, words: Sequence[str], at: int = 0, end: Optional[int] = None):
+        self.words, self.at = words, at
+        self.end = len(words) if end is None else end
+
+    @property
+    def next(self) -> Optional[str]:
+        return self.words[self.at] if self.at < self.end else None
+
+    def take(self, wanted: Form) -> str:
+        word = self._one(wanted.name, wanted.what)
+        wrong = wanted.wrong(word)
+        if wrong is not None:
+            raise LineFault("Number", self.at - 1, f"`{word}` {wrong}; {wanted.name} is {wanted.what}")
+        return word
+
+    def known(self, what: str, words: Sequence[str], hint: str = "") -> str:
+        """A word out of a list, by which the rest is read."""
+        word = self._one(f"the {what}", one_of(words))
+        if word not in words:
+            meant = hint or nearest(word, words) or f"; it is {one_of(words)}"
+            raise LineFault("Unknown", self.at - 1, f"`{word}` is no {what}{meant}")
+        return word
+
+    def _one(self, name: str, what: str) -> str:
+        if self.next is None:
+            raise LineFault("Missing", self.end, f"{name} is missing: {what}")
+        self.at += 1
+        return self.words[self.at - 1]
+
+    def finish(self, what: str = "line") -> None:
+        if self.next is not None:
+            raise LineFault("Extra", self.at, f"the {what} was complete before `{self.next}`")

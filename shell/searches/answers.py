@@ -1,0 +1,42 @@
+"""The program's replies to a line `search` (docs/FORMATS.md)."""
+from __future__ import annotations
+
+from dataclasses import dataclass
+from typing import Optional, Sequence, Tuple, Union
+
+
+@dataclass(frozen=True)
+class Found:
+    """A shortest run: the branch that it goes on from, its events, and how many runs were tried."""
+
+    branch: str
+    events: Tuple[str, ...]
+    runs: int
+
+
+@dataclass(frozen=True)
+class NoRun:
+    """There is no run of at most so many events; so many were tried."""
+
+    depth: int
+    runs: int
+
+
+@dataclass(frozen=True)
+class GaveUp:
+    """More than so many runs were to be tried."""
+
+    runs: int
+
+
+Answer = Union[Found, NoRun, GaveUp]
+
+
+def read_answer(reply: Sequence[str]) -> Optional[Answer]:
+    """What a reply answers; nothing where it is a refusal or a fault."""
+    words = reply[0].split()
+    if words[0] == "found":
+        return Found(words[1], tuple(line.split(" ", 4)[4] for line in reply[1:-1]), int(words[5]))
+    if words[0] == "none":
+        return NoRun(int(words[1]), int(words[2]))
+    return GaveUp(int(words[2])) if words[:2] == ["gave", "up"] else None

@@ -1,0 +1,78 @@
+"""A search that goes deeper and deeper, in a run of its own: where a person interrupts it, the pair that she works with is none
+the worse."""
+from __future__ import annotations
+
+from dataclasses import dataclass
+from typing import Callable, List, Optional, Tuple
+
+from ..branches import Branch
+from ..laboratory import Laboratory, Step, Unknown, outcome_of
+from ..pair import Pair, read_shown
+from ..programs import Run
+from .answers import Answer, Found, GaveUp, NoRun, read_answer
+from .sought import Sought
+
+OLD_PROGRAM = "this program does not know the line `search`: it is older than the shell"
+# Takes the depth that is searched now, and what the search before it answered, if there was one.
+Watch = Callable[[int, Optional[NoRun]], None]
+
+
+@dataclass(frozen=True)
+class Outcome:
+    """How a search ended: its answer, or none where it was interrupted; the depth that it had come to; and what was found, step by
+    step, with what then becomes of the packet that it is about."""
+
+    answer: Optional[Answer]
+    depth: int
+    steps: Tuple[Step, ...] = ()
+    packet: str = ""
+    # The pair that the events lead to.
+    last: Optional[Pair] = None
+
+
+def search(lab: Laboratory, branch: Branch, sought: Sought, watch: Watch) -> Outcome:
+    """Searches from where a branch stands, for runs of no event, then of one, and so on. An interrupt ends it."""
+    depth = 0
+    answer: Optional[NoRun] = None
+    try:
+        with lab.aside(branch) as run:
+            for depth in range(sought.within + 1):
+                watch(depth, answer)
+                found = _asked(run, sought.line(branch.name, depth))
+                if isinstance(found, Found):
+                    return _found(run, branch, sought, found)
+                if isinstance(found, GaveUp):
+                    return Outcome(found, depth)
+                answer = found
+        return Outcome(answer, depth)
+    except KeyboardInterrupt:
+        return Outcome(None, depth)
+
+
+def _asked(run: Run, line: str) -> Answer:
+    reply = run.ask_freely(line)
+    answer = read_answer(reply)
+    if answer is None:
+        raise Unknown(OLD_PROGRAM if reply[0] == "bad 3 Unknown" else f"the program answers `{reply[0]}` to `{line}`")
+    return answer
+
+
+def _found(run: Run, branch: Branch, sought: Sought, answer: Found) -> Outcome:
+    """The events that were found, each with what it does."""
+    pairs = [_shown(run, branch)]
+    outcomes: List[str] = []
+    for event in answer.events:
+        outcomes.append(_step(run, branch, event))
+        pairs.append(_shown(run, branch))
+    numbered = enumerate(zip(answer.events, outcomes, pairs, pairs[1:]), branch.cursor + 1)
+    steps = tuple(Step(number, *of) for number, of in numbered)
+    packet = _step(run, branch, sought.packet) if sought.packet else ""
+    return Outcome(answer, len(steps), steps, packet, pairs[-1])
+
+
+def _shown(run: Run, branch: Branch) -> Pair:
+    return read_shown(run.ask_freely(f"show {branch.name}"))
+
+
+def _step(run: Run, branch: Branch, event: str) -> str:
+    return outcome_of(run.ask_freely(f"step {branch.name} {event}")[0])

@@ -1,0 +1,62 @@
+"""What a word of a search can be, by the words before it: for the key that completes a line."""
+from __future__ import annotations
+
+from typing import List, NamedTuple, Sequence, Tuple
+
+from ..names import EVENTS, NODES, OF_TICKET, SEARCH, SCOPES
+from ..names import GOALS as GOALS_OF_LINES
+from ..reasons.search_forms import words_of
+from .reading import OF_ANY, PARTS, is_for_people
+from .sought import GOALS
+
+
+class Offers(NamedTuple):
+    """The words that may come, or those of an event that has begun, by which the next one is told."""
+
+    words: Tuple[str, ...] = ()
+    event: Tuple[str, ...] = ()
+    is_for_people: bool = False
+
+
+def offers(words: Sequence[str]) -> Offers:
+    """What may come behind words of which the first is `search`."""
+    if len(words) == 1:
+        return Offers(tuple(GOALS))
+    if is_for_people(" ".join(words)):
+        return _of_people(words)._replace(is_for_people=True)
+    return _of_line(words_of(" ".join(words)))
+
+
+def _of_people(words: Sequence[str]) -> Offers:
+    """Parts that commas end."""
+    part: List[str] = []
+    for word in words:
+        part = [] if word.endswith(",") else [*part, word]
+    if not part:
+        return Offers(PARTS)
+    if part[0] == SEARCH:
+        return Offers(("packet",) if part[2:] == [] and part[1] != "apart" else (), tuple(part[2:]))
+    if part == ["at"]:
+        return Offers(("most",))
+    if part[0] in OF_ANY or part[0] == "cut":
+        return Offers()
+    return Offers((), tuple(part)) if part[0] in EVENTS else Offers()
+
+
+def _of_line(words: Sequence[str]) -> Offers:
+    """Parts that semicolons end, where the first has a branch, a depth and a number of runs, and the others how often."""
+    ends = [at for at, word in enumerate(words) if word == ";"]
+    part = list(words[ends[-1] + 2 :]) if ends else [it for it in words[4:] if it not in SCOPES]
+    if ends and words[-1] == ";" or not ends and len(words) < 4:
+        return Offers()
+    if not ends and not part:
+        return Offers((*(SCOPES if len(words) == 4 else ()), *GOALS_OF_LINES))
+    if not ends:
+        return _event(part[1:]) if part[0] != "apart" else Offers()
+    if part[:1] == ["any"]:
+        return Offers(OF_TICKET if len(part) == 1 else ())
+    return _event(part) if part else Offers(("any", *EVENTS))
+
+
+def _event(part: Sequence[str]) -> Offers:
+    return Offers((), tuple(part)) if part else Offers(EVENTS)

@@ -1,0 +1,151 @@
+"""The words that people type after `search`, with what they leave out."""
+from __future__ import annotations
+
+import re
+from typing import Dict, List, Optional, Sequence, Tuple
+
+from .. import macros
+from ..laboratory import Unknown
+from ..names import EVENTS, NODES
+from ..reasons.line_forms import LONGEST_LINE, check_line
+from ..reasons.readers import LineFault
+from ..reasons.search_forms import DEEPEST, MOST_CHOICES
+from ..reasons.word_forms import GREATEST, nearest
+from .sought import ALWAYS, ANYWHERE, DELIVER, GOALS, RUNS, SCOPE, WHERE, Choice, Sought
+from .sought import EVENTS as EVENTS_AT_MOST
+
+PARTS = (*WHERE, "within", "at", *EVENTS)
+# What happens to any frame: the number after it says how often, and is no ticket.
+OF_ANY = ("deliver", "lose", "repeat")
+
+
+def is_for_people(line: str) -> bool:
+    """Whether a line that begins with `search` goes on in people's words, and not with a branch, a depth and a number of runs."""
+    words = line.replace(",", " ").split()
+    is_raw = len(words) > 3 and all(re.fullmatch("[0-9]+", it) for it in words[2:4])
+    return len(words) > 1 and words[1] in GOALS and not is_raw
+
+
+def read(line: str, branch: str) -> Sought:
+    """The search from a branch that a line asks for in people's words; raises what is wrong with it."""
+    # (a comma before a digit belongs to a number, as in 1,000,000)
+    first, *rest = (it.split() for it in re.split(",(?![0-9])", line.split(None, 1)[1]))
+    parts = _Parts()
+    packet = _packet(first)
+    for words in rest:
+        parts.take(words)
+    sought = parts.sought(first[0], packet)
+    length = len(sought.line(branch, sought.within))
+    if length > LONGEST_LINE:
+        raise Unknown(f"the line that says this has {length} characters, and at most {LONGEST_LINE} are read: allow fewer events")
+    return sought
+
+
+def _packet(words: Sequence[str]) -> str:
+    """The packet that is to drop or to pass; empty where nodes are to be apart."""
+    kind, *event = words
+    if kind == "apart":
+        if event:
+            raise Unknown(f"a comma is missing: `search apart, {' '.join(event)}`")
+        return ""
+    if event[:1] != ["packet"]:
+        raise Unknown(f"what {kind} is a packet: `search {kind} packet NODE in|out ..`; `help packet` has its form")
+    return _event(event)
+
+
+class _Parts:
+    """The parts after the first, as far as they are read."""
+
+    def __init__(self) -> None:
+        self.scope: Optional[str] = None
+        self.within: Optional[int] = None
+        self.runs: Optional[int] = None
+        # Of each choice that is named how often it may happen; nothing stands for as often as there are events.
+        self.uses: Dict[str, Optional[int]] = {}
+
+    def take(self, words: Sequence[str]) -> None:
+        if not words:
+            raise Unknown("a part without a word: parts stand between commas")
+        if words[0] in WHERE and len(words) == 1:
+            _once("where it is asked", self.scope)
+            self.scope = words[0]
+        elif words[0] == "within":
+            _once("`within`", self.within)
+            self.within = _counted(words[1:], "event", DEEPEST, "within N")
+        elif words[0] == "at":
+            _once("`at most`", self.runs)
+            self.runs = _counted(words[2:] if words[:2] == ["at", "most"] else (), "run", GREATEST, "at most RUNS")
+        else:
+            for what, uses in _choices(words):
+                _once(f"`{what}`", what if what in self.uses else None)
+                self.uses[what] = uses
+
+    def sought(self, kind: str, packet: str) -> Sought:
+        within = EVENTS_AT_MOST if self.within is None else self.within
+        uses = {**dict.fromkeys(ALWAYS), **self.uses}
+        if len(uses) > MOST_CHOICES:
+            raise Unknown(f"a search has {MOST_CHOICES} choices at most, and these are {len(uses)}: {', '.join(uses)}")
+        choices = tuple(Choice(what, within if many is None else many) for what, many in uses.items())
+        runs = RUNS if self.runs is None else self.runs
+        return Sought(kind, packet, self.scope or SCOPE, within, runs, choices)
+
+
+def _once(what: str, had: object) -> None:
+    if had is not None:
+        raise Unknown(f"{what} is said twice")
+
+
+def _choices(words: Sequence[str]) -> List[Tuple[str, Optional[int]]]:
+    """What a part allows, and how often; nothing in place of a number is as often as there are events."""
+    if words[0] not in EVENTS:
+        meant = nearest(words[0], PARTS) or "; `help search` lists them"
+        raise Unknown(f"`{words[0]}` begins no part of a search{meant}")
+    if list(words) == ["deliver", "all"]:
+        return [(DELIVER, None)]
+    what, uses = _times(words)
+    if what[:2] == ["tick", "both"] and len(what) == 3:
+        return [(_event(it.split()), uses) for it in macros.ticks(what[2])]
+    return [(_any(what) or _event(what), uses)]
+
+
+def _any(words: Sequence[str]) -> str:
+    """What happens to any frame; empty where a ticket says to which."""
+    if words[0] == "cut" and len(words) == 2:
+        return f"any cut {_number(words[1], GREATEST, 'cut LENGTH N')}"
+    return f"any {words[0]}" if words[0] in OF_ANY and len(words) == 1 else ""
+
+
+def _times(words: Sequence[str]) -> Tuple[List[str], int]:
+    """A part without how often it may happen, and that: `N times`, or a number alone where one can stand; once if not said."""
+    if words[-1] in ("times", "time") and len(words) > 2:
+        return list(words[:-2]), _number(words[-2], GREATEST, f"{' '.join(words[:-2])} N times")
+    if words[-1] == "once" and len(words) > 1:
+        return list(words[:-1]), 1
+    with_number = {"cut": 3, "flush": 3, **dict.fromkeys(OF_ANY, 2)}
+    if with_number.get(words[0]) == len(words):
+        return list(words[:-1]), _number(words[-1], GREATEST, f"{' '.join(words[:-1])} N")
+    return list(words), 1
+
+
+def _event(words: Sequence[str]) -> str:
+    """An event as the program takes it, or what is wrong with it."""
+    event = " ".join(words)
+    try:
+        check_line(f"step main {event}", False)
+    except LineFault as fault:
+        raise Unknown(f"`{event}`: {fault.why}") from fault
+    return event
+
+
+def _counted(words: Sequence[str], noun: str, most: int, form: str) -> int:
+    """A number, and its noun if people say it."""
+    if not words or len(words) > 2 or words[1:] not in ([], [noun], [f"{noun}s"]):
+        raise Unknown(f"`{form}` has one number")
+    return _number(words[0], most, form)
+
+
+def _number(word: str, most: int, form: str) -> int:
+    digits = word.replace(",", "")
+    if not re.fullmatch("[0-9]{1,20}", digits) or int(digits) > most:
+        raise Unknown(f"`{word}` is no number from 0 to {most}: {form}")
+    return int(digits)

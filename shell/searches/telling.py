@@ -1,0 +1,92 @@
+"""The answer to a search in people's words."""
+from __future__ import annotations
+
+from typing import List, Sequence
+
+from ..colours import Paint
+from ..frames import summary
+from ..laboratory import Step
+from ..names import OF_TICKET
+from ..pair import Frame, Pair
+from ..words import counted
+from .answers import Found, GaveUp, NoRun
+from .deepening import Outcome
+from .sought import WHERE, Sought
+
+
+def runs(number: int) -> str:
+    return "1 run" if number == 1 else f"{number:,} runs"
+
+
+def told(sought: Sought, outcome: Outcome, paint: Paint) -> List[str]:
+    """What a search found, or why it found nothing, and what it was allowed."""
+    if isinstance(outcome.answer, Found):
+        lines = _found(sought, outcome, outcome.answer, paint)
+    elif isinstance(outcome.answer, NoRun):
+        lines = [paint.head(_none(outcome.answer))]
+    else:
+        lines = [paint.note(_stopped(outcome))]
+    lines += [paint.dim(it) for it in sought.told]
+    return [*lines, paint.dim("`take` steps them on a new branch")] if outcome.steps else lines
+
+
+def _found(sought: Sought, outcome: Outcome, answer: Found, paint: Paint) -> List[str]:
+    tried = f"({runs(answer.runs)} tried)"
+    if answer.events:
+        head = f"found: {counted(len(answer.events), 'event')}, the shortest way {tried}"
+    else:
+        head = f"found: no event is needed, it is so where the branch stands {tried}"
+    lines = [paint.head(head), *_steps(outcome.steps)]
+    return lines if outcome.last is None else [*lines, *_then(sought, outcome, outcome.last, paint)]
+
+
+def _steps(steps: Sequence[Step]) -> List[str]:
+    """The events by the places that they get, as they are typed, with what becomes of each."""
+    rows = [(str(it.number), it.event, it.outcome, _frame(it)) for it in steps]
+    number, event, outcome = (max((len(row[at]) for row in rows), default=0) for at in range(3))
+    return [f"  {it[0]:>{number}}  {it[1]:<{event}}  {it[2]:<{outcome}}  {it[3]}".rstrip() for it in rows]
+
+
+def _frame(step: Step) -> str:
+    """The frame that an event is about: where it goes, and what it carries."""
+    kind, *rest = step.event.split()
+    if kind == "flush":
+        return _carries(step.after.frames[int(step.outcome.split()[1])])
+    if kind not in OF_TICKET:
+        return ""
+    return _carries((step.after if kind == "cut" else step.before).frames[int(rest[0])])
+
+
+def _carries(frame: Frame) -> str:
+    return f"frame {frame.ticket} to {frame.to}: {summary(frame.data)}"
+
+
+def _then(sought: Sought, outcome: Outcome, last: Pair, paint: Paint) -> List[str]:
+    """What meets the goal after the last event; and where that is so at once, how to ask later."""
+    lines = [f"  then {sought.packet}: {outcome.packet}" if sought.packet else f"  then {_apart(last)}"]
+    if not outcome.steps and (last.frames or last.a.pending + last.b.pending):
+        lines.append(paint.note(f"something is still in flight or pending: `settled` asks only {WHERE['settled']}"))
+    return lines
+
+
+def _apart(pair: Pair) -> str:
+    """Which states only one node has, by their names."""
+    parts = []
+    for node, other in ((pair.a, pair.b), (pair.b, pair.a)):
+        names = [str(it) for it in sorted(node.states) if it not in other.states]
+        if names:
+            parts.append(f"{', '.join(names)} only on {node.id}")
+    return f"a and b are apart: {'; '.join(parts)}"
+
+
+def _none(answer: NoRun) -> str:
+    events = counted(answer.depth, "event")
+    return f"no run of at most {events} of these choices leads there: proved, over {runs(answer.runs)}"
+
+
+def _stopped(outcome: Outcome) -> str:
+    """That a search gave up or was interrupted, and what is known all the same."""
+    known = f"up to depth {outcome.depth - 1} there is none" if outcome.depth else "nothing is known"
+    if isinstance(outcome.answer, GaveUp):
+        return f"gave up after {runs(outcome.answer.runs)} at depth {outcome.depth}; {known}"
+    return f"interrupted at depth {outcome.depth}; {known}"
