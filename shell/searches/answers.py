@@ -16,7 +16,7 @@ class Found:
 
 @dataclass(frozen=True)
 class NoRun:
-    """There is no run of at most so many events; so many were tried."""
+    """There is no run of at most `depth` events, and how many were tried."""
 
     depth: int
     runs: int
@@ -24,7 +24,7 @@ class NoRun:
 
 @dataclass(frozen=True)
 class GaveUp:
-    """More than so many runs were to be tried."""
+    """More runs were to be tried than allowed."""
 
     runs: int
 

@@ -17,7 +17,7 @@ if TYPE_CHECKING:
     from ..shell import Shell
 
 ON_A_SERVER = (
-    "a server does not search: its `log` tells the events of a branch; in a shell of your own, after the same setup, step them "
+    "a server does not search: its `log` shows the events of a branch; in a shell of your own, after the same setup, step them "
     "and search there"
 )
 NAME = "found"
@@ -33,7 +33,7 @@ class Way:
 
 
 class Status:
-    """How far a search is, in a line of a terminal that is written over; elsewhere it is not told."""
+    """How far a search is, in a line of a terminal that is written over; elsewhere it is not shown."""
 
     def __init__(self, out: IO[str], paint: Paint, is_shown: bool):
         self.out, self.paint, self.is_shown = out, paint, is_shown

@@ -11,7 +11,7 @@ from .sought import GOALS
 
 
 class Offers(NamedTuple):
-    """The words that may come, or those of an event that has begun, by which the next one is told."""
+    """The words that may come, or those of an event that has begun, by which the next one is known."""
 
     words: Tuple[str, ...] = ()
     event: Tuple[str, ...] = ()
@@ -19,7 +19,7 @@ class Offers(NamedTuple):
 
 
 def offers(words: Sequence[str]) -> Offers:
-    """What may come behind words of which the first is `search`."""
+    """What may come after words of which the first is `search`."""
     if len(words) == 1:
         return Offers(tuple(GOALS))
     if is_for_people(" ".join(words)):

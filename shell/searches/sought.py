@@ -26,7 +26,7 @@ ALWAYS = (DELIVER, *(f"flush {node}" for node in NODES))
 
 @dataclass(frozen=True)
 class Choice:
-    """Something that may happen, at most so many times."""
+    """Something that may happen, and how many times at most."""
 
     what: str
     uses: int
@@ -56,7 +56,7 @@ class Sought:
     choices: Tuple[Choice, ...]
 
     def line(self, branch: str, depth: int) -> str:
-        """The line that asks the program for runs of at most so many events."""
+        """The line that asks the program for runs of at most `depth` events."""
         scope = "" if self.scope == ANYWHERE else self.scope
         goal = " ".join(filter(None, (scope, GOALS[self.kind], self.packet)))
         choices = [f"{it.uses} {it.what}" for it in self.choices]

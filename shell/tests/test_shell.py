@@ -339,7 +339,7 @@ class Server(Dialogue):
     def test_a_server_does_not_search(self) -> None:
         one, two = self.shells
         told = (
-            "a server does not search: its `log` tells the events of a branch; in a shell of your own, after the same setup, step them "
+            "a server does not search: its `log` shows the events of a branch; in a shell of your own, after the same setup, step them "
             "and search there"
         )
         self.assertEqual(self.said(one, "search apart", "search main 3 100 apart", QUERY), [told, told, "step pass 1.1 dropped 0"])
