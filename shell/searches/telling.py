@@ -33,7 +33,7 @@ def told(sought: Sought, outcome: Outcome, paint: Paint) -> List[str]:
 def _found(sought: Sought, outcome: Outcome, answer: Found, paint: Paint) -> List[str]:
     tried = f"({runs(answer.runs)} tried)"
     if answer.events:
-        head = f"found: {counted(len(answer.events), 'event')}, the shortest way {tried}"
+        head = f"found: {counted(len(answer.events), 'event')}, a shortest way {tried}"
     else:
         head = f"found: no event is needed, it is so where the branch stands {tried}"
     lines = [paint.head(head), *_steps(outcome.steps)]

@@ -117,7 +117,7 @@ class Answers(Dialogue):
 
     def test_a_lost_frame_is_the_shortest_way_to_a_drop(self) -> None:
         said = self.said(self.shell(), f"search drops {ANSWER}, settled, within 4, lose 1")
-        self.assertRegex(said[0], r"^found: 2 events, the shortest way \([0-9]+ runs tried\)$")
+        self.assertRegex(said[0], r"^found: 2 events, a shortest way \([0-9]+ runs tried\)$")
         self.assertEqual(
             said[1:],
             [
@@ -205,7 +205,7 @@ class Canned(Dialogue):
     def test_many_runs_are_told_with_commas(self) -> None:
         answers = {0: ["none 0 1"], 1: ["found main events 1 runs 1204", "event 1 step main flush a", "end"]}
         said = self.said(self.shell(standin(self, answers)), "search apart, anywhere")
-        self.assertEqual(said[0], "found: 1 event, the shortest way (1,204 runs tried)")
+        self.assertEqual(said[0], "found: 1 event, a shortest way (1,204 runs tried)")
 
     def test_a_program_without_the_line_is_told(self) -> None:
         said = self.said(self.shell(standin(self, {0: ["bad 3 Unknown"]})), "search apart", "take", "names")

@@ -4,6 +4,7 @@ pub mod Fronts
 pub mod Timeouts
 pub mod Letters
 pub mod Searched
+pub mod Plain
 mod Worked
 pub mod WrittenNumbers
 pub mod WrittenWords

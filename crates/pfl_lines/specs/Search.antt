@@ -1,10 +1,11 @@
 -- How searches are written, and what lines of scripts say (this project's profile).
-use Rattle.std.specs.Prelude.{ℕ, ◌==◌, nat_lt, List, [], ◌∷◌, length, take, codes, bytes_eq, if◌then◌else◌, Result, Ok, Err}
+use Rattle.std.specs.Prelude.{◌≡◌, ℕ, Bool, false, ◌==◌, nat_lt, List, [], ◌∷◌, length, take, codes, bytes_eq, if◌then◌else◌, Result, Ok, Err}
 use Rattle.std.specs.Option.{option_map_or}
 use Rattle.pfl_base.specs.Numbers.{greatest}
 use Rattle.pfl_language.specs.declared.choice.Choice.{Choice}
 use Rattle.pfl_language.specs.declared.choice.Move.{Move}
 use Rattle.pfl_language.specs.declared.choice.Move.TheVariants.{Given, AnyFrame}
+use Rattle.pfl_language.specs.declared.command.Command.{Command}
 use Rattle.pfl_language.specs.declared.event.Event.{Event}
 use Rattle.pfl_language.specs.declared.event.FrameEvent.TheVariants as frame
 use Rattle.pfl_language.specs.declared.goal.Goal.{Goal}
@@ -172,6 +173,16 @@ unfoldable pub script_of : List ℕ → Result ScriptLine LineFault
 script_of text = do
   word ← word_at (words text)
   if bytes_eq word.0 (codes "search") then searched (parts_of text) else commanded (words text)
+
+-- the first word is `search`
+abbrev pub says_search : List (List ℕ) → Bool
+says_search [] = false
+says_search (word ∷ ws) = bytes_eq word (codes "search")
+
+-- a line of a script says this command, or has this fault
+abbrev pub SaysCommand : Result Command LineFault → Result ScriptLine LineFault → Type 0
+SaysCommand (Ok command) said = said ≡ Ok (script.Command command)
+SaysCommand (Err fault) said = said ≡ Err fault
 
 -- what a line of a script says
 unfoldable pub parsed_script : List ℕ → Result ScriptLine LineFault

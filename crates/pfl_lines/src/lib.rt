@@ -20,7 +20,7 @@ mod written;
 pub use commands::{LONGEST, parse_line};
 pub use fault::LineFault;
 pub use laws::steps_read_back;
-pub use search::{ScriptLine, SearchLine, parse_script};
+pub use search::{ScriptLine, SearchLine, is_search, parse_plain, parse_script};
 pub use session::{SessionLine, parse_session};
 pub use setup::{SetupLine, parse_setup};
 pub use written::{EventWords, PacketWords};

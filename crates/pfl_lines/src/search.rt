@@ -1,13 +1,13 @@
 //! The line `search`, and lines of scripts.
 
-ghost use Rattle.std.specs.Prelude.{◌≡◌, ◌<◌, ◌∷◌, IfSome, length};
+ghost use Rattle.std.specs.Prelude.{◌≡◌, ◌<◌, ◌∷◌, false, IfSome, length};
 ghost use Rattle.std.specs.Option.{option_map};
 ghost use Rattle.pfl_lines.specs.Words.{words};
 ghost use Rattle.pfl_lines.specs.inner.Parts.{parts_behind};
 ghost use Rattle.pfl_lines.specs.inner.Readings.{Gives};
-ghost use Rattle.pfl_lines.specs.Search.{parts_of, judged_at, passed_at, unpassed_at, question_at, question_by, scope_at, goal_at, goal_of, any_cut_at, any_frame_at, any_frame_by, given_at, move_at, move_of, choice_of, choices_of, search_of, searched, commanded, script_of, parsed_script};
+ghost use Rattle.pfl_lines.specs.Search.{parts_of, judged_at, passed_at, unpassed_at, question_at, question_by, scope_at, goal_at, goal_of, any_cut_at, any_frame_at, any_frame_by, given_at, move_at, move_of, choice_of, choices_of, search_of, searched, commanded, script_of, parsed_script, says_search, SaysCommand};
 
-use crate::commands::{checked, command_of, event_at, whole_event};
+use crate::commands::{checked, command_of, event_at, parse_line, whole_event};
 use crate::event_words::bare_frame_event;
 use crate::fault::LineFault;
 use crate::numbers::cut;
@@ -286,6 +286,25 @@ fn script_of(text: &[u8]) -> Result<ScriptLine, LineFault>
         return searched(text);
     }
     commanded(text)
+}
+
+/// Whether the first word of a line is `search`.
+pub fn is_search(line: &[u8]) -> bool
+    ensures { result ≡ says_search (words line.now) }
+{
+    match word_at(line) {
+        Ok((word, _)) => is_word(word, "search"),
+        Err(_) => false,
+    }
+}
+
+/// What a line of a script says that does not begin with `search`. A command is small, and what any line may say has room for the
+/// choices of a search.
+pub fn parse_plain(line: &[u8]) -> Result<Command, LineFault>
+    requires plain { says_search (words line.now) ≡ false }
+    ensures { SaysCommand result (parsed_script line.now) }
+{
+    parse_line(line)
 }
 
 /// What a line of a script says: `search`, or a command. It takes no memory.

@@ -1,12 +1,15 @@
 //! A line that was read.
 
-ghost use Rattle.std.specs.Prelude.{◌≡◌};
-ghost use Rattle.pfl_reader.specs.Saids.{kept_said, kept_session, kept_setup};
+ghost use Rattle.std.specs.Prelude.{◌≡◌, false};
+ghost use Rattle.pfl_lines.specs.Search.{SaysCommand};
+ghost use Rattle.pfl_reader.specs.Saids.{kept_said, kept_search, kept_session, kept_setup};
 ghost use Rattle.pfl_reader.specs.Scans.{has_word};
 
 use crate::head::Head;
+use pfl_language::Command;
 use pfl_lines::{
-    LineFault, ScriptLine, SessionLine, SetupLine, parse_script, parse_session, parse_setup,
+    LineFault, ScriptLine, SessionLine, SetupLine, is_search, parse_plain, parse_script,
+    parse_session, parse_setup,
 };
 use std::marker::Model;
 
@@ -51,6 +54,25 @@ impl<'a> Line<'a> {
             return Err(LineFault::Long);
         }
         parse_script(self.bytes)
+    }
+
+    /// Whether the line begins with `search`.
+    pub fn is_search(&self) -> bool
+        ensures { result ≡ kept_search self.now }
+    {
+        is_search(self.bytes)
+    }
+
+    /// The command of a line of a script that does not begin with `search`. It is small, where `parse` has room for the choices of a
+    /// search.
+    pub fn parse_plain(&self) -> Result<Command, LineFault>
+        requires plain { kept_search self.now ≡ false }
+        ensures { SaysCommand result (kept_said self.now) }
+    {
+        if self.long {
+            return Err(LineFault::Long);
+        }
+        parse_plain(self.bytes)
     }
 
     /// What the line says as one of a setup.

@@ -2,4 +2,4 @@
 
 /// The release, the sum of its sources, and the logic that proves them.
 pub(crate) const VERSION: &str =
-    "release 3, sources 76347491b75fe08fb26f2054905c76061f8d53da331426e3a52a33a6332f1704, logic dac8208d650f15bf";
+    "release 4, sources 91c61f5e5e197690e4e3e582b6353f26a69b84e67bcaae7900821e49e0c35deb, logic dac8208d650f15bf";

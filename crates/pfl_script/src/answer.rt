@@ -2,9 +2,10 @@
 
 ghost use Rattle.std.specs.Prelude.{◌≡◌, ℕ, true, take, IfOk, OnOk, OnErr, IfErr};
 ghost use Rattle.std.specs.Io.KnownBytes.{Appends};
-ghost use Rattle.pfl_lines.specs.declared.search.ScriptLine.TheVariants as said;
+ghost use Rattle.pfl_lines.specs.declared.search.ScriptLine.TheVariants as script;
 ghost use Rattle.pfl_script.specs.Answers.{answer_to, kept_answer, kept_bad, kept_command, sought_by};
 ghost use Rattle.pfl_script.specs.inner.Answers.{Breaks};
+ghost use Rattle.pfl_reader.specs.Scans.{has_word};
 ghost use Rattle.pfl_script.specs.Readers.{IsWriteFault};
 ghost use Rattle.pfl_script.specs.Replies.{reply_text};
 ghost use Rattle.pfl_script.specs.Searches.{finding_text};
@@ -52,10 +53,10 @@ fn answer_command<A: Allocator, B: Allocator + Copy, W: Output>(
     writer: &mut W,
     timeline: &mut Timeline<B>,
 ) -> Result<(), EngineFault>
-    ensures timeline { OnOk result (timeline.new ≡ (answer_to (Ok (said.Command command)) timeline.old).timeline) }
-    ensures text { OnOk result (Appends (W.written writer.old) (W.written writer.new) (answer_to (Ok (said.Command command)) timeline.old).text) }
+    ensures timeline { OnOk result (timeline.new ≡ (answer_to (Ok (script.Command command)) timeline.old).timeline) }
+    ensures text { OnOk result (Appends (W.written writer.old) (W.written writer.new) (answer_to (Ok (script.Command command)) timeline.old).text) }
     ensures stays { OnOk result (W.has_failed writer.new ≡ W.has_failed writer.old) }
-    ensures breaks { OnErr result (Breaks (answer_to (Ok (said.Command command)) timeline.old) timeline.old timeline.new (W.written writer.old) (W.written writer.new)) }
+    ensures breaks { OnErr result (Breaks (answer_to (Ok (script.Command command)) timeline.old) timeline.old timeline.new (W.written writer.old) (W.written writer.new)) }
     ensures untouched { IfErr result (λ e. e ≡ EngineFault.NoMemory → writer.new ≡ writer.old) }
     ensures unchanged { IfErr result (λ e. e ≡ EngineFault.NoMemory → timeline.new ≡ timeline.old) }
     ensures fault { IfErr result (λ e. IsWriteFault e (W.has_failed writer.new)) }
@@ -118,6 +119,39 @@ fn answer_said<A: Allocator, B: Allocator + Copy, W: Output>(
     }
 }
 
+/// Does what a line says that begins with `search`, writes its answer, and says whether it is faulty. It stands by itself, and is not
+/// inlined, so that no command pays for the room that a search has for its choices.
+#[inline(never)]
+#[tactic(auto, unfolding(crate::specs::Answers::kept_answer, crate::specs::Answers::kept_bad, crate::specs::Answers::kept_command))]
+fn answer_searching<A: Allocator, B: Allocator + Copy, W: Output>(
+    alloc: A,
+    line: &Line,
+    writer: &mut W,
+    timeline: &mut Timeline<B>,
+) -> Result<bool, EngineFault>
+    requires word { has_word line.now.head ≡ true }
+    ensures bad { IfOk result (λ bad. bad ≡ kept_bad line.now) }
+    ensures timeline { OnOk result (timeline.new ≡ (kept_answer line.now timeline.old).timeline) }
+    ensures text { OnOk result (Appends (W.written writer.old) (W.written writer.new) (kept_answer line.now timeline.old).text) }
+    ensures stays { OnOk result (W.has_failed writer.new ≡ W.has_failed writer.old) }
+    ensures breaks { OnErr result (Breaks (kept_answer line.now timeline.old) timeline.old timeline.new (W.written writer.old) (W.written writer.new)) }
+    ensures command { IfErr result (λ e. e ≡ EngineFault.NoMemory → kept_command line.now ≡ true) }
+    ensures untouched { IfErr result (λ e. e ≡ EngineFault.NoMemory → writer.new ≡ writer.old) }
+    ensures unchanged { IfErr result (λ e. e ≡ EngineFault.NoMemory → timeline.new ≡ timeline.old) }
+    ensures fault { IfErr result (λ e. IsWriteFault e (W.has_failed writer.new)) }
+{
+    match line.parse() {
+        Err(fault) => match write_text(writer, fault_line(fault).as_bytes()) {
+            Ok(()) => Ok(true),
+            Err(fault) => Err(fault),
+        },
+        Ok(said) => match answer_said(alloc, said, writer, timeline) {
+            Ok(()) => Ok(false),
+            Err(fault) => Err(fault),
+        },
+    }
+}
+
 /// Executes a line, if it has a word and is no comment, writes its reply, and says whether it is faulty. Where memory is wanting,
 /// nothing has changed.
 #[tactic(auto, unfolding(crate::specs::Answers::kept_answer, crate::specs::Answers::kept_bad, crate::specs::Answers::kept_command))]
@@ -140,12 +174,15 @@ pub fn answer_line<A: Allocator, B: Allocator + Copy, W: Output>(
     if !line.has_word() {
         return Ok(false);
     }
-    match line.parse() {
+    if line.is_search() {
+        return answer_searching(alloc, line, writer, timeline);
+    }
+    match line.parse_plain() {
         Err(fault) => match write_text(writer, fault_line(fault).as_bytes()) {
             Ok(()) => Ok(true),
             Err(fault) => Err(fault),
         },
-        Ok(said) => match answer_said(alloc, said, writer, timeline) {
+        Ok(command) => match answer_command(alloc, command, writer, timeline) {
             Ok(()) => Ok(false),
             Err(fault) => Err(fault),
         },
