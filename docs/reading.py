@@ -3,7 +3,7 @@
 
 A page quotes by a comment on a line of its own, and the fenced block behind it is what this script writes:
 
-    <!-- definition CRATE NAME -->           a definition of specs/, with the sentence above it
+    <!-- definition CRATE NAME.. -->         definitions of specs/, each with the sentence above it, below the name of its file
     <!-- theorem CRATE NAME -->              what a theorem of proofs/ says, without its proof
     <!-- contracts CRATE FUNCTION.. -->      signatures and clauses of public functions, as in `Pending::mark` or `merge`
     <!-- function CRATE FUNCTION -->         a whole function
@@ -16,7 +16,9 @@ A page quotes by a comment on a line of its own, and the fenced block behind it 
 Names are looked up in the crate, whatever file they stand in; a name that is gone or that stands twice is an error. A contract stands
 on one page alone: a function that is quoted twice over all pages, by `contracts` or by `function`, is an error. On a page that says
 what is reached, a definition that is quoted and not reached is an error: nobody has to believe it. Where it says so of another
-page's contracts, a definition that one of their clauses cites and that it does not quote is an error, too.
+page's contracts, a definition that one of their clauses cites and that it does not quote is an error, too; of a law, a function
+without code, so is a definition that its statement is made of. README.md names in its promises the functions and laws that carry
+them: each has to be quoted in docs/PROVED.md, and a page has to say what that page's contracts reach.
 
     docs/reading.py            writes the blocks
     docs/reading.py --check    changes nothing, and ends with 1 where a block is stale or a name is not found
@@ -24,6 +26,7 @@ page's contracts, a definition that one of their clauses cites and that it does 
 
 import collections
 import functools
+import itertools
 import re
 import sys
 import textwrap
@@ -40,6 +43,10 @@ FAMILIES = {
     "pfl_node": ("pfl_node", "pfl_desk", "pfl_receive"),
     "test_publish": ("test_publish", "pfl_publish_tests"),
 }
+# The page that names the functions and laws of the promises, the heading under which it does, and the page that quotes them.
+PROMISES = ("README.md", "## What it promises", "docs/PROVED.md")
+# The name of a function or a law, and not a word of a command line: its type stands before it, or it is of several words.
+CARRIES = re.compile(r"`((?:\w+::)+\w+|[a-z]\w*_\w+)`")
 WIDTH = 120
 MARKER = re.compile(r"<!-- (definition|theorem|contracts|function|file|naming|reached|refusals) (.+?) -->$")
 DEFINITION = r"^ *(?:abbrev pub|unfoldable pub|pub record|pub data) {name}(?= |$)"
@@ -74,6 +81,19 @@ def only(found, what):
     return found[0]
 
 
+def all_found(quote, family, names):
+    """What is quoted of each name; an error has all names that are not found."""
+    found, missing = [], []
+    for name in names:
+        try:
+            found.append(quote(family, name))
+        except Missing as fault:
+            missing.append(str(fault))
+    if missing:
+        raise Missing("; ".join(missing))
+    return found
+
+
 def search(family, folder, suffix, pattern, what):
     """The file, the lines and the index of the one line that matches."""
     matcher = re.compile(pattern)
@@ -103,9 +123,18 @@ def dedented(lines):
     return textwrap.dedent("\n".join(lines)).splitlines()
 
 
-def definition(family, name):
+def one_definition(family, name):
+    """The module of a definition, and its lines with the sentence above it."""
     path, lines, at = search(family, "specs", ".antt", DEFINITION.format(name=re.escape(name)), f"definition {name} of {family}")
-    return [f"-- {module(path)}"] + dedented(lines[with_comment(lines, at, "--"):paragraph_end(lines, at)])
+    return module(path), dedented(lines[with_comment(lines, at, "--"):paragraph_end(lines, at)])
+
+
+def definition(family, *names):
+    """Definitions, those of one file that stand together below its name."""
+    out = []
+    for where, its in itertools.groupby(all_found(one_definition, family, names), key=lambda it: it[0]):
+        out += ["", f"-- {where}", *"\n\n".join("\n".join(text) for _where, text in its).splitlines()]
+    return out[1:]
 
 
 def folded(statement):
@@ -167,15 +196,7 @@ def contract(family, name):
 
 
 def contracts(family, *names):
-    out, missing = [], []
-    for name in names:
-        try:
-            out += ["", *contract(family, name)]
-        except Missing as fault:
-            missing.append(str(fault))
-    if missing:
-        raise Missing("; ".join(missing))
-    return out[1:]
+    return "\n\n".join("\n".join(it) for it in all_found(contract, family, names)).splitlines()
 
 
 def function(family, name):
@@ -215,6 +236,12 @@ def markers(page):
     return [(found[1], found[2].split()) for found in map(MARKER.match, page.read_text().splitlines()) if found]
 
 
+def shown_on(page):
+    """The definitions that a page shows."""
+    quoted = [its for quote, its in markers(page) if quote == "definition"]
+    return {place(family, name) for family, *names in quoted for name in names}
+
+
 def cited_by(family, name):
     """The definitions that a function's clauses cite."""
     _path, lines, at = find_function(family, name)
@@ -222,17 +249,29 @@ def cited_by(family, name):
     return {it for it in definitions.Scope.of(lines).cited(clauses) if it in definitions.all_definitions()}
 
 
-def cited_on(page):
-    """The definitions that the contracts cite which the page quotes."""
+def is_law(family, name):
+    """The function has no code: its contract states a theorem over the definitions."""
+    _path, lines, at = find_function(family, name)
+    return lines[body_start(lines, at)].endswith("{}")
+
+
+def told_by(family, name):
+    """The definitions that say what a function's contract says: those that it cites, and of a law those that its statement is made of."""
+    cited = cited_by(family, name)
+    return cited.union(*(definitions.all_definitions()[it].cites for it in cited)) if is_law(family, name) else cited
+
+
+def told_on(page):
+    """The same of all contracts that a page quotes."""
     quoted = [its for quote, its in markers(TOP / page) if quote == "contracts"]
-    return {it for family, *names in quoted for name in names for it in cited_by(family, name)}
+    return {it for family, *names in quoted for name in names for it in told_by(family, name)}
 
 
 def reached_from(words):
     """The definitions that those are made of which the words of a comment name."""
     if len(words) > 1:
         return definitions.reached({place(crate, name) for crate, name in zip(words[::2], words[1::2])})
-    return definitions.reached(cited_on(words[0]))
+    return definitions.reached(told_on(words[0]))
 
 
 def reached(*words):
@@ -246,7 +285,7 @@ def reached(*words):
 def refusals(*words):
     told = {}
     for it in zip(words[::2], words[1::2]):
-        told |= meanings.refusals(place(*it))
+        told.update(meanings.refusals(place(*it)))
     return [f"{word:8} {' '.join(map(str, numbers))}" for word, numbers in told.items()]
 
 
@@ -256,16 +295,15 @@ def not_reached(page):
     if not told:
         return []
     known = set().union(*map(reached_from, told))
-    shown = [its for quote, its in markers(page) if quote == "definition"]
-    return [f"{page.relative_to(TOP)}: {' '.join(its)} is shown, and not reached" for its in shown if place(*its) not in known]
+    return [f"{page.relative_to(TOP)}: {name} of {module} is shown, and not reached" for module, name in sorted(shown_on(page) - known)]
 
 
 def not_shown(page):
-    """The definitions that a page lacks, though another page's contracts cite them of which it says what they reach."""
+    """The definitions that a page lacks, though the contracts and laws of another page are told by them of which it says what they reach."""
     told = [its[0] for quote, its in markers(page) if quote == "reached" and len(its) == 1]
-    shown = {place(*its) for quote, its in markers(page) if quote == "definition"} if told else set()
-    return [f"{page.relative_to(TOP)}: {name} of {module} is cited by a contract of {other}, and not shown"
-            for other in told for module, name in sorted(cited_on(other) - shown)]
+    shown = shown_on(page) if told else set()
+    return [f"{page.relative_to(TOP)}: {name} of {module} is cited by a contract or a law of {other}, and not shown"
+            for other in told for module, name in sorted(told_on(other) - shown)]
 
 
 def quoted_functions(page):
@@ -288,6 +326,34 @@ def quoted_twice():
             faults.append(f"{at}: {name} of {family} is quoted at {first[path, line]}, too")
         first.setdefault((path, line), at)
     return faults
+
+
+def section(page, heading):
+    """The lines below a heading, up to the next one of its rank."""
+    lines = page.read_text().splitlines()
+    if heading not in lines:
+        raise Missing(f"{page.relative_to(TOP)}: has no heading `{heading}`")
+    below = lines[lines.index(heading) + 1:]
+    rank = heading.partition(" ")[0] + " "
+    return below[:next((at for at, line in enumerate(below) if line.startswith(rank)), len(below))]
+
+
+def not_carried():
+    """The functions and laws that promises name, and of which no contract is quoted where those of the promises are."""
+    page, heading, other = PROMISES
+    try:
+        named = CARRIES.findall("\n".join(section(TOP / page, heading)))
+    except Missing as fault:
+        return [str(fault)]
+    quoted = {name for _family, name, _at in quoted_functions(TOP / other)}
+    return [f"{page}: {name} is named by a promise, and {other} quotes no contract of it" for name in named if name not in quoted]
+
+
+def not_judged():
+    """That no page says what the contracts of the promises reach, so that none has to show what they cite."""
+    other = PROMISES[-1]
+    told = [its for page in pages() for quote, its in markers(page) if quote == "reached"]
+    return [] if [other] in told else [f"{other}: no page says what its contracts reach"]
 
 
 LANGUAGES = {definition: "antt", theorem: "antt", contracts: "rust", function: "rust", file: "text", naming: "text", reached: "text",
@@ -335,7 +401,7 @@ def main(words):
         else:
             page.write_text(text)
             print(f"{page.relative_to(TOP)}: written")
-    faults += quoted_twice()
+    faults += [*quoted_twice(), *not_carried(), *not_judged()]
     for fault in faults:
         print(f"docs/reading.py: {fault}", file=sys.stderr)
     return 1 if faults else 0
