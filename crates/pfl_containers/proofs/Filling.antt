@@ -1,5 +1,5 @@
 -- What each call of an arena leaves in it.
-use Rattle.std.proofs.Common.{◌≡◌, ◌<◌, ◌-◌, ◌+◌, inl, inr, ℕ, zero, suc, cond, T, List, [], ◌∷◌, ◌++◌, length, length-append, set, Option, Some, None, is_some, refl, sym, ap, subst, ◌∙◌, arith, vec_len, vec_capacity}
+use Rattle.std.proofs.Common.{◌≡◌, ◌<◌, ◌≤◌, ◌-◌, ◌+◌, ◌^◌, inl, inr, ℕ, zero, suc, cond, T, List, [], ◌∷◌, ◌++◌, length, length-append, set, Option, Some, None, is_some, refl, sym, ap, subst, ◌∙◌, arith, vec_len, vec_capacity}
 use Rattle.std.specs.Prelude.{slice_get}
 use Rattle.std.specs.Option.{option_map}
 use Rattle.std.specs.Vec.{with_items}
@@ -14,6 +14,8 @@ use Rattle.pfl_containers.specs.declared.order.arena.Arena.{Arena}
 use Rattle.pfl_containers.specs.inner.Trees.{Tree, leaf, fork_of, once, entries, uses, Holds, Makes, Joins}
 use Rattle.pfl_containers.specs.inner.Searches.{under, Finds}
 use Rattle.pfl_containers.specs.inner.Changes.{without, Inserts, Parts, Removes}
+use Rattle.pfl_containers.specs.inner.Balances.{depth, fewest, IsBalanced, Links}
+use Rattle.pfl_containers.proofs.Balances.{shallow, low}
 use Rattle.pfl_containers.specs.inner.Arenas.{Fills, none_held, Stores, HasRoom, TakesPlace, Locates, Changes, Gains, Loses}
 use Rattle.pfl_containers.proofs.Standing.{Holds-kept, uses_within, used_within, one_or_other, once_same, once_other}
 use Rattle.pfl_containers.proofs.Searching.{find-under, fork_of-under}
@@ -25,7 +27,7 @@ slice_get-front (x ∷ xs) ys zero h = refl
 slice_get-front (x ∷ xs) ys (suc j) h = slice_get-front xs ys j (omega arith)
 
 module _ {K V : Type 0} {limit capacity : ℕ} {nodes : List (Node K V)} {root free : Option ℕ} {t : Tree K V} {held : ℕ → ℕ} {count : ℕ} (f : Fills limit capacity nodes root free t held count)
-    {new : List (Node K V)} {es : List (K × V)} {u : ℕ → ℕ} {link : Option ℕ} (m : Makes nodes new es u link) (hold : ℕ → ℕ) (more : ℕ) where
+    {new : List (Node K V)} {es : List (K × V)} {u : ℕ → ℕ} {S : Tree K V → Type 0} {link : Option ℕ} (m : Makes nodes new es u S link) (hold : ℕ → ℕ) (more : ℕ) where
   -- the tree is made anew,
   pub fills_made : ((j : ℕ) → hold j + u j ≡ held j + uses t j) → more + length es ≡ count + length (entries t) → Fills limit capacity new link free m.tree hold more
   fills_made places counts = record {
@@ -58,19 +60,35 @@ module _ {K V A : Type 0} {R : K → K → Ordering} (o : IsTotalOrder R) where
   written v xs same = with_items_is v xs (same ∙ sym v.ok.0)
 
   stored : (v : Vec (Node K V) A) (xs : List (Node K V)) → length xs ≡ length v.items → {limit len : ℕ} {root free : Option ℕ} {es : List (K × V)} {t : Tree K V} → Fills limit (vec_capacity v) xs root free t none_held 0
-      → entries t ≡ es → T (is_sorted R es) → len ≡ length es → Stores R limit (record { nodes = with_items v xs; root = root; free = free; len = len }) es
-  stored v xs same {limit} {len} {root} {free} {es} {t} f lists sorted long = record {
+      → entries t ≡ es → T (is_sorted R es) → len ≡ length es → IsBalanced t → Stores R limit (record { nodes = with_items v xs; root = root; free = free; len = len }) es
+  stored v xs same {limit} {len} {root} {free} {es} {t} f lists sorted long balanced = record {
     tree = t;
     fills = subst (λ (ns : List (Node K V)). Fills limit (vec_capacity v) ns root free t none_held 0) (sym (written v xs same)) f;
     lists = lists;
     sorted = sorted;
     long = long;
+    balanced = balanced;
   }
 
   -- what is known of the tree of an arena
   module _ {limit : ℕ} {a : Arena K V A} {es : List (K × V)} (s : Stores R limit a es) where
     tree_sorted : T (is_sorted R (entries s.tree))
     tree_sorted = subst (λ (fs : List (K × V)). T (is_sorted R fs)) (sym s.lists) s.sorted
+
+    tree_few : length (entries s.tree) < 2 ^ 32
+    tree_few = omega (arith, s.fills.counted, s.fills.few, s.fills.short)
+
+    -- the tree is less deep than one that has more entries must be,
+    pub depth-less : (d : ℕ) → length es < fewest d → depth s.tree < d
+    depth-less d few = shallow s.tree s.balanced d (omega (arith, few, ap length s.lists))
+
+    -- so that of 65,536 entries is at most 22 deep,
+    pub depth-of_65536 : length es ≤ 65536 → depth s.tree ≤ 22
+    depth-of_65536 few = omega (arith, depth-less 23 (omega (arith, few)))
+
+    -- and no tree is more than 45
+    pub depth-at_most : depth s.tree ≤ 45
+    depth-at_most = omega (arith, low s.tree s.balanced tree_few)
 
     found_some : (q : K) (place : ℕ) (node : Node K V) → under R s.tree q ≡ Some (place, node) → find R q (entries s.tree) ≡ Some node.value
     found_some q place node is = find-under o s.tree q tree_sorted ∙ ap (option_map (λ p. p.1.value)) is
@@ -91,7 +109,8 @@ module _ {K V A : Type 0} {R : K → K → Ordering} (o : IsTotalOrder R) where
         let same = length-put R o q v (entries s.tree) (tree_sorted s) ∙ ap (λ (found : Option V). cond (is_some found) (length (entries s.tree)) (length (entries s.tree) + 1)) (found_some s q place node at) in
         stored old.nodes xs (ap length is ∙ m.long)
         (subst (λ (ns : List (Node K V)). Fills limit (vec_capacity old.nodes) ns old.root old.free m.tree none_held 0) (sym is) (fills_made s.fills m none_held 0 (λ j. refl) (omega (arith, same))))
-        (m.lists ∙ ap (put R q v) s.lists) (is_sorted-put R o q v es s.sorted) (omega (arith, s.long, same, ap (λ (fs : List (K × V)). length (put R q v fs)) s.lists, ap length s.lists));
+        (m.lists ∙ ap (put R q v) s.lists) (is_sorted-put R o q v es s.sorted) (omega (arith, s.long, same, ap (λ (fs : List (K × V)). length (put R q v fs)) s.lists, ap length s.lists))
+        (m.says.alike s.balanced).0;
   }
 
   pub gains : (old mid : Arena K V A) (place : ℕ) (item : Node K V) (xs : List (Node K V)) (link : Option ℕ) → TakesPlace R old mid place → Inserts R mid.nodes.items xs mid.root place item mid.len link → item.left ≡ None → item.right ≡ None
@@ -113,10 +132,11 @@ module _ {K V A : Type 0} {R : K → K → Ordering} (o : IsTotalOrder R) where
         let more = length-put R o item.key item.value (entries s.tree) (tree_sorted s) ∙ ap (λ (found : Option V). cond (is_some found) (length (entries s.tree)) (length (entries s.tree) + 1)) none in
         stored mid.nodes xs m.long (fills_made f m none_held 0 (λ j. omega arith) (omega (arith, more)))
         (m.lists ∙ ap (put R item.key item.value) s.lists) (is_sorted-put R o item.key item.value es s.sorted)
-        (omega (arith, takes.long, s.long, more, ap (λ (fs : List (K × V)). length (put R item.key item.value fs)) s.lists, ap length s.lists));
+        (omega (arith, takes.long, s.long, more, ap (λ (fs : List (K × V)). length (put R item.key item.value fs)) s.lists, ap length s.lists))
+        (m.says.grown (tree_few s) s.balanced).0;
   }
 
-  pub loses : (old : Arena K V A) (q : K) (place : ℕ) (node freed : Node K V) (mid xs : List (Node K V)) (link free : Option ℕ) → Removes R old.nodes.items mid old.root q old.len link → Joins mid xs place freed free → freed.left ≡ None → freed.right ≡ old.free
+  pub loses : (old : Arena K V A) (q : K) (place : ℕ) (node freed : Node K V) (mid xs : List (Node K V)) (link free : Option ℕ) → Removes R old.nodes.items mid old.root q old.len link → Joins mid xs place freed Links free → freed.left ≡ None → freed.right ≡ old.free
       → Loses R old (record { nodes = with_items old.nodes xs; root = link; free = free; len = old.len - 1 }) q place node
   loses old q place node freed mid xs link free removes joins left right = record {
     stores = λ limit es s at.
@@ -133,7 +153,8 @@ module _ {K V A : Type 0} {R : K → K → Ordering} (o : IsTotalOrder R) where
         }) in
         stored old.nodes xs (m.long ∙ sheds.made.long) (fills_spared pending m none_held 0 (λ j. omega arith) (omega arith))
         (sheds.made.lists ∙ ap (without R q) s.lists) (is_sorted-where_key R _ es s.sorted)
-        (omega (arith, s.long, less, ap (λ (fs : List (K × V)). length (without R q fs)) s.lists, ap length s.lists));
+        (omega (arith, s.long, less, ap (λ (fs : List (K × V)). length (without R q fs)) s.lists, ap length s.lists))
+        (sheds.made.says.shrunk (tree_few s) s.balanced).0;
   }
 
   pub takes_free : (old : Arena K V A) (first : Parted K V) (xs : List (Node K V)) (steps : ℕ) → HasRoom R old → steps ≡ vec_len old.nodes → Parts old.nodes.items xs old.free steps (Some first)

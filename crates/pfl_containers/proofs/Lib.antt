@@ -10,6 +10,7 @@ pub mod Fields
 pub mod OrderEntries
 pub mod Sorted
 pub mod Searching
+pub mod Balances
 pub mod Standing
 pub mod Changing
 pub mod Filling

@@ -6,6 +6,8 @@ use Rattle.std.proofs.lemmas.Option.{slice_get_within}
 use borrow.Author.Tests.{eqb-true, eq-eqb}
 use Rattle.pfl_containers.specs.declared.order.node.Node.{Node}
 use Rattle.pfl_containers.specs.inner.Trees.{Tree, leaf, fork, fork_of, once, entries, uses, Holds, Makes, CanJoin, Joins, Steadies}
+use Rattle.pfl_containers.specs.inner.Balances.{depth, IsBalanced, Links, TurnsRight, TurnsLeft}
+use Rattle.pfl_containers.proofs.Balances.{turns_right, turns_left}
 
 get-set_same : {X : Type 0} (xs : List X) (i : ℕ) (x : X) → i < length xs → slice_get (set xs i x) i ≡ Some x
 get-set_same [] i x h = absurd (omega arith)
@@ -62,15 +64,21 @@ module _ {K V : Type 0} where
       ]
 
   -- the same, said of other entries and counts
-  pub Makes-as : {nodes new : List (Node K V)} {es fs : List (K × V)} {u v : ℕ → ℕ} {link : Option ℕ} → Makes nodes new es u link → es ≡ fs → ((j : ℕ) → u j ≡ v j) → Makes nodes new fs v link
-  Makes-as m lists takes = record {
+  pub Makes-as : {nodes new : List (Node K V)} {es fs : List (K × V)} {u v : ℕ → ℕ} {S P : Tree K V → Type 0} {link : Option ℕ} → Makes nodes new es u S link → es ≡ fs → ((j : ℕ) → u j ≡ v j) → ((t : Tree K V) → S t → P t) → Makes nodes new fs v P link
+  Makes-as m lists takes says = record {
     tree = m.tree;
     holds = m.holds;
     lists = m.lists ∙ lists;
     takes = λ j. m.takes j ∙ takes j;
     keeps = λ j z. m.keeps j (takes j ∙ z);
     long = m.long;
+    says = says m.tree m.says;
   }
+
+  -- the same, of which something else is said
+  pub Joins-as : {nodes new : List (Node K V)} {place : ℕ} {node : Node K V} {S P : Tree K V → Tree K V → Tree K V → Type 0} {link : Option ℕ} → Joins nodes new place node S link
+      → ((l r t : Tree K V) → CanJoin nodes l r place node → S l r t → P l r t) → Joins nodes new place node P link
+  Joins-as joins says = record { makes = λ l r can. Makes-as (joins.makes l r can) refl (λ j. refl) (λ t. says l r t can) }
 
   -- what a node at a link says of the tree there
   pub record Stands (nodes : List (Node K V)) (t : Tree K V) (place : ℕ) (node : Node K V) : Type 0 where
@@ -83,7 +91,7 @@ module _ {K V : Type 0} where
     pub within : place < length nodes
 
   pub stands : (nodes : List (Node K V)) (t : Tree K V) (link : Option ℕ) → Holds nodes t link → (place : ℕ) (node : Node K V) → Some (place, node) ≡ fork_of nodes link → Stands nodes t place node
-  stands nodes leaf link h place node is = let no : Some (place, node) ≡ None = is ∙ ap (fork_of nodes) h in absurd (cc)
+  stands nodes leaf link h place node is = let no : ◌≡◌ {A = Option (ℕ × Node K V)} (Some (place, node)) None = is ∙ ap (fork_of nodes) h in absurd (cc)
   stands nodes (fork l i n r) link h place node is =
       let both : Some (place, node) ≡ Some (i, n) = is ∙ (ap (fork_of nodes) h.0 ∙ ap (λ (o : Option (Node K V)). elim o [ None ↦ None | Some n ↦ Some (i, n) ]) h.1) in
       let pair : (i, n) ≡ (place, node) = cc in
@@ -93,11 +101,12 @@ module _ {K V : Type 0} where
   pub stands_not : (nodes : List (Node K V)) (t : Tree K V) (link : Option ℕ) → Holds nodes t link → None ≡ fork_of nodes link → t ≡ leaf
   stands_not nodes leaf link h is = refl
   stands_not nodes (fork l i n r) link h is =
-      let no : None ≡ Some (i, n) = is ∙ (ap (fork_of nodes) h.0 ∙ ap (λ (o : Option (Node K V)). elim o [ None ↦ None | Some n ↦ Some (i, n) ]) h.1) in absurd (cc)
+      let no : ◌≡◌ {A = Option (ℕ × Node K V)} None (Some (i, n)) = is ∙ (ap (fork_of nodes) h.0 ∙ ap (λ (o : Option (Node K V)). elim o [ None ↦ None | Some n ↦ Some (i, n) ]) h.1) in absurd (cc)
 
   -- a node in its place joins the trees that it names
-  pub linked_joins : (nodes new : List (Node K V)) (place : ℕ) (node : Node K V) (height : ℕ) → new ≡ set nodes place (record node { height = height }) → Joins nodes new place node (Some place)
-  linked_joins nodes new place node height is = subst (λ (ns : List (Node K V)). Joins nodes ns place node (Some place)) (sym is) (record {
+  pub linked_joins : (nodes new : List (Node K V)) (place : ℕ) (node : Node K V) (height : ℕ) (S : Tree K V → Tree K V → Tree K V → Type 0) → new ≡ set nodes place (record node { height = height })
+      → ((l r : Tree K V) → CanJoin nodes l r place node → S l r (fork l place (record node { height = height }) r)) → Joins nodes new place node S (Some place)
+  linked_joins nodes new place node height S is says = subst (λ (ns : List (Node K V)). Joins nodes ns place node S (Some place)) (sym is) (record {
     makes = λ l r can.
         let n : Node K V = record node { height = height } in
         let others : (j : ℕ) → once place j ≡ 0 → slice_get (set nodes place n) j ≡ slice_get nodes j = λ j z. get-set_other nodes place j n (once_apart place j z) in
@@ -113,14 +122,15 @@ module _ {K V : Type 0} where
           takes = λ j. refl;
           keeps = λ j z. others j (omega (arith, z));
           long = length-set nodes place n;
+          says = says l r can;
         };
   })
 
   -- a node whose left tree was made joins it
-  pub join_left : {nodes mid new : List (Node K V)} {place : ℕ} (node : Node K V) {es : List (K × V)} {u : ℕ → ℕ} {part link : Option ℕ}
-      → Makes nodes mid es u part → (r : Tree K V) → Holds nodes r node.right → place < length nodes → ((j : ℕ) → u j + (once place j + uses r j) ≤ 1)
-      → Joins mid new place (record node { left = part }) link → Makes nodes new (es ++ (node.key, node.value) ∷ entries r) (λ j. u j + (once place j + uses r j)) link
-  join_left {nodes} {mid} {new} {place} node {es} {u} {part} {link} m r right within apart joins =
+  pub join_left : {nodes mid new : List (Node K V)} {place : ℕ} (node : Node K V) {es : List (K × V)} {u : ℕ → ℕ} {S : Tree K V → Type 0} {J : Tree K V → Tree K V → Tree K V → Type 0} {part link : Option ℕ}
+      → Makes nodes mid es u S part → (r : Tree K V) → Holds nodes r node.right → place < length nodes → ((j : ℕ) → u j + (once place j + uses r j) ≤ 1)
+      → Joins mid new place (record node { left = part }) J link → Makes nodes new (es ++ (node.key, node.value) ∷ entries r) (λ j. u j + (once place j + uses r j)) (λ t. (p : Tree K V) × S p × J p r t) link
+  join_left {nodes} {mid} {new} {place} node {es} {u} {S} {J} {part} {link} m r right within apart joins =
       let n : Node K V = record node { left = part } in
       let can : CanJoin mid m.tree r place n = record {
         left = m.holds;
@@ -136,13 +146,18 @@ module _ {K V : Type 0} where
         takes = λ j. all.takes j ∙ ap (λ n. n + (once place j + uses r j)) (m.takes j);
         keeps = λ j z. all.keeps j (omega (arith, m.takes j, z)) ∙ m.keeps j (omega (arith, z));
         long = all.long ∙ m.long;
+        says = (m.tree, m.says, all.says);
       }
+
+  -- the tree u is balanced as t is
+  pub record Alike (t u : Tree K V) : Type 0 where
+    pub alike : IsBalanced t → IsBalanced u × (depth u ≡ depth t)
 
   -- and one that stands where it did keeps it
   pub stay_left : {nodes new : List (Node K V)} {place : ℕ} {node : Node K V} {es : List (K × V)} {u : ℕ → ℕ} {link : Option ℕ}
-      → Makes nodes new es u node.left → slice_get nodes place ≡ Some node → link ≡ Some place → (r : Tree K V) → Holds nodes r node.right → ((j : ℕ) → u j + (once place j + uses r j) ≤ 1)
-      → Makes nodes new (es ++ (node.key, node.value) ∷ entries r) (λ j. u j + (once place j + uses r j)) link
-  stay_left {nodes} {new} {place} {node} {es} {u} m at link_is r right apart = record {
+      → (was : Tree K V) → Makes nodes new es u (Alike was) node.left → slice_get nodes place ≡ Some node → link ≡ Some place → (r : Tree K V) → Holds nodes r node.right → ((j : ℕ) → u j + (once place j + uses r j) ≤ 1)
+      → Makes nodes new (es ++ (node.key, node.value) ∷ entries r) (λ j. u j + (once place j + uses r j)) (Alike (fork was place node r)) link
+  stay_left {nodes} {new} {place} {node} {es} {u} was m at link_is r right apart = record {
     tree = fork m.tree place node r;
     holds = (
       link_is,
@@ -154,12 +169,15 @@ module _ {K V : Type 0} where
     takes = λ j. ap (λ n. n + (once place j + uses r j)) (m.takes j);
     keeps = λ j z. m.keeps j (omega (arith, z));
     long = m.long;
+    says = record {
+      alike = λ b. let same = m.says.alike b.3 in let e = same.1 in ((omega (arith, b.0, e), omega (arith, b.1, e), omega (arith, b.2, e), same.0, b.4), omega (arith, e));
+    };
   }
 
   pub stay_right : {nodes new : List (Node K V)} {place : ℕ} {node : Node K V} {es : List (K × V)} {u : ℕ → ℕ} {link : Option ℕ}
-      → Makes nodes new es u node.right → slice_get nodes place ≡ Some node → link ≡ Some place → (l : Tree K V) → Holds nodes l node.left → ((j : ℕ) → uses l j + (once place j + u j) ≤ 1)
-      → Makes nodes new (entries l ++ (node.key, node.value) ∷ es) (λ j. uses l j + (once place j + u j)) link
-  stay_right {nodes} {new} {place} {node} {es} {u} m at link_is l left apart = record {
+      → (was : Tree K V) → Makes nodes new es u (Alike was) node.right → slice_get nodes place ≡ Some node → link ≡ Some place → (l : Tree K V) → Holds nodes l node.left → ((j : ℕ) → uses l j + (once place j + u j) ≤ 1)
+      → Makes nodes new (entries l ++ (node.key, node.value) ∷ es) (λ j. uses l j + (once place j + u j)) (Alike (fork l place node was)) link
+  stay_right {nodes} {new} {place} {node} {es} {u} was m at link_is l left apart = record {
     tree = fork l place node m.tree;
     holds = (
       link_is,
@@ -171,13 +189,16 @@ module _ {K V : Type 0} where
     takes = λ j. ap (λ n. uses l j + (once place j + n)) (m.takes j);
     keeps = λ j z. m.keeps j (omega (arith, z));
     long = m.long;
+    says = record {
+      alike = λ b. let same = m.says.alike b.4 in let e = same.1 in ((omega (arith, b.0, e), omega (arith, b.1, e), omega (arith, b.2, e), b.3, same.0), omega (arith, e));
+    };
   }
 
   -- and likewise on the right
-  pub join_right : {nodes mid new : List (Node K V)} {place : ℕ} (node : Node K V) {es : List (K × V)} {u : ℕ → ℕ} {part link : Option ℕ}
-      → Makes nodes mid es u part → (l : Tree K V) → Holds nodes l node.left → place < length nodes → ((j : ℕ) → uses l j + (once place j + u j) ≤ 1)
-      → Joins mid new place (record node { right = part }) link → Makes nodes new (entries l ++ (node.key, node.value) ∷ es) (λ j. uses l j + (once place j + u j)) link
-  join_right {nodes} {mid} {new} {place} node {es} {u} {part} {link} m l left within apart joins =
+  pub join_right : {nodes mid new : List (Node K V)} {place : ℕ} (node : Node K V) {es : List (K × V)} {u : ℕ → ℕ} {S : Tree K V → Type 0} {J : Tree K V → Tree K V → Tree K V → Type 0} {part link : Option ℕ}
+      → Makes nodes mid es u S part → (l : Tree K V) → Holds nodes l node.left → place < length nodes → ((j : ℕ) → uses l j + (once place j + u j) ≤ 1)
+      → Joins mid new place (record node { right = part }) J link → Makes nodes new (entries l ++ (node.key, node.value) ∷ es) (λ j. uses l j + (once place j + u j)) (λ t. (p : Tree K V) × S p × J l p t) link
+  join_right {nodes} {mid} {new} {place} node {es} {u} {S} {J} {part} {link} m l left within apart joins =
       let n : Node K V = record node { right = part } in
       let can : CanJoin mid l m.tree place n = record {
         left = Holds-kept nodes mid l node.left left (λ j p. m.keeps j (omega (arith, apart j)));
@@ -193,12 +214,13 @@ module _ {K V : Type 0} where
         takes = λ j. all.takes j ∙ ap (λ n. uses l j + (once place j + n)) (m.takes j);
         keeps = λ j z. all.keeps j (omega (arith, m.takes j, z)) ∙ m.keeps j (omega (arith, z));
         long = all.long ∙ m.long;
+        says = (m.tree, m.says, all.says);
       }
 
   -- the tree of the left tree's node, with the node below it to the right
   pub turn_right : {nodes mid new : List (Node K V)} {place top : ℕ} {node left : Node K V} {part link : Option ℕ}
-      → Some (top, left) ≡ fork_of nodes node.left → Joins nodes mid place (record node { left = left.right }) part → Joins mid new top (record left { right = part }) link
-      → Joins nodes new place node link
+      → Some (top, left) ≡ fork_of nodes node.left → Joins nodes mid place (record node { left = left.right }) Links part → Joins mid new top (record left { right = part }) Links link
+      → Joins nodes new place node TurnsRight link
   turn_right {nodes} {mid} {new} {place} {top} {node} {left} {part} {link} at first second = record {
     makes = λ l r can.
         let s = stands nodes l node.left can.left top left at in
@@ -206,14 +228,15 @@ module _ {K V : Type 0} where
         λ j. subst (λ (t : Tree K V). uses t j + (once place j + uses r j) ≤ 1) s.is (can.apart j) in
         let below = first.makes s.r r (record { left = s.right; right = can.right; within = can.within; apart = λ j. omega (arith, apart j) }) in
         let all = join_right left below s.l s.left s.within (λ j. omega (arith, apart j)) second in
-        subst (λ (t : Tree K V). Makes nodes new (entries t ++ (node.key, node.value) ∷ entries r) (λ j. uses t j + (once place j + uses r j)) link) (sym s.is)
-        (Makes-as all (sym (append_assoc (entries s.l) ((left.key, left.value) ∷ entries s.r) ((node.key, node.value) ∷ entries r))) (λ j. omega arith));
+        subst (λ (t : Tree K V). Makes nodes new (entries t ++ (node.key, node.value) ∷ entries r) (λ j. uses t j + (once place j + uses r j)) (TurnsRight t r) link) (sym s.is)
+        (Makes-as all (sym (append_assoc (entries s.l) ((left.key, left.value) ∷ entries s.r) ((node.key, node.value) ∷ entries r))) (λ j. omega arith)
+        (λ t w. turns_right s.l top left s.r r w.0 t w.1 w.2));
   }
 
   -- and of the right tree's node, with the node below it to the left
   pub turn_left : {nodes mid new : List (Node K V)} {place top : ℕ} {node right : Node K V} {part link : Option ℕ}
-      → Some (top, right) ≡ fork_of nodes node.right → Joins nodes mid place (record node { right = right.left }) part → Joins mid new top (record right { left = part }) link
-      → Joins nodes new place node link
+      → Some (top, right) ≡ fork_of nodes node.right → Joins nodes mid place (record node { right = right.left }) Links part → Joins mid new top (record right { left = part }) Links link
+      → Joins nodes new place node TurnsLeft link
   turn_left {nodes} {mid} {new} {place} {top} {node} {right} {part} {link} at first second = record {
     makes = λ l r can.
         let s = stands nodes r node.right can.right top right at in
@@ -221,33 +244,48 @@ module _ {K V : Type 0} where
         λ j. subst (λ (t : Tree K V). uses l j + (once place j + uses t j) ≤ 1) s.is (can.apart j) in
         let below = first.makes l s.l (record { left = can.left; right = s.left; within = can.within; apart = λ j. omega (arith, apart j) }) in
         let all = join_left right below s.r s.right s.within (λ j. omega (arith, apart j)) second in
-        subst (λ (t : Tree K V). Makes nodes new (entries l ++ (node.key, node.value) ∷ entries t) (λ j. uses l j + (once place j + uses t j)) link) (sym s.is)
-        (Makes-as all (append_assoc (entries l) ((node.key, node.value) ∷ entries s.l) ((right.key, right.value) ∷ entries s.r)) (λ j. omega arith));
+        subst (λ (t : Tree K V). Makes nodes new (entries l ++ (node.key, node.value) ∷ entries t) (λ j. uses l j + (once place j + uses t j)) (TurnsLeft l t) link) (sym s.is)
+        (Makes-as all (append_assoc (entries l) ((node.key, node.value) ∷ entries s.l) ((right.key, right.value) ∷ entries s.r)) (λ j. omega arith)
+        (λ t w. turns_left l s.l top right s.r w.0 t w.1 w.2));
   }
 
   -- a tree that is left alone
-  pub left_alone : (nodes : List (Node K V)) (link : Option ℕ) → Steadies nodes nodes link link
-  left_alone nodes link = record {
-    makes = λ t h apart. record { tree = t; holds = h; lists = refl; takes = λ j. refl; keeps = λ j z. refl; long = refl };
+  left_alone : (nodes : List (Node K V)) (link : Option ℕ) (S : Tree K V → Tree K V → Type 0) → ((t : Tree K V) → Holds nodes t link → S t t) → Steadies nodes nodes link S link
+  left_alone nodes link S says = record {
+    makes = λ t h apart. record { tree = t; holds = h; lists = refl; takes = λ j. refl; keeps = λ j z. refl; long = refl; says = says t h };
   }
 
+  pub left_empty : {nodes : List (Node K V)} {link : Option ℕ} (S : Tree K V → Tree K V → Type 0) → None ≡ fork_of nodes link → S leaf leaf → Steadies nodes nodes link S link
+  left_empty {nodes} {link} S at says = left_alone nodes link S (λ t h. subst (λ (u : Tree K V). S u u) (sym (stands_not nodes t link h at)) says)
+
+  pub left_standing : {nodes : List (Node K V)} {link : Option ℕ} {place : ℕ} {node : Node K V} (S : Tree K V → Tree K V → Type 0) → Some (place, node) ≡ fork_of nodes link
+      → ((l r : Tree K V) → Holds nodes l node.left → Holds nodes r node.right → S (fork l place node r) (fork l place node r)) → Steadies nodes nodes link S link
+  left_standing {nodes} {link} {place} {node} S at says = left_alone nodes link S (λ t h.
+      let s = stands nodes t link h place node at in
+      subst (λ (u : Tree K V). S u u) (sym s.is) (says s.l s.r s.left s.right))
+
   -- a tree that is joined anew
-  pub joined_anew : {nodes new : List (Node K V)} {place : ℕ} {node : Node K V} {from link : Option ℕ} → Some (place, node) ≡ fork_of nodes from → Joins nodes new place node link → Steadies nodes new from link
-  joined_anew {nodes} {new} {place} {node} {from} {link} at joins = record {
+  pub joined_anew : {nodes new : List (Node K V)} {place : ℕ} {node : Node K V} {from : Option ℕ} {J : Tree K V → Tree K V → Tree K V → Type 0} {link : Option ℕ} (S : Tree K V → Tree K V → Type 0)
+      → Some (place, node) ≡ fork_of nodes from → Joins nodes new place node J link
+      → ((l r u : Tree K V) → Holds nodes l node.left → Holds nodes r node.right → J l r u → S (fork l place node r) u) → Steadies nodes new from S link
+  joined_anew {nodes} {new} {place} {node} {from} {J} {link} S at joins says = record {
     makes = λ t h apart.
         let s = stands nodes t from h place node at in
-        subst (λ (u : Tree K V). Makes nodes new (entries u) (uses u) link) (sym s.is)
-        (joins.makes s.l s.r (record { left = s.left; right = s.right; within = s.within; apart = λ j. subst (λ (u : Tree K V). uses u j ≤ 1) s.is (apart j) }));
+        subst (λ (u : Tree K V). Makes nodes new (entries u) (uses u) (S u) link) (sym s.is)
+        (Makes-as (joins.makes s.l s.r (record { left = s.left; right = s.right; within = s.within; apart = λ j. subst (λ (u : Tree K V). uses u j ≤ 1) s.is (apart j) }))
+        refl (λ j. refl) (λ u. says s.l s.r u s.left s.right));
   }
 
   -- a node whose left tree was steadied joins it
-  pub join_steady_left : {nodes mid new : List (Node K V)} {place : ℕ} (node : Node K V) {part link : Option ℕ} → Steadies nodes mid node.left part → Joins mid new place (record node { left = part }) link → Joins nodes new place node link
+  pub join_steady_left : {nodes mid new : List (Node K V)} {place : ℕ} (node : Node K V) {S : Tree K V → Tree K V → Type 0} {J : Tree K V → Tree K V → Tree K V → Type 0} {part link : Option ℕ}
+      → Steadies nodes mid node.left S part → Joins mid new place (record node { left = part }) J link → Joins nodes new place node (λ l r t. (p : Tree K V) × S l p × J p r t) link
   join_steady_left node steady joins = record {
     makes = λ l r can. join_left node (steady.makes l can.left (λ j. omega (arith, can.apart j))) r can.right can.within can.apart joins;
   }
 
   -- and likewise on the right
-  pub join_steady_right : {nodes mid new : List (Node K V)} {place : ℕ} (node : Node K V) {part link : Option ℕ} → Steadies nodes mid node.right part → Joins mid new place (record node { right = part }) link → Joins nodes new place node link
+  pub join_steady_right : {nodes mid new : List (Node K V)} {place : ℕ} (node : Node K V) {S : Tree K V → Tree K V → Type 0} {J : Tree K V → Tree K V → Tree K V → Type 0} {part link : Option ℕ}
+      → Steadies nodes mid node.right S part → Joins mid new place (record node { right = part }) J link → Joins nodes new place node (λ l r t. (p : Tree K V) × S r p × J l p t) link
   join_steady_right node steady joins = record {
     makes = λ l r can. join_right node (steady.makes r can.right (λ j. omega (arith, can.apart j))) l can.left can.within can.apart joins;
   }

@@ -3,6 +3,7 @@
 pub mod Homes
 pub mod HashSlots
 pub mod Arenas
+pub mod Balances
 pub mod Changes
 pub mod Searches
 pub mod Trees

@@ -8,6 +8,7 @@ use Rattle.pfl_containers.specs.declared.order.arena.Arena.{Arena}
 use Rattle.pfl_containers.specs.inner.Trees.{Tree, entries, uses, once, Holds}
 use Rattle.pfl_containers.specs.inner.Searches.{under}
 use Rattle.pfl_containers.specs.inner.Changes.{without}
+use Rattle.pfl_containers.specs.inner.Balances.{IsBalanced}
 
 -- The tree stands at the root. The other places are free, but for as many as `count` says, which `held` names.
 pub record Fills {K V : Type 0} (limit capacity : ℕ) (nodes : List (Node K V)) (root free : Option ℕ) (t : Tree K V) (held : ℕ → ℕ) (count : ℕ) : Type 0 where
@@ -25,13 +26,14 @@ abbrev pub none_held : ℕ → ℕ
 none_held j = 0
 
 module _ {K V A : Type 0} (R : K → K → Ordering) where
-  -- the arena has these entries, in the order of their keys, and room for `limit` of them
+  -- the arena has these entries, in the order of their keys and in a balanced tree, and room for `limit` of them
   pub record Stores (limit : ℕ) (a : Arena K V A) (es : List (K × V)) : Type 0 where
     pub tree : Tree K V
     pub fills : Fills limit (vec_capacity a.nodes) a.nodes.items a.root a.free tree none_held 0
     pub lists : entries tree ≡ es
     pub sorted : T (is_sorted R es)
     pub long : a.len ≡ length es
+    pub balanced : IsBalanced tree
 
   -- there is room for an entry more
   pub record HasRoom (a : Arena K V A) : Type 0 where

@@ -9,6 +9,7 @@ use Rattle.pfl_containers.specs.declared.order.node.Node.{Node}
 use Rattle.pfl_containers.specs.declared.order.changes.Parted.{Parted}
 use Rattle.pfl_containers.specs.inner.Trees.{Tree, leaf, entries, uses, once, Holds, Makes}
 use Rattle.pfl_containers.specs.inner.Searches.{under}
+use Rattle.pfl_containers.specs.inner.Balances.{Grows, Shrinks, Unites}
 
 -- the entries but the one of the key q
 abbrev pub without : {K V : Type 0} → (K → K → Ordering) → K → List (K × V) → List (K × V)
@@ -28,13 +29,13 @@ module _ {K V : Type 0} where
 
   -- the tree has the item's entry too
   pub record Inserts (R : K → K → Ordering) (nodes new : List (Node K V)) (from : Option ℕ) (place : ℕ) (item : Node K V) (steps : ℕ) (link : Option ℕ) : Type 0 where
-    pub makes : (t : Tree K V) → CanInsert R nodes t from place item steps → Makes nodes new (put R item.key item.value (entries t)) (λ j. once place j + uses t j) link
+    pub makes : (t : Tree K V) → CanInsert R nodes t from place item steps → Makes nodes new (put R item.key item.value (entries t)) (λ j. once place j + uses t j) (Grows t) link
 
   -- the tree gives a place up, and has these entries then
   pub record Sheds (nodes new : List (Node K V)) (t : Tree K V) (place : ℕ) (es : List (K × V)) (link : Option ℕ) : Type 0 where
     pub others : ℕ → ℕ
     pub takes : (j : ℕ) → uses t j ≡ once place j + others j
-    pub made : Makes nodes new es others link
+    pub made : Makes nodes new es others (Shrinks t) link
 
   -- the tree's first node is taken out of it
   pub record IsParted (nodes new : List (Node K V)) (t : Tree K V) (parted : Parted K V) : Type 0 where
@@ -50,7 +51,7 @@ module _ {K V : Type 0} where
   -- the two trees become one
   pub record Merges (nodes new : List (Node K V)) (left right : Option ℕ) (steps : ℕ) (link : Option ℕ) : Type 0 where
     pub makes : (l r : Tree K V) → Holds nodes l left → Holds nodes r right → ((j : ℕ) → uses l j + uses r j ≤ 1) → length (entries r) ≤ steps
-        → Makes nodes new (entries l ++ entries r) (λ j. uses l j + uses r j) link
+        → Makes nodes new (entries l ++ entries r) (λ j. uses l j + uses r j) (Unites l r) link
 
   -- the tree gives up the node that a search for the key q finds
   pub record Removes (R : K → K → Ordering) (nodes new : List (Node K V)) (from : Option ℕ) (q : K) (steps : ℕ) (link : Option ℕ) : Type 0 where

@@ -1,5 +1,6 @@
 //! Trees made of a node and two trees.
 ghost use Rattle.pfl_containers.specs.inner.Trees.{Joins, Steadies};
+ghost use Rattle.pfl_containers.specs.inner.Balances.{Links, Balances, TurnsRight, TurnsLeft, LeansLeft, LeansRight};
 
 use crate::order::node::{Node, fork_at, height, put};
 
@@ -9,7 +10,7 @@ pub(crate) fn linked<K: Copy, V: Copy>(
     place: u32,
     mut node: Node<K, V>,
 ) -> Option<u32>
-    ensures joins { Joins nodes.old nodes.new place node result }
+    ensures joins { Joins nodes.old nodes.new place node Links result }
 {
     let left = height(nodes, node.left);
     let right = height(nodes, node.right);
@@ -24,7 +25,7 @@ pub(crate) fn balanced<K: Copy, V: Copy>(
     place: u32,
     mut node: Node<K, V>,
 ) -> Option<u32>
-    ensures joins { Joins nodes.old nodes.new place node result }
+    ensures joins { Joins nodes.old nodes.new place node Balances result }
 {
     let left = height(nodes, node.left);
     let right = height(nodes, node.right);
@@ -45,7 +46,7 @@ fn turned_right<K: Copy, V: Copy>(
     place: u32,
     mut node: Node<K, V>,
 ) -> Option<u32>
-    ensures joins { Joins nodes.old nodes.new place node result }
+    ensures joins { Joins nodes.old nodes.new place node TurnsRight result }
 {
     let Some((top, mut left)) = fork_at(nodes, node.left) else {
         return linked(nodes, place, node);
@@ -61,7 +62,7 @@ fn turned_left<K: Copy, V: Copy>(
     place: u32,
     mut node: Node<K, V>,
 ) -> Option<u32>
-    ensures joins { Joins nodes.old nodes.new place node result }
+    ensures joins { Joins nodes.old nodes.new place node TurnsLeft result }
 {
     let Some((top, mut right)) = fork_at(nodes, node.right) else {
         return linked(nodes, place, node);
@@ -73,7 +74,7 @@ fn turned_left<K: Copy, V: Copy>(
 
 /// The tree with a left side that is no lower than its right side, where that was one level higher.
 fn leant_left<K: Copy, V: Copy>(nodes: &mut [Node<K, V>], link: Option<u32>) -> Option<u32>
-    ensures steadies { Steadies nodes.old nodes.new link result }
+    ensures steadies { Steadies nodes.old nodes.new link LeansLeft result }
 {
     let Some((place, node)) = fork_at(nodes, link) else {
         return link;
@@ -86,7 +87,7 @@ fn leant_left<K: Copy, V: Copy>(nodes: &mut [Node<K, V>], link: Option<u32>) -> 
 
 /// The tree with a right side that is no lower than its left side, where that was one level higher.
 fn leant_right<K: Copy, V: Copy>(nodes: &mut [Node<K, V>], link: Option<u32>) -> Option<u32>
-    ensures steadies { Steadies nodes.old nodes.new link result }
+    ensures steadies { Steadies nodes.old nodes.new link LeansRight result }
 {
     let Some((place, node)) = fork_at(nodes, link) else {
         return link;

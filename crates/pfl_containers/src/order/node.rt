@@ -1,6 +1,7 @@
 //! Nodes of trees, which stand in one array and name one another by their places in it.
 ghost use Rattle.std.specs.Prelude.{◌≡◌, slice_set};
 ghost use Rattle.pfl_containers.specs.inner.Trees.{fork_of};
+ghost use Rattle.pfl_containers.specs.inner.Balances.{height_of};
 
 /// An entry, and the places of the trees below it.
 #[derive(Clone, Copy)]
@@ -24,8 +25,10 @@ pub(crate) fn fork_at<K: Copy, V: Copy>(
     Some((place, *node))
 }
 
-/// How many levels the tree there has.
-pub(crate) fn height<K: Copy, V: Copy>(nodes: &[Node<K, V>], link: Option<u32>) -> u8 {
+/// How many levels the tree there has, as its node says.
+pub(crate) fn height<K: Copy, V: Copy>(nodes: &[Node<K, V>], link: Option<u32>) -> u8
+    ensures height { result ≡ height_of nodes.now link }
+{
     match fork_at(nodes, link) {
         Some((_, node)) => node.height,
         None => 0,
