@@ -19,4 +19,5 @@ pub mod Asking
 pub mod Released
 pub mod Anew
 pub mod Received
+mod Worked
 pub mod ForCallers

@@ -5,6 +5,7 @@ mod clear;
 mod flush;
 mod kill;
 mod laws;
+mod message;
 mod node;
 mod packet;
 mod purge;

@@ -20,7 +20,7 @@ const ALL_STATES: StateName = StateName { creator: 0, id: 0 };
 impl<A: Allocator + Copy> Node<A> {
     /// The node that this one begins anew as: of its limits, its rules and its clock, of this boot, and asking for all states. It
     /// has memory of its own.
-    pub fn restarted(&self, boot: u32) -> Result<Self, NoMemory>
+    pub fn restart(&self, boot: u32) -> Result<Self, NoMemory>
         ensures restarted { IfOk result (λ n. n ≡ event.restarted self.now boot) }
     {
         let limits = self.desk.limits();

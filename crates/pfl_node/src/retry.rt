@@ -22,7 +22,7 @@ const ALL_STATES: StateName = StateName { creator: 0, id: 0 };
 
 impl<A: Allocator + Copy> Node<A> {
     /// Asks for all states again where the last try was long enough ago, or gives up after the twelfth; tells which.
-    pub fn bulk_retry(&mut self) -> Result<(Retried, Change<NodeEdit, A>), Refusal>
+    pub fn retry(&mut self) -> Result<(Retried, Change<NodeEdit, A>), Refusal>
         ensures refused { IfErr result (IsRefusal (retrying.retry_refusal self.old)) }
         ensures unchanged { OnErr result (self.new ≡ self.old) }
         ensures not_refused { OnOk result (retrying.retry_refusal self.old ≡ None) }

@@ -47,11 +47,11 @@ impl<A: Allocator + Copy> Node<A> {
                 Ok((NodeOutcome::Cleared(count), edits))
             }
             NodeEvent::BulkTurn => {
-                let (count, edits) = self.bulk_turn()?;
+                let (count, edits) = self.turn()?;
                 Ok((NodeOutcome::Queued(count), edits))
             }
             NodeEvent::BulkRetry => {
-                let (retried, edits) = self.bulk_retry()?;
+                let (retried, edits) = self.retry()?;
                 Ok((NodeOutcome::Tried(retried), edits))
             }
         }

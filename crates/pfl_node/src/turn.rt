@@ -30,7 +30,7 @@ const NO_NAME: StateName = StateName { creator: 0, id: 0 };
 impl<A: Allocator + Copy> Node<A> {
     /// Queues the next states of the bulk update that the node serves, and tells how many. After the last of them the end is
     /// told. It looks at the states behind its cursor, up to one more that it may send than it sends.
-    pub fn bulk_turn(&mut self) -> Result<(usize, Change<NodeEdit, A>), Refusal>
+    pub fn turn(&mut self) -> Result<(usize, Change<NodeEdit, A>), Refusal>
         ensures refused { IfErr result (IsRefusal (turning.turn_refusal self.old)) }
         ensures unchanged { OnErr result (self.new ≡ self.old) }
         ensures not_refused { OnOk result (turning.turn_refusal self.old ≡ None) }

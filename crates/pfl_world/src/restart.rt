@@ -51,7 +51,7 @@ impl<A: Allocator + Copy> World<A> {
         self.known();
         let boot = self.next_boot;
         let mut edits = Change::with_room(self.alloc, 1)?;
-        let fresh = self.nodes.at(node).restarted(boot)?;
+        let fresh = self.nodes.at(node).restart(boot)?;
         let mut other = boxed(self.alloc, fresh)?;
         swap(self.nodes.at_mut(node), other.as_mut());
         self.next_boot = boot + 1;

@@ -79,25 +79,6 @@ fn free_places_are_taken_again(rt: HostRuntime) -> Result<(), Fail> {
     Ok(())
 }
 
-/// A tree that leant to one side would be deeper than the stack, and a search would take thousands of times as long.
-#[test]
-fn rising_keys_stay_shallow(rt: HostRuntime) -> Result<(), Fail> {
-    const KEYS: u32 = 1 << 16;
-    let mut map = OrderedMap::new(rt.alloc(), KEYS as usize)?;
-    for key in 0..KEYS {
-        fill(&mut map, key, key);
-    }
-    for key in 0..KEYS {
-        assert!(rt; map.get(key) == Some(key));
-    }
-    for key in 0..KEYS / 4 * 3 {
-        assert!(rt; map.remove(key) == Some(key));
-    }
-    assert!(rt; map.len() == KEYS as usize / 4);
-    assert!(rt; map.first() == Some((KEYS / 4 * 3, KEYS / 4 * 3)));
-    Ok(())
-}
-
 #[test]
 fn mixed_keys_come_and_go(rt: HostRuntime) -> Result<(), Fail> {
     let mut map = OrderedMap::new(rt.alloc(), 65_536)?;

@@ -6,7 +6,7 @@ use Rattle.pfl_receive.specs.desk.declared.edit.NodeEdit.{NodeEdit}
 use Rattle.pfl_receive.specs.desk.Nodes.{Node, AreParts, is_overcounted}
 use Rattle.pfl_node.proofs.Anew.{asks-as, anew-is, anew-counts, anew-limits}
 use Rattle.pfl_node.proofs.Ready.{most-few}
-use Rattle.pfl_node.proofs.node.Node.restarted.Goals as goal
+use Rattle.pfl_node.proofs.node.Node.restart.Goals as goal
 
 pub new-requires : goal.new-requires
 new-requires g c =

@@ -8,7 +8,7 @@ use Rattle.pfl_receive.specs.desk.Nodes.{Node, IsRefusal}
 use Rattle.pfl_node.proofs.Ready.{begins, may-settle, settled, settled-answer}
 use Rattle.pfl_node.proofs.Asking.{retry-early, retry-late}
 use Rattle.pfl_node.proofs.OnePoint.{point-ends, refused-as, not_refused-as}
-use Rattle.pfl_node.proofs.node.Node.bulk_retry.Goals as goal
+use Rattle.pfl_node.proofs.node.Node.retry.Goals as goal
 
 pub returns-in_err-retry : goal.returns-in_err-retry
 returns-in_err-retry g c =

@@ -8,7 +8,7 @@ use Rattle.pfl_receive.specs.desk.Nodes.{Node, IsRefusal, full_tests, refused_by
 use Rattle.pfl_node.proofs.Ready.{begins, may-settle, settled, settled-answer}
 use Rattle.pfl_node.proofs.OnePoint.{point-ends, refused-as, not_refused-as}
 use Rattle.pfl_node.proofs.Turned.{turn-few}
-use Rattle.pfl_node.proofs.node.Node.bulk_turn.Goals as goal
+use Rattle.pfl_node.proofs.node.Node.turn.Goals as goal
 
 pub returns-then-not-is_serving : goal.returns-then-not-is_serving
 returns-then-not-is_serving g c =
