@@ -131,7 +131,8 @@ def _request(name: Name) -> Item:
 
 
 def _held(node: Node) -> List[Item]:
-    return [(str(it.name), f"{it.packet}, since {seconds(it.since)}") for it in node.held]
+    packets = ((it, f"{it.packet}, " if it.packet else "") for it in node.held)
+    return [(str(it.name), f"{packet}since {seconds(it.since)}") for it, packet in packets]
 
 
 def _of_node(where: str, before: Node, after: Node) -> List[Difference]:

@@ -163,7 +163,7 @@ def _names_of_flow(node: Node, state: State) -> List[Name]:
 
 def between_branches(lab: Laboratory, one: Branch, two: Branch, paint: Paint) -> List[str]:
     """Whether two branches show the same pair, where their events part, and what differs between the pairs."""
-    found = differences(lab.show(one.name), lab.show(two.name))
+    found = differences(lab.with_packets(lab.show(one.name), one), lab.with_packets(lab.show(two.name), two))
     answer = "show the same pair" if not found else f"show pairs that differ in {counted(len(found), 'place')}"
     colour = paint.bad if found else paint.good
     lines = [colour(f"{one.name} and {two.name} {answer}"), *_where_they_part(one, two)]

@@ -6,6 +6,7 @@ from dataclasses import dataclass
 from typing import Iterator, List, Optional, Sequence, Tuple
 
 from .branches import Branch, read_log
+from .held import held_packets, tell_packets
 from .names import NODES, SEARCH
 from .pair import Pair, read_shown
 from .programs import Client, Ended, Run, Session, check_setup, has_reply, run_lines
@@ -139,16 +140,26 @@ class Laboratory:
         replies = self.run([f"step main {it}" for it in events])
         return [outcome_of(it[0]) for it in replies]
 
+    def with_packets(self, pair: Pair, branch: Optional[Branch] = None) -> Pair:
+        """A shown pair with the packets that its nodes hold, out of its branch; without the setup nobody can tell which those are."""
+        if self.knows_setup and any(node.held for node in pair.nodes.values()):
+            stood = (branch or self.branch(pair.branch)).events[: pair.cursor]
+            tell_packets(pair, held_packets(stood, self.outcomes(stood)))
+        return pair
+
     def steps(self, events: Sequence[str], first: int = 1) -> List[Step]:
         """The events from a place on, each with the pair before and after it."""
         lines = [f"step main {it}" for it in events[: first - 1]]
         lines.append("show main")
         for event in events[first - 1 :]:
             lines += [f"step main {event}", "show main"]
-        replies = self.run(lines)[first - 1 :]
-        shown = [read_shown(it) for it in replies[::2]]
-        told = [outcome_of(it[0]) for it in replies[1::2]]
-        return [Step(first + at, events[first - 1 + at], told[at], shown[at], shown[at + 1]) for at in range(len(told))]
+        replies = self.run(lines)
+        before, behind = replies[: first - 1], replies[first - 1 :]
+        told = [outcome_of(it[0]) for it in (*before, *behind[1::2])]
+        packets = held_packets(events, told)
+        shown = [tell_packets(read_shown(it), packets) for it in behind[::2]]
+        pairs = zip(range(first, len(events) + 1), shown, shown[1:])
+        return [Step(number, events[number - 1], told[number - 1], was, now) for number, was, now in pairs]
 
     @contextlib.contextmanager
     def aside(self, branch: Branch) -> Iterator[Run]:

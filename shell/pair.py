@@ -85,11 +85,17 @@ class Queued:
 
 @dataclass(frozen=True)
 class Held:
-    """A packet that waits until the peer knows its state."""
+    """A packet that waits until the peer knows its state. The pair shows the state and since when; which packet it is, the log
+    of the branch tells, and it is empty where nobody has looked."""
 
     name: Name
     since: int
-    packet: str
+    packet: str = ""
+
+    @classmethod
+    def read(cls, words: Sequence[str]) -> "Held":
+        name, since = words
+        return cls(Name.read(name), int(since))
 
 
 @dataclass(frozen=True)
@@ -190,7 +196,7 @@ _OF_NODE: Dict[str, Callable[[Node, List[str]], None]] = {
     "ask": lambda node, it: node.asks.append(Name.read(it[0])),
     "bus": lambda node, it: node.statuses.append(int(it[0])),
     "clr": lambda node, it: node.clears.append(Cleared(int(it[0]), int(it[1]))),
-    "held": lambda node, it: node.held.append(Held(Name.read(it[0]), int(it[1]), " ".join(it[2:]))),
+    "held": lambda node, it: node.held.append(Held.read(it)),
 }
 
 

@@ -203,7 +203,8 @@ class Shell(cmd.Cmd):
 
     def do_view(self, words: str) -> None:
         setup = self.lab.setup if self.lab.knows_setup else None
-        self.tell(views.view(self.lab.show(words.strip() or self.lab.in_use), setup, self.paint))
+        pair = self.lab.with_packets(self.lab.show(words.strip() or self.lab.in_use))
+        self.tell(views.view(pair, setup, self.paint))
 
     def do_diff(self, words: str) -> None:
         names = words.split()

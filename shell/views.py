@@ -117,7 +117,8 @@ def _to_be_told(node: Node, paint: Paint) -> List[str]:
 def _held(it: Held, node: Node, setup: Optional[Setup], paint: Paint) -> str:
     due = it.since + (setup or Setup()).limits["defer_ms"]
     when = f"due since {seconds(due)}" if due <= node.clock else f"due at {seconds(due)}"
-    return paint.note(f"  held packet of {it.name} ({it.packet}): since {seconds(it.since)}, {when}")
+    packet = f" ({it.packet})" if it.packet else ""
+    return paint.note(f"  held packet of {it.name}{packet}: since {seconds(it.since)}, {when}")
 
 
 def _bulk_update(node: Node, setup: Optional[Setup], paint: Paint) -> List[str]:

@@ -42,6 +42,14 @@ class Changes(unittest.TestCase):
     def test_a_clock(self) -> None:
         self.assertEqual(self.lines(4), ["event 4: tick b 1500: clock 1500", "  b: clock: 0 s -> 1.5 s"])
 
+    def test_a_packet_is_held_and_released(self) -> None:
+        self.lab = laboratory(f"set defer 1\n{SCRIPT}\nstep main tick a 20\nstep main release a")
+        self.addCleanup(self.lab.close)
+        held = "udp 10.0.0.1:1000 192.0.2.9:53 40, since 0 s"
+        self.assertIn(f"  a: held packet 1.1 new: {held}", self.lines(1))
+        # Of the script above the cut is refused, so that seven events stand.
+        self.assertIn(f"  a: held packet 1.1 gone: {held}", self.lines(7))
+
     def test_nothing_changed(self) -> None:
         # The cut was refused, so the fifth event is the tick by nothing.
         self.assertEqual(self.lines(5), ["event 5: tick b 0: clock 1500", "  it changed nothing"])

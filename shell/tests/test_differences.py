@@ -74,6 +74,7 @@ class Nodes(unittest.TestCase):
             (lambda it: it.b.statuses.append(2), "b: bulk status new: end"),
             (lambda it: it.b.clears.append(Cleared(1, 7)), "b: clear new: creator 1 up to id 7"),
             (lambda it: it.b.held.append(Held(ONE, 20, PACKET)), f"b: held packet 1.1 new: {PACKET}, since 0.02 s"),
+            (lambda it: it.b.held.append(Held(ONE, 20)), "b: held packet 1.1 new: since 0.02 s"),
         ):
             with self.subTest(text):
                 self.assertEqual(found(change), [text])

@@ -224,6 +224,10 @@ class BetweenBranches(unittest.TestCase):
             "a: held packet 1.1 only in other: udp 10.0.0.1:1000 192.0.2.9:53 1400, since 0 s",
         ]
         self.assertEqual((told[0], told[-2:]), ("main and other show pairs that differ in 2 places", expected))
+        # Without its setup, as of a server, only their logs are known to differ.
+        lab.knows_setup = False
+        told = between_branches(lab, lab.branch("main"), lab.branch("other"), PLAIN)
+        self.assertEqual(told[:2], ["main and other show the same pair", "their events part at number 1:"])
         lab.close()
 
 

@@ -107,9 +107,21 @@ class Questions(Dialogue):
     def test_view_tells_the_packet_that_is_held(self) -> None:
         shell = self.shell()
         self.said(shell, "set defer 1", *SETUP, QUERY)
-        self.assertIn(
-            "  held packet of 1.1 (udp 10.0.0.1:1000 192.0.2.9:53 40): since 0 s, due at 0.02 s", self.said(shell, "view")
-        )
+        told = "  held packet of 1.1 (udp 10.0.0.1:1000 192.0.2.9:53 40): since 0 s, due at 0.02 s"
+        self.assertIn(told, self.said(shell, "view"))
+        # The packet that stands counts, and not one that was undone.
+        self.said(shell, "back main 1", QUERY[: -len("40")] + "1400")
+        self.assertIn(told.replace("40)", "1400)"), self.said(shell, "view"))
+        # Without its setup, as of a server, no outcome of the log is known.
+        shell.lab.knows_setup = False
+        self.assertIn("  held packet of 1.1: since 0 s, due at 0.02 s", self.said(shell, "view"))
+
+    def test_view_asks_for_no_log_where_nothing_is_held(self) -> None:
+        shell = self.shell()
+        self.said(shell, *SETUP, QUERY)
+        with mock.patch.object(shell.lab, "branch") as asked:
+            self.said(shell, "view")
+        asked.assert_not_called()
 
     def test_questions_change_nothing(self) -> None:
         shell = self.shell()

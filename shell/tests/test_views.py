@@ -8,7 +8,9 @@ from typing import List, Tuple
 from ..checksums import canonical_text, rules_checksum
 from ..colours import PLAIN, Paint
 from ..frames import checksum
-from ..pair import Pair, read_shown
+from ..held import tell_packets
+from ..names import Name
+from ..pair import NotShown, Pair, read_shown
 from ..setups import Rule, Setup
 from ..views import view
 from ..words import UNKNOWN_SETUP, flow, levels, seconds, sequence
@@ -231,13 +233,21 @@ class Waiting(unittest.TestCase):
         self.assertEqual(node_a(pair)[2:], ["  nothing to be told to the peer, push asked"])
 
     def test_held_packets(self) -> None:
-        pair = shown("held a 1.1 2980 udp 10.0.0.1:1 192.0.2.9:2 40", "held a 1.2 2990 tcp 10.0.0.1:1 192.0.2.9:2 S 1 0 9 0 7")
+        pair = shown("held a 1.1 2980", "held a 1.2 2990")
+        # A shown pair alone has their states and times.
+        expected = ["  held packet of 1.1: since 2.98 s, due since 3 s", "  held packet of 1.2: since 2.99 s, due at 3.01 s"]
+        self.assertEqual(node_a(pair)[2:], expected)
+        self.assertIn("due at 3.08 s", node_a(pair, "set defer_ms 100")[2])
+        packets = {Name(1, 1): "udp 10.0.0.1:1 192.0.2.9:2 40", Name(1, 2): "tcp 10.0.0.1:1 192.0.2.9:2 S 1 0 9 0 7"}
         expected = [
             "  held packet of 1.1 (udp 10.0.0.1:1 192.0.2.9:2 40): since 2.98 s, due since 3 s",
             "  held packet of 1.2 (tcp 10.0.0.1:1 192.0.2.9:2 S 1 0 9 0 7): since 2.99 s, due at 3.01 s",
         ]
-        self.assertEqual(node_a(pair)[2:], expected)
-        self.assertIn("due at 3.08 s", node_a(pair, "set defer_ms 100")[2])
+        self.assertEqual(node_a(tell_packets(pair, packets))[2:], expected)
+
+    def test_a_held_packet_is_shown_by_its_state_and_a_time(self) -> None:
+        for line in ("held a 1.1", "held a 1.1 2980 udp 10.0.0.1:1 192.0.2.9:2 40"):
+            self.assertRaises(NotShown, shown, line)
 
     def test_bulk_updates(self) -> None:
         pair = shown(node="clock 3000 boot 1 id 9 seq 9 push 0 serve 0.0/2000 sync 12/1500")

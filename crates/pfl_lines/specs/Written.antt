@@ -43,10 +43,6 @@ segment_words proto p = if is_tcp proto then tcp_words p else decimal p.len ∷ 
 abbrev pub fields_words : PacketFields → List (List ℕ)
 fields_words p = proto_text p.proto ∷ end_text p.src ∷ end_text p.dst ∷ segment_words p.proto p
 
--- a packet
-unfoldable pub packet_text : PacketFields → List ℕ
-packet_text p = join_with_byte 32 (fields_words p)
-
 -- what an event of a node says behind the node
 abbrev pub node_event_rest : NodeEvent → List (List ℕ)
 node_event_rest (own.Packet dir p) = dir_text dir ∷ fields_words p

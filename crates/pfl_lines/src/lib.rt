@@ -23,4 +23,4 @@ pub use laws::steps_read_back;
 pub use search::{ScriptLine, SearchLine, is_search, parse_plain, parse_script};
 pub use session::{SessionLine, parse_session};
 pub use setup::{SetupLine, parse_setup};
-pub use written::{EventWords, PacketWords};
+pub use written::EventWords;

@@ -3,7 +3,7 @@
 ghost use Rattle.std.specs.Prelude.{◌≡◌, Some, [], ◌∷◌, if◌then◌else◌};
 ghost use Rattle.std.specs.List.{join_with_byte};
 ghost use Rattle.pfl_lines.specs.Laws.{IsAddr, IsEnd, IsTypedEvent, IsTypedFrameEvent, IsTypedNodeEvent, IsStateName, IsTyped};
-ghost use Rattle.pfl_lines.specs.Written.{flags_text, tcp_words, packet_text, node_event_words, frame_event_words, event_text};
+ghost use Rattle.pfl_lines.specs.Written.{flags_text, tcp_words, fields_words, node_event_words, frame_event_words, event_text};
 
 use crate::event_words::{frame_event_word, node_event_word};
 use pfl_base::{Addr, End, NodeId, Packet, PacketFields, Proto, StateName, TcpFlags};
@@ -74,12 +74,11 @@ impl fmt::Display for Tcp {
 /// A packet, as it stands behind the node and the direction of its event: `PROTO SRC DST`, and what the
 /// protocol has behind them.
 #[derive(Clone, Copy)]
-pub struct PacketWords(pub Packet);
+struct PacketWords(Packet);
 
 impl fmt::Display for PacketWords {
-    ghost output = { λ words. Some (packet_text words.0) };
+    ghost output = { λ words. Some (join_with_byte 32 (fields_words words.0)) };
 
-    #[tactic(auto, unfolding(crate::specs::Written::packet_text))]
     fn fmt<W: fmt::Write>(&self, f: &mut fmt::Formatter<W>) -> fmt::Result {
         let fields = self.0.fields();
         let PacketFields {
@@ -202,7 +201,6 @@ struct NodeEventWords {
 impl fmt::Display for NodeEventWords {
     ghost output = { λ words. Some (join_with_byte 32 (node_event_words words.node words.event)) };
 
-    #[tactic(auto, unfolding(crate::specs::Written::packet_text))]
     fn fmt<W: fmt::Write>(&self, f: &mut fmt::Formatter<W>) -> fmt::Result {
         let node = self.node;
         match self.event {

@@ -28,7 +28,6 @@ use Rattle.pfl_timeline.specs.desk.declared.counters.Counters.{Counters}
 use Rattle.pfl_timeline.specs.desk.Nodes.{Node}
 use Rattle.pfl_link.specs.Links.{InFlight, Link}
 use Rattle.pfl_timeline.specs.world.Worlds.{World}
-use Rattle.pfl_lines.specs.Written.{packet_text}
 use Rattle.pfl_script.specs.Texts.{or_dash}
 
 -- ---- a branch
@@ -137,10 +136,9 @@ bus_line id status = codes "bus " ++ node_text id ++ codes " " ++ decimal (statu
 abbrev pub clear_line : NodeId → Cleared → List ℕ
 clear_line id c = codes "clr " ++ node_text id ++ codes " " ++ decimal c.creator ++ codes " " ++ decimal c.bound ++ codes "\n"
 
--- a held packet: its state, since when it is held, and the packet as its event says it
+-- a held packet, by its state, and since when it is held
 abbrev pub held_line : NodeId → Held → List ℕ
-held_line id h =
-    codes "held " ++ node_text id ++ codes " " ++ name_text h.name ++ codes " " ++ decimal h.held_at ++ codes " " ++ packet_text h.packet ++ codes "\n"
+held_line id h = codes "held " ++ node_text id ++ codes " " ++ name_text h.name ++ codes " " ++ decimal h.held_at ++ codes "\n"
 
 -- what is to be told to the peer: marks by kind and number, and the lists in their order
 abbrev pub queue_lines : NodeId → Queue → List ℕ

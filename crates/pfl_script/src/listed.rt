@@ -10,7 +10,6 @@ use crate::state_lines::push_state;
 use pfl_base::{NodeId, StateName};
 use pfl_defer::Held;
 use pfl_edits::{InOrder, NoMemory};
-use pfl_lines::PacketWords;
 use pfl_queue::{Cleared, Mark};
 use pfl_table::Row;
 use pfl_wire::BulkStatus;
@@ -90,16 +89,8 @@ impl Listed for Held {
     ghost line = { held_line };
 
     fn push_line<A: Allocator>(&self, node: NodeId, text: &mut Vec<u8, A>) -> Result<(), NoMemory> {
-        let Held {
-            name,
-            packet,
-            held_at,
-        } = *self;
-        let packet = PacketWords(packet);
-        push_shown(
-            text,
-            format_args!("held {node} {name} {held_at} {packet}\n"),
-        )
+        let Held { name, held_at, .. } = *self;
+        push_shown(text, format_args!("held {node} {name} {held_at}\n"))
     }
 }
 
