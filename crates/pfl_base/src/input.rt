@@ -3,7 +3,7 @@
 ghost use Rattle.std.specs.Prelude.{◌≡◌, ℕ, List, Bool, true, Option, None, OnOk, OnErr};
 ghost use Rattle.std.specs.Io.{ReadsAtMost};
 ghost use Rattle.std.specs.Io.KnownBytes.{ReadConsumes};
-ghost use Rattle.pfl_base.specs.Counts.{Counts};
+ghost use Rattle.pfl_base.specs.Counts.{Calls, Counts, lent_calls, own_calls};
 
 use crate::std_device::DeviceFault;
 
@@ -12,8 +12,8 @@ pub trait Input {
     /// What is left to read, of a device that tells its bytes.
     ghost left: { Self → Option (List ℕ) } = { λ _. None };
 
-    /// How many calls of `read` there were, of a device that tells it.
-    ghost reads: { Self → Option ℕ } = { λ _. None };
+    /// How many calls of `read` there were, of a device that tells it, and through which references they go.
+    ghost reads: { Self → Calls } = { λ _. own_calls None };
 
     /// A call has failed.
     ghost has_failed: { Self → Bool };
@@ -29,4 +29,20 @@ pub trait Input {
     /// Whether a call has failed.
     fn failed(&self) -> bool
         ensures { result ≡ has_failed self.now };
+}
+
+impl<D: Input> Input for &mut D {
+    ghost left = { λ d. D.left d.now };
+
+    ghost reads = { λ d. lent_calls d.ghost_name (D.reads d.now) };
+
+    ghost has_failed = { λ d. D.has_failed d.now };
+
+    fn read(&mut self, buf: &mut [u8]) -> Result<usize, DeviceFault> {
+        Input::read(&mut **self, buf)
+    }
+
+    fn failed(&self) -> bool {
+        Input::failed(&**self)
+    }
 }

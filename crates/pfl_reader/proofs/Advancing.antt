@@ -1,5 +1,5 @@
 -- What a reader's answer says once it is known whether there was a line.
-use Rattle.std.proofs.Common.{◌≡◌, ℕ, Bool, true, false, List, Option, sym, ◌∙◌, ap, subst}
+use Rattle.std.proofs.Common.{◌≡◌, ℕ, Bool, true, false, List, Option, ◌∙◌, ap, subst}
 use Rattle.pfl_reader.specs.Scans.{Kept, ReadsLine, IsOver, Gives}
 use Rattle.pfl_reader.specs.Readers.{one_more, lines_after}
 

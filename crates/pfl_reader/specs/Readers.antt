@@ -1,18 +1,19 @@
 -- A reader of lines.
-use Rattle.std.specs.Prelude.{◌≡◌, ◌≤◌, ◌+◌, ◌-◌, ◌*◌, ℕ, ◌^◌, min, Bool, true, false, List, Option, Some, None}
-use Rattle.pfl_base.specs.Counts.{Counts}
+use Rattle.std.specs.Prelude.{◌≡◌, ◌≤◌, ◌+◌, ◌-◌, ◌*◌, ℕ, ◌^◌, min, Bool, true, false, List, Option}
+use Rattle.std.specs.Io.KnownBytes.{prepend_known}
+use Rattle.pfl_base.specs.Counts.{Calls, Counts}
 use Rattle.pfl_reader.specs.Scans.{Kept}
 use Rattle.pfl_reader.specs.declared.fault.ReadFault.{ReadFault}
 use Rattle.pfl_reader.specs.declared.fault.ReadFault.TheVariants.{Read, TooManyTurns}
 
--- what is left to read, where that is known; the lines read; the line that was read last; the calls of read in this run, and the
--- device's own count of them, where it tells that; the bytes that were read and not yet taken; whether a call has failed
+-- what is left to read, where that is known; the lines read; the line that was read last; the calls of read in this run, and those of
+-- the device itself; the bytes that were read and not yet taken; whether a call has failed
 pub record Source : Type 0 where
   pub left : Option (List ℕ)
   pub lines : ℕ
   pub line : Kept
   pub turns : ℕ
-  pub reads : Option ℕ
+  pub reads : Calls
   pub waiting : ℕ
   pub failed : Bool
 
@@ -20,7 +21,11 @@ pub record Source : Type 0 where
 abbrev pub room : Source → ℕ
 room s = (16777216 - s.turns) * 65536 + s.waiting
 
--- in a run the turns grew as the device's own count of its calls did
+-- what a reader of lines had left is what its device has left, after bytes that it gave and that no line took
+abbrev pub Releases : Option (List ℕ) → Option (List ℕ) → Type 0
+Releases left device = (lost : List ℕ) × (left ≡ prepend_known lost device)
+
+-- in a run the turns grew as the calls of the device did
 pub record CountsTurns (old new : Source) : Type 0 where
   pub more : old.turns ≤ new.turns
   pub reads : Counts old.reads new.reads (new.turns - old.turns)

@@ -2,7 +2,7 @@
 
 ghost use Rattle.std.specs.Prelude.{◌≡◌, ◌+◌, ◌<◌, ◌≤◌, ◌-◌, ◌^◌, slice_range, length, take, true, false, Some, IfOk, IfErr, IfSome, OnOk, ◌↔◌, IsTrue, MatchOption};
 ghost use Rattle.std.specs.Io.KnownBytes.{Keeps, IsAtEnd};
-ghost use Rattle.pfl_reader.specs.Readers.{room, CountsTurns, IsReadFault};
+ghost use Rattle.pfl_reader.specs.Readers.{room, CountsTurns, IsReadFault, Releases};
 ghost use Rattle.pfl_reader.specs.inner.Feeds.{cut, idle, TakesWhole};
 ghost use Rattle.pfl_reader.specs.inner.Scans.{TakesByte};
 
@@ -85,6 +85,7 @@ impl<R: Input> Feed<R> {
 
     /// The device itself. Bytes that it gave and that were not taken are lost.
     pub(crate) fn into_inner(self) -> R
+        ensures left { Releases self.left (R.left result) }
         ensures reads { R.reads result ≡ self.reads }
         ensures failed { R.has_failed result ≡ self.failed }
     {

@@ -2,7 +2,7 @@
 
 ghost use Rattle.std.specs.Prelude.{◌≡◌, ◌+◌, ◌<◌, ◌≤◌, ◌^◌, true, false, IfOk, IfErr, OnOk, OnErr};
 ghost use Rattle.std.specs.Io.KnownBytes.{Keeps, IsAtEnd};
-ghost use Rattle.pfl_reader.specs.Readers.{room, CountsTurns, IsReadFault, one_more, lines_after};
+ghost use Rattle.pfl_reader.specs.Readers.{room, CountsTurns, IsReadFault, Releases, one_more, lines_after};
 ghost use Rattle.pfl_reader.specs.Scans.{Gives};
 
 use crate::carry::Carry;
@@ -60,6 +60,7 @@ impl<R: Input> LineReader<R> {
 
     /// The device itself. Bytes that it gave and that no line took are lost.
     pub fn into_inner(self) -> R
+        ensures left { Releases self.left (R.left result) }
         ensures reads { R.reads result ≡ self.reads }
         ensures failed { R.has_failed result ≡ self.failed }
     {

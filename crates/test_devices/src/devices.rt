@@ -1,6 +1,7 @@
 //! A reader and a writer that go byte by byte, and fail, and a reader without end.
 
 ghost use Rattle.std.specs.Prelude.{◌≡◌, Some, false};
+ghost use Rattle.pfl_base.specs.Counts.{own_calls};
 
 use pfl_base::{DeviceFault, Input};
 use std::io::{self, ErrorKind};
@@ -38,7 +39,7 @@ pub struct Endless {
 }
 
 impl Input for Endless {
-    ghost reads = { λ d. Some d.calls };
+    ghost reads = { λ d. own_calls (Some d.calls) };
 
     ghost has_failed = { λ d. false };
 

@@ -1,18 +1,19 @@
 -- The bytes of a device, read in blocks.
-use Rattle.std.specs.Prelude.{◌≡◌, ◌==◌, ◌<◌, ℕ, Bool, List, [], ◌∷◌, slice_range, Option, if◌then◌else◌}
+use Rattle.std.specs.Prelude.{◌==◌, ◌<◌, ℕ, Bool, List, [], ◌∷◌, slice_range, Option, if◌then◌else◌}
+use Rattle.pfl_base.specs.Counts.{Calls}
 use Rattle.pfl_reader.specs.declared.head.Head.{Head}
 use Rattle.pfl_reader.specs.Scans.{Kept, TakesLine}
 use Rattle.pfl_reader.specs.Readers.{Source}
 use Rattle.pfl_reader.specs.inner.Scans.{Carried, kept, nothing}
 
 -- the block that was read last; what is left to read, with what of the block waits; how many bytes of it wait; the calls of read
--- in this run, and the device's own count of them; whether a call has failed
+-- in this run, and those of the device itself; whether a call has failed
 pub record Fed : Type 0 where
   pub block : List ℕ
   pub left : Option (List ℕ)
   pub waiting : ℕ
   pub turns : ℕ
-  pub reads : Option ℕ
+  pub reads : Calls
   pub failed : Bool
 
 -- a reader that has this to read, has read so many lines, and this one last

@@ -1,6 +1,5 @@
-use Rattle.std.proofs.Common.{arith, ◌≡◌, ◌∙◌, List, [], length, take, sym, ap, ℕ, ◌<◌}
+use Rattle.std.proofs.Common.{arith, ◌∙◌, length}
 use Rattle.std.proofs.lemmas.List.{take_all}
-use Rattle.pfl_reader.specs.inner.Feeds.{cut}
 use Rattle.pfl_reader.proofs.Whole.{cut-last, cut-none, cut-empty}
 use Rattle.pfl_reader.proofs.feed.body_len.Goals as goal
 use Rattle.pfl_reader.proofs.feed.body_len.Goals.{else-len-gt0-via-then-len-gt0+else-bytes-len-eq-CARRIAGE_RETURN, else-len-gt0-via-else-len-gt0}

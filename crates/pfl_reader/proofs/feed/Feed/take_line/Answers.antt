@@ -1,4 +1,4 @@
-use Rattle.std.proofs.Common.{arith, ◌≤◌, ◌+◌}
+use Rattle.std.proofs.Common.{arith}
 use Rattle.std.proofs.lemmas.Bool.{eq-eqb, eqb-true}
 use Rattle.pfl_reader.proofs.Whole.{TakesLine-whole, waits-within}
 use Rattle.pfl_reader.proofs.feed.Feed.take_line.Goals as goal

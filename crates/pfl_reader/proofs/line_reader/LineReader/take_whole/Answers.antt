@@ -1,4 +1,4 @@
-use Rattle.std.proofs.Common.{◌≡◌, ◌∙◌, length, ap, List, ℕ, subst, min}
+use Rattle.std.proofs.Common.{◌≡◌, ◌∙◌, length, ap, List, ℕ, min}
 use Rattle.std.specs.Prelude.{slice_range}
 use Rattle.pfl_reader.proofs.Whole.{ReadsLine-whole}
 use Rattle.pfl_reader.proofs.line_reader.LineReader.take_whole.Goals as goal
