@@ -1,5 +1,5 @@
 pub mod Lists
 pub mod Keeps
 pub mod KeepsCount
-mod Tries
+pub mod Tries
 pub mod ForCallers

@@ -1,7 +1,7 @@
--- What a viewer loads in one try and in several.
+-- What a viewer loads, in one try and in several.
 use Rattle.std.proofs.Common.{◌≡◌, ℕ, suc, ◌+◌, ◌≤◌, List, [], ◌∷◌, ◌++◌, length, ◌∙◌, refl, sym, subst, arith}
 use Rattle.std.proofs.lemmas.List.{append_assoc, append-nil}
-use Rattle.pfl_publish.specs.Seats.{Viewer, MakesTry, AreOvertaken, MakesTries, IsRead, IsOvertaken}
+use Rattle.pfl_publish.specs.Seats.{Viewer, LoadsOn, LoadsOnce, MakesTry, AreOvertaken, MakesTries, IsRead, IsOvertaken}
 
 -- The numbers that were loaded since the start, all in tries that were overtaken
 pub record LoadsOvertaken (count : ℕ) (start now : List ℕ) : Type 0 where
@@ -22,6 +22,18 @@ one_more count count' at now start middle end next before loads moved = record {
 }
 
 module _ {H : Type 0} where
+  -- nothing was loaded
+  pub loads-none : (v : Viewer H) → LoadsOn v v
+  loads-none v = ([], sym (append-nil v.loads))
+
+  -- the number was loaded once
+  pub loads-once : (old new : Viewer H) → LoadsOnce old new → LoadsOn old new
+  loads-once old new is = (is.0 ∷ [], is.1)
+
+  -- loads that go on from loads that go on
+  pub loads-since : (a b c : Viewer H) → LoadsOn a b → LoadsOn b c → LoadsOn a c
+  loads-since a b c ab bc = (ab.0 ++ bc.0, bc.1 ∙ ((λ z. ab.1 z ++ bc.0) ∙ append_assoc a.loads ab.0 bc.0))
+
   -- the loads of the last try after those that were overtaken
   last_try : (start middle end : Viewer H) (count count' at now : ℕ) → count ≡ count' → LoadsOvertaken count start.loads middle.loads → MakesTry middle end at now → MakesTries start end count' at now
   last_try start middle end count count' at now same before try = record {

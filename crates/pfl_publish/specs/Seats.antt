@@ -22,9 +22,13 @@ AreOvertaken zero loads = loads ≡ []
 AreOvertaken (suc count) loads = (earlier : List ℕ) × (at : ℕ) × (now : ℕ) × (loads ≡ earlier ++ at ∷ now ∷ []) × (at + 3 ≤ now) × AreOvertaken count earlier
 
 module _ {H : Type 0} where
-  -- the viewer is of the same publisher, and has seen all that it had seen before
+  -- the numbers that the viewer has loaded begin with those that it had loaded before
+  abbrev pub LoadsOn : Viewer H → Viewer H → Type 0
+  LoadsOn old new = (later : List ℕ) × (new.loads ≡ old.loads ++ later)
+
+  -- the viewer is of the same publisher, has seen all that it had seen before, and its loads go on
   abbrev pub SeesOn : Viewer H → Viewer H → Type 0
-  SeesOn old new = (new.table ≡ old.table) × StartsWith new.seen old.seen
+  SeesOn old new = (new.table ≡ old.table) × StartsWith new.seen old.seen × LoadsOn old new
 
   -- the viewer loaded the number once, and has seen up to it
   abbrev pub LoadsOnce : Viewer H → Viewer H → Type 0

@@ -196,12 +196,13 @@ impl<H, A: Allocator> Publisher<H, A> {
         told.number <= viewer.loaded
     }
 
-    /// Makes two viewers of one, each of which has seen as much.
+    /// Makes two viewers of one, each of which has seen as much. The first one keeps its loads, and the other has made none.
     pub fn split(&self, mut viewer: ViewerSeat<H>) -> (ViewerSeat<H>, ViewerSeat<H>)
         requires table { viewer.table ≡ self.now }
         requires closed { viewer.trying ≡ false }
         ensures tables { (result.0.table ≡ viewer.table) × (result.1.table ≡ viewer.table) }
         ensures seen { (result.0.seen ≡ viewer.seen) × (result.1.seen ≡ viewer.seen) }
+        ensures loads { (result.0.loads ≡ viewer.loads) × (result.1.loads ≡ []) }
         ensures closed { (result.0.trying ≡ false) × (result.1.trying ≡ false) }
     {
         let other = ViewerSeat {
@@ -212,12 +213,13 @@ impl<H, A: Allocator> Publisher<H, A> {
         (viewer, other)
     }
 
-    /// Makes one viewer of two, which has seen the longer list.
+    /// Makes one viewer of two, which has seen the longer list, and has the loads of the first.
     pub fn join(&self, viewer: ViewerSeat<H>, other: ViewerSeat<H>) -> ViewerSeat<H>
         requires tables { (viewer.table ≡ self.now) × (other.table ≡ self.now) }
         requires closed { (viewer.trying ≡ false) × (other.trying ≡ false) }
         ensures table { result.table ≡ viewer.table }
         ensures seen { result.seen ≡ longer viewer.seen other.seen }
+        ensures loads { result.loads ≡ viewer.loads }
         ensures closed { result.trying ≡ false }
     {
         let loaded = viewer.floor().max(other.floor());
@@ -239,7 +241,7 @@ impl<H, A: Allocator> Publisher<H, A> {
         }
     }
 
-    /// Shows the viewer all that was published, and answers the last number.
+    /// Shows the viewer all that was published, by one load of the number, and answers that number: the last one.
     ///
     /// Who publishes an entry for a viewer, and then wants to know what stands between that entry and what the viewer had seen,
     /// meets before `publish` as well as after it. The meet after it tells only that the viewer's former list begins the new
@@ -254,6 +256,7 @@ impl<H, A: Allocator> Publisher<H, A> {
         ensures tables { (result.0.table ≡ writer.table) × (result.1.table ≡ viewer.table) }
         ensures list { result.0.list ≡ writer.list }
         ensures seen { (result.1.seen ≡ writer.list) × StartsWith writer.list viewer.seen }
+        ensures loaded { LoadsOnce viewer result.1 }
         ensures closed { result.1.trying ≡ false }
         ensures number { result.2 + 1 ≡ length writer.list }
     {

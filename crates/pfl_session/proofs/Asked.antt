@@ -13,7 +13,7 @@ use Rattle.pfl_session.specs.declared.entry.Entry.{Entry}
 use Rattle.pfl_session.specs.declared.mark.Mark.{Mark}
 use Rattle.pfl_session.specs.Totals.{HasFewEvents}
 use Rattle.pfl_session.specs.Journals.{after_entry, replay, IsRight, IsJournal, revisions_of, calls_in, count_of, counts_of}
-use Rattle.pfl_session.specs.Passes.{Seen, seen_in, GoesOn, HasSeenJournal, AddsOthers, AddsCall}
+use Rattle.pfl_session.specs.Passes.{Seen, seen_in, GoesOn, HasSeenItsCalls, HasSeenJournal, AddsOthers, AddsCall}
 use Rattle.pfl_session.specs.Labs.{HasSeenOwn}
 use Rattle.pfl_session.specs.Desks.{one_more_counted, HasMet, IsEntered}
 use Rattle.pfl_session.proofs.Replays.{some_same, replay-snoc, legal-snoc, calls-history, count-own, counts-get, counts-set, all-seen, seen-is, seen-journal, others-since, call-since}
@@ -21,20 +21,20 @@ use Rattle.pfl_session.proofs.Growth.{all_behind, grown}
 
 module _ {M : Type 0} where
   -- a pass that was compared, and has then met
-  pub has-met : (opening : Timeline) (n : ℕ) (js js' js'' : List (Entry M)) (old compared met : Seen M) → js' ≡ js → js'' ≡ js' → compared ≡ old → old.half.count ≤ count_of old.session (seen_in old) → old.half.count ≡ count_of old.session js
-      → GoesOn compared met → met.half ≡ compared.half → IsJournal opening n js' → met.viewer.seen ≡ revisions_of opening js' → HasMet opening n js'' old met
-  has-met opening n js js' js'' old compared met same same' is below all on half journal seen = record {
+  pub has-met : (opening : Timeline) (n limit : ℕ) (js js' js'' : List (Entry M)) (old compared met : Seen M) → js' ≡ js → js'' ≡ js' → compared ≡ old → old.half.count ≤ count_of old.session (seen_in old) → old.half.count ≡ count_of old.session js
+      → GoesOn compared met → met.half ≡ compared.half → IsJournal opening n limit js' → met.viewer.seen ≡ revisions_of opening js' → HasMet opening n limit js'' old met
+  has-met opening n limit js js' js'' old compared met same same' is below all on half journal seen = record {
     goes_on = subst (λ (p : Seen M). GoesOn p met) is on;
     half = half ∙ ap (λ (p : Seen M). p.half) is;
-    journal = subst (IsJournal opening n) (sym same') journal;
+    journal = subst (IsJournal opening n limit) (sym same') journal;
     seen = seen ∙ ap (revisions_of opening) (sym same');
     below = below;
     all = all ∙ ap (count_of old.session) (sym (same' ∙ same));
   }
 
-  module _ (opening : Timeline) (n : ℕ) (js : List (Entry M)) (old met : Seen M) (is : HasMet opening n js old met) where
-    pub met-journal : HasSeenJournal opening n met
-    met-journal = seen-journal opening n js met is.seen is.journal
+  module _ (opening : Timeline) (n limit : ℕ) (js : List (Entry M)) (old met : Seen M) (is : HasMet opening n limit js old met) where
+    pub met-journal : HasSeenJournal opening n limit met
+    met-journal = seen-journal opening n limit js met is.seen is.journal
 
     pub met-length : length (seen_in met) ≡ length js
     met-length = ap (λ (l : List (Entry M)). length l) (seen-is opening js met is.seen)
@@ -48,17 +48,17 @@ module _ {M : Type 0} where
     all_own : count_of old.session (seen_in old) ≡ count_of old.session js
     all_own = all-seen old.session old.half.count opening js old.viewer.seen begun is.below is.all
 
-    pub met-own : HasSeenOwn opening js old
-    met-own = record { begun = begun; all_own = all_own }
-
-    pub met-counted : old.half.count ≡ count_of old.session (seen_in old)
+    pub met-counted : HasSeenItsCalls old
     met-counted = is.all ∙ sym all_own
 
-    pub met-called : (js' : List (Entry M)) (new : Seen M) (c : Command) (r : Reply) → IsEntered opening n js js' met new c r → AddsCall old new c r
-    met-called js' new c r entered = call-since opening n js js' old met new c r met-others is.seen is.goes_on.session entered
+    pub met-own : HasSeenOwn opening js old
+    met-own = record { begun = begun; all_own = all_own; called = met-counted }
 
-  pub entered-journal : (opening : Timeline) (n : ℕ) (js js' : List (Entry M)) (old new : Seen M) (c : Command) (r : Reply) → IsEntered opening n js js' old new c r → HasSeenJournal opening n new
-  entered-journal opening n js js' old new c r entered = seen-journal opening n js' new entered.seen entered.journal
+    pub met-called : (js' : List (Entry M)) (new : Seen M) (c : Command) (r : Reply) → IsEntered opening n limit js js' met new c r → AddsCall old new c r
+    met-called js' new c r entered = call-since opening n limit js js' old met new c r met-others is.seen is.goes_on.session entered
+
+  pub entered-journal : (opening : Timeline) (n limit : ℕ) (js js' : List (Entry M)) (old new : Seen M) (c : Command) (r : Reply) → IsEntered opening n limit js js' old new c r → HasSeenJournal opening n limit new
+  entered-journal opening n limit js js' old new c r entered = seen-journal opening n limit js' new entered.seen entered.journal
 
   -- the session's half, where its lab's counts are those of the journal
   half-is : (ts : List TableId) (hs : List Count) (js : List (Entry M)) (t : TableId) (mine : Count) (s : ℕ) → 1 ≤ s → slice_get ts (s - 1) ≡ Some t → hs ≡ counts_of 1 ts js → slice_get hs (s - 1) ≡ Some mine → mine ≡ record { table = t; count = count_of (1 + (s - 1)) js }
@@ -81,17 +81,21 @@ module _ {M : Type 0} (opening t u : Timeline) (js : List (Entry M)) (e : Entry 
   kept-few n m le few = grown t u n m c r few is.step le
 
   module _ (items : List (Entry M)) (more : items ≡ js ++ e ∷ []) where
-    pub kept-journal : (ts : List TableId) (tally : TableId) → 1 ≤ s → slice_get ts (s - 1) ≡ Some tally → IsJournal opening (length ts) js → IsJournal opening (length ts) items
-    kept-journal ts tally first there journal =
+    pub kept-many : length items ≡ length js + 1
+    kept-many = omega (arith, ap (λ (l : List (Entry M)). length l) more, length-append js (e ∷ []))
+
+    pub kept-journal : (ts : List TableId) (limit : ℕ) (tally : TableId) → 1 ≤ s → slice_get ts (s - 1) ≡ Some tally → length js < limit → IsJournal opening (length ts) limit js → IsJournal opening (length ts) limit items
+    kept-journal ts limit tally first there room journal =
         let own = is.entry.0 in
         let within : s - 1 < length ts = slice_get_within ts (s - 1) tally there in
-        subst (IsJournal opening (length ts)) (sym more) (record { legal = legal-snoc opening js e journal.legal right; sessions = all_behind _ js e journal.sessions (omega (arith, first, own), omega (arith, first, own, within)) })
+        subst (IsJournal opening (length ts) limit) (sym more) (record {
+          legal = legal-snoc opening js e journal.legal right;
+          sessions = all_behind _ js e journal.sessions (omega (arith, first, own), omega (arith, first, own, within));
+          short = omega (arith, room, length-append js (e ∷ []));
+        })
 
     pub kept-replay : u ≡ replay opening items
     kept-replay = kept-after ∙ (sym (replay-snoc opening js e) ∙ ap (replay opening) (sym more))
-
-    pub kept-many : length items ≡ length js + 1
-    kept-many = omega (arith, ap (λ (l : List (Entry M)). length l) more, length-append js (e ∷ []))
 
     pub kept-counts : (ts : List TableId) (hs hs' : List Count) (tally : TableId) (mine : Count) → 1 ≤ s → slice_get ts (s - 1) ≡ Some tally → hs ≡ counts_of 1 ts js → slice_get hs (s - 1) ≡ Some mine → hs' ≡ slice_set hs (s - 1) (one_more_counted mine)
         → hs' ≡ counts_of 1 ts items

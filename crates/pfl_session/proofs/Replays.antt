@@ -6,7 +6,7 @@ use Rattle.atomic_table.specs.Seated.{TableId}
 use Rattle.pfl_language.specs.declared.command.Command.{Command}
 use Rattle.pfl_publish.specs.Count.{Count}
 use Rattle.pfl_publish.specs.declared.view.Published.{Published}
-use Rattle.pfl_publish.proofs.ForCallers.{begun_since}
+use Rattle.pfl_publish.proofs.ForCallers.{begun_since, loads-since}
 use Rattle.pfl_publish.specs.Revisions.{Log, published, StartsWith}
 use Rattle.pfl_publish.specs.Seats.{Viewer}
 use Rattle.pfl_timeline.specs.Commands.{command_step, replied}
@@ -155,8 +155,8 @@ module _ {M : Type 0} where
   pub seen-is : (t : Timeline) (js : List (Entry M)) (p : Seen M) → p.viewer.seen ≡ revisions_of t js → seen_in p ≡ js
   seen-is t js p is = ap calls_in is ∙ calls-history t js
 
-  pub seen-journal : (t : Timeline) (n : ℕ) (js : List (Entry M)) (p : Seen M) → p.viewer.seen ≡ revisions_of t js → IsJournal t n js → HasSeenJournal t n p
-  seen-journal t n js p is journal = record { journal = subst (IsJournal t n) (sym (seen-is t js p is)) journal; revisions = is ∙ ap (revisions_of t) (sym (seen-is t js p is)) }
+  pub seen-journal : (t : Timeline) (n limit : ℕ) (js : List (Entry M)) (p : Seen M) → p.viewer.seen ≡ revisions_of t js → IsJournal t n limit js → HasSeenJournal t n limit p
+  seen-journal t n limit js p is journal = record { journal = subst (IsJournal t n limit) (sym (seen-is t js p is)) journal; revisions = is ∙ ap (revisions_of t) (sym (seen-is t js p is)) }
 
   -- what came since is of others
   pub others-since : (t : Timeline) (js : List (Entry M)) (old new : Seen M) → new.viewer.seen ≡ revisions_of t js → StartsWith new.viewer.seen old.viewer.seen → old.half.count ≤ count_of old.session (seen_in old) → old.half.count ≡ count_of old.session js
@@ -168,8 +168,8 @@ module _ {M : Type 0} where
   }
 
   -- ... and then the call
-  pub call-since : (t : Timeline) (n : ℕ) (js js' : List (Entry M)) (old met new : Seen M) (c : Command) (r : Reply) → AddsOthers old met → met.viewer.seen ≡ revisions_of t js → met.session ≡ old.session → IsEntered t n js js' met new c r → AddsCall old new c r
-  call-since t n js js' old met new c r adds is same entered = record {
+  pub call-since : (t : Timeline) (n limit : ℕ) (js js' : List (Entry M)) (old met new : Seen M) (c : Command) (r : Reply) → AddsOthers old met → met.viewer.seen ≡ revisions_of t js → met.session ≡ old.session → IsEntered t n limit js js' met new c r → AddsCall old new c r
+  call-since t n limit js js' old met new c r adds is same entered = record {
     others = adds.others;
     entry = entered.entry;
     seen = seen-is t js' new entered.seen ∙ (entered.longer ∙ ap (λ (l : List (Entry M)). l ++ entered.entry ∷ []) (sym (seen-is t js met is) ∙ adds.seen));
@@ -186,6 +186,7 @@ module _ {M : Type 0} where
     tally = bc.tally ∙ ab.tally;
     publisher = bc.publisher ∙ ab.publisher;
     seen = begun_since c.viewer.seen b.viewer.seen a.viewer.seen bc.seen ab.seen;
+    loads = loads-since a.viewer b.viewer c.viewer ab.loads bc.loads;
   }
 
   pub same-lab : (publisher : TableId) (tallies : List TableId) (a b : Seen M) → GoesOn a b → IsPassOf publisher tallies a → IsPassOf publisher tallies b

@@ -1,5 +1,5 @@
 -- Journals: what their commands make of the opening, and the revisions that stand for their entries (this project's profile).
-use Rattle.std.specs.Prelude.{◌≡◌, ◌≤◌, ℕ, suc, ◌+◌, List, [], ◌∷◌, ◌++◌, cond, nat_eq, ⊤}
+use Rattle.std.specs.Prelude.{◌≡◌, ◌≤◌, ℕ, suc, ◌+◌, List, [], ◌∷◌, ◌++◌, length, cond, nat_eq, ⊤}
 use Rattle.std.specs.List.{fold, AllByRecursion}
 use Rattle.atomic_table.specs.Seated.{TableId}
 use Rattle.pfl_publish.specs.Count.{Count}
@@ -33,10 +33,11 @@ IsLegal t (e ∷ js) = IsRight t e × IsLegal (after_entry t e) js
 abbrev pub AreOfSessions : {M : Type 0} → ℕ → List (Entry M) → Type 0
 AreOfSessions n js = AllByRecursion (λ e. (1 ≤ e.session) × (e.session ≤ n)) js
 
--- a journal of n sessions
-pub record IsJournal {M : Type 0} (opening : Timeline) (n : ℕ) (js : List (Entry M)) : Type 0 where
+-- a journal of n sessions, which keeps to its limit
+pub record IsJournal {M : Type 0} (opening : Timeline) (n limit : ℕ) (js : List (Entry M)) : Type 0 where
   pub legal : IsLegal opening js
   pub sessions : AreOfSessions n js
+  pub short : length js ≤ limit
 
 -- the revisions of these entries, after revision n with the timeline t
 abbrev pub following : {M : Type 0} → Timeline → ℕ → List (Entry M) → Log (Mark M)

@@ -13,7 +13,7 @@ use Rattle.pfl_session.specs.declared.fault.LabFault.TheVariants as fault
 use Rattle.pfl_session.specs.declared.mark.Mark.{Mark}
 use Rattle.pfl_session.specs.Totals.{HasFewEvents}
 use Rattle.pfl_session.specs.Journals.{replay, IsJournal, revisions_of, counts_of, count_of}
-use Rattle.pfl_session.specs.Passes.{Seen, seen_in}
+use Rattle.pfl_session.specs.Passes.{Seen, seen_in, HasSeenItsCalls}
 
 -- equations of tables are facts
 pub table_prop : (a b : TableId) → IsProp (a ≡ b)
@@ -52,6 +52,7 @@ pub record IsNewPass {M : Type 0} (publisher : TableId) (seen : Log (Mark M)) (s
   pub tally_is : p.half.table ≡ tally
   pub publisher_is : p.viewer.table ≡ publisher
   pub seen_is : p.viewer.seen ≡ seen
+  pub called : p.half.count ≡ 0
 
 -- a new pass for each session, from this one on
 abbrev pub AreNewPasses : {M : Type 0} → TableId → Log (Mark M) → ℕ → List TableId → List (Seen M) → Type 0
@@ -60,12 +61,13 @@ AreNewPasses publisher seen session [] (p ∷ ps) = ⊥
 AreNewPasses publisher seen session (t ∷ ts) [] = ⊥
 AreNewPasses publisher seen session (t ∷ ts) (p ∷ ps) = IsNewPass publisher seen session t p × AreNewPasses publisher seen (suc session) ts ps
 
--- the pass has seen a beginning of the journal, in which every entry of its session stands
+-- the pass has seen a beginning of the journal, in which every entry of its session stands, each of them a call that it has made
 pub record HasSeenOwn {M : Type 0} (opening : Timeline) (js : List (Entry M)) (p : Seen M) : Type 0 where
   pub begun : StartsWith (revisions_of opening js) p.viewer.seen
   pub all_own : count_of p.session (seen_in p) ≡ count_of p.session js
+  pub called : HasSeenItsCalls p
 
--- the journal is one of n sessions, and its replay gives the timeline
-pub record IsClosed {M : Type 0} (opening : Timeline) (n : ℕ) (timeline : Timeline) (js : List (Entry M)) : Type 0 where
-  pub journal : IsJournal opening n js
+-- the journal is one of n sessions and keeps to its limit, and its replay gives the timeline
+pub record IsClosed {M : Type 0} (opening : Timeline) (n limit : ℕ) (timeline : Timeline) (js : List (Entry M)) : Type 0 where
+  pub journal : IsJournal opening n limit js
   pub timeline_is : timeline ≡ replay opening js

@@ -4,7 +4,7 @@ use Rattle.atomic_table.specs.Seated.{TableId}
 use Rattle.pfl_language.specs.declared.command.Command.{Command}
 use Rattle.pfl_publish.specs.Count.{Count}
 use Rattle.pfl_publish.specs.Revisions.{StartsWith}
-use Rattle.pfl_publish.specs.Seats.{Viewer}
+use Rattle.pfl_publish.specs.Seats.{Viewer, LoadsOn}
 use Rattle.pfl_timeline.specs.Replies.{Reply, reply_of}
 use Rattle.pfl_timeline.specs.Timelines.{Timeline}
 use Rattle.pfl_session.specs.declared.entry.Entry.{Entry}
@@ -44,16 +44,21 @@ pub record IsPassOf {M : Type 0} (publisher : TableId) (tallies : List TableId) 
   pub publisher_is : p.viewer.table ≡ publisher
   pub tally_is : slice_get tallies (p.session - 1) ≡ Some p.half.table
 
--- the pass is the same one, and has seen all that it had seen before
+-- the pass is the same one, has seen all that it had seen before, and its loads go on
 pub record GoesOn {M : Type 0} (old new : Seen M) : Type 0 where
   pub session : new.session ≡ old.session
   pub tally : new.half.table ≡ old.half.table
   pub publisher : new.viewer.table ≡ old.viewer.table
   pub seen : StartsWith new.viewer.seen old.viewer.seen
+  pub loads : LoadsOn old.viewer new.viewer
 
--- what it has seen is a journal of n sessions, whose replies are those that its commands give from the opening; each revision is the summary of what the entries up to it give
-pub record HasSeenJournal {M : Type 0} (opening : Timeline) (n : ℕ) (p : Seen M) : Type 0 where
-  pub journal : IsJournal opening n (seen_in p)
+-- the pass has seen as many entries of its session as it has called
+abbrev pub HasSeenItsCalls : {M : Type 0} → Seen M → Type 0
+HasSeenItsCalls p = p.half.count ≡ count_of p.session (seen_in p)
+
+-- what it has seen is a journal of n sessions that keeps to its limit, whose replies are those that its commands give from the opening; each revision is the summary of what the entries up to it give
+pub record HasSeenJournal {M : Type 0} (opening : Timeline) (n limit : ℕ) (p : Seen M) : Type 0 where
+  pub journal : IsJournal opening n limit (seen_in p)
   pub revisions : p.viewer.seen ≡ revisions_of opening (seen_in p)
 
 -- what it has seen since then is of other sessions

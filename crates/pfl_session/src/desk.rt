@@ -1,8 +1,9 @@
 //! What lies under the lock.
 
-ghost use Rattle.std.specs.Prelude.{◌≡◌, ◌-◌, ◌<◌, false, [], ◌∷◌, ◌++◌, length, slice_get, slice_set, Some, IfOk, IfErr, OnOk, OnErr, IsTrue, IsFalse, vec_len, vec_capacity};
+ghost use Rattle.std.specs.Prelude.{◌≡◌, ◌-◌, ◌<◌, ◌≤◌, false, [], ◌∷◌, ◌++◌, length, slice_get, slice_set, Some, IfOk, IfErr, OnOk, OnErr, IsTrue, IsFalse, vec_len, vec_capacity};
 ghost use Rattle.pfl_publish.specs.Count.{Count};
 ghost use Rattle.pfl_publish.specs.Revisions.{StartsWith};
+ghost use Rattle.pfl_publish.specs.Seats.{LoadsOn};
 ghost use Rattle.pfl_timeline.specs.Replies.{reply_of};
 ghost use Rattle.pfl_session.specs.Totals.{HasFewEvents};
 ghost use Rattle.pfl_session.specs.Journals.{after_entry, replay, IsJournal, revisions_of, count_of};
@@ -72,6 +73,7 @@ fn append<J: Which, A: Allocator>(
     ensures list { result.0.list ≡ revisions_of J.opening journal.new.items }
     ensures seen { result.1.seen ≡ result.0.list }
     ensures still { StartsWith result.1.seen viewer.seen }
+    ensures loads { LoadsOn viewer result.1 }
 {
     let revision = revision_of(timeline, journal.len() as u64 + 1);
     publisher.publish(&mut writer, revision, &Called { entry: &entry });
@@ -122,10 +124,10 @@ impl<J: Which, A: Allocator> Desk<J, A> {
     }
 
     /// Lets the pass see the journal, and answers how many entries it has.
-    pub(crate) fn meet(&mut self, publisher: &Publisher<Mark<A>, A>, pass: &mut Pass<A>) -> u64
+    fn meet(&mut self, publisher: &Publisher<Mark<A>, A>, pass: &mut Pass<A>) -> u64
         requires publisher { (publisher.now ≡ J.publisher) × (pass.old.viewer.table ≡ J.publisher) }
         ensures journal { self.new ≡ self.old }
-        ensures legal { IsJournal J.opening (length J.tallies) self.old }
+        ensures legal { IsJournal J.opening (length J.tallies) J.limit self.old }
         ensures seen { pass.new.viewer.seen ≡ revisions_of J.opening self.old }
         ensures half { pass.new.half ≡ pass.old.half }
         ensures goes_on { GoesOn pass.old pass.new }
@@ -143,12 +145,13 @@ impl<J: Which, A: Allocator> Desk<J, A> {
         number
     }
 
-    /// Tells that the pass has counted each entry of its session.
+    /// Tells that the pass has counted each entry of its session, and has seen each that it has counted.
     fn compare(&mut self, tally: &Tally<A>, pass: &mut Pass<A>)
         requires tally { pass.old.half.table ≡ tally.now }
         requires place { slice_get J.tallies (pass.old.session - 1) ≡ Some tally.now }
         ensures journal { self.new ≡ self.old }
         ensures pass { pass.new ≡ pass.old }
+        ensures below { pass.old.half.count ≤ count_of pass.old.session (seen_in pass.old) }
         ensures counted { pass.old.half.count ≡ count_of pass.old.session self.old }
     {
         let place = pass.session as usize - 1;
@@ -159,17 +162,23 @@ impl<J: Which, A: Allocator> Desk<J, A> {
         pass.half = Some(mine);
     }
 
-    /// Lets the pass see the journal, and tells that it has counted each entry of its session there.
-    fn catch_up(&mut self, publisher: &Publisher<Mark<A>, A>, tally: &Tally<A>, pass: &mut Pass<A>)
+    /// Lets the pass see the journal, tells that it has counted each entry of its session there, and answers how many entries
+    /// the journal has.
+    pub(crate) fn catch_up(
+        &mut self,
+        publisher: &Publisher<Mark<A>, A>,
+        tally: &Tally<A>,
+        pass: &mut Pass<A>,
+    ) -> u64
         requires publisher { publisher.now ≡ J.publisher }
         requires lab { IsPassOf J.publisher J.tallies pass.old }
         requires tally { pass.old.half.table ≡ tally.now }
         ensures journal { self.new ≡ self.old }
-        ensures met { HasMet J.opening (length J.tallies) self.new pass.old pass.new }
+        ensures met { HasMet J.opening (length J.tallies) J.limit self.new pass.old pass.new }
+        ensures number { result ≡ length self.new }
     {
-        pass.known();
         self.compare(tally, pass);
-        self.meet(publisher, pass);
+        self.meet(publisher, pass)
     }
 }
 
@@ -187,7 +196,7 @@ impl<J: Which, A: Allocator + Copy> Desk<J, A> {
         requires tally { pass.old.half.table ≡ tally.now }
         requires place { slice_get J.tallies (pass.old.session - 1) ≡ Some tally.now }
         requires room { length self.old < J.limit }
-        ensures entered { IfOk result (λ reply. IsEntered J.opening (length J.tallies) self.old self.new pass.old pass.new command.now (reply_of reply)) }
+        ensures entered { IfOk result (λ reply. IsEntered J.opening (length J.tallies) J.limit self.old self.new pass.old pass.new command.now (reply_of reply)) }
         ensures goes_on { GoesOn pass.old pass.new }
         ensures one_more { OnOk result (pass.new.half ≡ one_more_counted pass.old.half) }
         ensures unchanged { OnErr result ((self.new ≡ self.old) × (pass.new ≡ pass.old)) }
@@ -232,7 +241,7 @@ impl<J: Which, A: Allocator + Copy> Desk<J, A> {
         requires tally { pass.old.half.table ≡ tally.now }
         ensures goes_on { GoesOn pass.old pass.new }
         ensures lab { IsPassOf J.publisher J.tallies pass.new }
-        ensures journal { HasSeenJournal J.opening (length J.tallies) pass.new }
+        ensures journal { HasSeenJournal J.opening (length J.tallies) J.limit pass.new }
         ensures called { IfOk result (λ reply. AddsCall pass.old pass.new command (reply_of reply)) }
         ensures refused { IfErr result (IsAskFault J.limit pass.new) }
         ensures not_called { OnErr result (AddsOthers pass.old pass.new) }
@@ -249,7 +258,8 @@ impl<J: Which, A: Allocator + Copy> Desk<J, A> {
 }
 
 impl<J: Which, A: Allocator> Desk<J, A> {
-    /// Takes a pass back, and tells that it has seen a beginning of the journal, with each entry of its session.
+    /// Takes a pass back, and tells that it has seen a beginning of the journal, with each entry of its session, and has called
+    /// each of these.
     pub(crate) fn settle(
         &mut self,
         publisher: &Publisher<Mark<A>, A>,
@@ -268,7 +278,7 @@ impl<J: Which, A: Allocator> Desk<J, A> {
     /// The timeline and its journal.
     pub(crate) fn closed(self) -> Closed<A>
         ensures journal { result.journal.items ≡ self }
-        ensures closed { IsClosed J.opening (length J.tallies) result.timeline result.journal.items }
+        ensures closed { IsClosed J.opening (length J.tallies) J.limit result.timeline result.journal.items }
     {
         let Desk {
             timeline,

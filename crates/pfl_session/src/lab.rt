@@ -62,7 +62,7 @@ impl<J: Which, A: Allocator + Copy> Lab<J, A> {
         requires lab { IsPassOf J.publisher J.tallies pass.old }
         ensures goes_on { GoesOn pass.old pass.new }
         ensures lab { IsPassOf J.publisher J.tallies pass.new }
-        ensures journal { HasSeenJournal J.opening (length J.tallies) pass.new }
+        ensures journal { HasSeenJournal J.opening (length J.tallies) J.limit pass.new }
         ensures called { IfOk result (λ reply. AddsCall pass.old pass.new command (reply_of reply)) }
         ensures refused { IfErr result (IsAskFault J.limit pass.new) }
         ensures not_called { OnErr result (AddsOthers pass.old pass.new) }
@@ -116,24 +116,28 @@ impl<J: Which, A: Allocator> Lab<J, A> {
         learnt
     }
 
-    /// Lets the pass see the whole journal, in its turn, and answers how many entries it has. So each revision that the pass
-    /// ever read is the summary of what the first entries of that journal give, as many as the revision's number.
+    /// Shows the pass a journal, in its turn, that goes on from what it had seen with entries of other sessions alone, and answers
+    /// how many entries that has. So the pass has seen each call of its own, and each revision that it ever read is the summary
+    /// of what the first entries of that journal give, as many as the revision's number.
     pub fn meet<R: Wait>(&self, rt: &R, pass: &mut Pass<A>) -> u64
         requires lab { IsPassOf J.publisher J.tallies pass.old }
         ensures goes_on { GoesOn pass.old pass.new }
         ensures lab { IsPassOf J.publisher J.tallies pass.new }
-        ensures journal { HasSeenJournal J.opening (length J.tallies) pass.new }
+        ensures journal { HasSeenJournal J.opening (length J.tallies) J.limit pass.new }
+        ensures others { AddsOthers pass.old pass.new }
+        ensures counted { pass.old.half.count ≡ count_of pass.old.session (seen_in pass.old) }
         ensures half { pass.new.half ≡ pass.old.half }
         ensures number { result ≡ length (seen_in pass.new) }
     {
-        self.desk.lock(rt).meet(&self.publisher, pass)
+        let tally = tally_of(&self.tallies, pass);
+        self.desk.lock(rt).catch_up(&self.publisher, tally, pass)
     }
 
     /// Closes the lab: the timeline, and the journal whose replay gives it. Each pass has seen a beginning of it, in which each
-    /// entry of its session stands. It waits for nobody, and takes no memory.
+    /// entry of its session stands, and these are its calls. It waits for nobody, and takes no memory.
     pub fn close(self, passes: Vec<Pass<A>, A>) -> Closed<A>
         requires lab { AllByRecursion (IsPassOf J.publisher J.tallies) passes.items }
-        ensures closed { IsClosed J.opening (length J.tallies) result.timeline result.journal.items }
+        ensures closed { IsClosed J.opening (length J.tallies) J.limit result.timeline result.journal.items }
         ensures seen { AllByRecursion (HasSeenOwn J.opening result.journal.items) passes.items }
     {
         let Lab {

@@ -1,7 +1,8 @@
 //! What one session has seen.
 
 ghost use Rattle.std.specs.Prelude.{◌≡◌, ◌≤◌, ◌+◌, length};
-ghost use Rattle.pfl_session.specs.Journals.{calls_in, count_of};
+ghost use Rattle.pfl_session.specs.Journals.{count_of};
+ghost use Rattle.pfl_session.specs.Passes.{seen_in};
 
 use crate::mark::Mark;
 use pfl_publish::{Half, Told, ViewerSeat};
@@ -43,10 +44,11 @@ impl<A: Allocator> Model for Pass<A> {
 }
 
 impl<A: Allocator> Pass<A> {
-    /// The session's number, from 1.
+    /// The session's number, from 1. The session has called no more than the pass has seen of its entries.
     pub fn session(&self) -> u32
         ensures number { result ≡ self.now.session }
         ensures first { 1 ≤ result }
+        ensures called { self.now.half.count ≤ count_of self.now.session (seen_in self.now) }
     {
         self.session
     }
@@ -59,12 +61,5 @@ impl<A: Allocator> Pass<A> {
             unreachable!();
         };
         viewer.told()
-    }
-
-    /// Tells a proof that the session has seen each entry that it has counted. It does nothing.
-    pub(crate) fn known(&self)
-        ensures { self.now.half.count ≤ count_of self.now.session (calls_in self.now.viewer.seen) }
-    {
-        let _session = self.session;
     }
 }

@@ -1,4 +1,5 @@
 use Rattle.std.proofs.Common.{rules, ◌≡◌, ◌+◌, List, length, ap, ◌∙◌, arith}
+use Rattle.pfl_publish.proofs.ForCallers.{loads-once}
 use Rattle.pfl_publish.specs.Revisions.{Log}
 use Rattle.pfl_session.specs.declared.entry.Entry.{Entry}
 use Rattle.pfl_session.specs.declared.mark.Mark.{Mark}
@@ -16,3 +17,6 @@ returns-clause-list g c =
     let number : c.len.result + 1 ≡ length c.args.journal.now.items + 1 = omega (arith, count) in
     c.meet-writer.ensures.list
     ∙ extends g.J.Which.opening c.args.timeline.now c.args.journal.now.items c.push_reserved.new.self.items c.args.entry _ _ c.args.writer.list c.publish.new.writer.list c.requires.list c.requires.executed c.revision_of-revision.ensures.words number c.publish.ensures.list c.push_reserved.ensures.items
+
+pub returns-clause-loads : goal.returns-clause-loads
+returns-clause-loads g c = loads-once c.args.viewer c.meet-writer.result.1 c.meet-writer.ensures.loaded

@@ -29,7 +29,7 @@ append-writer-requires-clause-executed g c =
 
 pub append-writer-requires-clause-few : goal.append-writer-requires-clause-few
 append-writer-requires-clause-few g c =
-    let short = c.self.invariant.2.short in
+    let short = c.self.invariant.2.journal.short in
     let small = c.self.invariant.2.small in
     kept-few g.J.Which.opening c.self.inside.timeline c.execute.new.timeline c.self.inside.journal.items c.in_ok-reply.entry c.args.command.now (reply_of c.in_ok-reply.reply) c.pass.inside.session c.self.invariant.2.timeline_is (record { step = c.in_ok-reply.ensures.step; entry = c.in_ok-reply.ensures.entry })
     (length c.self.inside.journal.items + 4294967295) 8589934592 (omega (arith, short, small)) c.self.invariant.2.few
@@ -60,11 +60,10 @@ invariant_of-self-2 g c =
       (c.append-writer.result.0, refl, c.append-writer.ensures.tables.0 ∙ c.requires.publisher.0, c.append-writer.ensures.list),
       kept-counts opening c.self.inside.timeline c.execute.new.timeline js entry c.args.command.now (reply_of c.in_ok-reply.reply) c.pass.inside.session is.2.timeline_is kept items more g.J.Which.tallies _ _ c.args.tally.now _ c.pass.invariant.6 there is.1 c.count_one-mine.ensures.same c.count_one-mine.ensures.kept,
       record {
-        journal = kept-journal opening c.self.inside.timeline c.execute.new.timeline js entry c.args.command.now (reply_of c.in_ok-reply.reply) c.pass.inside.session is.2.timeline_is kept items more g.J.Which.tallies c.args.tally.now c.pass.invariant.6 there is.2.journal;
+        journal = kept-journal opening c.self.inside.timeline c.execute.new.timeline js entry c.args.command.now (reply_of c.in_ok-reply.reply) c.pass.inside.session is.2.timeline_is kept items more g.J.Which.tallies g.J.Which.limit c.args.tally.now c.pass.invariant.6 there (omega (arith, room, view)) is.2.journal;
         timeline_is = kept-replay opening c.self.inside.timeline c.execute.new.timeline js entry c.args.command.now (reply_of c.in_ok-reply.reply) c.pass.inside.session is.2.timeline_is kept items more;
         few = kept-few opening c.self.inside.timeline c.execute.new.timeline js entry c.args.command.now (reply_of c.in_ok-reply.reply) c.pass.inside.session is.2.timeline_is kept (length js + 4294967295) _ (omega (arith, many)) is.2.few;
         bound_is = is.2.bound_is;
-        short = omega (arith, room, view, many);
         small = is.2.small;
       },
     )
@@ -100,12 +99,14 @@ returns-clause-entered g c =
     let there : slice_get g.J.Which.tallies (c.pass.inside.session - 1) ≡ Some c.args.tally.now = ap (λ (n : ℕ). slice_get g.J.Which.tallies (n - 1)) named ∙ c.requires.place in
     let more : items ≡ js ++ entry ∷ [] = c.append-writer.ensures.items ∙ ap (λ (l : List (Entry g.row.A.Denot)). l ++ entry ∷ []) c.in_ok-reserve.ensures.items in
     let kept : IsKept c.self.inside.timeline c.execute.new.timeline entry c.args.command.now (reply_of c.in_ok-reply.reply) c.pass.inside.session = record { step = c.in_ok-reply.ensures.step; entry = c.in_ok-reply.ensures.entry } in
+    let room = c.requires.room in
+    let view = ap (λ (l : List (Entry g.row.A.Denot)). length l) c.self.view_is in
     record {
       entry = entry;
       session = c.in_ok-reply.ensures.entry.0 ∙ named;
       command_is = c.in_ok-reply.ensures.entry.1;
       reply_is = c.in_ok-reply.ensures.entry.2;
       longer = more ∙ ap (λ (l : List (Entry g.row.A.Denot)). l ++ entry ∷ []) c.self.view_is;
-      journal = kept-journal opening c.self.inside.timeline c.execute.new.timeline js entry c.args.command.now (reply_of c.in_ok-reply.reply) c.pass.inside.session is.2.timeline_is kept items more g.J.Which.tallies c.args.tally.now c.pass.invariant.6 there is.2.journal;
+      journal = kept-journal opening c.self.inside.timeline c.execute.new.timeline js entry c.args.command.now (reply_of c.in_ok-reply.reply) c.pass.inside.session is.2.timeline_is kept items more g.J.Which.tallies g.J.Which.limit c.args.tally.now c.pass.invariant.6 there (omega (arith, room, view)) is.2.journal;
       seen = c.append-writer.ensures.seen ∙ c.append-writer.ensures.list;
     }

@@ -2,7 +2,6 @@ use Rattle.std.proofs.Common.{◌≡◌, ◌+◌, ◌≤◌, List, [], length, r
 use Rattle.std.specs.List.{AllByRecursion}
 use Rattle.atomic_table.specs.Seated.{TableId}
 use Rattle.pfl_timeline.specs.Timelines.{Timeline}
-use Rattle.pfl_session.specs.declared.entry.Entry.{Entry}
 use Rattle.pfl_session.specs.Journals.{IsJournal, replay, revisions_of, counts_of}
 use Rattle.pfl_session.specs.Labs.{Setup}
 use Rattle.pfl_session.specs.Passes.{IsPassOf}
@@ -19,16 +18,14 @@ invariant_of-desk g c =
     let tallies : c.self.inside.tallies.items ≡ g.J.Which.tallies = ap (λ (s : Setup). s.tallies) c.self.view_is ∙ c.requires.tables.1 in
     let opening : c.self.inside.timeline ≡ g.J.Which.opening = ap (λ (s : Setup). s.opening) c.self.view_is ∙ c.requires.opening.0 in
     let limit : c.self.inside.limit ≡ g.J.Which.limit = ap (λ (s : Setup). s.limit) c.self.view_is ∙ c.requires.opening.1 in
-    let empty = ap (λ (l : List (Entry g.row.A.Denot)). length l) none in
     let small = is.7 in (
       (c.self.inside.writer, refl, is.2 ∙ publisher, is.3 ∙ ap (λ (t : Timeline). revisions_of t js) opening),
       is.4 ∙ ap (λ (ts : List TableId). counts_of 1 ts js) tallies,
       record {
-        journal = subst (IsJournal g.J.Which.opening (length g.J.Which.tallies)) (sym none) (record { legal = tt; sessions = tt });
+        journal = subst (IsJournal g.J.Which.opening (length g.J.Which.tallies) g.J.Which.limit) (sym none) (record { legal = tt; sessions = tt; short = omega arith });
         timeline_is = opening ∙ sym (ap (replay g.J.Which.opening) none);
         few = more_room 4294967295 (length js + 4294967295) c.self.inside.timeline (omega arith) is.6;
         bound_is = limit;
-        short = omega (arith, empty);
         small = omega (arith, limit, small);
       },
     )

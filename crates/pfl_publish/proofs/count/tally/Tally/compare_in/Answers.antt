@@ -1,5 +1,4 @@
 use Rattle.std.proofs.Common.{ap, arith}
-use Rattle.atomic_table.specs.Table.{Me}
 use Rattle.pfl_publish.specs.declared.count.view.View.{View}
 use Rattle.pfl_publish.proofs.KeepsCount.{joins, compares, splits, united_parts, united_whole}
 use Rattle.pfl_publish.proofs.count.tally.Tally.compare_in.Goals as goal
