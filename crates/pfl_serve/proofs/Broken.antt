@@ -6,8 +6,7 @@ use Rattle.pfl_language.specs.declared.command.Command.{Command}
 use Rattle.pfl_script.specs.timeline.Replies.{Reply}
 use Rattle.pfl_script.specs.timeline.Timelines.{Timeline}
 use Rattle.pfl_session.specs.Desks.{one_more_counted}
-use Rattle.pfl_session.specs.Journals.{count_of}
-use Rattle.pfl_session.specs.Passes.{Seen, seen_in, GoesOn, HasSeenJournal, AddsCall}
+use Rattle.pfl_session.specs.Passes.{Seen, GoesOn, HasSeenItsCalls, HasSeenJournal, AddsCall}
 use Rattle.pfl_script.specs.lines.declared.fault.LineFault.{LineFault}
 use Rattle.pfl_script.specs.lines.declared.session.SessionLine.{SessionLine}
 use Rattle.pfl_script.specs.reader.Saids.{kept_session}
@@ -39,9 +38,9 @@ breaks-text (Err engine.NoMemory) Is Lacks text w v is fault part = absurd cc
 breaks-text (Err engine.Read) Is Lacks text w v is fault part = absurd cc
 breaks-text (Err engine.TooManyTurns) Is Lacks text w v is fault part = absurd cc
 
-module _ {M : Type 0} (opening : Timeline) (n limit : ℕ) (old new : Seen M) (command : Command) (reply : Reply) (goes_on : GoesOn old new) (journal : HasSeenJournal opening n new)
-    (own : old.half.count ≡ count_of old.session (seen_in old)) (call : AddsCall old new command reply) (half : new.half ≡ one_more_counted old.half) where
-  asked : HasAsked opening n old new
+module _ {M : Type 0} (opening : Timeline) (n limit : ℕ) (old new : Seen M) (command : Command) (reply : Reply) (goes_on : GoesOn old new) (journal : HasSeenJournal opening n limit new)
+    (own : HasSeenItsCalls old) (call : AddsCall old new command reply) (half : new.half ≡ one_more_counted old.half) where
+  asked : HasAsked opening n limit old new
   asked = record { goes_on = goes_on; journal = journal; own = own }
 
   called : IsCalled old new command reply

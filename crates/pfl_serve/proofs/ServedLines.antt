@@ -4,7 +4,7 @@ use Rattle.std.specs.Prelude.{Result}
 use Rattle.std.specs.Io.KnownBytes.{Appends, Keeps as KeepsBytes}
 use Rattle.std.proofs.lemmas.Bool.{lt-ltb, le-ltb, cases_lt}
 use Rattle.std.proofs.lemmas.List.{append-nil, take_all}
-use Rattle.pfl_session.proofs.ForCallers.publish.{begun_all}
+use Rattle.pfl_session.proofs.ForCallers.publish.{begun_all, loads-none}
 use Rattle.pfl_script.specs.timeline.Timelines.{Timeline}
 use Rattle.pfl_session.specs.Passes.{Seen, GoesOn}
 use Rattle.pfl_script.specs.lines.declared.fault.LineFault.{LineFault}
@@ -43,7 +43,7 @@ bad_lines-push (x ∷ lines) line = omega (arith, bad_lines-push lines line)
 module _ {M : Type 0} where
   -- a pass goes on from itself
   pub goes-none : (p : Seen M) → GoesOn p p
-  goes-none p = record { session = refl; tally = refl; publisher = refl; seen = begun_all p.viewer.seen }
+  goes-none p = record { session = refl; tally = refl; publisher = refl; seen = begun_all p.viewer.seen; loads = loads-none p.viewer }
 
   module _ (opening : Timeline) (n limit : ℕ) where
     -- one line more

@@ -6,14 +6,15 @@ use Rattle.pfl_language.specs.declared.command.Command.{Command}
 use Rattle.pfl_script.specs.timeline.Replies.{Reply, reply_of}
 use Rattle.pfl_script.specs.timeline.Timelines.{Timeline}
 use Rattle.pfl_session.specs.declared.entry.Entry.{Entry}
-use Rattle.pfl_session.specs.Journals.{calls_in, count_of}
-use Rattle.pfl_session.specs.Passes.{Seen, seen_in}
-use Rattle.pfl_session.proofs.ForCallers.{calls-since, count-append, count-begun, count-own}
+use Rattle.pfl_session.specs.Journals.{revisions_of, calls_in, count_of}
+use Rattle.pfl_session.specs.Labs.{HasSeenOwn}
+use Rattle.pfl_session.specs.Passes.{Seen, seen_in, HasSeenItsCalls}
+use Rattle.pfl_session.proofs.ForCallers.{calls-history, calls-since, count-append, count-begun, count-own}
 use Rattle.pfl_script.specs.lines.declared.fault.LineFault.{LineFault}
 use Rattle.pfl_script.specs.lines.declared.session.SessionLine.{SessionLine}
 use Rattle.pfl_script.specs.lines.declared.session.SessionLine.TheVariants.{View, Ask}
 use Rattle.pfl_serve.specs.Sessions.{said, IsAnswer, IsViewed, IsReplied, IsCalled, IsNotCalled, TellsRevision, TellsOvertaken, Serves}
-use Rattle.pfl_serve.specs.Laws.{Call, calls_of, TellsLine, TellsView, Tells, HasSeenItsCalls, SessionsAreToldTheirCalls}
+use Rattle.pfl_serve.specs.Laws.{Call, calls_of, TellsLine, TellsView, Tells, SessionsAreToldTheirCalls, SessionsAreToldAllTheirCalls, RunsAreOne}
 
 -- a list that may begin with one element more, before another list
 cond-append : {X : Type 0} (b : Bool) (x : X) (xs ys : List X) → cond b (x ∷ xs ++ ys) (xs ++ ys) ≡ cond b (x ∷ xs) xs ++ ys
@@ -178,5 +179,45 @@ module _ {M : Type 0} where
           ),
         )
 
+    -- a session keeps its number
+    answered-by : (what : Option (Result SessionLine LineFault)) (old new : Seen M) (text : List ℕ) → IsAnswer opening n limit what old new text → new.session ≡ old.session
+    answered-by None old new text is = ap (λ (p : Seen M). p.session) is.0
+    answered-by (Some (Err fault)) old new text is = ap (λ (p : Seen M). p.session) is.0
+    answered-by (Some (Ok View)) old new text is = is.goes_on.session
+    answered-by (Some (Ok (Ask command))) old new text is = is.asked.goes_on.session
+
+    served-by : (lines : List (List ℕ)) (old new : Seen M) (text : List ℕ) → Serves opening n limit lines old new text → new.session ≡ old.session
+    served-by [] old new text is = ap (λ (p : Seen M). p.session) is.0
+    served-by (line ∷ lines) old new text is = served-by lines is.0 new is.2 is.4 ∙ answered-by (said line) old is.0 is.1 is.3
+
+  -- the pass has seen all calls of its session in the journal
+  calls-seen : (opening : Timeline) (js : List (Entry M)) (p : Seen M) → HasSeenOwn opening js p → calls_of p.session (seen_in p) ≡ calls_of p.session js
+  calls-seen opening js p is =
+      let later = calls_in (drop (length p.viewer.seen) (revisions_of opening js)) in
+      let parts : js ≡ seen_in p ++ later = sym (calls-history opening js) ∙ calls-since (revisions_of opening js) p.viewer.seen is.begun in
+      let none : count_of p.session later ≡ 0 = omega (arith, is.all_own, ap (count_of p.session) parts, count-append p.session (seen_in p) later) in
+      sym (ap (calls_of p.session) parts ∙ calls-others p.session (seen_in p) later none)
+
   pub sessions-are-told : SessionsAreToldTheirCalls M
   sessions-are-told opening n limit lines old new text serves below behind = (told-lines opening n limit lines old new text serves below behind).1
+
+  pub sessions-are-told-all : SessionsAreToldAllTheirCalls M
+  sessions-are-told-all opening n limit session publisher tally lines old new text js fresh serves back =
+      let told = sessions-are-told opening n limit lines old new text serves (omega (arith, fresh.called)) back.called in
+      let none : calls_of old.session (seen_in old) ≡ [] = ap (λ l. calls_of old.session (calls_in l)) fresh.seen_is in
+      let same : new.session ≡ session = served-by opening n limit lines old new text serves ∙ fresh.session_is in
+      let calls : told.0 ≡ calls_of session js =
+      sym (told.1 ∙ ap (λ (l : List Call). l ++ told.0) none) ∙ (calls-seen opening js new back ∙ ap (λ (s : ℕ). calls_of s js) same) in
+      subst (λ (l : List Call). Tells lines l text) calls told.2
+
+  pub runs-are-one : RunsAreOne M
+  runs-are-one opening n limit [] more old mid new text rest first second =
+      subst (λ (t : List ℕ). Serves opening n limit more old new (t ++ rest)) (sym first.1) (subst (λ (p : Seen M). Serves opening n limit more p new rest) first.0 second)
+  runs-are-one opening n limit (line ∷ lines) more old mid new text rest first second = (
+    first.0,
+    first.1,
+    first.2 ++ rest,
+    first.3,
+    runs-are-one opening n limit lines more first.0 mid new first.2 rest first.4 second,
+    ap (λ (t : List ℕ). t ++ rest) first.5 ∙ append_assoc first.1 first.2 rest,
+  )

@@ -1,11 +1,13 @@
 -- What the answers of a session tell, in the words of the journal (this project's profile).
 use Rattle.std.specs.Prelude.{◌≡◌, ◌≤◌, ℕ, List, [], ◌∷◌, ◌++◌, cond, nat_eq, Option, Some, None, Result, Ok, Err, ◌⊎◌}
+use Rattle.atomic_table.specs.Seated.{TableId}
 use Rattle.pfl_language.specs.declared.command.Command.{Command}
 use Rattle.pfl_script.specs.timeline.Replies.{Reply, reply_of}
 use Rattle.pfl_script.specs.timeline.Timelines.{Timeline}
 use Rattle.pfl_session.specs.declared.entry.Entry.{Entry}
-use Rattle.pfl_session.specs.Journals.{count_of}
-use Rattle.pfl_session.specs.Passes.{Seen, seen_in}
+use Rattle.pfl_session.specs.Journals.{count_of, revisions_of}
+use Rattle.pfl_session.specs.Labs.{IsNewPass, HasSeenOwn}
+use Rattle.pfl_session.specs.Passes.{Seen, seen_in, HasSeenItsCalls}
 use Rattle.pfl_script.specs.lines.declared.fault.LineFault.{LineFault}
 use Rattle.pfl_script.specs.lines.declared.session.SessionLine.{SessionLine}
 use Rattle.pfl_script.specs.lines.declared.session.SessionLine.TheVariants.{View, Ask}
@@ -43,13 +45,22 @@ Tells [] calls text = (calls ≡ []) × (text ≡ [])
 Tells (line ∷ lines) calls text =
     (rest : List Call) × (first : List ℕ) × (others : List ℕ) × TellsLine (said line) calls rest first × Tells lines rest others × (text ≡ first ++ others)
 
--- the pass has seen as many entries of its session as it has called
-abbrev pub HasSeenItsCalls : {M : Type 0} → Seen M → Type 0
-HasSeenItsCalls p = p.half.count ≡ count_of p.session (seen_in p)
-
 -- What a session is told are the replies of its own entries, one after another, and each of its entries is told: from any moment on, for no pass has called more than it has seen, to one at which it has seen as many entries of its session as it has called, as it has whenever it was answered a command
 abbrev pub SessionsAreToldTheirCalls : Type 0 → Type 0
 SessionsAreToldTheirCalls M =
     (opening : Timeline) (n limit : ℕ) (lines : List (List ℕ)) (old new : Seen M) (text : List ℕ) → Serves opening n limit lines old new text
     → old.half.count ≤ count_of old.session (seen_in old) → HasSeenItsCalls new
     → (calls : List Call) × (calls_of new.session (seen_in new) ≡ calls_of old.session (seen_in old) ++ calls) × Tells lines calls text
+
+-- What a session is told from the opening of its lab to the closing are its calls in the closed journal, each once, in order: its pass was new, and then it was served these lines, in one run or in several, and handed back
+abbrev pub SessionsAreToldAllTheirCalls : Type 0 → Type 0
+SessionsAreToldAllTheirCalls M =
+    (opening : Timeline) (n limit session : ℕ) (publisher tally : TableId) (lines : List (List ℕ)) (old new : Seen M) (text : List ℕ) (js : List (Entry M))
+    → IsNewPass publisher (revisions_of opening []) session tally old → Serves opening n limit lines old new text → HasSeenOwn opening js new
+    → Tells lines (calls_of session js) text
+
+-- A run of a session and then another one are one run, of the lines of both
+abbrev pub RunsAreOne : Type 0 → Type 0
+RunsAreOne M =
+    (opening : Timeline) (n limit : ℕ) (lines more : List (List ℕ)) (old mid new : Seen M) (text rest : List ℕ)
+    → Serves opening n limit lines old mid text → Serves opening n limit more mid new rest → Serves opening n limit (lines ++ more) old new (text ++ rest)

@@ -2,12 +2,11 @@
 use Rattle.std.specs.Prelude.{◌≡◌, ◌≤◌, ◌<◌, ℕ, ◌+◌, Bool, true, false, is_err, List, [], ◌∷◌, ◌++◌, length, take, slice_index, if◌then◌else◌, Option, Some, None, Result, Ok, Err, ◌⊎◌}
 use Rattle.std.specs.Io.KnownBytes.{Appends}
 use Rattle.pfl_language.specs.declared.command.Command.{Command}
-use Rattle.pfl_session.specs.publish.Seats.{IsRead, IsOvertaken, MakesTries}
+use Rattle.pfl_session.specs.publish.Seats.{IsRead, IsOvertaken, OvertakenBefore, MakesTries}
 use Rattle.pfl_script.specs.timeline.Replies.{Reply}
 use Rattle.pfl_script.specs.timeline.Timelines.{Timeline}
 use Rattle.pfl_session.specs.Desks.{one_more_counted}
-use Rattle.pfl_session.specs.Journals.{count_of}
-use Rattle.pfl_session.specs.Passes.{Seen, seen_in, GoesOn, HasSeenJournal, AddsOthers, AddsCall}
+use Rattle.pfl_session.specs.Passes.{Seen, seen_in, GoesOn, HasSeenItsCalls, HasSeenJournal, AddsOthers, AddsCall}
 use Rattle.pfl_script.specs.lines.declared.fault.LineFault.{LineFault}
 use Rattle.pfl_script.specs.lines.declared.session.SessionLine.{SessionLine}
 use Rattle.pfl_script.specs.lines.declared.session.SessionLine.TheVariants.{View, Ask}
@@ -46,11 +45,12 @@ module _ {M : Type 0} where
     pub few : lost ≤ 2
     pub told : text ≡ view_text words
 
-  -- three tries were overtaken, and the text tells where the last one began and ended
+  -- three tries were overtaken, and the text tells where the last one began, six revisions past the old floor at least, and where it ended
   pub record TellsOvertaken (old new : Seen M) (text : List ℕ) : Type 0 where
     pub at : ℕ
     pub now : ℕ
     pub overtaken : IsOvertaken old.viewer new.viewer at now
+    pub before : OvertakenBefore 3 old.viewer at
     pub tries : MakesTries old.viewer new.viewer 2 at now
     pub told : text ≡ overtaken_text at now
 
@@ -70,11 +70,11 @@ module _ {M : Type 0} where
     pub others : AddsOthers old new
     pub half : new.half ≡ old.half
 
-  -- the pass has asked, called or not: it goes on, what it has seen is a journal, and what it had seen has as many entries of its session as it had called
-  pub record HasAsked (opening : Timeline) (n : ℕ) (old new : Seen M) : Type 0 where
+  -- the pass has asked, called or not: it goes on, what it has seen is a journal that keeps to its limit, and what it had seen has as many entries of its session as it had called
+  pub record HasAsked (opening : Timeline) (n limit : ℕ) (old new : Seen M) : Type 0 where
     pub goes_on : GoesOn old new
-    pub journal : HasSeenJournal opening n new
-    pub own : old.half.count ≡ count_of old.session (seen_in old)
+    pub journal : HasSeenJournal opening n limit new
+    pub own : HasSeenItsCalls old
 
   -- the call's reply
   pub record TellsReply (old new : Seen M) (command : Command) (text : List ℕ) : Type 0 where
@@ -90,12 +90,12 @@ module _ {M : Type 0} where
 
   -- the answer to a command
   pub record IsReplied (opening : Timeline) (n limit : ℕ) (old new : Seen M) (command : Command) (text : List ℕ) : Type 0 where
-    pub asked : HasAsked opening n old new
+    pub asked : HasAsked opening n limit old new
     pub told : TellsReply old new command text ⊎ TellsFull limit old new text
 
   -- no answer to a command, for want of memory: it was called and its reply takes memory, or the journal has room
   pub record IsUnanswered (opening : Timeline) (n limit : ℕ) (old new : Seen M) (command : Command) : Type 0 where
-    pub asked : HasAsked opening n old new
+    pub asked : HasAsked opening n limit old new
     pub done : ((reply : Reply) × IsCalled old new command reply × (takes_memory reply ≡ true)) ⊎ (IsNotCalled old new × (length (seen_in new) < limit))
 
   -- the answer to what a line says

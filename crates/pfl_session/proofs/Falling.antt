@@ -1,5 +1,5 @@
 -- What is left of a branch without one of its events, and what falls out of it, are no more than it had.
-use Rattle.std.specs.Prelude.{◌≡◌, ◌≤◌, ℕ, zero, suc, ◌+◌, ◌-◌, List, [], ◌∷◌, ◌++◌, length, take, drop, fold, Result, Ok, Err, refl}
+use Rattle.std.specs.Prelude.{◌≡◌, ◌≤◌, ℕ, suc, ◌+◌, ◌-◌, List, [], ◌∷◌, length, take, drop, fold, Ok, Err, refl}
 use Rattle.std.proofs.Common.{ap, arith, length-append, length-take, length-drop}
 use Rattle.std.proofs.lemmas.List.{length-map}
 use Rattle.pfl_language.specs.declared.event.Event.{Event}

@@ -1,8 +1,8 @@
 -- A command makes each branch longer by one event at most, or as long as it was before an excision.
-use Rattle.std.specs.Prelude.{◌≡◌, ◌≤◌, ℕ, zero, suc, ◌+◌, ◌-◌, Bool, true, false, not, nat_lt, nat_le, List, [], ◌∷◌, ◌++◌, length, map, filter, find, take, Option, Some, None, IfSome, Result, Ok, Err, refl, if◌then◌else◌}
+use Rattle.std.specs.Prelude.{◌≡◌, ◌≤◌, ℕ, zero, suc, ◌+◌, ◌-◌, Bool, true, false, not, nat_lt, nat_le, List, [], ◌∷◌, ◌++◌, length, map, filter, find, take, Option, Some, None, IfSome, Ok, Err, refl, if◌then◌else◌}
 use Rattle.std.specs.List.{AllByRecursion}
 use Rattle.std.specs.Option.{option_map_or}
-use Rattle.std.proofs.Common.{cond, sym, ◌∙◌, ap, subst, arith, length-append}
+use Rattle.std.proofs.Common.{cond, ap, subst, arith, length-append}
 use Rattle.pfl_language.specs.declared.event.Event.{Event}
 use Rattle.pfl_language.specs.declared.command.Command.{Command}
 use Rattle.pfl_language.specs.declared.command.Command.TheVariants as command
@@ -11,11 +11,10 @@ use Rattle.pfl_language.specs.declared.refused.Refused.TheVariants as refused
 use Rattle.pfl_language.specs.BranchWords.{same_name}
 use Rattle.pfl_timeline.specs.desk.Nodes.{refused_by}
 use Rattle.pfl_timeline.specs.world.Events.{step}
-use Rattle.pfl_timeline.specs.world.Worlds.{World}
 use Rattle.pfl_timeline.specs.Commands.{replied, reply_unless, with_branch, with_changed, extended, undone, at_cursor, step_answered, step_reply, back_reply, forward_reply, first_events, fork_refusal, fork_reply, drop_reply, show_reply, excise_reply, restore_reply, step_command, back_command, forward_command, fork_command, drop_command, show_command, excise_command, restore_command, log_reply, log_command, names_command, command_step}
 use Rattle.pfl_timeline.specs.Excisions.{has_event, excised, fallen_places, restored}
 use Rattle.pfl_timeline.specs.Replies.{Reply, Replied, Forked, Removed, Shown, Excised, Restored, Refused as Refusing}
-use Rattle.pfl_timeline.specs.Timelines.{Branch, Former, Timeline, branch_of, standing, world_of}
+use Rattle.pfl_timeline.specs.Timelines.{Branch, Former, Timeline, branch_of, world_of}
 use Rattle.pfl_session.specs.Totals.{HasFew, HasFewEvents}
 use Rattle.pfl_session.proofs.Falling.{left-few}
 

@@ -1,5 +1,5 @@
 -- A command whose reply shows a branch or tells its events, or names the branches, changes nothing.
-use Rattle.std.specs.Prelude.{◌≡◌, ℕ, ◌-◌, ◌+◌, Bool, true, false, List, [], ◌∷◌, ◌++◌, map, filter, not, length, nat_lt, nat_le, Option, Some, None, Result, Ok, Err, IsTrue, refl}
+use Rattle.std.specs.Prelude.{◌≡◌, ℕ, ◌-◌, ◌+◌, false, List, [], ◌∷◌, ◌++◌, filter, not, length, nat_lt, nat_le, Option, Some, None, Ok, Err, IsTrue, refl}
 use Rattle.std.specs.Option.{option_map_or}
 use Rattle.std.proofs.Common.{sym, ◌∙◌, ap, subst}
 use Rattle.std.proofs.lemmas.Bool.{both_ways}
@@ -11,8 +11,7 @@ use Rattle.pfl_language.specs.declared.refused.Refused.TheVariants as refused
 use Rattle.pfl_language.specs.BranchWords.{same_name}
 use Rattle.pfl_timeline.specs.desk.Nodes.{refused_by}
 use Rattle.pfl_timeline.specs.world.Events.{step}
-use Rattle.pfl_timeline.specs.world.Worlds.{World}
-use Rattle.pfl_timeline.specs.Commands.{replied, reply_unless, with_branch, with_changed, extended, undone, at_cursor, step_answered, step_reply, back_reply, forward_reply, first_events, fork_refusal, fork_reply, drop_reply, show_reply, excise_reply, restore_reply, step_command, back_command, forward_command, fork_command, drop_command, show_command, excise_command, restore_command, log_reply, log_command, names_command, command_step}
+use Rattle.pfl_timeline.specs.Commands.{replied, reply_unless, with_branch, with_changed, undone, at_cursor, step_answered, step_reply, back_reply, forward_reply, first_events, fork_refusal, fork_reply, drop_reply, show_reply, excise_reply, restore_reply, step_command, back_command, forward_command, fork_command, drop_command, show_command, excise_command, restore_command, log_reply, log_command, names_command, command_step}
 use Rattle.pfl_timeline.specs.Excisions.{has_event, excised, fallen_places, restored}
 use Rattle.pfl_timeline.specs.Replies.{Reply, Replied, Forked, Removed, Shown, Excised, Restored, Refused as Refusing}
 use Rattle.pfl_timeline.specs.Timelines.{Branch, Timeline, branch_of, world_of}

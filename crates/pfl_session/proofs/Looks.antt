@@ -1,5 +1,5 @@
 -- What a look at the publisher loads.
-use Rattle.std.specs.Prelude.{◌≡◌, ◌≤◌, ℕ, List, Result, Ok, Err, IfOk, slice_index}
+use Rattle.std.specs.Prelude.{◌≤◌, ℕ, List, Result, Ok, Err, IfOk, slice_index}
 use Rattle.std.proofs.Common.{sym, subst}
 use Rattle.pfl_publish.specs.Seats.{Viewer, IsRead, MakesTries}
 

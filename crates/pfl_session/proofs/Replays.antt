@@ -5,12 +5,10 @@ use Rattle.std.proofs.lemmas.List.{append_assoc, take-append-drop}
 use Rattle.atomic_table.specs.Seated.{TableId}
 use Rattle.pfl_language.specs.declared.command.Command.{Command}
 use Rattle.pfl_publish.specs.Count.{Count}
-use Rattle.pfl_publish.specs.declared.view.Published.{Published}
 use Rattle.pfl_publish.proofs.ForCallers.{begun_since, loads-since}
 use Rattle.pfl_publish.specs.Revisions.{Log, published, StartsWith}
 use Rattle.pfl_publish.specs.Seats.{Viewer}
-use Rattle.pfl_timeline.specs.Commands.{command_step, replied}
-use Rattle.pfl_timeline.specs.Replies.{Reply, reply_of}
+use Rattle.pfl_timeline.specs.Replies.{Reply}
 use Rattle.pfl_timeline.specs.Summaries.{summary}
 use Rattle.pfl_timeline.specs.Timelines.{Timeline}
 use Rattle.pfl_session.specs.declared.entry.Entry.{Entry}

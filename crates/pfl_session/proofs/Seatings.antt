@@ -1,5 +1,5 @@
 -- New passes, one for each session, are passes of the lab.
-use Rattle.std.specs.Prelude.{◌≡◌, ◌≤◌, ℕ, zero, suc, ◌+◌, ◌-◌, List, [], ◌∷◌, ◌++◌, length, slice_get, nat_lt, Bool, true, false, ◌||◌, Option, Some, None, if◌then◌else◌, refl}
+use Rattle.std.specs.Prelude.{◌≡◌, ◌≤◌, ℕ, suc, ◌+◌, ◌-◌, List, [], ◌∷◌, ◌++◌, length, slice_get, nat_lt, Bool, true, false, ◌||◌, Some, None, if◌then◌else◌, refl}
 use Rattle.std.specs.List.{AllByRecursion}
 use Rattle.std.proofs.lemmas.Bool.{ltb-false}
 use Rattle.std.proofs.Common.{sym, ◌∙◌, ap, subst, arith}
@@ -11,7 +11,6 @@ use Rattle.pfl_session.specs.declared.mark.Mark.{Mark}
 use Rattle.pfl_session.specs.Journals.{count_of, counts_of}
 use Rattle.pfl_session.specs.Passes.{Seen, IsPassOf}
 use Rattle.pfl_session.specs.Labs.{lab_fault, IsNewPass, AreNewPasses}
-use Rattle.pfl_session.specs.declared.fault.LabFault.{LabFault}
 use Rattle.pfl_session.specs.declared.fault.LabFault.TheVariants as fault
 
 fits : (a b c : Bool) → (if a then Some fault.Sessions else (if b || c then Some fault.Journal else None)) ≡ None → c ≡ false

@@ -1,11 +1,11 @@
 -- What revisions show of a journal, and what it gives.
-use Rattle.std.proofs.Common.{◌≡◌, ℕ, zero, suc, ◌+◌, ◌<◌, ◌≤◌, List, [], ◌∷◌, ◌++◌, length, take, drop, refl, sym, ap, subst, ◌∙◌, arith}
+use Rattle.std.proofs.Common.{◌≡◌, ℕ, zero, suc, ◌+◌, ◌<◌, List, [], ◌∷◌, ◌++◌, length, take, drop, refl, sym, ap, subst, ◌∙◌, arith}
 use Rattle.std.specs.Prelude.{map}
 use Rattle.std.specs.List.{AllByRecursion}
 use Rattle.std.proofs.lemmas.List.{append-nil, take-append-drop}
 use Rattle.pfl_publish.specs.Revisions.{Log, words_at, StartsWith}
 use Rattle.pfl_publish.proofs.ForCallers.{words_at-append, begun_length}
-use Rattle.pfl_timeline.specs.Commands.{command_step, replayed}
+use Rattle.pfl_timeline.specs.Commands.{replayed}
 use Rattle.pfl_timeline.specs.Laws.{ShowsItsRun}
 use Rattle.pfl_timeline.specs.Summaries.{summary}
 use Rattle.pfl_timeline.specs.Timelines.{Timeline, new_timeline}
@@ -14,7 +14,7 @@ use Rattle.pfl_session.specs.declared.entry.Entry.{Entry}
 use Rattle.pfl_session.specs.declared.mark.Mark.{Mark}
 use Rattle.pfl_session.specs.Journals.{after_entry, replay, following, revisions_of, calls_in, count_of}
 use Rattle.pfl_session.specs.Laws.{RevisionsShowTimelines, SeenEntriesAreFirst, LastCallersHaveSeenAll, JournalsAreCommands, BranchesShowTheirRunsInJournals}
-use Rattle.pfl_session.specs.Passes.{Seen, seen_in}
+use Rattle.pfl_session.specs.Passes.{seen_in}
 use Rattle.pfl_session.proofs.Replays.{calls-since, calls-history, count-own, count-since, length-history}
 
 -- the front of two lists

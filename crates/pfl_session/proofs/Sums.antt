@@ -1,5 +1,5 @@
 -- Counts that are added up branch by branch are the sums of a summary.
-use Rattle.std.specs.Prelude.{◌≡◌, ◌≤◌, ◌<◌, ℕ, zero, suc, ◌+◌, List, [], ◌∷◌, map, take, length, get_or, Option, Some, refl}
+use Rattle.std.specs.Prelude.{◌≡◌, ◌<◌, ℕ, zero, suc, ◌+◌, List, [], ◌∷◌, map, take, length, get_or, refl}
 use Rattle.std.specs.List.{fold, sum_by, AllByRecursion}
 use Rattle.std.specs.Option.{option_map_or}
 use Rattle.std.proofs.Common.{sym, ◌∙◌, ap, subst, arith}
@@ -9,7 +9,7 @@ use Rattle.pfl_edits.specs.Maps as maps
 use Rattle.pfl_timeline.specs.queue.Queues.{pending}
 use Rattle.pfl_timeline.specs.world.Runs.{run}
 use Rattle.pfl_timeline.specs.world.Worlds.{World}
-use Rattle.pfl_timeline.specs.Rooted.{Rooted, shown}
+use Rattle.pfl_timeline.specs.Rooted.{Rooted}
 use Rattle.pfl_timeline.specs.Summaries.{summary, over_worlds}
 use Rattle.pfl_timeline.specs.Timelines.{Branch, Timeline, standing, world_of}
 use Rattle.pfl_session.specs.declared.counts.Counts.{Counts}

@@ -1,18 +1,15 @@
 -- A lab that is opened, and one that is closed (this project's profile).
-use Rattle.std.specs.Prelude.{◌≡◌, ◌≤◌, ℕ, suc, nat_lt, false, ◌||◌, List, [], ◌∷◌, length, refl, Option, Some, None, if◌then◌else◌, ⊤}
+use Rattle.std.specs.Prelude.{◌≡◌, ℕ, suc, nat_lt, ◌||◌, List, [], ◌∷◌, refl, Option, Some, None, if◌then◌else◌, ⊤}
 use Rattle.std.specs.Coded.{Coded, Coded-set, code_by, coded×, coded_ℕ, coded_list}
 use Rattle.atomic_table.specs.Seated.{TableId, table_id_coded}
-use Rattle.pfl_publish.specs.Count.{Count}
 use Rattle.pfl_publish.specs.Revisions.{Log, StartsWith}
-use Rattle.pfl_publish.specs.Seats.{Writer, Viewer}
 use Rattle.pfl_timeline.specs.Codes.{coded_timeline}
 use Rattle.pfl_timeline.specs.Timelines.{Timeline}
 use Rattle.pfl_session.specs.declared.entry.Entry.{Entry}
 use Rattle.pfl_session.specs.declared.fault.LabFault.{LabFault}
 use Rattle.pfl_session.specs.declared.fault.LabFault.TheVariants as fault
 use Rattle.pfl_session.specs.declared.mark.Mark.{Mark}
-use Rattle.pfl_session.specs.Totals.{HasFewEvents}
-use Rattle.pfl_session.specs.Journals.{replay, IsJournal, revisions_of, counts_of, count_of}
+use Rattle.pfl_session.specs.Journals.{replay, IsJournal, revisions_of, count_of}
 use Rattle.pfl_session.specs.Passes.{Seen, seen_in, HasSeenItsCalls}
 
 -- equations of tables are facts

@@ -1,7 +1,6 @@
-use Rattle.std.proofs.Common.{rules, ◌≡◌, ◌+◌, List, length, ap, ◌∙◌, arith}
+use Rattle.std.proofs.Common.{rules, ◌≡◌, ◌+◌, length, ap, ◌∙◌, arith}
 use Rattle.pfl_publish.proofs.ForCallers.{loads-once}
 use Rattle.pfl_publish.specs.Revisions.{Log}
-use Rattle.pfl_session.specs.declared.entry.Entry.{Entry}
 use Rattle.pfl_session.specs.declared.mark.Mark.{Mark}
 use Rattle.pfl_session.proofs.Replays.{extends, length-history}
 use Rattle.pfl_session.proofs.desk.append.Goals as goal

@@ -1,4 +1,4 @@
-use Rattle.std.proofs.Common.{◌≡◌, [], ◌∷◌, List, ℕ, length, ◌∙◌, ap, sym, arith}
+use Rattle.std.proofs.Common.{[], ◌∷◌, List, length, ◌∙◌, ap, arith}
 use Rattle.std.proofs.lemmas.List.{length-map}
 use Rattle.pfl_timeline.specs.Rooted.{Rooted}
 use Rattle.pfl_timeline.specs.Timelines.{Branch}

@@ -1,4 +1,4 @@
-use Rattle.std.proofs.Common.{◌≡◌, ◌∙◌, ap, sym, length, List}
+use Rattle.std.proofs.Common.{◌∙◌, ap, sym, length, List}
 use Rattle.std.specs.Prelude.{Option}
 use Rattle.std.specs.Option.{option_map_or}
 use Rattle.pfl_language.specs.declared.event.Event.{Event}

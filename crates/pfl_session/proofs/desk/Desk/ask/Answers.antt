@@ -1,4 +1,4 @@
-use Rattle.std.proofs.Common.{◌≡◌, ◌<◌, length, ap, sym, subst, ◌∙◌, arith}
+use Rattle.std.proofs.Common.{◌<◌, length, ap, sym, subst, ◌∙◌, arith}
 use Rattle.std.proofs.lemmas.Result.{err_from_is_err_and}
 use Rattle.pfl_timeline.proofs.ForCallers.world.{where_err}
 use Rattle.pfl_session.specs.Passes.{Seen, seen_in, HasSeenJournal, AddsOthers}

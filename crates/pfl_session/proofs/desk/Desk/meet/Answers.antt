@@ -1,4 +1,4 @@
-use Rattle.std.proofs.Common.{◌≡◌, List, Some, length, refl, ap, sym, subst, ◌∙◌, arith}
+use Rattle.std.proofs.Common.{◌≡◌, List, length, refl, ap, sym, subst, ◌∙◌, arith}
 use Rattle.pfl_publish.specs.Revisions.{Log, StartsWith}
 use Rattle.pfl_publish.specs.Seats.{Writer}
 use Rattle.pfl_session.specs.declared.entry.Entry.{Entry}

@@ -1,4 +1,4 @@
-use Rattle.std.proofs.Common.{◌≡◌, ◌+◌, [], ◌∷◌, length, ap, sym, ◌∙◌, arith, length-append}
+use Rattle.std.proofs.Common.{[], ◌∷◌, length, ap, sym, ◌∙◌, arith, length-append}
 use Rattle.pfl_session.specs.Labs.{Setup}
 use Rattle.pfl_session.proofs.Seatings.{no-fault}
 use Rattle.pfl_session.proofs.opened.Opened.new.Goals as goal
