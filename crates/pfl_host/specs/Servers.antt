@@ -43,7 +43,8 @@ pub record Closes (opening : Timeline) (n : ℕ) (first : Option EngineFault) (e
   pub first_is : first ≡ first_fault results
   pub timeline : Timeline
   pub journal : List (Entry Global)
-  pub closed : IsClosed opening n timeline journal
+  pub limit : ℕ
+  pub closed : IsClosed opening n limit timeline journal
   pub count : entries ≡ length journal
 
 -- n sessions have ended, and that was told

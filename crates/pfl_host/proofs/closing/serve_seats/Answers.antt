@@ -23,6 +23,7 @@ returns-in-Ok-serve_all-clause-closes g c =
       first_is = c.settle-passes.ensures.fault;
       timeline = c.close-closed.result.timeline;
       journal = c.close-closed.result.journal.items;
+      limit = g.J.Which.limit;
       closed = c.close-closed.ensures.closed;
       count = omega (arith, c.len-in-Ok-serve_all.ensures, c.close-closed.result.journal.ok.0);
     }
