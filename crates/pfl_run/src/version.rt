@@ -2,4 +2,4 @@
 
 /// The release, the sum of its sources, and the logic that proves them.
 pub(crate) const VERSION: &str =
-    "release 4, sources 91c61f5e5e197690e4e3e582b6353f26a69b84e67bcaae7900821e49e0c35deb, logic dac8208d650f15bf";
+    "release 5, sources 94361d888e7c5ab9353c03a758348bcdb06d4e4d961a02c0b58fa5aab8e29a09, logic dac8208d650f15bf";
