@@ -1,11 +1,11 @@
 -- What the program does with its words, over any devices (this project's profile).
-use Rattle.std.specs.Prelude.{◌≡◌, ◌<◌, ℕ, Bool, List, [], length, Option, Some, ◌⊎◌, Result, Ok, Err}
+use Rattle.std.specs.Prelude.{◌≡◌, ◌<◌, ◌*◌, ℕ, Bool, List, [], length, Option, Some, ◌⊎◌, Result, Ok, Err}
+use Rattle.pfl_base.specs.Counts.{Calls, CountsWithin}
 use Rattle.clap.specs.Faults.{fault_of}
 use Rattle.clap.specs.Simple.{subcommand_of}
 use Rattle.clap.specs.Values.{kind_of}
 use Rattle.clap.specs.declared.error.kind.ErrorKind.{ErrorKind}
 use Rattle.clap.specs.declared.error.kind.ErrorKind.TheVariants.{DisplayHelp, DisplayVersion}
-use Rattle.pfl_run.specs.reader.Readers.{Source}
 use Rattle.pfl_run.specs.declared.fault.LabFault.TheVariants as lab
 use Rattle.pfl_run.specs.declared.mode.Mode.{Mode}
 use Rattle.pfl_run.specs.declared.mode.Mode.TheVariants.{Run, Check, Serve}
@@ -14,8 +14,34 @@ use Rattle.pfl_run.specs.declared.mode.WordsFault.TheVariants as fault
 use Rattle.pfl_run.specs.Checks.{ChecksToEnd, IsCheckStop}
 use Rattle.pfl_run.specs.Faults.{fault_text}
 use Rattle.pfl_run.specs.Modes.{lab_app, mode_word, subcommand_name, words_status, HasNumbers, IsWordsFault}
-use Rattle.pfl_run.specs.Runs.{Ends, IsStop, IsTold, RunsToEnd, Stops}
-use Rattle.pfl_host.specs.Servers.{IsServeStop, HostServes, ServesToEnd}
+use Rattle.pfl_run.specs.Runs.{Ends, HasFailed, IsStop, IsTold, RunsToEnd, Stops}
+use Rattle.pfl_host.specs.Servers.{IsServeStop, HostServes, ServesFromDevice}
+
+-- a device that is read from, before and after; what it had left to read, and has left; its calls of `read`; whether one has failed
+pub record Reader (D : Type 0) : Type 0 where
+  pub old : D
+  pub new : D
+  pub before : Option (List ℕ)
+  pub after : Option (List ℕ)
+  pub calls_before : Calls
+  pub calls_after : Calls
+  pub failed : Bool
+
+-- what is seen of such a device
+abbrev pub seen_reader : {D : Type 0} → (D → Option (List ℕ)) → (D → Calls) → (D → Bool) → D → D → Reader D
+seen_reader left reads has_failed old new = record {
+  old = old;
+  new = new;
+  before = left old;
+  after = left new;
+  calls_before = reads old;
+  calls_after = reads new;
+  failed = has_failed new;
+}
+
+-- at most `most` calls of `read` were made, of a device that counts them
+abbrev pub CallsAtMost : {D : Type 0} → ℕ → Reader D → Type 0
+CallsAtMost most r = CountsWithin 0 most r.calls_before r.calls_after
 
 -- a device that is written to, before and after; what was written to it, where that is known; whether a call of it has failed
 pub record Device (D : Type 0) : Type 0 where
@@ -60,32 +86,39 @@ IsTaken words (Ok mode) =
 IsTaken words (Err why) = IsWordsFault (fault_of lab_app words) why
 
 -- the lines of the reader are run, with this exit status
-abbrev pub Runs : {W F : Type 0} → Source → Source → Device W → Device F → ℕ → Type 0
-Runs old new writer faults status =
-    Ends (RunsToEnd old.left new.left writer.before writer.after) faults.before faults.after status
-    ⊎ Stops (λ why. IsStop why old.left writer.before writer.after) new writer.failed faults.before faults.after faults.failed status
+abbrev pub Runs : {R W F : Type 0} → Reader R → Device W → Device F → ℕ → Type 0
+Runs reader writer faults status =
+    Ends (RunsToEnd reader.before reader.after writer.before writer.after) faults.before faults.after status
+    ⊎ Stops (λ why. IsStop why reader.before writer.before writer.after)
+    (λ why. HasFailed why reader.failed reader.calls_before reader.calls_after writer.failed)
+    faults.before faults.after faults.failed status
 
 -- the lines of the reader are checked, with this exit status
-abbrev pub Checks : {W F : Type 0} → Source → Source → Device W → Device F → ℕ → Type 0
-Checks old new writer faults status =
-    Ends (ChecksToEnd old.left new.left writer.before writer.after) faults.before faults.after status
-    ⊎ Stops (λ why. IsCheckStop why old.left writer.before writer.after) new writer.failed faults.before faults.after faults.failed status
+abbrev pub Checks : {R W F : Type 0} → Reader R → Device W → Device F → ℕ → Type 0
+Checks reader writer faults status =
+    Ends (ChecksToEnd reader.before reader.after writer.before writer.after) faults.before faults.after status
+    ⊎ Stops (λ why. IsCheckStop why reader.before writer.before writer.after)
+    (λ why. HasFailed why reader.failed reader.calls_before reader.calls_after writer.failed)
+    faults.before faults.after faults.failed status
 
 -- a lab of so many sessions is served on the port, with this exit status
-abbrev pub ServesLab : {W F : Type 0} → ℕ → ℕ → Source → Source → Device W → Device F → ℕ → Type 0
-ServesLab port sessions old new writer faults status =
-    HostServes (ServesToEnd old.left new.left port sessions writer.before writer.after) faults.before faults.after faults.failed status
-    ⊎ Stops (λ why. IsServeStop why old.left port sessions writer.before writer.after) new writer.failed faults.before faults.after faults.failed status
+abbrev pub ServesLab : {R W F : Type 0} → ℕ → ℕ → Reader R → Device W → Device F → ℕ → Type 0
+ServesLab port sessions reader writer faults status =
+    HostServes (ServesFromDevice reader.before reader.after port sessions writer.before writer.after) faults.before faults.after faults.failed status
+    ⊎ Stops (λ why. IsServeStop why reader.before port sessions writer.before writer.after)
+    (λ why. HasFailed why reader.failed reader.calls_before reader.calls_after writer.failed)
+    faults.before faults.after faults.failed status
 
--- what the program does with words that were taken so, and its exit status; where they ask for no mode it reads nothing
-abbrev pub Does : {W F : Type 0} → Result Mode WordsFault → Source → Source → Device W → Device F → ℕ → Type 0
-Does (Ok Run) old new writer faults status = Runs old new writer faults status
-Does (Ok Check) old new writer faults status = Checks old new writer faults status
-Does (Ok (Serve port sessions)) old new writer faults status = ServesLab port sessions old new writer faults status
-Does (Err why) old new writer faults status = (new ≡ old) × TellsWords why writer faults × (status ≡ words_status why)
+-- what the program does with words that were taken so, and its exit status: a setup makes at most 16777216 calls of `read`, and with a run
+-- or a check after it at most twice as many; where the words ask for no mode it reads nothing
+abbrev pub Does : {R W F : Type 0} → Result Mode WordsFault → Reader R → Device W → Device F → ℕ → Type 0
+Does (Ok Run) reader writer faults status = CallsAtMost (2 * 16777216) reader × Runs reader writer faults status
+Does (Ok Check) reader writer faults status = CallsAtMost (2 * 16777216) reader × Checks reader writer faults status
+Does (Ok (Serve port sessions)) reader writer faults status = CallsAtMost 16777216 reader × ServesLab port sessions reader writer faults status
+Does (Err why) reader writer faults status = (reader.new ≡ reader.old) × TellsWords why writer faults × (status ≡ words_status why)
 
 -- the program does what its words ask for
-pub record Obeys {W F : Type 0} (words : List (List ℕ)) (old new : Source) (writer : Device W) (faults : Device F) (status : ℕ) : Type 0 where
+pub record Obeys {R W F : Type 0} (words : List (List ℕ)) (reader : Reader R) (writer : Device W) (faults : Device F) (status : ℕ) : Type 0 where
   pub how : Result Mode WordsFault
   pub taken : IsTaken words how
-  pub does : Does how old new writer faults status
+  pub does : Does how reader writer faults status

@@ -1,16 +1,32 @@
 -- What serving a lab over the network does (this project's profile). What goes over a connection is not said.
-use Rattle.std.specs.Prelude.{◌≡◌, ℕ, Bool, List, [], ◌∷◌, ◌++◌, length, take, Option, Some, None, Result, Ok, Err, ◌⊎◌, codes}
+use denote.Ref.{Bor}
+use Rattle.std.specs.Prelude.{◌≡◌, ℕ, Bool, false, List, [], ◌∷◌, ◌++◌, length, map, take, Option, Some, None, Result, Ok, Err, ◌⊎◌, codes}
 use Rattle.std.specs.Fmt.{decimal}
 use Rattle.std.specs.Io.KnownBytes.{Appends, Keeps}
+use Rattle.std.specs.List.{AllByRecursion}
 use Rattle.std.specs.declared.alloc.Global.{Global}
+use Rattle.std.specs.declared.marker.Brand.{Brand}
+use Rattle.std.specs.declared.net.tcp.TcpStream.{TcpStream}
+use Rattle.atomic_table.specs.Seated.{TableId}
+use Rattle.pfl_base.specs.Devices.{device_of, has_failed}
+use Rattle.pfl_base.specs.declared.output.Output as Output
+use Rattle.pfl_base.specs.declared.std_device.Std.{Std}
 use Rattle.pfl_run.specs.timeline.Timelines.{Timeline}
 use Rattle.pfl_run.specs.script.declared.engine.Ended.{Ended}
 use Rattle.pfl_run.specs.script.declared.fault.EngineFault.{EngineFault}
 use Rattle.pfl_session.specs.declared.entry.Entry.{Entry}
-use Rattle.pfl_session.specs.Labs.{IsClosed}
+use Rattle.pfl_session.specs.declared.which.Which as Which
+use Rattle.pfl_session.specs.Journals.{revisions_of}
+use Rattle.pfl_session.specs.Labs.{AreNewPasses}
+use Rattle.pfl_serve.specs.Services.{IsService}
+use Rattle.pfl_serve.specs.declared.closing.EndedSeat.{EndedSeat}
+use Rattle.pfl_serve.specs.declared.seat.Seat.{Seat}
+use Rattle.pfl_serve.specs.declared.seat.ServeFault.{ServeFault}
+use Rattle.pfl_serve.specs.declared.seat.ServeFault.TheVariants as serve
 use Rattle.pfl_run.specs.declared.fault.LabFault.{LabFault}
 use Rattle.pfl_run.specs.declared.fault.LabFault.TheVariants as fault
 use Rattle.pfl_run.specs.Faults.{fault_status, fault_text, of_engine}
+use Rattle.pfl_run.specs.reader.Readers.{Releases}
 use Rattle.pfl_run.specs.Runs.{IsSetupStop, IsTold, SetsUp}
 
 -- the port is listened on
@@ -36,16 +52,47 @@ abbrev pub first_fault : List (Result Ended EngineFault) → Option EngineFault
 first_fault [] = None
 first_fault (result ∷ results) = first_of (fault_in result) (first_fault results)
 
--- n sessions over the opening have ended, the first fault among them is this one, and they left a journal of so many entries
-pub record Closes (opening : Timeline) (n : ℕ) (first : Option EngineFault) (entries : ℕ) : Type 0 where
-  pub results : List (Result Ended EngineFault)
-  pub all : length results ≡ n
-  pub first_is : first ≡ first_fault results
+-- a connection, as a session reads from it and writes to it
+abbrev pub Connection : Type 0
+Connection = Std (Bor TcpStream)
+
+-- what is seen of what is written to a connection: not its bytes, but whether a call has failed
+abbrev pub connections : Output.Ghosts Connection
+connections = record { written = λ _. None; has_failed = has_failed }
+
+-- the stream that is written to at the seat
+abbrev pub stream_of : {I : Type 0} → Seat Global I Connection → TcpStream
+stream_of seat = let stream : Bor TcpStream = device_of seat.writer in stream.now
+
+-- nothing was read at the seat, and no call of its reader or its writer has failed
+pub record IsUnused {A I D : Type 0} (seat : Seat A I (Std D)) : Type 0 where
+  pub lines : seat.reader.lines ≡ 0
+  pub turns : seat.reader.turns ≡ 0
+  pub reader : seat.reader.failed ≡ false
+  pub writer : has_failed seat.writer ≡ false
+
+-- there are seats of the lab's sessions, of a new pass and an unused connection each, that were served, after which the lab was closed: the first fault of a session's end is this one, and this is the number of the journal's entries
+pub record ServesAll {K : Type 0} (j : Which.Ghosts K) (first : Option EngineFault) (entries : ℕ) : Type 0 where
+  pub seats : List (Seat Global Connection Connection)
+  pub new : AreNewPasses j.publisher (revisions_of j.opening []) 1 j.tallies (map (λ s. s.pass) seats)
+  pub unused : AllByRecursion IsUnused seats
   pub timeline : Timeline
   pub journal : List (Entry Global)
-  pub limit : ℕ
-  pub closed : IsClosed opening n limit timeline journal
+  pub ended : List (EndedSeat Connection Connection)
+  pub service : IsService j connections seats timeline journal ended
+  pub first_is : first ≡ first_fault (map (λ e. e.result) ended)
   pub count : entries ≡ length journal
+
+-- a lab over the opening with these counts of its sessions, whose journal has at most 1000000 entries
+abbrev pub lab_over : Timeline → TableId → List TableId → Which.Ghosts Brand
+lab_over opening publisher tallies = record { publisher = publisher; tallies = tallies; opening = opening; limit = 1000000 }
+
+-- there is a lab of n sessions over the opening that was served over connections and closed, with this first fault and this number of entries
+pub record Closes (opening : Timeline) (n : ℕ) (first : Option EngineFault) (entries : ℕ) : Type 0 where
+  pub publisher : TableId
+  pub tallies : List TableId
+  pub all : length tallies ≡ n
+  pub serves : ServesAll (lab_over opening publisher tallies) first entries
 
 -- n sessions have ended, and that was told
 pub record ClosesTold (opening : Timeline) (n : ℕ) (first : Option EngineFault) (w v : Option (List ℕ)) : Type 0 where
@@ -60,6 +107,11 @@ pub record ClosesPart (opening : Timeline) (n : ℕ) (w v : Option (List ℕ)) :
   pub closes : Closes opening n first entries
   pub part : ℕ
   pub written : Appends w v (take part (closed_text entries))
+
+-- why sessions were not served, as a fault of the run
+abbrev pub of_serve : ServeFault → LabFault
+of_serve serve.NoThread = fault.NoThread
+of_serve serve.NoMemory = fault.NoMemory
 
 -- why it was not told that n sessions have ended: they could not begin, or the writer failed
 abbrev pub IsCloseStop : LabFault → Timeline → ℕ → Option (List ℕ) → Option (List ℕ) → Type 0
@@ -89,12 +141,18 @@ StopsListening why opening port n w v = (mid : Option (List ℕ)) × Appends w m
 abbrev pub IsLabStop : LabFault → Timeline → ℕ → ℕ → Option (List ℕ) → Option (List ℕ) → Type 0
 IsLabStop why opening port n w v = ((why ≡ fault.NoMemory) × Keeps w v) ⊎ (IsAwaitStop why port w v ⊎ StopsListening why opening port n w v)
 
--- a pair was set up, and a lab over it was served to its end
+-- a pair was set up by the first lines, and a lab over it was served to its end; the other lines are left
 pub record ServesToEnd (old new : Option (List ℕ)) (port n : ℕ) (w v : Option (List ℕ)) (first : Option EngineFault) : Type 0 where
   pub number : ℕ
   pub opening : Timeline
   pub sets_up : SetsUp old new number opening
   pub whole : HostServesWhole opening port n first w v
+
+-- the same of a device: the other lines are left in it, but for the bytes of one block at most, which it gave and no line took
+pub record ServesFromDevice (old new : Option (List ℕ)) (port n : ℕ) (w v : Option (List ℕ)) (first : Option EngineFault) : Type 0 where
+  pub rest : Option (List ℕ)
+  pub serves : ServesToEnd old rest port n w v first
+  pub releases : Releases rest new
 
 -- a pair was set up, and then serving stopped
 pub record StopsServing (fault : LabFault) (old : Option (List ℕ)) (port n : ℕ) (w v : Option (List ℕ)) : Type 0 where

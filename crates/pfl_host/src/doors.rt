@@ -1,5 +1,7 @@
 //! The gate of sessions that are served over connections.
 
+ghost use Rattle.std.specs.Prelude.{◌≡◌, ◌-◌, ◌<◌, ◌≤◌, ◌⊎◌, length, slice_get, Some, MatchOption};
+
 use pfl_serve::Gate;
 use std::net::{Shutdown, TcpStream};
 use std::sync::Wait;
@@ -18,8 +20,11 @@ impl<'a, G: Gate> Doors<'a, G> {
         Doors { gate, streams }
     }
 
-    /// The connection of a session.
-    fn stream(&self, session: u32) -> Option<&'a TcpStream> {
+    /// The connection of a session, if it has one.
+    fn stream(&self, session: u32) -> Option<&'a TcpStream>
+        ensures { MatchOption result ((session ≡ 0) ⊎ (length self.now.streams.now < session))
+            (λ stream. (1 ≤ session) × (slice_get self.now.streams.now (session - 1) ≡ Some stream.now)) }
+    {
         let index = session.checked_sub(1)?;
         self.streams.get(index as usize)
     }

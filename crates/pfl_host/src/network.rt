@@ -1,17 +1,31 @@
 //! The port that is listened on, and the connections that come.
 
 ghost use Rattle.std.specs.Prelude.{◌≡◌, ◌⊎◌, length, map, IfOk, IfErr};
+ghost use Rattle.std.specs.List.{AllByRecursion};
+ghost use Rattle.std.specs.Net.Socket.{socket_ip, socket_port};
+ghost use Rattle.std.specs.declared.net.ip_addr.IpAddr.TheVariants as ip;
+ghost use Rattle.pfl_base.specs.Devices.{device_of};
 ghost use Rattle.pfl_run.specs.declared.fault.LabFault.TheVariants as fault;
+ghost use Rattle.pfl_host.specs.Servers.{stream_of, IsUnused};
 
 use pfl_base::Std;
 use pfl_run::{LabFault, LineReader};
 use pfl_serve::Seat;
 use pfl_session::Pass;
-use std::alloc::Allocator;
+use std::alloc::{Allocator, Global};
+use std::io::{Read, Write};
 use std::net::{Ipv4Addr, Net, SocketAddr, TcpListener, TcpStream};
 
 /// A reader or a writer of a connection.
 pub(crate) type Side<'a> = Std<&'a TcpStream>;
+
+/// The address of the port at 127.0.0.1, which other machines do not reach.
+fn local(port: u16) -> SocketAddr
+    ensures ip { socket_ip result ≡ ip.V4 Ipv4Addr.LOCALHOST }
+    ensures port { socket_port result ≡ port }
+{
+    SocketAddr::from((Ipv4Addr::LOCALHOST, port))
+}
 
 /// Listens on the port of 127.0.0.1 alone.
 pub(crate) fn listen<R: Net<Listener = TcpListener, Stream = TcpStream>>(
@@ -20,7 +34,7 @@ pub(crate) fn listen<R: Net<Listener = TcpListener, Stream = TcpStream>>(
 ) -> Result<TcpListener, LabFault>
     ensures fault { IfErr result (λ f. f ≡ fault.Network) }
 {
-    match rt.bind(SocketAddr::from((Ipv4Addr::LOCALHOST, port))) {
+    match rt.bind(local(port)) {
         Ok(listener) => Ok(listener),
         Err(_) => Err(LabFault::Network),
     }
@@ -58,8 +72,13 @@ pub(crate) fn accept_all<A: Allocator>(
 }
 
 /// The seat of the pass, whose lines go both ways over the stream.
-fn seat_of<'a, A: Allocator>(pass: Pass<A>, stream: &'a TcpStream) -> Seat<A, Side<'a>, Side<'a>>
-    ensures { result.pass ≡ pass }
+fn seat_of<'a, A: Allocator, S>(pass: Pass<A>, stream: &'a S) -> Seat<A, Std<&'a S>, Std<&'a S>>
+where
+    &'a S: Read + Write,
+    ensures pass { result.pass ≡ pass }
+    ensures reader { result.reader.left ≡ ⟦<&'a S as Read>⟧.remaining stream.entry }
+    ensures writer { device_of result.writer ≡ stream.entry }
+    ensures unused { IsUnused result }
 {
     Seat {
         pass,
@@ -69,13 +88,15 @@ fn seat_of<'a, A: Allocator>(pass: Pass<A>, stream: &'a TcpStream) -> Seat<A, Si
 }
 
 /// A seat for each pass, in their order, each with a stream of its own.
-pub(crate) fn seats<'a, A: Allocator>(
-    alloc: A,
-    passes: Vec<Pass<A>, A>,
+pub(crate) fn seats<'a>(
+    alloc: Global,
+    passes: Vec<Pass<Global>>,
     streams: &'a [TcpStream],
-) -> Result<Vec<Seat<A, Side<'a>, Side<'a>>, A>, LabFault>
+) -> Result<Vec<Seat<Global, Side<'a>, Side<'a>>>, LabFault>
     requires as_many { length streams.now ≡ length passes.items }
     ensures passes { IfOk result (λ seats. map (λ s. s.pass) seats.items ≡ passes.items) }
+    ensures streams { IfOk result (λ seats. map stream_of seats.items ≡ streams.now) }
+    ensures unused { IfOk result (λ seats. AllByRecursion IsUnused seats.items) }
     ensures fault { IfErr result (λ f. f ≡ fault.NoMemory) }
 {
     let Ok(mut seats) = Vec::with_capacity(alloc, passes.len()) else {

@@ -1,12 +1,12 @@
 //! What the program does.
 
-ghost use Rattle.std.specs.Prelude.{◌≡◌, map};
-ghost use Rattle.pfl_host.specs.Obeys.{seen, Obeys};
+ghost use Rattle.std.specs.Prelude.{map};
+ghost use Rattle.pfl_host.specs.Obeys.{seen, seen_reader, Obeys};
 
 use crate::report::tell_words;
 use crate::server::serve_lab;
 use pfl_base::{Input, Output};
-use pfl_run::{LineReader, Mode, check_lab, mode_of, run_lab};
+use pfl_run::{Mode, check_lab, mode_of, run_lab};
 use pfl_serve::Gate;
 use std::alloc::Global;
 use std::convert::AsStr;
@@ -29,13 +29,12 @@ pub fn obey<
     rt: &R,
     alloc: Global,
     words: &'a [S],
-    reader: &mut LineReader<I>,
+    reader: &mut I,
     writer: &mut O,
     faults: &mut F,
     gate: &G,
 ) -> u8
-    requires fresh { reader.old.lines ≡ 0 }
-    ensures { Obeys (map S.text words.now) reader.old reader.new
+    ensures { Obeys (map S.text words.now) (seen_reader I.left I.reads I.has_failed reader.old reader.new)
         (seen O.written O.has_failed writer.old writer.new)
         (seen F.written F.has_failed faults.old faults.new) result }
 {

@@ -10,10 +10,12 @@ use clap::error::ErrorKind;
 use pfl_base::Output;
 use pfl_run::{LabFault, WordsFault, tell, tell_text};
 use std::alloc::Global;
+use std::fmt::Display;
 
-/// The text of `clap`'s error, where there is memory for it. None of its texts is empty.
-fn text_of(alloc: Global, error: &Error) -> Option<String>
-    ensures { IfSome result (λ text. 0 < length (string_bytes text)) }
+/// What the error's `Display` writes, where there is memory for it and it is not empty. No text of `clap` is empty.
+fn text_of<E: Display>(alloc: Global, error: &E) -> Option<String>
+    ensures some { IfSome result (λ text. 0 < length (string_bytes text)) }
+    ensures shown { IfSome result (λ text. IfSome (E.output error.now) (λ bytes. string_bytes text ≡ bytes)) }
 {
     match format!(in alloc; "{error}") {
         Ok(text) if !text.is_empty() => Some(text),

@@ -3,10 +3,11 @@
 ghost use Rattle.std.specs.Prelude.{◌≡◌, ◌≤◌, ◌++◌, ◌⊎◌, ℕ, true, length, take, codes, IfOk, IfErr, OnOk, OnErr};
 ghost use Rattle.std.specs.Fmt.{decimal};
 ghost use Rattle.std.specs.Io.KnownBytes.{Appends};
+ghost use Rattle.pfl_base.specs.Counts.{Counts, CountsWithin};
 ghost use Rattle.pfl_session.specs.Totals.{HasFewEvents};
-ghost use Rattle.pfl_run.specs.Runs.{IsDeviceFault, Stops};
+ghost use Rattle.pfl_run.specs.Runs.{HasFailed, IsDeviceFault, Stops};
 ghost use Rattle.pfl_run.specs.declared.fault.LabFault.TheVariants as fault;
-ghost use Rattle.pfl_host.specs.Servers.{closed_text, listening_text, ClosesTold, IsAwaitStop, IsCloseStop, IsLabStop, IsServeStop, HostServes, ServesToEnd, HostServesWhole};
+ghost use Rattle.pfl_host.specs.Servers.{closed_text, listening_text, ClosesTold, IsAwaitStop, IsCloseStop, IsLabStop, IsServeStop, HostServes, ServesFromDevice, ServesToEnd, HostServesWhole, TellsFirst};
 
 use crate::closing::serve_streams;
 use crate::network::{accept_all, listen};
@@ -60,7 +61,7 @@ fn open_lab(
 ) -> Result<Opened<Global>, LabFault>
     requires few { HasFewEvents 4294967295 timeline }
     requires sessions { (1 ≤ sessions) × (sessions ≤ 8) }
-    ensures opened { IfOk result (λ o. (o.opening ≡ timeline) × (length o.tallies ≡ sessions)) }
+    ensures opened { IfOk result (λ o. (o.opening ≡ timeline) × (o.limit ≡ 1000000) × (length o.tallies ≡ sessions)) }
     ensures fault { IfErr result (λ f. f ≡ fault.NoMemory) }
 {
     match Opened::new(alloc, timeline, sessions, MOST_ENTRIES) {
@@ -141,6 +142,7 @@ fn serve_connections<
     gate: &G,
 ) -> Result<Option<EngineFault>, LabFault>
     requires all { length streams.now ≡ length opened.tallies }
+    requires limit { opened.limit ≡ 1000000 }
     ensures closes { IfOk result (λ first. ClosesTold opened.opening (length opened.tallies) first (O.written writer.old) (O.written writer.new)) }
     ensures stop { IfErr result (λ f. IsCloseStop f opened.opening (length opened.tallies) (O.written writer.old) (O.written writer.new)) }
     ensures device { IfErr result (λ f. f ≡ fault.Write → O.has_failed writer.new ≡ true) }
@@ -169,6 +171,7 @@ fn serve_opened<
     gate: &G,
 ) -> Result<Option<EngineFault>, LabFault>
     requires sessions { length opened.tallies ≡ sessions }
+    requires limit { opened.limit ≡ 1000000 }
     ensures serves { IfOk result (λ first. HostServesWhole opened.opening port sessions first (O.written writer.old) (O.written writer.new)) }
     ensures stop { IfErr result (λ f. IsLabStop f opened.opening port sessions (O.written writer.old) (O.written writer.new)) }
     ensures device { IfErr result (λ f. f ≡ fault.Write → O.has_failed writer.new ≡ true) }
@@ -224,7 +227,9 @@ fn serve_whole<
     requires sessions { (1 ≤ sessions) × (sessions ≤ 8) }
     ensures serves { IfOk result (λ first. ServesToEnd reader.old.left reader.new.left port sessions (O.written writer.old) (O.written writer.new) first) }
     ensures stop { IfErr result (λ f. IsServeStop f reader.old.left port sessions (O.written writer.old) (O.written writer.new)) }
-    ensures device { IfErr result (λ f. IsDeviceFault f reader.new (O.has_failed writer.new)) }
+    ensures device { IfErr result (λ f. IsDeviceFault f reader.new.failed (reader.new.turns ≡ 16777216) (O.has_failed writer.new)) }
+    ensures reads { Counts reader.old.reads reader.new.reads reader.new.turns }
+    ensures few { reader.new.turns ≤ 16777216 }
 {
     match set_up(alloc, reader) {
         Ok(timeline) => serve_timeline(rt, alloc, timeline, writer, port, sessions, gate),
@@ -232,11 +237,22 @@ fn serve_whole<
     }
 }
 
-/// Sets a pair up by the first lines that the reader has, up to `open`, and serves a lab over it: so many sessions, from 1 to
+/// Reports the first fault of the sessions, if one had any, and answers the exit status.
+fn conclude<F: Output>(first: Option<EngineFault>, faults: &mut F) -> u8
+    ensures { TellsFirst first (F.written faults.old) (F.written faults.new) (F.has_failed faults.new) result }
+{
+    match first {
+        Some(fault) => tell(LabFault::from(fault), faults),
+        None => 0,
+    }
+}
+
+/// Sets a pair up by the first lines of the device, up to `open`, and serves a lab over it: so many sessions, from 1 to
 /// 8, each over a connection to the port of 127.0.0.1, at the same time. Sessions count in the order in which their connections
 /// are accepted. The writer is told when the port is listened on, and when all sessions have ended. A fault of a session ends
 /// no other. Why serving stops, or else the fault of the first session that had one, is told in one line to `faults`. The
 /// answer is the program's exit status: 0, or 1 after a fault, or 3 for want of memory.
+#[tactic(auto, using(pfl_run::proofs::ForCallers::setup_calls, pfl_run::proofs::ForCallers::setup_has_failed))]
 pub fn serve_lab<
     R: Net<Listener = TcpListener, Stream = TcpStream> + Threads + Wait + Sync,
     I: Input,
@@ -246,23 +262,27 @@ pub fn serve_lab<
 >(
     rt: &R,
     alloc: Global,
-    reader: &mut LineReader<I>,
+    reader: &mut I,
     writer: &mut O,
     faults: &mut F,
     port: u16,
     sessions: u32,
     gate: &G,
 ) -> u8
-    requires fresh { reader.old.lines ≡ 0 }
     requires sessions { (1 ≤ sessions) × (sessions ≤ 8) }
-    ensures { HostServes (ServesToEnd reader.old.left reader.new.left port sessions (O.written writer.old) (O.written writer.new))
+    ensures reads { CountsWithin 0 16777216 (I.reads reader.old) (I.reads reader.new) }
+    ensures serves { HostServes (ServesFromDevice (I.left reader.old) (I.left reader.new) port sessions (O.written writer.old) (O.written writer.new))
         (F.written faults.old) (F.written faults.new) (F.has_failed faults.new) result
-        ⊎ Stops (λ f. IsServeStop f reader.old.left port sessions (O.written writer.old) (O.written writer.new)) reader.new
-        (O.has_failed writer.new) (F.written faults.old) (F.written faults.new) (F.has_failed faults.new) result }
+        ⊎ Stops (λ f. IsServeStop f (I.left reader.old) port sessions (O.written writer.old) (O.written writer.new))
+        (λ f. HasFailed f (I.has_failed reader.new) (I.reads reader.old) (I.reads reader.new) (O.has_failed writer.new))
+        (F.written faults.old) (F.written faults.new) (F.has_failed faults.new) result }
 {
-    match serve_whole(rt, alloc, reader, writer, port, sessions, gate) {
-        Ok(None) => 0,
-        Ok(Some(fault)) => tell(LabFault::from(fault), faults),
+    let mut lines = LineReader::new(reader);
+    let whole = serve_whole(rt, alloc, &mut lines, writer, port, sessions, gate);
+    // What became of the device is known once it is given back.
+    lines.into_inner();
+    match whole {
+        Ok(first) => conclude(first, faults),
         Err(fault) => tell(fault, faults),
     }
 }

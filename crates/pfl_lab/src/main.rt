@@ -5,7 +5,7 @@
 ghost use Rattle.std.specs.Prelude.{◌≡◌};
 
 use pfl_base::Std;
-use pfl_host::{LabFault, LineReader, Open, obey, tell};
+use pfl_host::{LabFault, Open, obey, tell};
 use std::env;
 use std::io::{self, ErrorKind};
 use std::process::ExitCode;
@@ -31,7 +31,7 @@ fn main(rt: HostRuntime) -> ExitCode {
             &rt,
             rt.alloc(),
             words.as_slice(),
-            &mut LineReader::new(Std::new(rt.stdin())),
+            &mut Std::new(rt.stdin()),
             &mut Std::new(rt.stdout()),
             &mut Std::new(rt.stderr()),
             &Open,

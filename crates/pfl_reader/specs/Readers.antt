@@ -1,5 +1,5 @@
 -- A reader of lines.
-use Rattle.std.specs.Prelude.{◌≡◌, ◌≤◌, ◌+◌, ◌-◌, ◌*◌, ℕ, ◌^◌, min, Bool, true, false, List, Option}
+use Rattle.std.specs.Prelude.{◌≡◌, ◌≤◌, ◌+◌, ◌-◌, ◌*◌, ℕ, ◌^◌, min, Bool, true, false, List, Option, length}
 use Rattle.std.specs.Io.KnownBytes.{prepend_known}
 use Rattle.pfl_base.specs.Counts.{Calls, Counts}
 use Rattle.pfl_reader.specs.Scans.{Kept}
@@ -21,9 +21,9 @@ pub record Source : Type 0 where
 abbrev pub room : Source → ℕ
 room s = (16777216 - s.turns) * 65536 + s.waiting
 
--- what a reader of lines had left is what its device has left, after bytes that it gave and that no line took
+-- what a reader of lines had left is what its device has left, after bytes that it gave and that no line took: those of one block at most
 abbrev pub Releases : Option (List ℕ) → Option (List ℕ) → Type 0
-Releases left device = (lost : List ℕ) × (left ≡ prepend_known lost device)
+Releases left device = (lost : List ℕ) × (length lost ≤ 65536) × (left ≡ prepend_known lost device)
 
 -- in a run the turns grew as the calls of the device did
 pub record CountsTurns (old new : Source) : Type 0 where

@@ -4,3 +4,4 @@ pub mod Passing
 pub mod Numbers
 pub mod Modes
 pub mod Runs
+pub mod Devices

@@ -33,7 +33,7 @@ stops_engine e old mid new n t u w v sets runs = inr (record {
 })
 
 -- its devices
-pub device_engine : (e : EngineFault) (s : Source) (failed : Bool) → IsRunFault e s failed → IsDeviceFault (of_engine e) s failed
+pub device_engine : (e : EngineFault) (s : Source) (failed : Bool) → IsRunFault e s failed → IsDeviceFault (of_engine e) s.failed (s.turns ≡ 16777216) failed
 device_engine engine.Read s failed h = h
 device_engine engine.Write s failed h = h
 device_engine engine.TooManyTurns s failed h = h

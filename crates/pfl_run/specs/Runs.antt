@@ -1,13 +1,13 @@
 -- What a run of the laboratory does (this project's profile).
-use Rattle.std.specs.Prelude.{◌≡◌, ℕ, ◌==◌, Bool, true, false, List, take, Option, Some, None, ◌⊎◌, if◌then◌else◌}
+use Rattle.std.specs.Prelude.{◌≡◌, ℕ, ◌*◌, ◌==◌, Bool, true, false, List, take, Option, Some, None, ◌⊎◌, if◌then◌else◌}
 use Rattle.std.specs.Io.KnownBytes.{Appends, Keeps}
+use Rattle.pfl_base.specs.Counts.{Calls, CountsWithin}
 use Rattle.pfl_rules.specs.declared.fault.RuleFault.{RuleFault}
 use Rattle.pfl_rules.specs.Rules.{Rules}
 use Rattle.pfl_language.specs.declared.limits.Limits.{Limits}
 use Rattle.pfl_script.specs.world.declared.fault.WorldFault.{WorldFault}
 use Rattle.pfl_script.specs.world.Worlds.{new_world, world_fault}
 use Rattle.pfl_script.specs.timeline.Timelines.{Timeline, new_timeline}
-use Rattle.pfl_script.specs.reader.Readers.{Source}
 use Rattle.pfl_script.specs.Answers.{RunsWhole, RunsUntil}
 use Rattle.pfl_script.specs.Setups.{IsFaultyAt, IsUnopened, HasRuleFault, ReadsSetupTo}
 use Rattle.pfl_run.specs.declared.fault.LabFault.{LabFault}
@@ -77,12 +77,16 @@ IsSetupStop _ old = Unit {0}
 abbrev pub IsStop : LabFault → Option (List ℕ) → Option (List ℕ) → Option (List ℕ) → Type 0
 IsStop fault old w v = (IsSetupStop fault old × Keeps w v) ⊎ RunsToFault fault old w v
 
--- reader and writer have failed where a fault says so
-abbrev pub IsDeviceFault : LabFault → Source → Bool → Type 0
-IsDeviceFault fault.Read s failed = s.failed ≡ true
-IsDeviceFault fault.Write s failed = failed ≡ true
-IsDeviceFault fault.TooManyTurns s failed = s.turns ≡ 16777216
-IsDeviceFault _ s failed = Unit {0}
+-- where a fault says so, the reader has failed, there were too many turns, or the writer has failed
+abbrev pub IsDeviceFault : LabFault → Bool → Type 0 → Bool → Type 0
+IsDeviceFault fault.Read failed IsLong broken = failed ≡ true
+IsDeviceFault fault.Write failed IsLong broken = broken ≡ true
+IsDeviceFault fault.TooManyTurns failed IsLong broken = IsLong
+IsDeviceFault _ failed IsLong broken = Unit {0}
+
+-- the same of devices: where there were too many turns, at least 16777216 calls of `read` were made, those of the setup among them
+abbrev pub HasFailed : LabFault → Bool → Calls → Calls → Bool → Type 0
+HasFailed fault failed old new broken = IsDeviceFault fault failed (CountsWithin 16777216 (2 * 16777216) old new) broken
 
 -- the exit status after so many faulty lines
 abbrev pub ended_status : ℕ → ℕ
@@ -100,12 +104,11 @@ pub record Ends (Reads : ℕ → Type 0) (f g : Option (List ℕ)) (status : ℕ
   pub quiet : Keeps f g
   pub exit : status ≡ ended_status bad
 
--- it stopped for this reason, and its fault is told; `broken` says of the writer, and `failed` of what the fault is told to,
--- that it has failed
-pub record Stops (IsWhy : LabFault → Type 0) (reader : Source) (broken : Bool)
-    (f g : Option (List ℕ)) (failed : Bool) (status : ℕ) : Type 0 where
+-- it stopped for this reason, the devices have failed where it says so, and its fault is written; `failed`: the device that it is written
+-- to has failed
+pub record Stops (IsWhy IsBroken : LabFault → Type 0) (f g : Option (List ℕ)) (failed : Bool) (status : ℕ) : Type 0 where
   pub fault : LabFault
   pub why : IsWhy fault
-  pub device : IsDeviceFault fault reader broken
+  pub device : IsBroken fault
   pub told : IsTold (fault_text fault) f g failed
   pub exit : status ≡ fault_status fault

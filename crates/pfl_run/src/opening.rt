@@ -1,6 +1,7 @@
 //! Setups of scripts, which runs and checks read alike.
 
 ghost use Rattle.std.specs.Prelude.{◌≡◌, ◌≤◌, ◌^◌, None, false, IfOk, IfErr, OnOk};
+ghost use Rattle.pfl_base.specs.Counts.{Counts};
 ghost use Rattle.pfl_script.specs.world.Worlds.{world_fault};
 ghost use Rattle.pfl_run.specs.Runs.{IsDeviceFault, IsSetup, IsSetupStop};
 ghost use Rattle.pfl_run.specs.inner.Runs.{IsLimitsStop};
@@ -33,7 +34,9 @@ pub fn read_opening<A: Allocator + Copy, R: Input>(
     ensures setup { IfOk result (λ s. IsSetup reader.old.left reader.new.left reader.new.lines s.limits s.rules_a s.rules_b) }
     ensures few_lines { OnOk result (reader.new.lines ≤ 2 ^ 41) }
     ensures stop { IfErr result (λ fault. IsSetupStop fault reader.old.left) }
-    ensures device { IfErr result (λ fault. IsDeviceFault fault reader.new false) }
+    ensures device { IfErr result (λ fault. IsDeviceFault fault reader.new.failed (reader.new.turns ≡ 16777216) false) }
+    ensures reads { Counts reader.old.reads reader.new.reads reader.new.turns }
+    ensures few { reader.new.turns ≤ 16777216 }
 {
     match read_setup(alloc, reader) {
         Ok(setup) => match judge(&setup.limits, reader.lines()) {

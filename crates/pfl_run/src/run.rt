@@ -1,10 +1,11 @@
 //! Runs of the laboratory.
 
-ghost use Rattle.std.specs.Prelude.{◌≡◌, ◌⊎◌, None, false, IfOk, IfErr};
+ghost use Rattle.std.specs.Prelude.{◌≡◌, ◌≤◌, ◌*◌, ◌⊎◌, None, false, IfOk, IfErr};
+ghost use Rattle.pfl_base.specs.Counts.{Counts, CountsWithin};
 ghost use Rattle.pfl_script.specs.world.Worlds.{new_world, world_fault};
 ghost use Rattle.pfl_script.specs.timeline.Timelines.{new_timeline};
 ghost use Rattle.pfl_run.specs.Faults.{fault_status, fault_text};
-ghost use Rattle.pfl_run.specs.Runs.{Ends, IsDeviceFault, IsSetupStop, IsStop, IsTold, RunsToEnd, SetsUp, Stops, ended_status};
+ghost use Rattle.pfl_run.specs.Runs.{Ends, HasFailed, IsDeviceFault, IsSetupStop, IsStop, IsTold, RunsToEnd, SetsUp, Stops, ended_status};
 
 use crate::fault::LabFault;
 use crate::opening::read_opening;
@@ -38,7 +39,9 @@ pub fn set_up<A: Allocator + Copy, R: Input>(
     requires fresh { reader.old.lines ≡ 0 }
     ensures sets_up { IfOk result (λ timeline. SetsUp reader.old.left reader.new.left reader.new.lines timeline) }
     ensures stop { IfErr result (λ fault. IsSetupStop fault reader.old.left) }
-    ensures device { IfErr result (λ fault. IsDeviceFault fault reader.new false) }
+    ensures device { IfErr result (λ fault. IsDeviceFault fault reader.new.failed (reader.new.turns ≡ 16777216) false) }
+    ensures reads { Counts reader.old.reads reader.new.reads reader.new.turns }
+    ensures few { reader.new.turns ≤ 16777216 }
 {
     match read_opening(alloc, reader) {
         Ok(setup) => match open_timeline(alloc, setup) {
@@ -50,6 +53,7 @@ pub fn set_up<A: Allocator + Copy, R: Input>(
 }
 
 /// Sets a pair up by the first lines of the reader, and executes the others: their replies go to the writer.
+#[tactic(auto, using(crate::proofs::Devices::of_setup, crate::proofs::Devices::of_both))]
 pub fn run_whole<A: Allocator + Copy, R: Input, W: Output>(
     alloc: A,
     reader: &mut LineReader<R>,
@@ -58,7 +62,8 @@ pub fn run_whole<A: Allocator + Copy, R: Input, W: Output>(
     requires fresh { reader.old.lines ≡ 0 }
     ensures ends { IfOk result (λ ended. RunsToEnd reader.old.left reader.new.left (W.written writer.old) (W.written writer.new) ended.bad) }
     ensures stop { IfErr result (λ fault. IsStop fault reader.old.left (W.written writer.old) (W.written writer.new)) }
-    ensures device { IfErr result (λ fault. IsDeviceFault fault reader.new (W.has_failed writer.new)) }
+    ensures device { IfErr result (λ fault. IsDeviceFault fault reader.new.failed (reader.new.turns ≡ 16777216) (W.has_failed writer.new)) }
+    ensures reads { CountsWithin reader.new.turns (2 * 16777216) reader.old.reads reader.new.reads }
 {
     match set_up(alloc, reader) {
         Ok(mut timeline) => match run_lines(alloc, reader, writer, &mut timeline) {
@@ -93,22 +98,27 @@ pub(crate) fn ended_status(bad: u64) -> u8
     if bad == 0 { 0 } else { 1 }
 }
 
-/// Runs the lines of a reader: the first set a pair up, and the others are executed; their replies go to the writer. Why
+/// Runs the lines of a device: the first set a pair up, and the others are executed; their replies go to the writer. Why
 /// a run stops is told in one line to `faults`. The answer is the program's exit status: 0, or 1 after a fault or a faulty
 /// line, or 3 for want of memory.
 pub fn run_lab<A: Allocator + Copy, R: Input, W: Output, F: Output>(
     alloc: A,
-    reader: &mut LineReader<R>,
+    reader: &mut R,
     writer: &mut W,
     faults: &mut F,
 ) -> u8
-    requires fresh { reader.old.lines ≡ 0 }
-    ensures { Ends (RunsToEnd reader.old.left reader.new.left (W.written writer.old) (W.written writer.new))
+    ensures reads { CountsWithin 0 (2 * 16777216) (R.reads reader.old) (R.reads reader.new) }
+    ensures runs { Ends (RunsToEnd (R.left reader.old) (R.left reader.new) (W.written writer.old) (W.written writer.new))
         (F.written faults.old) (F.written faults.new) result
-        ⊎ Stops (λ fault. IsStop fault reader.old.left (W.written writer.old) (W.written writer.new)) reader.new
-        (W.has_failed writer.new) (F.written faults.old) (F.written faults.new) (F.has_failed faults.new) result }
+        ⊎ Stops (λ fault. IsStop fault (R.left reader.old) (W.written writer.old) (W.written writer.new))
+        (λ fault. HasFailed fault (R.has_failed reader.new) (R.reads reader.old) (R.reads reader.new) (W.has_failed writer.new))
+        (F.written faults.old) (F.written faults.new) (F.has_failed faults.new) result }
 {
-    match run_whole(alloc, reader, writer) {
+    let mut lines = LineReader::new(reader);
+    let whole = run_whole(alloc, &mut lines, writer);
+    // What became of the device is known once it is given back.
+    lines.into_inner();
+    match whole {
         Ok(ended) => ended_status(ended.bad),
         Err(fault) => tell(fault, faults),
     }

@@ -2,4 +2,4 @@
 
 /// The release, the sum of its sources, and the logic that proves them.
 pub(crate) const VERSION: &str =
-    "release 5, sources 94361d888e7c5ab9353c03a758348bcdb06d4e4d961a02c0b58fa5aab8e29a09, logic dac8208d650f15bf";
+    "release 6, sources 6a9458153a408d9815397146d7fbbf213f3256eabac228fb5c5bfd4ec9814e39, logic dac8208d650f15bf";

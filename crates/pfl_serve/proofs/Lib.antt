@@ -1,4 +1,5 @@
 pub mod Broken
+pub mod EndedSeats
 pub mod ServedLines
 pub mod Told
 pub mod ServedSeats

@@ -1,6 +1,7 @@
 pub mod Texts
 pub mod Sessions
 pub mod Seats
+pub mod Services
 pub mod Laws
 pub mod inner
 pub use Rattle.pfl_base.specs as base

@@ -4,7 +4,7 @@ ghost use Rattle.std.specs.Prelude.{◌≡◌, length, IfOk, IfErr, OnOk};
 ghost use Rattle.pfl_script.specs.Readers.{IsWriteFault};
 ghost use Rattle.pfl_session.specs.Passes.{GoesOn, IsPassOf};
 ghost use Rattle.pfl_serve.specs.Sessions.{is_fault, IsAnswer, IsReplied, IsUnanswered, IsViewed};
-ghost use Rattle.pfl_serve.specs.inner.Answers.{kept_said, Breaks, Lacks, Writes};
+ghost use Rattle.pfl_serve.specs.inner.Answers.{kept_said, is_command, Breaks, Lacks, Writes};
 
 use crate::gate::Gate;
 use crate::texts::{FULL, overtaken_line, view_line};
@@ -149,6 +149,7 @@ pub(crate) fn answer_line<J: Which, A: Allocator + Copy, B: Allocator, W: Output
     ensures lab { IsPassOf J.publisher J.tallies pass.new }
     ensures goes_on { GoesOn pass.old pass.new }
     ensures bad { IfOk result (λ a. a.bad ≡ is_fault (kept_said line.now)) }
+    ensures asked { IfOk result (λ a. a.asked ≡ is_command (kept_said line.now)) }
     ensures whole { IfOk result (λ _. Writes (IsAnswer J.opening (length J.tallies) J.limit (kept_said line.now) pass.old pass.new) (W.written writer.old) (W.written writer.new)) }
     ensures breaks { IfErr result (λ e. Breaks (IsAnswer J.opening (length J.tallies) J.limit (kept_said line.now) pass.old pass.new)
         (Lacks J.opening (length J.tallies) J.limit (kept_said line.now) pass.old pass.new) e (W.written writer.old) (W.written writer.new)) }

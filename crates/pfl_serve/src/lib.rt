@@ -5,6 +5,7 @@
 #![tactic(auto)]
 
 mod answer;
+mod closing;
 mod gate;
 mod laws;
 mod seat;
@@ -12,6 +13,7 @@ mod session;
 mod texts;
 mod threads;
 
+pub use closing::{EndedSeat, Service, serve_and_close};
 pub use gate::{Gate, Open};
 pub use laws::sessions_are_told_their_calls;
 pub use seat::{Seat, ServeFault, Served};

@@ -1,6 +1,6 @@
 //! One session.
 
-ghost use Rattle.std.specs.Prelude.{◌≡◌, ◌≤◌, length, IfOk, IfErr, OnOk};
+ghost use Rattle.std.specs.Prelude.{◌≡◌, ◌+◌, ◌-◌, ◌^◌, ◌≤◌, min, length, if◌then◌else◌, IfOk, IfErr, OnOk};
 ghost use Rattle.pfl_base.specs.Counts.{Counts};
 ghost use Rattle.pfl_script.specs.Readers.{IsRunFault, counted_on};
 ghost use Rattle.pfl_session.specs.Passes.{GoesOn, IsPassOf};
@@ -15,7 +15,9 @@ use std::alloc::Allocator;
 use std::sync::Wait;
 
 /// The number of the next call, where the line before it asked one or not.
-fn next_call(nth: u64, asked: bool) -> u64 {
+fn next_call(nth: u64, asked: bool) -> u64
+    ensures { result ≡ (if asked then min (nth + 1) (2 ^ 64 - 1) else nth) }
+{
     if asked { nth.saturating_add(1) } else { nth }
 }
 

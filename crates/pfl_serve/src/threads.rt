@@ -1,9 +1,10 @@
 //! Sessions that are served at the same time, a thread for each.
 
-ghost use Rattle.std.specs.Prelude.{◌≡◌, ◌≤◌, ◌⊎◌, [], IsTrue, IfOk, IfSome, vec_capacity, vec_len};
+ghost use Rattle.std.specs.Prelude.{◌≡◌, ◌<◌, ◌≤◌, ◌⊎◌, [], IsTrue, IfOk, IfErr, IfSome, vec_capacity, vec_len};
 ghost use Rattle.std.specs.List.{AllByRecursion};
 ghost use Rattle.pfl_session.specs.Passes.{IsPassOf};
 ghost use Rattle.pfl_serve.specs.Seats.{AreServed, IsServed};
+ghost use Rattle.pfl_serve.specs.declared.seat.ServeFault.TheVariants as fault;
 ghost use Rattle.pfl_serve.specs.inner.Promises.{seats_of};
 
 use crate::gate::Gate;
@@ -58,7 +59,7 @@ fn serve_seat<J: Which, A: Allocator + Copy, I: Input, O: Output, G: Gate, R: Wa
 #[derive(Drop)]
 struct Started<J: Which, A: Allocator, I: Input, O: Output> {
     handles: Vec<PromisedHandle<Served<A, I, O>, ServedFrom<J, A, I, O>>, A>,
-    /// There was no thread for one of the sessions.
+    /// There was no thread for one of the sessions, and so there are fewer threads than seats.
     refused: bool,
 }
 
@@ -120,6 +121,7 @@ fn start_all<
     requires none { handles.items ≡ [] }
     requires room { vec_len seats ≤ vec_capacity handles }
     ensures started { IsTrue result.refused ⊎ (seats_of result.handles.items ≡ seats.items) }
+    ensures refused { IsTrue result.refused → vec_len result.handles < vec_len seats }
     ensures few { vec_len result.handles ≤ vec_len seats }
 {
     let mut refused = false;
@@ -176,6 +178,7 @@ fn serve_within<
     requires none { (handles.items ≡ []) × (all.items ≡ []) }
     requires room { (vec_len seats ≤ vec_capacity handles) × (vec_len seats ≤ vec_capacity all) }
     ensures served { IfOk result (λ all. AreServed J.Which O.Output seats.items all.items) }
+    ensures refused { IfErr result (λ why. why ≡ fault.NoThread) }
 {
     let started = start_all(scope, rt, alloc, lab, seats, gate, handles);
     let all = join_all(rt, started.handles, all);
@@ -208,6 +211,7 @@ fn serve_in_threads<
     requires none { (handles.items ≡ []) × (all.items ≡ []) }
     requires room { (vec_len seats ≤ vec_capacity handles) × (vec_len seats ≤ vec_capacity all) }
     ensures served { IfOk result (λ all. AreServed J.Which O.Output seats.items all.items) }
+    ensures refused { IfErr result (λ why. why ≡ fault.NoThread) }
 {
     thread::scope(
         thread::scope_env(),
@@ -217,8 +221,21 @@ fn serve_in_threads<
             requires none { (handles.items ≡ []) × (all.items ≡ []) }
             requires room { (vec_len seats ≤ vec_capacity handles) × (vec_len seats ≤ vec_capacity all) }
             ensures served { IfOk result (λ all. AreServed J.Which O.Output seats.items all.items) }
+            ensures refused { IfErr result (λ why. why ≡ fault.NoThread) }
         { serve_within(scope, rt, alloc, lab, seats, gate, handles, all) },
     )
+}
+
+/// An empty list with room for `count` elements.
+pub(crate) fn list_for<T, A: Allocator>(alloc: A, count: usize) -> Result<Vec<T, A>, ServeFault>
+    ensures none { IfOk result (λ list. list.items ≡ []) }
+    ensures room { IfOk result (λ list. count ≤ vec_capacity list) }
+    ensures fault { IfErr result (λ why. why ≡ fault.NoMemory) }
+{
+    match Vec::with_capacity(alloc, count) {
+        Ok(list) => Ok(list),
+        Err(_) => Err(ServeFault::NoMemory),
+    }
 }
 
 /// Serves all seats at the same time, one thread each, and answers when each session has ended: the seats in the same order, with
@@ -240,11 +257,7 @@ pub fn serve_all<
     requires lab { AllByRecursion (λ s. IsPassOf J.publisher J.tallies s.pass) seats.items }
     ensures served { IfOk result (λ all. AreServed J.Which O.Output seats.items all.items) }
 {
-    let Ok(handles) = Vec::with_capacity(alloc, seats.len()) else {
-        return Err(ServeFault::NoMemory);
-    };
-    let Ok(all) = Vec::with_capacity(alloc, seats.len()) else {
-        return Err(ServeFault::NoMemory);
-    };
+    let handles = list_for(alloc, seats.len())?;
+    let all = list_for(alloc, seats.len())?;
     serve_in_threads(rt, alloc, lab, seats, gate, handles, all)
 }

@@ -27,12 +27,12 @@ module _ {M : Type 0} where
   -- one session more
   pub passes-snoc : (publisher : TableId) (seen : Log (Mark M)) (k : ℕ) (ts : List TableId) (ps : List (Seen M)) (t : TableId) (p : Seen M) → AreNewPasses publisher seen k ts ps → IsNewPass publisher seen (k + length ts) t p
       → AreNewPasses publisher seen k (ts ++ t ∷ []) (ps ++ p ∷ [])
-  passes-snoc publisher seen k [] [] t p all is = (record { session_is = is.session_is ∙ omega arith; tally_is = is.tally_is; publisher_is = is.publisher_is; seen_is = is.seen_is; called = is.called }, tt)
+  passes-snoc publisher seen k [] [] t p all is = (record { session_is = is.session_is ∙ omega arith; tally_is = is.tally_is; publisher_is = is.publisher_is; seen_is = is.seen_is; called = is.called; loaded = is.loaded }, tt)
   passes-snoc publisher seen k [] (q ∷ ps) t p all is = absurd all
   passes-snoc publisher seen k (s ∷ ts) [] t p all is = absurd all
   passes-snoc publisher seen k (s ∷ ts) (q ∷ ps) t p all is =
       let same : k + length (s ∷ ts) ≡ suc k + length ts = omega arith in
-      (all.0, passes-snoc publisher seen (suc k) ts ps t p all.1 (record { session_is = is.session_is ∙ same; tally_is = is.tally_is; publisher_is = is.publisher_is; seen_is = is.seen_is; called = is.called }))
+      (all.0, passes-snoc publisher seen (suc k) ts ps t p all.1 (record { session_is = is.session_is ∙ same; tally_is = is.tally_is; publisher_is = is.publisher_is; seen_is = is.seen_is; called = is.called; loaded = is.loaded }))
 
   -- as many passes as sessions
   pub passes-many : (publisher : TableId) (seen : Log (Mark M)) (k : ℕ) (ts : List TableId) (ps : List (Seen M)) → AreNewPasses publisher seen k ts ps → length ps ≡ length ts

@@ -43,13 +43,14 @@ abbrev pub IsLabFault : Option LabFault → LabFault → Type 0
 IsLabFault (Some first) f = f ≡ first
 IsLabFault None f = f ≡ fault.NoMemory
 
--- a pass of this session that has seen the opening alone, and has called nothing
+-- a pass of this session that has seen the opening alone, and has called and loaded nothing
 pub record IsNewPass {M : Type 0} (publisher : TableId) (seen : Log (Mark M)) (session : ℕ) (tally : TableId) (p : Seen M) : Type 0 where
   pub session_is : p.session ≡ session
   pub tally_is : p.half.table ≡ tally
   pub publisher_is : p.viewer.table ≡ publisher
   pub seen_is : p.viewer.seen ≡ seen
   pub called : p.half.count ≡ 0
+  pub loaded : p.viewer.loads ≡ []
 
 -- a new pass for each session, from this one on
 abbrev pub AreNewPasses : {M : Type 0} → TableId → Log (Mark M) → ℕ → List TableId → List (Seen M) → Type 0
@@ -58,7 +59,7 @@ AreNewPasses publisher seen session [] (p ∷ ps) = ⊥
 AreNewPasses publisher seen session (t ∷ ts) [] = ⊥
 AreNewPasses publisher seen session (t ∷ ts) (p ∷ ps) = IsNewPass publisher seen session t p × AreNewPasses publisher seen (suc session) ts ps
 
--- the pass has seen a beginning of the journal, in which every entry of its session stands, each of them a call that it has made
+-- the pass has seen a beginning of the journal, in which every entry of its session stands, and it has called as many
 pub record HasSeenOwn {M : Type 0} (opening : Timeline) (js : List (Entry M)) (p : Seen M) : Type 0 where
   pub begun : StartsWith (revisions_of opening js) p.viewer.seen
   pub all_own : count_of p.session (seen_in p) ≡ count_of p.session js

@@ -3,7 +3,7 @@
 ghost use Rattle.std.specs.Prelude.{◌≡◌, ◌-◌, ◌<◌, ◌≤◌, false, [], ◌∷◌, ◌++◌, length, slice_get, slice_set, Some, IfOk, IfErr, OnOk, OnErr, IsTrue, IsFalse, vec_len, vec_capacity};
 ghost use Rattle.pfl_publish.specs.Count.{Count};
 ghost use Rattle.pfl_publish.specs.Revisions.{StartsWith};
-ghost use Rattle.pfl_publish.specs.Seats.{LoadsOn};
+ghost use Rattle.pfl_publish.specs.Seats.{LoadsOn, LoadsOnce};
 ghost use Rattle.pfl_timeline.specs.Replies.{reply_of};
 ghost use Rattle.pfl_session.specs.Totals.{HasFewEvents};
 ghost use Rattle.pfl_session.specs.Journals.{after_entry, replay, IsJournal, revisions_of, count_of};
@@ -131,6 +131,7 @@ impl<J: Which, A: Allocator> Desk<J, A> {
         ensures seen { pass.new.viewer.seen ≡ revisions_of J.opening self.old }
         ensures half { pass.new.half ≡ pass.old.half }
         ensures goes_on { GoesOn pass.old pass.new }
+        ensures loaded { LoadsOnce pass.old.viewer pass.new.viewer }
         ensures number { result ≡ length self.old }
     {
         let Some(writer) = self.writer.take() else {
@@ -175,6 +176,7 @@ impl<J: Which, A: Allocator> Desk<J, A> {
         requires tally { pass.old.half.table ≡ tally.now }
         ensures journal { self.new ≡ self.old }
         ensures met { HasMet J.opening (length J.tallies) J.limit self.new pass.old pass.new }
+        ensures loaded { LoadsOnce pass.old.viewer pass.new.viewer }
         ensures number { result ≡ length self.new }
     {
         self.compare(tally, pass);
@@ -196,7 +198,8 @@ impl<J: Which, A: Allocator + Copy> Desk<J, A> {
         requires tally { pass.old.half.table ≡ tally.now }
         requires place { slice_get J.tallies (pass.old.session - 1) ≡ Some tally.now }
         requires room { length self.old < J.limit }
-        ensures entered { IfOk result (λ reply. IsEntered J.opening (length J.tallies) J.limit self.old self.new pass.old pass.new command.now (reply_of reply)) }
+        ensures entered { IfOk result (λ reply.
+            IsEntered J.opening (length J.tallies) J.limit self.old self.new pass.old pass.new command.now (reply_of reply)) }
         ensures goes_on { GoesOn pass.old pass.new }
         ensures one_more { OnOk result (pass.new.half ≡ one_more_counted pass.old.half) }
         ensures unchanged { OnErr result ((self.new ≡ self.old) × (pass.new ≡ pass.old)) }

@@ -127,6 +127,7 @@ impl<J: Which, A: Allocator> Lab<J, A> {
         ensures others { AddsOthers pass.old pass.new }
         ensures counted { pass.old.half.count ≡ count_of pass.old.session (seen_in pass.old) }
         ensures half { pass.new.half ≡ pass.old.half }
+        ensures loaded { LoadsOnce pass.old.viewer pass.new.viewer }
         ensures number { result ≡ length (seen_in pass.new) }
     {
         let tally = tally_of(&self.tallies, pass);

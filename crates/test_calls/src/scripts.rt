@@ -1,10 +1,8 @@
 //! Runs and checks whose devices fail at each place: behind each byte that is read, and in each byte that is written; whose reader
 //! has no end; and those that want no memory, where there is none.
 
-ghost use Rattle.std.specs.Prelude.{◌≡◌};
-
 use pfl_base::{Input, Std};
-use pfl_run::{LineReader, check_lab, run_lab};
+use pfl_run::{check_lab, run_lab};
 use std::alloc::{Allocator, Global};
 use test_devices::{Bytewise, Endless, Narrow, Refusing};
 
@@ -68,12 +66,10 @@ impl Outcome {
 fn outcome_of<A: Allocator + Copy, I: Input>(
     alloc: A,
     action: Action,
-    reader: &mut LineReader<I>,
+    reader: &mut I,
     written: usize,
     told: usize,
-) -> Outcome
-    requires fresh { reader.old.lines ≡ 0 }
-{
+) -> Outcome {
     let mut writer = Std::new(Narrow::new(written));
     let mut faults = Std::new(Narrow::new(told));
     let status = match action {
@@ -96,10 +92,10 @@ fn ends(
     written: usize,
     fault: (&[u8], usize),
 ) -> bool {
-    let mut reader = LineReader::new(Std::new(Bytewise {
+    let mut reader = Std::new(Bytewise {
         bytes: SCRIPT,
         good: places.read,
-    }));
+    });
     let outcome = outcome_of(alloc, action, &mut reader, places.written, places.told);
     let text = match action {
         Action::Run => REPLIES,
@@ -179,10 +175,10 @@ fn ends_by_itself(
     text: &[u8],
     calls: u64,
 ) -> bool {
-    let mut reader = LineReader::new(Endless { first, calls: 0 });
+    let mut reader = Endless { first, calls: 0 };
     let outcome = outcome_of(alloc, action, &mut reader, ALL, ALL);
     let fault = b"pfl_lab: too many turns\n".as_slice();
-    outcome.is(1, (text, text.len()), (fault, fault.len())) && reader.into_inner().calls == calls
+    outcome.is(1, (text, text.len()), (fault, fault.len())) && reader.calls == calls
 }
 
 /// The calls of a setup are counted by themselves.
@@ -210,7 +206,7 @@ fn a_line_without_end(rt: HostRuntime) {
 
 /// What comes of a script where no request for memory is granted.
 fn without_memory(action: Action, script: &[u8]) -> Outcome {
-    let mut reader = LineReader::new(Std::new(script));
+    let mut reader = Std::new(script);
     outcome_of(Refusing, action, &mut reader, ALL, ALL)
 }
 

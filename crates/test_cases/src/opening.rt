@@ -72,17 +72,16 @@ impl Opening {
     pub fn run<A: Allocator + Copy, R: Input, W: Output, F: Output>(
         self,
         alloc: A,
-        reader: &mut LineReader<R>,
+        reader: &mut R,
         writer: &mut W,
         faults: &mut F,
-    ) -> u8
-        requires fresh { reader.old.lines ≡ 0 }
-    {
+    ) -> u8 {
         let Opening::Late(start) = self else {
             return run_lab(alloc, reader, writer, faults);
         };
-        match set_up_late(alloc, reader, start) {
-            Ok(mut timeline) => match run_lines(alloc, reader, writer, &mut timeline) {
+        let mut lines = LineReader::new(reader);
+        match set_up_late(alloc, &mut lines, start) {
+            Ok(mut timeline) => match run_lines(alloc, &mut lines, writer, &mut timeline) {
                 Ok(ended) => u8::from(ended.bad > 0),
                 Err(fault) => tell(LabFault::from(fault), faults),
             },

@@ -3,7 +3,7 @@
 use crate::opening::Opening;
 use crate::script::{Replies, Script};
 use pfl_base::Std;
-use pfl_run::{LineReader, check_lab};
+use pfl_run::check_lab;
 use std::alloc::{AllocError, Allocator, Global};
 use std::cell::Cell;
 
@@ -47,7 +47,7 @@ impl Trial {
     ) -> Result<Trial, AllocError> {
         let opening = Opening::of(script);
         let begun = Cell::new(0);
-        let mut reader = LineReader::new(Std::new(Script::new(script, &begun)));
+        let mut reader = Std::new(Script::new(script, &begun));
         let mut writer = Std::new(Replies::new(heap, &begun));
         let mut faults = Std::new(Vec::new(heap));
         let status = match action {

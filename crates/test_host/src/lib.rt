@@ -4,6 +4,8 @@
 #[cfg(test)]
 mod client;
 #[cfg(test)]
+mod connecting;
+#[cfg(test)]
 mod crowd;
 #[cfg(test)]
 mod endings;

@@ -26,7 +26,7 @@ fn it_runs(rt: HostRuntime) {
     assert!(rt; given.status == 1);
     assert!(rt; given.written.as_slice() == b"at 0\nbad 3 Unknown\nnames main\n".as_slice());
     assert!(rt; given.told.is_empty());
-    assert!(rt; given.lines == 6);
+    assert!(rt; given.left == 0);
 }
 
 #[test]
@@ -35,7 +35,7 @@ fn it_checks(rt: HostRuntime) {
     assert!(rt; given.status == 1);
     assert!(rt; given.written.as_slice() == b"line 5 bad 3 Unknown\ngood 2\n".as_slice());
     assert!(rt; given.told.is_empty());
-    assert!(rt; given.lines == 6);
+    assert!(rt; given.left == 0);
 }
 
 /// Help goes where replies go, and begins with the sentence that says what the program is.
@@ -49,7 +49,7 @@ fn it_helps(rt: HostRuntime) {
         )
     );
     assert!(rt; given.told.is_empty());
-    assert!(rt; given.lines == 0);
+    assert!(rt; given.left == SCRIPT.len());
 }
 
 /// The words ask for no mode: that is told where faults go, from this text on.
@@ -63,7 +63,7 @@ fn is_refused<R: Net<Listener = TcpListener, Stream = TcpStream> + Threads + Wai
     given.status == 2
         && given.written.is_empty()
         && given.told.as_slice().starts_with(first)
-        && given.lines == 0
+        && given.left == SCRIPT.len()
 }
 
 #[test]

@@ -1,7 +1,7 @@
 //! What the program gives with some words, over lines in memory.
 
 use pfl_base::Std;
-use pfl_host::{Gate, LineReader, obey};
+use pfl_host::{Gate, obey};
 use std::alloc::Global;
 use std::net::{Net, TcpListener, TcpStream};
 use std::sync::Wait;
@@ -13,8 +13,8 @@ pub(crate) struct Outcome {
     pub(crate) status: u8,
     pub(crate) written: Vec<u8>,
     pub(crate) told: Vec<u8>,
-    /// How many lines of its reader it has read.
-    pub(crate) lines: u64,
+    /// How many bytes of its reader it has not read.
+    pub(crate) left: usize,
 }
 
 impl Outcome {
@@ -29,7 +29,7 @@ pub(crate) fn outcome_of<
     R: Net<Listener = TcpListener, Stream = TcpStream> + Threads + Wait + Sync,
     G: Gate + Sync,
 >(rt: &R, alloc: Global, words: &[&str], lines: &[u8], gate: &G) -> Outcome {
-    let mut reader = LineReader::new(Std::new(lines));
+    let mut reader = Std::new(lines);
     let mut writer = Std::new(Vec::new(alloc));
     let mut faults = Std::new(Vec::new(alloc));
     let status = obey(
@@ -45,6 +45,6 @@ pub(crate) fn outcome_of<
         status,
         written: writer.into_inner(),
         told: faults.into_inner(),
-        lines: reader.lines(),
+        left: reader.into_inner().len(),
     }
 }

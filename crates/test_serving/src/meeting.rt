@@ -3,7 +3,7 @@ ghost use Rattle.std.specs.Prelude.{◌≡◌};
 
 use super::lab::opened;
 use super::served::{Heard, served, spoken};
-use pfl_serve::Gate;
+use pfl_serve::{Gate, Service};
 use std::alloc::{AllocError, Global};
 use std::marker::Brand;
 use std::sync::Wait;
@@ -68,17 +68,13 @@ impl Gate for Meeting {
     }
 }
 
-/// The first session takes back what the second one stepped before.
-fn are_answered(heard: Vec<Heard<'_>, Global>) -> bool {
-    let mut good = heard.len() == 2;
-    for heard in heard {
-        let answered = match heard.seat.pass.session() {
-            1 => spoken(heard).is(b"at 0\nview 2 1 1 0 0 0 0 0\n", 2, 0),
-            _ => spoken(heard).is(b"step pass 1.1 dropped 0\n", 1, 0),
-        };
-        good = good && answered;
-    }
-    good
+/// The first session, which is left last, takes back what the second one stepped before.
+fn are_answered(mut heard: Vec<Heard<'_>, Global>) -> bool {
+    let first = heard.pop().map(spoken);
+    let second = heard.pop().map(spoken);
+    heard.is_empty()
+        && first.is_some_and(|one| one.is(b"at 0\nview 2 1 1 0 0 0 0 0\n", 2, 0))
+        && second.is_some_and(|one| one.is(b"step pass 1.1 dropped 0\n", 1, 0))
 }
 
 /// What the two sessions say.
@@ -94,8 +90,9 @@ fn two_sessions_meet(rt: HostRuntime) -> Result<(), Fail> {
     let gate = Meeting::new();
     let opened = opened(rt.alloc(), 2, 1_000_000)?;
     let lines = lines(rt.alloc())?;
-    let (heard, closed) = served::<Brand, _, _>(&rt, rt.alloc(), opened, lines.as_slice(), &gate);
-    assert!(rt; heard.is_some_and(are_answered));
+    let service = served::<Brand, _, _>(&rt, rt.alloc(), opened, lines.as_slice(), &gate);
+    let Service { closed, ended } = service.ok_or("not served")?;
+    assert!(rt; are_answered(ended));
     assert!(rt; closed.journal.len() == 2);
     assert!(rt; !gate.in_vain.into_inner());
     assert!(rt; gate.ended.into_inner() == 2);

@@ -4,7 +4,7 @@ ghost use Rattle.std.specs.Prelude.{◌≡◌, ◌<◌};
 use super::lab::{opened, replays, told};
 use super::served::{Heard, served, spoken};
 use pfl_run::Ended;
-use pfl_serve::Open;
+use pfl_serve::{Open, Service};
 use pfl_session::Entry;
 use std::alloc::{AllocError, Global};
 use std::fmt::Write;
@@ -174,8 +174,7 @@ impl Replies {
 
 /// All lines of the session were answered: the commands by the replies of its entries in order, and no view was older than the
 /// one before.
-fn is_answered(alloc: Global, heard: Heard<'_>, journal: &[Entry<Global>]) -> bool {
-    let session = heard.seat.pass.session();
+fn is_answered(alloc: Global, session: u32, heard: Heard<'_>, journal: &[Entry<Global>]) -> bool {
     let Some(own) = told(alloc, journal, Some(session)) else {
         return false;
     };
@@ -191,11 +190,13 @@ fn is_answered(alloc: Global, heard: Heard<'_>, journal: &[Entry<Global>]) -> bo
     whole && replies.rising && replies.text.as_str().as_bytes() == own.as_slice()
 }
 
-/// So many sessions were all answered so.
+/// So many sessions were all answered so, of which the last one is left first.
 fn are_answered(alloc: Global, heard: Vec<Heard<'_>, Global>, journal: &[Entry<Global>]) -> bool {
     let mut good = heard.len() == SESSIONS as usize;
+    let mut session = SESSIONS;
     for heard in heard {
-        good = is_answered(alloc, heard, journal) && good;
+        good = is_answered(alloc, session, heard, journal) && good;
+        session = session.saturating_sub(1);
     }
     good
 }
@@ -204,9 +205,9 @@ fn are_answered(alloc: Global, heard: Vec<Heard<'_>, Global>, journal: &[Entry<G
 fn eight_sessions_from_seeds(rt: HostRuntime) -> Result<(), Fail> {
     let opened = opened(rt.alloc(), SESSIONS, 1_000_000)?;
     let lines = all_lines(rt.alloc())?;
-    let (heard, closed) = served::<Brand, _, _>(&rt, rt.alloc(), opened, lines.as_slice(), &Open);
-    let heard = heard.ok_or("not served")?;
-    assert!(rt; are_answered(rt.alloc(), heard, &closed.journal));
+    let service = served::<Brand, _, _>(&rt, rt.alloc(), opened, lines.as_slice(), &Open);
+    let Service { closed, ended } = service.ok_or("not served")?;
+    assert!(rt; are_answered(rt.alloc(), ended, &closed.journal));
     assert!(rt; replays(rt.alloc(), &closed.journal));
     Ok(())
 }

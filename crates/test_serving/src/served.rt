@@ -6,8 +6,8 @@ ghost use Rattle.pfl_session.specs.Passes.{IsPassOf};
 use super::lab::{Spoken, take};
 use pfl_base::Std;
 use pfl_run::LineReader;
-use pfl_serve::{Gate, Seat, Served, serve_all};
-use pfl_session::{Closed, Opened, Pass, Which};
+use pfl_serve::{EndedSeat, Gate, Seat, Service, serve_and_close};
+use pfl_session::{Opened, Pass, Which};
 use std::alloc::Global;
 use std::sync::Wait;
 use std::thread::Threads;
@@ -15,8 +15,11 @@ use std::thread::Threads;
 /// A session that reads its lines from memory and is answered there.
 type MemorySeat<'a> = Seat<Global, Std<&'a [u8]>, Std<Vec<u8, Global>>>;
 
-/// Such a session after its end.
-pub(super) type Heard<'a> = Served<Global, Std<&'a [u8]>, Std<Vec<u8, Global>>>;
+/// What is left of such a session.
+pub(super) type Heard<'a> = EndedSeat<Std<&'a [u8]>, Std<Vec<u8, Global>>>;
+
+/// What is left of such sessions and of their lab.
+pub(super) type MemoryService<'a> = Service<Global, Std<&'a [u8]>, Std<Vec<u8, Global>>>;
 
 /// Seats a session behind the others: whether there is memory for it.
 fn sit<'a, J: Which>(
@@ -56,31 +59,31 @@ fn seats<'a, J: Which>(
     if whole { Some(seats) } else { None }
 }
 
-/// Serves all sessions of a lab at once, the first one with the first lines: what is left of them, the last one first, and of the
-/// lab.
+/// Serves all sessions of a lab at once, the first one with the first lines, and closes the lab. The last session is left first.
 pub(super) fn served<'a, J: Which + Send + Sync, G: Gate + Sync, R: Threads + Wait + Sync>(
     rt: &R,
     alloc: Global,
     opened: Opened<Global>,
     lines: &'a [String],
     gate: &G,
-) -> (Option<Vec<Heard<'a>, Global>>, Closed<Global>)
+) -> Option<MemoryService<'a>>
     requires tables { (opened.publisher ≡ J.publisher) × (opened.tallies ≡ J.tallies) }
     requires opening { (opened.opening ≡ J.opening) × (opened.limit ≡ J.limit) }
 {
     let (lab, mut passes) = opened.named::<J>();
-    let heard = match seats::<J>(alloc, &mut passes, lines) {
-        Some(seats) => serve_all(rt, alloc, &lab, seats, gate).ok(),
-        None => None,
-    };
-    (heard, lab.close(passes))
+    let seats = seats::<J>(alloc, &mut passes, lines)?;
+    serve_and_close(rt, alloc, lab, seats, gate).ok()
 }
 
 /// What such a session was answered, and how it ended.
 pub(super) fn spoken(heard: Heard<'_>) -> Spoken {
-    let Served { seat, result } = heard;
+    let EndedSeat {
+        reader: _,
+        writer,
+        result,
+    } = heard;
     Spoken {
-        text: seat.writer.into_inner(),
+        text: writer.into_inner(),
         result,
     }
 }

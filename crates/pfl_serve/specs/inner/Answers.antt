@@ -1,5 +1,5 @@
 -- The answer to one line, and how it fails.
-use Rattle.std.specs.Prelude.{ℕ, List, take, if◌then◌else◌, Option, Some, None, Result, Ok}
+use Rattle.std.specs.Prelude.{ℕ, Bool, true, false, List, take, if◌then◌else◌, Option, Some, None, Result, Ok}
 use Rattle.std.specs.Io.KnownBytes.{Appends, Keeps as KeepsBytes}
 use Rattle.pfl_script.specs.timeline.Timelines.{Timeline}
 use Rattle.pfl_session.specs.Passes.{Seen}
@@ -15,6 +15,11 @@ use Rattle.pfl_serve.specs.Sessions.{IsUnanswered}
 -- what a line of which this is kept says to a session
 unfoldable pub kept_said : Kept → Option (Result SessionLine LineFault)
 kept_said k = if has_word k.head then Some (kept_session k) else None
+
+-- it asks a command
+abbrev pub is_command : Option (Result SessionLine LineFault) → Bool
+is_command (Some (Ok (Ask command))) = true
+is_command _ = false
 
 -- a text of this kind was written
 abbrev pub Writes : (List ℕ → Type 0) → Option (List ℕ) → Option (List ℕ) → Type 0

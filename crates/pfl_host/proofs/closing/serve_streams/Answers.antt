@@ -1,8 +1,7 @@
-use Rattle.std.proofs.Common.{arith, ◌≡◌, length, ap, sym, ◌∙◌}
-use Rattle.std.proofs.lemmas.List.{length-map}
+use Rattle.std.proofs.Common.{arith, ◌≡◌, length}
 use Rattle.pfl_session.proofs.ForCallers.{passes-many}
 use Rattle.pfl_session.specs.Passes.{IsPassOf}
-use Rattle.pfl_host.proofs.Settled.{all-mapped}
+use Rattle.pfl_host.proofs.Faults.{all-mapped}
 use Rattle.pfl_host.proofs.closing.serve_streams.Goals as goal
 
 -- there are as many streams as passes
@@ -12,11 +11,20 @@ seats-requires g c =
     record { as_many = omega (arith, many, c.requires.all) }
 
 -- the passes of the seats are the lab's
-pub serve_seats-requires-clause-passes : goal.serve_seats-requires-clause-passes
-serve_seats-requires-clause-passes g c = λ κs within.
-    all-mapped (IsPassOf g.J.Which.publisher g.J.Which.tallies) (λ s. s.pass) c.in-Ok.seats.items (rw c.in-Ok.ensures.passes c.named-lab.ensures.lab)
+pub serve_and_close-requires-clause-lab : goal.serve_and_close-requires-clause-lab
+serve_and_close-requires-clause-lab g c = λ κs within.
+    all-mapped (IsPassOf g.J.Which.publisher g.J.Which.tallies) (λ s. s.pass) c.in_ok-seats.seats.items (rw c.in_ok-seats.ensures.passes c.named-lab.ensures.lab)
 
--- there is one for each session
-pub serve_seats-requires-clause-all : goal.serve_seats-requires-clause-all
-serve_seats-requires-clause-all g c = λ κs within.
-    sym (length-map c.in-Ok.seats.items (λ s. s.pass)) ∙ (ap (λ ps. length ps) c.in-Ok.ensures.passes ∙ passes-many _ _ _ _ _ c.named-lab.ensures.new)
+-- all were served
+pub returns-in-Ok-clause-serves : goal.returns-in-Ok-clause-serves
+returns-in-Ok-clause-serves g c = record {
+  seats = c.in_ok-seats.seats.items;
+  new = rw c.in_ok-seats.ensures.passes c.named-lab.ensures.new;
+  unused = c.in_ok-seats.ensures.unused;
+  timeline = c.in-Ok.service.closed.timeline;
+  journal = c.in-Ok.service.closed.journal.items;
+  ended = c.in-Ok.service.ended.items;
+  service = c.in-Ok.ensures.service;
+  first_is = c.outcome_of.ensures.fault;
+  count = c.outcome_of.ensures.entries;
+}

@@ -1,22 +1,23 @@
-use Rattle.std.proofs.Common.{inl, inr}
+use Rattle.std.proofs.Common.{inl, inr, rules, sym}
+use Rattle.pfl_run.proofs.Devices.{has_failed, runs_to_end}
 use Rattle.pfl_run.proofs.Runs.{keeps_same}
 use Rattle.pfl_run.proofs.run.run_lab.Goals as goal
 
 -- all lines were executed
-pub returns-in-Ok : goal.returns-in-Ok
-returns-in-Ok g c = inl (record {
+pub returns-in-Ok-clause-runs : goal.returns-in-Ok-clause-runs
+returns-in-Ok-clause-runs g c = inl (record {
   bad = c.in-Ok.ended.bad;
-  reads = c.in-Ok.ensures.ends;
+  reads = rw (sym c.new-lines.ensures.left) (search (rules, runs_to_end));
   quiet = keeps_same _;
   exit = c.ended_status.ensures;
 })
 
 -- the run stopped
-pub returns-in-Err : goal.returns-in-Err
-returns-in-Err g c = inr (record {
+pub returns-in-Err-clause-runs : goal.returns-in-Err-clause-runs
+returns-in-Err-clause-runs g c = inr (record {
   fault = c.in-Err.fault;
-  why = c.in-Err.ensures.stop;
-  device = c.in-Err.ensures.device;
+  why = rw (sym c.new-lines.ensures.left) c.in-Err.ensures.stop;
+  device = search (rules, has_failed);
   told = c.tell.ensures.told;
   exit = c.tell.ensures.status;
 })

@@ -13,6 +13,7 @@ loop-seat-preserved-in-Some-start g c =
         | inr split ↦ inr (rw c.push_reserved.ensures.items (taken-more (λ h. h.promise.seat.value) c.loop-seat.handles.items c.in-Some-start.handle c.in-Some.seat _ _ c.in-Some-start.ensures.promise (rw steps.0 at split)))
       ];
       room = omega (arith, steps.1);
+      short = λ refused. let fewer = was.short refused in omega (arith, steps.1, fewer);
       few = omega (arith, steps.1);
     }
 
@@ -22,3 +23,6 @@ returns-clause-started g c =
       | inl refused ↦ inl refused
       | inr split ↦ inr (taken-all _ _ _ (omega (arith, c.in-None.ensures.steps.0, c.loop-seat.seat-iterator.rest.ok.0)) split)
     ]
+
+pub returns-clause-refused : goal.returns-clause-refused
+returns-clause-refused g c = λ refused. let fewer = c.loop-seat.invariant.short refused in omega (arith, fewer)

@@ -60,7 +60,7 @@ invariant_of-self-2 g c =
       is.2,
       is.3,
       counts-added _ _ _ _ _ _ _ is.1 is.4 made.tables.0 made.counts.0 tallies halves,
-      passes-added _ _ _ _ _ _ c.in_ok-tally.tally new is.5 (record { session_is = omega (arith, next, many); tally_is = made.tables.1; publisher_is = split.tables.1 ∙ table; seen_is = split.seen.1 ∙ seen; called = made.counts.1 }) tallies passes,
+      passes-added _ _ _ _ _ _ c.in_ok-tally.tally new is.5 (record { session_is = omega (arith, next, many); tally_is = made.tables.1; publisher_is = split.tables.1 ∙ table; seen_is = split.seen.1 ∙ seen; called = made.counts.1; loaded = split.loads.1 }) tallies passes,
       is.6,
       is.7,
     )
