@@ -48,8 +48,8 @@ class Laboratory:
         os.set_blocking(self.input, False)
         self.seen = 0
 
-    def tell(self, lines, wanted):
-        """Gives lines and waits for the replies, which have to be those wanted; what that took."""
+    def tell(self, lines, wanted, commands):
+        """Gives lines and waits for the replies, which have to be those wanted; what that took, for that many commands."""
         left = memoryview("".join(f"{it}\n" for it in lines).encode())
         before, nap = self.taken(0), 0.0005
         while left or not self.waits():
@@ -59,7 +59,7 @@ class Laboratory:
                 raise Late(self.since(before, answered, is_late=True))
             time.sleep(nap)
             nap = min(2 * nap, LONGEST_NAP)
-        took = self.since(before, len(lines))
+        took = self.since(before, commands)
         self.compare("".join(f"{it}\n" for it in wanted).encode())
         return took
 

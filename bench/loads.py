@@ -12,28 +12,39 @@ STATE_RECORD, SHORT_RECORD, NAME_RECORD = 124, 44, 12
 FRAMES_IN_FLIGHT = 256
 ONE_LOST_IN = 10
 EXPIRED_MS = 60_000
+HITS_A_TICK = 10
 ROUNDS = 5
 FORKS = 3
-SETUP = (
-    f"set states {MOST_STATES}",
-    f"set queue {MOST_STATES}",
-    f"set frames {FRAMES_IN_FLIGHT}",
-    f"set mtu {MTU}",
-    "rule a pass out",
-    "rule b pass out",
-    "open",
-)
+SHORT_STATES, SHORT_EVENTS, SHORT_FORKS = 4096, 10_000, 5
+RESTARTS, LIMIT_FORKS = 20, 15
+MOST_FRAMES, MOST_MTU = 4096, 9000
+TIMEOUTS = 200
+FIRST_PORT = 1000
+
+
+def setup_of(frames=FRAMES_IN_FLIGHT, mtu=MTU, rules=("pass out",)):
+    limits = {"states": MOST_STATES, "queue": MOST_STATES, "frames": frames, "mtu": mtu}
+    lines = [f"set {name} {most}" for name, most in limits.items()]
+    return lines + [f"rule {node} {rule}" for node in "ab" for rule in rules] + ["open"]
+
+
+def rules_of_timeouts():
+    """A rule for each of some ports, with a timeout of its own."""
+    return [f"pass out proto udp tport {FIRST_PORT + at} timeout udp.first {at + 1}" for at in range(TIMEOUTS)]
 
 
 class Part:
-    """Commands of one kind, and the lines that they have to be answered by."""
+    """Commands of one kind, and the lines that have to answer them. `more` of them belong to others, whose cost has theirs in it."""
 
     def __init__(self, what=None):
-        self.what, self.lines, self.replies = what, [], []
+        self.what, self.lines, self.replies, self.more = what, [], [], 0
 
     def ask(self, line, *replies):
         self.lines.append(line)
         self.replies += replies
+
+    def commands(self):
+        return len(self.lines) - self.more
 
 
 class Pair:
@@ -64,14 +75,39 @@ class Pair:
     def fill(self):
         return self.begin(0, self.states)
 
-    def hit(self, flows, what=None):
-        """A packet of each of some flows that stand, in either direction."""
+    def packet(self, part, flow, is_out):
+        """A packet of a flow that stands."""
+        near, far = self.flows[flow]
+        ends = f"out udp {near} {far}" if is_out else f"in udp {far} {near}"
+        self.step(part, f"packet a {ends} 80", f"pass 1.{flow + 1}")
+
+    def answer(self, flows, what=None):
+        """The first answer of each of some flows."""
         part = Part(what)
         for flow in flows:
-            near, far = self.flows[flow]
-            ends = self.chance.choice((f"in udp {far} {near}", f"out udp {near} {far}"))
-            self.step(part, f"packet a {ends} 80", f"pass 1.{flow + 1}")
+            self.packet(part, flow, False)
         return part
+
+    def settle(self):
+        """A packet more in each direction of each flow: from then on no packet changes the class of a state."""
+        part = self.answer(range(self.states))
+        for flow in range(self.states):
+            self.packet(part, flow, True)
+        return part
+
+    def hit(self, flows, what=None, hits_a_tick=None):
+        """A packet of each of some flows that stand, in either direction, and a tick before every `hits_a_tick` of them."""
+        part = Part(what)
+        for at, flow in enumerate(flows):
+            if hits_a_tick and at % hits_a_tick == 0:
+                self.tick(part)
+                part.more += 1
+            self.packet(part, flow, self.chance.choice((False, True)))
+        return part
+
+    def tick(self, part):
+        self.clock += 1
+        self.step(part, "tick a 1", f"clock {self.clock}")
 
     def any_flows(self):
         return self.chance.choices(range(self.states), k=self.commands)
@@ -106,29 +142,45 @@ def flows(pair):
     yield pair.begin(most, pair.states, "a new flow, the last tenth")
 
 
-def hits(pair):
-    """Packets of states whose insertion is queued."""
+def rooms(pair):
+    """New flows where as many stood before, so that what they keep is history alone: the pair has the room for them already."""
     yield pair.fill()
+    expired = Part()
+    pair.clock += EXPIRED_MS
+    pair.step(expired, f"tick a {EXPIRED_MS}", f"clock {pair.clock}")
+    pair.step(expired, "purge a", f"purged {pair.states}")
+    yield expired
+    yield pair.begin(0, pair.states, "a new flow in room that was used before")
+
+
+def hits(pair):
+    """Packets of states whose insertion is queued: first answers, which change the class, and then hits, which change none."""
+    yield pair.fill()
+    yield pair.answer(pair.chance.sample(range(pair.states), min(pair.states, pair.commands)), "the first answer of a flow")
+    yield pair.settle()
     yield pair.hit(pair.any_flows(), "a hit")
+    yield pair.hit(pair.any_flows(), "a hit, with a tick before each tenth", HITS_A_TICK)
 
 
 def ticks(pair):
     yield pair.fill()
     part = Part("a tick")
     for _ in range(pair.commands):
-        pair.clock += 1
-        pair.step(part, "tick a 1", f"clock {pair.clock}")
+        pair.tick(part)
     yield part
 
 
 def undo(pair):
-    """Hits, undone one by one and then done again one by one."""
+    """Hits with a tick before each tenth, undone one by one and then done again one by one."""
     yield pair.fill()
-    yield pair.hit(pair.any_flows())
-    undone, redone = Part("the undo of a hit"), Part("the redo of a hit")
-    for _ in range(pair.commands):
+    yield pair.settle()
+    done = pair.hit(pair.any_flows(), None, HITS_A_TICK)
+    yield done
+    undone, redone = Part("the undo of such a hit"), Part("the redo of such a hit")
+    undone.more = redone.more = done.more
+    for _ in done.lines:
         pair.back(undone)
-    for _ in range(pair.commands):
+    for _ in done.lines:
         pair.forward(redone)
     yield undone
     yield redone
@@ -220,18 +272,25 @@ def frames(pair):
     yield from Sender(pair, "a", STATE_RECORD).send(asked, "11 states asked for", came)
 
 
-def purges(pair):
+def purges(pair, expired_ms=EXPIRED_MS, of=""):
     """All states expire and are purged, and that is undone."""
     yield pair.fill()
     expired = Part()
-    pair.step(expired, f"tick a {EXPIRED_MS}", f"clock {EXPIRED_MS}")
+    pair.step(expired, f"tick a {expired_ms}", f"clock {expired_ms}")
     yield expired
     for at in range(ROUNDS):
-        purged, undone = Part("a purge of all"), Part("the undo of a purge of all")
+        purged, undone = Part(f"a purge of all{of}"), Part(f"the undo of a purge of all{of}")
         pair.step(purged, "purge a", f"purged {pair.states}", min(at, 1))
         pair.back(undone)
         yield purged
         yield undone
+
+
+def timeouts(pair):
+    """As `purges`, where the states have many timeouts."""
+    places = pair.chance.sample(range(1 << 24), pair.states)
+    pair.flows = [pair.ends(at, FIRST_PORT + pair.chance.randrange(TIMEOUTS)) for at in places]
+    yield from purges(pair, TIMEOUTS * 1000, f", of {TIMEOUTS} timeouts")
 
 
 def shown(pair):
@@ -270,13 +329,41 @@ def forks(pair):
     yield removed
 
 
-LOADS = {it.__name__: it for it in (replies, flows, hits, ticks, undo, connections, frames, purges, shows, forks)}
+def short_forks(pair):
+    """Branches of some thousand events, one after the other."""
+    yield pair.fill()
+    yield pair.hit(pair.chance.choices(range(pair.states), k=SHORT_EVENTS - pair.states))
+    part = Part(f"a fork of {SHORT_EVENTS:,} events")
+    for at in range(SHORT_FORKS):
+        part.ask(f"fork main {pair.cursor} {chr(ord('a') + at)}", "forked")
+    yield part
+
+
+def limits(pair):
+    """Restarts and forks of a pair that has few states, and room for as many as there may be."""
+    yield pair.fill()
+    restarts, forked = Part("a restart at the greatest limits"), Part("a fork of all that at the greatest limits")
+    for boot in range(RESTARTS):
+        pair.step(restarts, f"restart {'ab'[boot % 2]}", f"boot {boot + 3}")
+    for at in range(LIMIT_FORKS):
+        forked.ask(f"fork main {pair.cursor} {chr(ord('a') + at)}", "forked")
+    yield restarts
+    yield forked
+
+
+LOADS = {
+    it.__name__: it
+    for it in (replies, flows, rooms, hits, ticks, undo, connections, frames, purges, timeouts, shows, forks, short_forks, limits)
+}
+# The number of states of the loads that are measured at one number alone.
+STATES_OF = {"short_forks": SHORT_STATES, "limits": 10}
+SETUPS = {"limits": setup_of(MOST_FRAMES, MOST_MTU), "timeouts": setup_of(rules=rules_of_timeouts())}
 
 
 def parts(load, states, commands, seed):
     """The parts of a load, the setup first."""
     setup = Part()
-    setup.lines += SETUP
+    setup.lines += SETUPS.get(load, setup_of())
     yield setup
     pair = Pair(states, commands, random.Random(f"{seed} {load} {states}"))
     yield from (it for it in LOADS[load](pair) if it.lines)

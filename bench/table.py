@@ -1,6 +1,8 @@
 """The table of costs: a row for each kind of command, and for each number of states its figures."""
 import sys
 
+from loads import STATES_OF
+
 
 def figure(value):
     """About three digits that count."""
@@ -24,9 +26,20 @@ class Table:
         heads = [f"{what} {it}" for what in ("µs a command at", "seconds at", "MB at") for it in many]
         lines = [self.line("Load", "Command", *heads, f"bytes kept at {many[-1]}"), "|---" * (len(heads) + 3) + "|"]
         for (load, what), costs in self.rows.items():
-            cells = [self.cell(show, costs.get(it)) for show in (self.each, self.all, self.most) for it in self.states]
-            lines.append(self.line(load, what, *cells, self.cell(self.kept, costs.get(self.states[-1]))))
-        return "\n".join(lines) + "\n"
+            if load not in STATES_OF:
+                cells = [self.cell(show, costs.get(it)) for show in (self.each, self.all, self.most) for it in self.states]
+                lines.append(self.line(load, what, *cells, self.cell(self.kept, costs.get(self.states[-1]))))
+        return "\n".join(lines + self.alone()) + "\n"
+
+    def alone(self):
+        """The loads of one number of states, in a table of their own."""
+        rows = [
+            self.line(load, what, f"{states:,}", self.each(cost), self.most(cost), self.kept(cost))
+            for (load, what), costs in self.rows.items()
+            if load in STATES_OF
+            for states, cost in costs.items()
+        ]
+        return ["", self.line("Load", "Command", "States", "µs a command", "MB", "bytes kept"), "|---" * 6 + "|", *rows] if rows else []
 
     @staticmethod
     def line(*cells):
