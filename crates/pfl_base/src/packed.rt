@@ -155,6 +155,13 @@ impl PackedKey {
         }
     }
 
+    /// The flow's protocol.
+    pub fn proto(&self) -> Proto
+        ensures { result ≡ self.now.proto }
+    {
+        self.proto
+    }
+
     /// The flow itself.
     pub fn key(self) -> Key
         ensures { result ≡ self }

@@ -1,10 +1,10 @@
 -- How deep a balanced tree may be, by its entries, and what each join and each change makes of how deep trees are.
 use Rattle.std.proofs.Common.{◌≡◌, ◌⊎◌, inl, inr, ℕ, zero, suc, ◌+◌, ◌-◌, ◌≤◌, ◌<◌, ◌^◌, List, ◌∷◌, length, length-append, Option, Some, None, refl, ap, subst, ◌∙◌, arith}
 use Rattle.std.specs.Prelude.{max, min}
-use Rattle.std.specs.Option.{option_map}
+use Rattle.std.proofs.lemmas.Option.{slice_get_past}
 use Rattle.pfl_containers.specs.declared.order.node.Node.{Node}
 use Rattle.pfl_containers.specs.inner.Trees.{Tree, leaf, fork, entries, Holds}
-use Rattle.pfl_containers.specs.inner.Balances.{height_of, depth, IsBalanced, HasSides, Links, TurnsRight, TurnsLeft, LeansLeft, LeansRight, IsJoined, Balances, Grows, Shrinks, Unites, fewest_from, fewest}
+use Rattle.pfl_containers.specs.inner.Balances.{height_of, FitsSides, depth, IsBalanced, HasSides, Links, TurnsRight, TurnsLeft, LeansLeft, LeansRight, IsJoined, Balances, BalancesLeft, BalancesRight, Grows, Shrinks, Unites, fewest_from, fewest}
 
 -- The fewest entries.
 fewest_from-step : (few next h : ℕ) → fewest_from few next (suc (suc h)) ≡ fewest_from few next (suc h) + fewest_from few next h + 1
@@ -63,10 +63,10 @@ module _ {K V : Type 0} where
   low t b few = shallow t b 46 (omega (arith, few))
 
   -- the height at its root is its depth
-  pub height-is : (nodes : List (Node K V)) (t : Tree K V) (link : Option ℕ) → Holds nodes t link → IsBalanced t → height_of nodes link ≡ depth t
-  height-is nodes leaf link h b = ap (height_of nodes) h
+  pub height-is : (nodes : List (Node K V)) (t : Tree K V) (link : ℕ) → Holds nodes t link → IsBalanced t → height_of nodes link ≡ depth t
+  height-is nodes leaf link h b = let past : length nodes ≤ link = omega (arith, h.0, h.1) in ap (λ (o : Option (Node K V)). elim o [ None ↦ 0 | Some n ↦ n.height ]) (slice_get_past nodes link past)
   height-is nodes (fork l i n r) link h b =
-      ap (height_of nodes) h.0 ∙ (ap (λ (o : Option (Node K V)). elim (option_map {U = ℕ × Node K V} (λ n. (i, n)) o) [ None ↦ 0 | Some found ↦ found.1.height ]) h.1 ∙ b.0)
+      ap (height_of nodes) h.0 ∙ (ap (λ (o : Option (Node K V)). elim o [ None ↦ 0 | Some n ↦ n.height ]) h.1 ∙ b.0)
 
   -- a tree with such sides is as deep as they say,
   depth-sides : (d e : ℕ) (t : Tree K V) → HasSides d e t → depth t ≡ max d e + 1
@@ -152,6 +152,21 @@ module _ {K V : Type 0} where
     joined = λ left right low_left low_right _ _. joined-sides (depth l) (depth r) t (links.sides left right low_left low_right) (near left right).0 (near left right).1;
   }
 
+  -- A node whose new left tree is as deep as the one before stays as it is, and so does one whose right tree is.
+  pub stays_joined : (l r : Tree K V) (i : ℕ) (n : Node K V) → IsBalanced l → IsBalanced r → FitsSides n.height (depth l) (depth r) → IsJoined (depth l) (depth r) (fork l i n r)
+  stays_joined l r i n left right fits = record {
+    balanced = (fits.0, fits.1, fits.2, left, right);
+    least = omega arith;
+    most = omega arith;
+    near = λ _ _. refl;
+  }
+
+  pub balances_as_left : (was height : ℕ) (l r t : Tree K V) → Balances l r t → BalancesLeft was height l r t
+  balances_as_left was height l r t b = record { joined = λ left right low_left low_right near_left near_right _. b.joined left right low_left low_right near_left near_right }
+
+  pub balances_as_right : (was height : ℕ) (l r t : Tree K V) → Balances l r t → BalancesRight was height l r t
+  balances_as_right was height l r t b = record { joined = λ left right low_left low_right near_left near_right _. b.joined left right low_left low_right near_left near_right }
+
   -- Of a tree whose left side is no less deep than its right one nothing changes, and another one turns.
   pub leans_left-leaf : LeansLeft {K = K} {V = V} leaf leaf
   leans_left-leaf = record { sides = λ _ some _. absurd (omega (arith, some)) }
@@ -203,46 +218,49 @@ module _ {K V : Type 0} where
   }
 
   -- a tree grows on its left side,
-  pub grows_left : (l r : Tree K V) (i : ℕ) (n : Node K V) (p t : Tree K V) → Grows l p → Balances p r t → Grows (fork l i n r) t
-  grows_left l r i n p t grows balances = record {
+  pub grows_left : (l r : Tree K V) (i : ℕ) (n : Node K V) (p t : Tree K V) (was : ℕ) → (IsBalanced l → was ≡ depth l) → Grows l p → BalancesLeft was n.height p r t → Grows (fork l i n r) t
+  grows_left l r i n p t was deep_before grows balances = record {
     grown = λ few b.
         let fewer : length (entries l) < 2 ^ 32 = omega (arith, few, length-append (entries l) ((n.key, n.value) ∷ entries r)) in
         let below = grows.grown fewer b.3 in
         let deep = low (fork l i n r) b few in
-        let all = balances.joined below.0 b.4 (omega (arith, deep, below.2)) (omega (arith, deep)) (omega (arith, b.1, below.2)) (omega (arith, b.2, below.1)) in
+        let all = balances.joined below.0 b.4 (omega (arith, deep, below.2)) (omega (arith, deep)) (omega (arith, b.1, below.2)) (omega (arith, b.2, below.1)) (omega (arith, b.0, deep_before b.3), omega (arith, b.1, deep_before b.3), omega (arith, b.2, deep_before b.3)) in
         (all.balanced, grind (arith, all.least, all.near, b.1, b.2, below.1, below.2), grind (arith, all.most, all.near, b.1, b.2, below.1, below.2));
   }
 
-  pub grows_right : (l r : Tree K V) (i : ℕ) (n : Node K V) (p t : Tree K V) → Grows r p → Balances l p t → Grows (fork l i n r) t
-  grows_right l r i n p t grows balances = record {
+  pub grows_right : (l r : Tree K V) (i : ℕ) (n : Node K V) (p t : Tree K V) (was : ℕ) → (IsBalanced r → was ≡ depth r) → Grows r p → BalancesRight was n.height l p t → Grows (fork l i n r) t
+  grows_right l r i n p t was deep_before grows balances = record {
     grown = λ few b.
         let fewer : length (entries r) < 2 ^ 32 = omega (arith, few, length-append (entries l) ((n.key, n.value) ∷ entries r)) in
         let below = grows.grown fewer b.4 in
         let deep = low (fork l i n r) b few in
-        let all = balances.joined b.3 below.0 (omega (arith, deep)) (omega (arith, deep, below.2)) (omega (arith, b.1, below.1)) (omega (arith, b.2, below.2)) in
+        let all = balances.joined b.3 below.0 (omega (arith, deep)) (omega (arith, deep, below.2)) (omega (arith, b.1, below.1)) (omega (arith, b.2, below.2)) (omega (arith, b.0, deep_before b.4), omega (arith, b.1, deep_before b.4), omega (arith, b.2, deep_before b.4)) in
         (all.balanced, grind (arith, all.least, all.near, b.1, b.2, below.1, below.2), grind (arith, all.most, all.near, b.1, b.2, below.1, below.2));
   }
 
   -- and shrinks on either,
-  pub shrinks_left : (l r : Tree K V) (i : ℕ) (n : Node K V) (p t : Tree K V) → Shrinks l p → Balances p r t → Shrinks (fork l i n r) t
-  shrinks_left l r i n p t shrinks balances = record {
+  pub shrinks_left : (l r : Tree K V) (i : ℕ) (n : Node K V) (p t : Tree K V) (was : ℕ) → (IsBalanced l → was ≡ depth l) → Shrinks l p → BalancesLeft was n.height p r t → Shrinks (fork l i n r) t
+  shrinks_left l r i n p t was deep_before shrinks balances = record {
     shrunk = λ few b.
         let fewer : length (entries l) < 2 ^ 32 = omega (arith, few, length-append (entries l) ((n.key, n.value) ∷ entries r)) in
         let below = shrinks.shrunk fewer b.3 in
         let deep = low (fork l i n r) b few in
-        let all = balances.joined below.0 b.4 (omega (arith, deep, below.1)) (omega (arith, deep)) (omega (arith, b.1, below.1)) (omega (arith, b.2, below.2)) in
+        let all = balances.joined below.0 b.4 (omega (arith, deep, below.1)) (omega (arith, deep)) (omega (arith, b.1, below.1)) (omega (arith, b.2, below.2)) (omega (arith, b.0, deep_before b.3), omega (arith, b.1, deep_before b.3), omega (arith, b.2, deep_before b.3)) in
         (all.balanced, grind (arith, all.most, all.near, b.1, b.2, below.1, below.2), grind (arith, all.least, all.near, b.1, b.2, below.1, below.2));
   }
 
-  pub shrinks_right : (l r : Tree K V) (i : ℕ) (n : Node K V) (p t : Tree K V) → Shrinks r p → Balances l p t → Shrinks (fork l i n r) t
-  shrinks_right l r i n p t shrinks balances = record {
+  pub shrinks_right : (l r : Tree K V) (i : ℕ) (n : Node K V) (p t : Tree K V) (was : ℕ) → (IsBalanced r → was ≡ depth r) → Shrinks r p → BalancesRight was n.height l p t → Shrinks (fork l i n r) t
+  shrinks_right l r i n p t was deep_before shrinks balances = record {
     shrunk = λ few b.
         let fewer : length (entries r) < 2 ^ 32 = omega (arith, few, length-append (entries l) ((n.key, n.value) ∷ entries r)) in
         let below = shrinks.shrunk fewer b.4 in
         let deep = low (fork l i n r) b few in
-        let all = balances.joined b.3 below.0 (omega (arith, deep)) (omega (arith, deep, below.1)) (omega (arith, b.1, below.2)) (omega (arith, b.2, below.1)) in
+        let all = balances.joined b.3 below.0 (omega (arith, deep)) (omega (arith, deep, below.1)) (omega (arith, b.1, below.2)) (omega (arith, b.2, below.1)) (omega (arith, b.0, deep_before b.4), omega (arith, b.1, deep_before b.4), omega (arith, b.2, deep_before b.4)) in
         (all.balanced, grind (arith, all.most, all.near, b.1, b.2, below.1, below.2), grind (arith, all.least, all.near, b.1, b.2, below.1, below.2));
   }
+
+  pub shrinks_leaf : Shrinks {K = K} {V = V} leaf leaf
+  shrinks_leaf = record { shrunk = λ few b. (b, omega arith, omega arith) }
 
   -- where its first node was all that was on the left,
   pub shrinks_first : (r : Tree K V) (i : ℕ) (n : Node K V) → Shrinks (fork leaf i n r) r
@@ -257,7 +275,7 @@ module _ {K V : Type 0} where
         (one.0, omega (arith, one.2), omega (arith, one.1));
   }
 
-  -- Two sides become a tree under the first node of the right one, if that has one.
+  -- Two sides become a tree under the first node of the right one.
   pub unites_below : (l r p u : Tree K V) → Shrinks r p → Balances l p u → Unites l r u
   unites_below l r p u shrinks balances = record {
     united = λ few_left few_right left right near_left near_right.
@@ -265,9 +283,6 @@ module _ {K V : Type 0} where
         let all = balances.joined left below.0 (omega (arith, low l left few_left)) (omega (arith, low r right few_right, below.1)) (omega (arith, near_left, below.2)) (omega (arith, near_right, below.1)) in
         (all.balanced, grind (arith, all.least, all.near, near_left, near_right, below.1, below.2), grind (arith, all.most, all.near, near_left, near_right, below.1, below.2));
   }
-
-  pub unites_nothing : (l : Tree K V) → Unites l leaf l
-  unites_nothing l = record { united = λ few_left few_right left right near_left near_right. (left, omega arith, omega arith) }
 
   -- What `linked` writes.
   pub links_linked : (nodes : List (Node K V)) (l r : Tree K V) (place : ℕ) (node : Node K V) (left right height : ℕ) → Holds nodes l node.left → Holds nodes r node.right

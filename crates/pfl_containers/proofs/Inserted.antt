@@ -2,16 +2,14 @@
 use Rattle.std.proofs.Common.{◌≡◌, ◌≢◌, ◌⊎◌, inl, inr, ℕ, ◌+◌, ◌<◌, ◌≤◌, List, [], ◌∷◌, ◌++◌, length, get_or, set, slice_get, Some, refl, sym, ◌∙◌, ap, subst, arith, get_or-set_same, get_or-set_other, length-set}
 use Rattle.std.proofs.lemmas.Bool.{cases_eq}
 use Rattle.std.proofs.lemmas.Option.{slice_get_within, slice_get_past}
-use Rattle.pfl_edits.specs.declared.in_order.Node.{Node}
 use Rattle.pfl_containers.specs.Lists.{Link, link, last_from, Lacks}
-use Rattle.pfl_containers.specs.inner.Rings.{Path, Holds, previous_of, ring_of, IsRing, AreRings, Inserts}
-use Rattle.pfl_edits.specs.Linked.{next_of}
+use Rattle.pfl_containers.specs.inner.Rings.{Nodes, next_of, Path, Holds, previous_of, ring_of, IsNumber, IsRing, AreRings, Inserts}
 use Rattle.pfl_containers.proofs.Links.{Lacks-back, Lacks-front, Lacks-without, last-Lacks, Distinct-with, Holds-append, Holds-front, Holds-back, Holds-Lacks}
 use Rattle.pfl_containers.proofs.Paths.{path-first, path-rest, path-known, path-Lacks, insert-other, insert-own}
 use Rattle.pfl_containers.proofs.Walked.{each-set}
 
--- The loose slot x, with the value v, is put into ring k behind the node p.
-module _ {V : Type 0} (old new : List Node) (values : List V) (limit : ℕ) (rings : List (List (Link V))) (x : ℕ) (a : AreRings old values limit x rings) (few : length values ≤ limit)
+-- The loose slot x, with the value v, is put into ring k after the node p.
+module _ {V : Type 0} (old new : Nodes) (values : List V) (limit : ℕ) (rings : List (List (Link V))) (x : ℕ) (a : AreRings old values limit x rings) (few : length values ≤ limit)
     (v : V) (at : slice_get values x ≡ Some v) (k : ℕ) (within : k < length rings) (f b : List (Link V)) (split : get_or rings k [] ≡ f ++ b) (p : ℕ) (ends : last_from (limit + k) f ≡ p) where
   own : IsRing old values x k (limit + k) (f ++ b)
   own = subst (IsRing old values x k (limit + k)) split (a.each k within)
@@ -31,17 +29,23 @@ module _ {V : Type 0} (old new : List Node) (values : List V) (limit : ℕ) (rin
       let is : last_from y.slot g ≡ p = ap (last_from (limit + k)) e ∙ ends in
       inr (subst (λ n. (ring_of old n ≡ k) × (n < length values)) is (path-known old values k y.slot g b (limit + k) path.3 held.1 (path.2, slice_get_within values y.slot y.value held.0)))
 
-  pub inserted-behind : p < limit + length rings
-  inserted-behind = elim (place_is f refl) [ inl e ↦ omega arith | inr known ↦ omega arith ]
+  slot-number : (i : ℕ) → i < length values → IsNumber (length values) limit (length rings) i
+  slot-number i h = record { below = omega arith; slot = λ _. h }
+
+  head-number : (i : ℕ) → i ≡ limit + k → IsNumber (length values) limit (length rings) i
+  head-number i e = record { below = omega arith; slot = λ h. absurd (omega arith) }
+
+  pub inserted-after : IsNumber (length values) limit (length rings) p
+  inserted-after = elim (place_is f refl) [ inl e ↦ head-number p e | inr known ↦ slot-number p known.1 ]
 
   rest : Path old k p b (limit + k)
   rest = subst (λ n. Path old k n b (limit + k)) ends (path-rest old k (limit + k) f b (limit + k) own.path)
 
-  next_is : (g : List (Link V)) → Path old k p g (limit + k) → Holds values g → Lacks x g → (next_of old p < limit + length rings) × (x ≢ next_of old p)
-  next_is [] q h l = (omega (arith, q.0), λ e. no_sentinel k (sym (e ∙ q.0)))
-  next_is (y ∷ g) q h l = (omega (arith, q.0, slice_get_within values y.slot y.value h.0), λ e. l.0 (sym (e ∙ q.0)))
+  next_is : (g : List (Link V)) → Path old k p g (limit + k) → Holds values g → Lacks x g → IsNumber (length values) limit (length rings) (next_of old p) × (x ≢ next_of old p)
+  next_is [] q h l = (head-number (next_of old p) q.0, λ e. no_sentinel k (sym (e ∙ q.0)))
+  next_is (y ∷ g) q h l = (slot-number (next_of old p) (omega (arith, q.0, slice_get_within values y.slot y.value h.0)), λ e. l.0 (sym (e ∙ q.0)))
 
-  pub inserted-next : (next_of old p < limit + length rings) × (x ≢ next_of old p)
+  pub inserted-next : IsNumber (length values) limit (length rings) (next_of old p) × (x ≢ next_of old p)
   inserted-next = next_is b rest (Holds-back values f b own.held) (Lacks-back x f b own.apart)
 
   pub inserted-apart : x ≢ p

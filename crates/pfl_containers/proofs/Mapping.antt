@@ -2,34 +2,33 @@
 use Rattle.std.proofs.Common.{◌≡◌, ◌≤◌, ◌<◌, ◌+◌, ℕ, zero, suc, cond, T, List, [], length, length-append, ◌∷◌, Option, Some, None, is_some, refl, sym, ap, subst, ◌∙◌, arith}
 use Rattle.std.specs.Prelude.{slice_get, find as first_with}
 use Rattle.std.specs.Option.{option_map}
+use Rattle.std.proofs.lemmas.Option.{slice_get_past}
 use Rattle.std.specs.Ordering.{is_lt}
 use Rattle.std.specs.declared.cmp.Ordering.{Ordering}
 use Rattle.std.specs.Cmp.{IsTotalOrder}
-use Rattle.std.specs.FinMap.{IsAntisymmetric}
 use Rattle.std.specs.FinMap.Entries.{find, is_sorted}
 use Rattle.pfl_edits.specs.Maps as maps
 use Rattle.pfl_edits.specs.Maps.{set_at}
-use Rattle.pfl_edits.proofs.ForCallers.{len-insert, set_at-same}
+use Rattle.pfl_edits.proofs.ForCallers.{len-insert}
 use Rattle.pfl_containers.specs.declared.order.node.Node.{Node}
 use Rattle.pfl_containers.specs.declared.order.arena.Arena.{Arena}
 use Rattle.pfl_containers.specs.inner.Trees.{Tree, leaf, fork, entries, Holds}
-use Rattle.pfl_containers.specs.inner.Arenas.{Stores, HasRoom, Locates, Changes, Gains, Loses, Copies}
+use Rattle.pfl_containers.specs.inner.Arenas.{Stores, IsArena, HasRoom, Locates, Changes, Gains, Loses, Copies}
 use Rattle.pfl_containers.specs.OrderEntries.{EntryList, map_of}
 use Rattle.pfl_containers.specs.inner.Views.{IsNextBehind, tree_at, listed}
 use Rattle.pfl_containers.proofs.OrderEntries.{get-map_of, len-map_of, map_of-put, map_of-without}
 use Rattle.pfl_containers.proofs.Searching.{find-under}
 use Rattle.pfl_containers.proofs.Sorted.{filter-next, filter-first, filter-none}
-use Rattle.pfl_containers.proofs.Filling.{some_entry}
 
 module _ {K V : Type 0} where
   abbrev step : List (Node K V) → ℕ → ℕ → Option (Node K V) → Tree K V
   step nodes steps i found = elim found [ None ↦ leaf | Some n ↦ fork (tree_at nodes steps n.left) i n (tree_at nodes steps n.right) ]
 
   -- a tree is read as what stands there
-  tree_at-holds : (nodes : List (Node K V)) (t : Tree K V) (link : Option ℕ) (steps : ℕ) → Holds nodes t link → length (entries t) ≤ steps → tree_at nodes steps link ≡ t
+  tree_at-holds : (nodes : List (Node K V)) (t : Tree K V) (link : ℕ) (steps : ℕ) → Holds nodes t link → length (entries t) ≤ steps → tree_at nodes steps link ≡ t
   unfolding tree_at
   tree_at-holds nodes leaf link zero h d = refl
-  tree_at-holds nodes leaf link (suc steps) h d = ap (tree_at nodes (suc steps)) h
+  tree_at-holds nodes leaf link (suc steps) h d = let past : length nodes ≤ link = omega (arith, h.0, h.1) in ap (step nodes steps link) (slice_get_past nodes link past)
   tree_at-holds nodes (fork l i n r) link zero h d = absurd (omega (arith, length-append (entries l) ((n.key, n.value) ∷ entries r)))
   tree_at-holds nodes (fork l i n r) link (suc steps) h d =
       let e = length-append (entries l) ((n.key, n.value) ∷ entries r) in
@@ -41,6 +40,9 @@ module _ {K V A : Type 0} {R : K → K → Ordering} where
   -- what an arena stores is read from it
   pub listed_is : {limit : ℕ} {a : Arena K V A} {es : List (K × V)} → Stores R limit a es → listed a ≡ es
   listed_is {limit} {a} s = ap entries (tree_at-holds a.nodes.items s.tree a.root a.len s.fills.holds (omega (arith, s.long, ap length s.lists))) ∙ s.lists
+
+  pub is_arena : {limit : ℕ} {a : Arena K V A} {es : List (K × V)} → Stores R limit a es → IsArena R a
+  is_arena {limit} {a} {es} s = record { limit = limit; es = es; stores = s }
 
   pub stores_listed : {limit : ℕ} {a : Arena K V A} {es : List (K × V)} → Stores R limit a es → Stores R limit a (listed a)
   stores_listed {limit} {a} s = subst (Stores R limit a) (sym (listed_is s)) s
@@ -63,8 +65,13 @@ module _ {K V A : Type 0} {R : K → K → Ordering} (o : IsTotalOrder R) (limit
   pub former_none : Locates R a q None → None ≡ maps.get (map_of R (listed a)) q
   former_none l = got l
 
-  pub some_found : {place : ℕ} {node : Node K V} → Locates R a q (Some (place, node)) → 0 < a.len
-  some_found l = some_entry o s q _ _ (sym (l.is limit (listed a) s))
+  -- and where another value is put there
+  pub former_before : {new : Arena K V A} {v : V} {former : Option V} → length (listed a) < limit → Gains R a new q v former → former ≡ maps.get (map_of R (listed a)) q
+  former_before less gains = (gains.stores limit (listed a) s less).1 ∙ sym (get-map_of R (listed a) q s.sorted)
+
+  -- and where it is given as it is taken out
+  pub former_lost : {new : Arena K V A} {former : Option V} → Loses R a new q former → former ≡ maps.get (map_of R (listed a)) q
+  former_lost loses = (loses.stores limit (listed a) s).1 ∙ sym (get-map_of R (listed a) q s.sorted)
 
   module _ (at : Option V) where
     -- another value under the key
@@ -76,18 +83,14 @@ module _ {K V A : Type 0} {R : K → K → Ordering} (o : IsTotalOrder R) (limit
           map = ap (map_of R) (listed_is made) ∙ (map_of-put o (listed a) s.sorted q v ∙ ap (set_at (map_of R (listed a)) q) (sym is));
         }
 
-    -- the entry taken out
-    pub entry_removed : {new : Arena K V A} {place : ℕ} {node : Node K V} → Locates R a q (Some (place, node)) → Loses R a new q place node → at ≡ None → SetsEntry R limit new (listed a) q at
-    entry_removed l loses is =
-        let made = loses.stores limit (listed a) s (sym (l.is limit (listed a) s)) in
+    -- the entry taken out, if there was one
+    pub entry_removed : {new : Arena K V A} {former : Option V} → Loses R a new q former → at ≡ None → SetsEntry R limit new (listed a) q at
+    entry_removed loses is =
+        let made = (loses.stores limit (listed a) s).0 in
         record {
           kept = stores_listed made;
           map = ap (map_of R) (listed_is made) ∙ (map_of-without o (listed a) s.sorted q ∙ ap (set_at (map_of R (listed a)) q) (sym is));
         }
-
-    -- nothing stood there, and nothing does
-    pub entry_absent : IsAntisymmetric R → Locates R a q None → at ≡ None → map_of R (listed a) ≡ set_at (map_of R (listed a)) q at
-    entry_absent exact l is = sym (set_at-same o exact (map_of R (listed a)) q at (sym (former_none l) ∙ sym is))
 
     -- `asked` is what the caller knows of the whole value, of which the entries and the limit are the fields
     module _ (whole : EntryList K V) (fields : record { list = listed a; limit = limit } ≡ whole) (asked : maps.len (set_at (map_of R whole.list) q at) ≤ whole.limit) (v : V) (l : Locates R a q None) (is : at ≡ Some v) where
@@ -98,24 +101,31 @@ module _ {K V A : Type 0} {R : K → K → Ordering} (o : IsTotalOrder R) (limit
           let grows = len-insert o (map_of R (listed a)) q v ∙ ap (λ (x : Option V). cond (is_some x) (maps.len (map_of R (listed a))) (maps.len (map_of R (listed a)) + 1)) (sym (former_none l)) in
           omega (arith, grows, more, len-map_of R (listed a) s.sorted)
 
-      -- there is room for an entry more,
-      pub room_left : HasRoom R a
-      room_left = record { limit = limit; es = listed a; stores = s; less = less }
+      -- so that a full map has the key
+      pub not_full : limit ≤ a.len → ⊥
+      not_full full = omega (arith, less, full, s.long)
 
-      -- and it is added
-      pub entry_added : {new : Arena K V A} → Gains R a new q v → SetsEntry R limit new (listed a) q at
-      entry_added gains =
-          let made = gains.stores limit (listed a) s less (sym (get-map_of R (listed a) q s.sorted) ∙ sym (former_none l)) in
-          record {
-            kept = stores_listed made;
-            map = ap (map_of R) (listed_is made) ∙ (map_of-put o (listed a) s.sorted q v ∙ ap (set_at (map_of R (listed a)) q) (sym is));
-          }
+    -- the entry put in
+    pub entry_added : {new : Arena K V A} {former : Option V} (v : V) → length (listed a) < limit → Gains R a new q v former → at ≡ Some v → SetsEntry R limit new (listed a) q at
+    entry_added v less gains is =
+        let made = (gains.stores limit (listed a) s less).0 in
+        record {
+          kept = stores_listed made;
+          map = ap (map_of R) (listed_is made) ∙ (map_of-put o (listed a) s.sorted q v ∙ ap (set_at (map_of R (listed a)) q) (sym is));
+        }
+
+  -- where not all room is taken, there is room for an entry more
+  pub less_than : a.len < limit → length (listed a) < limit
+  less_than h = omega (arith, h, s.long)
+
+  pub room_left : a.len < limit → HasRoom R a
+  room_left h = record { limit = limit; es = listed a; stores = s; less = less_than h }
 
 -- a copy is seen as what it was made of
 pub copied_is : {K V A : Type 0} {R : K → K → Ordering} {limit : ℕ} {a new : Arena K V A} → Stores R limit a (listed a) → Copies R limit a new → ◌≡◌ {A = EntryList K V} (record { list = listed new; limit = limit }) (record { list = listed a; limit = limit })
 copied_is {K} {V} {A} {R} {limit} {a} s copies = ap (λ (es : List (K × V)). record { list = es; limit = limit }) (listed_is (copies.stores (listed a) s))
 
--- the next entry, and those behind it
+-- the next entry, and those after it
 module _ {K V : Type 0} {R : K → K → Ordering} (o : IsTotalOrder R) (es : List (K × V)) (sorted : T (is_sorted R es)) where
   pub next_after_key : (q : K) (found : Option (K × V)) → found ≡ first_with (λ e. is_lt (R q e.0)) es → IsNextBehind R (Some q) es found
   next_after_key q None is = filter-none _ es is

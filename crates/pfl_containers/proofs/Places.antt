@@ -1,6 +1,6 @@
 -- What a list changed leaves of the places and the counts of all lists. Proofs of the crates above cite the lemmas.
 -- This project's profile.
-use Rattle.std.specs.Prelude.{◌≡◌, ◌≢◌, ℕ, zero, suc, ◌+◌, ◌<◌, ◌≤◌, List, [], ◌∷◌, ◌++◌, length, get_or, set, Option, refl}
+use Rattle.std.specs.Prelude.{◌≡◌, ◌≢◌, ℕ, zero, suc, ◌+◌, ◌<◌, ◌≤◌, List, [], ◌∷◌, ◌++◌, length, get_or, set, Option}
 use Rattle.std.proofs.Common.{◌∙◌, ap, sym, subst, arith, inl, inr, length-set, length-append, get_or-set_same, get_or-set_other}
 use Rattle.std.proofs.lemmas.List.{set-set}
 use Rattle.std.proofs.lemmas.Bool.{cases_eq}
@@ -101,7 +101,7 @@ module _ {V : Type 0} where
   Place-removed c gone was slot ne at = place-changed c was.list (was.front ++ was.back) slot at
       (λ same. stands-without was.front (link gone was.value) was.back slot at.value ne (subst (λ (l : List (Link V)). Stands slot l at.value) was.split (here c was.list slot at same)))
 
-  -- The link at a slot is removed, which gives d. It may be put back behind the slot that stood before it,
+  -- The link at a slot is removed, which gives d. It may be put back after the slot that stood before it,
   module _ (c d : Lists V) (list slot : ℕ) (at : Place c slot) (there : at.list ≡ list) (removed : d ≡ with_links c at.list (at.front ++ at.back)) where
     pub links-removed : d ≡ with_links c list (at.front ++ at.back)
     links-removed = removed ∙ ap (λ k. with_links c k (at.front ++ at.back)) there

@@ -126,26 +126,6 @@ module _ {K X : Type 0} (R : K → K → Ordering) where
   find-below q [] h = refl
   find-below q (e ∷ es) h = ap (λ r. cond (is_eq r) (Some e.1) (find R q es)) h.0 ∙ find-below q es h.1
 
-  -- a key that is in none of a list is in no part of it
-  pub absent_front : (q : K) (ls es : List (K × X)) → find R q (ls ++ es) ≡ None → find R q ls ≡ None
-  absent_front q [] es none = refl
-  absent_front q (e ∷ ls) es none =
-      elim (eq_by_cmp R q e.0) as (λ b. cond b (Some e.1) (find R q (ls ++ es)) ≡ None → cond b (Some e.1) (find R q ls) ≡ None) [
-        | true ↦ λ here. here
-        | false ↦ λ later. absent_front q ls es later
-      ] none
-
-  pub absent_behind : (q : K) (ls es : List (K × X)) → find R q (ls ++ es) ≡ None → find R q es ≡ None
-  absent_behind q [] es none = none
-  absent_behind q (e ∷ ls) es none =
-      elim (eq_by_cmp R q e.0) as (λ b. cond b (Some e.1) (find R q (ls ++ es)) ≡ None → find R q es ≡ None) [
-        | true ↦ λ here. absurd (cc)
-        | false ↦ λ later. absent_behind q ls es later
-      ] none
-
-  pub absent_here : (q : K) (y : K × X) (rs : List (K × X)) → R q y.0 ≡ Equal → find R q (y ∷ rs) ≡ None → ⊥
-  absent_here q y rs is none = let no : Some y.1 ≡ None = sym (ap (λ r. cond (is_eq r) (Some y.1) (find R q rs)) is) ∙ none in cc
-
   -- an entry goes to its side
   pub put-front : (k : K) (v : X) (ls : List (K × X)) (y : K × X) (rs : List (K × X)) → R k y.0 ≡ Less → put R k v (ls ++ y ∷ rs) ≡ put R k v ls ++ y ∷ rs
   put-front k v [] y rs is = ap (λ r. by_order r ((k, v) ∷ y ∷ rs) ((y.0, v) ∷ rs) (y ∷ put R k v rs)) is

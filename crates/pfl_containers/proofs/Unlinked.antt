@@ -2,16 +2,14 @@
 use Rattle.std.proofs.Common.{◌≡◌, ◌≢◌, inl, inr, ℕ, ◌+◌, ◌<◌, ◌≤◌, List, [], ◌∷◌, ◌++◌, length, get_or, set, sym, ◌∙◌, ap, subst, arith, get_or-set_same, get_or-set_other, length-set}
 use Rattle.std.proofs.lemmas.Bool.{cases_eq}
 use Rattle.std.proofs.lemmas.Option.{slice_get_within}
-use Rattle.pfl_edits.specs.declared.in_order.Node.{Node}
 use Rattle.pfl_containers.specs.Lists.{Link, link, Lacks}
-use Rattle.pfl_containers.specs.inner.Rings.{previous_of, ring_of, IsRing, AreRings, Unlinks}
-use Rattle.pfl_edits.specs.Linked.{next_of}
+use Rattle.pfl_containers.specs.inner.Rings.{Nodes, next_of, previous_of, ring_of, IsRing, AreRings, Unlinks}
 use Rattle.pfl_containers.proofs.Links.{Lacks-with, Distinct-without, Distinct-apart, Holds-append, Holds-front, Holds-back}
 use Rattle.pfl_containers.proofs.Paths.{path-last, path-front, path-back, path-first, path-Lacks, unlink-other, unlink-own}
 use Rattle.pfl_containers.proofs.Walked.{each-set}
 
 -- The slot x of ring k is taken out.
-module _ {V : Type 0} (old new : List Node) (values : List V) (limit : ℕ) (rings : List (List (Link V))) (a : AreRings old values limit (length values) rings) (few : length values ≤ limit)
+module _ {V : Type 0} (old new : Nodes) (values : List V) (limit : ℕ) (rings : List (List (Link V))) (a : AreRings old values limit (length values) rings) (few : length values ≤ limit)
     (k : ℕ) (within : k < length rings) (x : ℕ) (v : V) (f b : List (Link V)) (split : get_or rings k [] ≡ f ++ link x v ∷ b) where
   own : IsRing old values (length values) k (limit + k) (f ++ link x v ∷ b)
   own = subst (IsRing old values (length values) k (limit + k)) split (a.each k within)

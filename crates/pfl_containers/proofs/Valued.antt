@@ -2,17 +2,15 @@
 use Rattle.std.proofs.Common.{◌≡◌, ◌≢◌, inl, inr, ℕ, suc, ◌+◌, ◌<◌, List, [], ◌∷◌, ◌++◌, length, get_or, set, slice_get, Some, sym, ◌∙◌, ap, subst, arith, get_or-set_same, get_or-set_other, length-set, length-append}
 use Rattle.std.proofs.lemmas.Bool.{cases_eq}
 use Rattle.std.proofs.lemmas.Option.{slice_get_within}
-use Rattle.pfl_edits.specs.declared.in_order.Node.{Node}
 use Rattle.pfl_containers.specs.Lists.{Link, link, Lacks}
-use Rattle.pfl_containers.specs.inner.Rings.{Path, walk, rings_from, ring_of, IsRing, AreRings, IsKept}
-use Rattle.pfl_edits.specs.Linked.{next_of}
+use Rattle.pfl_containers.specs.inner.Rings.{Nodes, next_of, Path, walk, rings_from, ring_of, IsRing, AreRings, IsKept}
 use Rattle.pfl_containers.proofs.Links.{Lacks-front, Lacks-back, Distinct-without, Distinct-apart, Distinct-with, Holds-append, Holds-front, Holds-back, Holds-changed, count-set}
 use Rattle.pfl_containers.proofs.Paths.{path-back, path-Lacks}
 use Rattle.pfl_containers.proofs.Walked.{each-set}
 use Rattle.pfl_containers.proofs.Kept.{slice_get-set, slice_get-set_other, length-rings_from, kept-new}
 
 module _ {V : Type 0} (x : ℕ) (was v : V) (b : List (Link V)) where
-  path-valued : (nodes : List Node) (r s : ℕ) (f : List (Link V)) (e : ℕ) → Path nodes r s (f ++ link x was ∷ b) e → Path nodes r s (f ++ link x v ∷ b) e
+  path-valued : (nodes : Nodes) (r s : ℕ) (f : List (Link V)) (e : ℕ) → Path nodes r s (f ++ link x was ∷ b) e → Path nodes r s (f ++ link x v ∷ b) e
   path-valued nodes r s [] e p = p
   path-valued nodes r s (y ∷ f) e p = (p.0, p.1, p.2, path-valued nodes r y.slot f e p.3)
 
@@ -21,7 +19,7 @@ module _ {V : Type 0} (x : ℕ) (was v : V) (b : List (Link V)) where
   Lacks-valued z (y ∷ f) p = (p.0, Lacks-valued z f p.1)
 
 -- The slot x of ring k gets the value v in place of another.
-module _ {V : Type 0} (nodes : List Node) (old : List V) (limit loose : ℕ) (rings : List (List (Link V))) (a : AreRings nodes old limit loose rings)
+module _ {V : Type 0} (nodes : Nodes) (old : List V) (limit loose : ℕ) (rings : List (List (Link V))) (a : AreRings nodes old limit loose rings)
     (k : ℕ) (within : k < length rings) (x : ℕ) (was v : V) (f b : List (Link V)) (split : get_or rings k [] ≡ f ++ link x was ∷ b) where
   abbrev valued : List (Link V)
   valued = f ++ link x v ∷ b
@@ -76,7 +74,7 @@ module _ {V : Type 0} (nodes : List Node) (old : List V) (limit loose : ℕ) (ri
   }
 
 -- The slot x of list k gets the value v in place of another.
-pub kept-valued : {V : Type 0} (nodes : List Node) (values : List V) (limit lists len : ℕ) → IsKept nodes values limit lists len
+pub kept-valued : {V : Type 0} (nodes : Nodes) (values : List V) (limit lists len : ℕ) → IsKept nodes values limit lists len
     → (k : ℕ) → k < lists → (x : ℕ) (was v : V) (f b : List (Link V)) → get_or (rings_from nodes values (suc limit) lists) k [] ≡ f ++ link x was ∷ b
     → IsKept nodes (set values x v) limit lists len × (rings_from nodes (set values x v) (suc limit) lists ≡ set (rings_from nodes values (suc limit) lists) k (f ++ link x v ∷ b))
 kept-valued {V = V} nodes values limit lists len kept k h x was v f b split =
@@ -88,6 +86,6 @@ kept-valued {V = V} nodes values limit lists len kept k h x was v f b split =
     let rings = rings-valued nodes values limit (length values) (free ∷ all) kept.rings (suc k) within x was v f b split in
     let count = count-set all k more (omega (arith, many)) in
     let same : length more ≡ length (get_or all k []) = omega (arith, length-append f (link x v ∷ b), ap length split, length-append f (link x was ∷ b)) in
-    kept-new nodes (set values x v) limit lists len free (set all k more) kept.size kept.small (omega (arith, kept.few, length-set values x v)) (length-set all k more ∙ many)
+    kept-new nodes (set values x v) limit lists len free (set all k more) kept.small (omega (arith, kept.few, length-set values x v)) (length-set all k more ∙ many)
     (subst (λ n. AreRings nodes (set values x v) limit n (free ∷ set all k more)) (sym (length-set values x v)) rings)
     (omega (arith, kept.used, count, same, length-set values x v)) (omega (arith, kept.linked, count, same))

@@ -2,18 +2,18 @@
 use Rattle.std.proofs.Common.{◌≡◌, ◌≢◌, ℕ, suc, ◌+◌, ◌-◌, ◌<◌, ◌≤◌, List, [], ◌∷◌, ◌++◌, length, map, get_or, set, slice_get, Option, Some, refl, sym, ◌∙◌, ap, subst, arith, add-one, length-append}
 use Rattle.std.specs.Option.{unwrap_or}
 use Rattle.std.proofs.lemmas.Option.{slice_get_within, same_Some}
-use Rattle.pfl_edits.specs.declared.in_order.Node.{Node}
 use Rattle.pfl_containers.specs.Lists.{Link, link, value_of, Lists, Place, Gap, StandsIn, AreLists, Lacks, links_of, with_links, count_of, first_slot, last_slot, last_from}
-use Rattle.pfl_containers.specs.inner.Rings.{Holds, walk, rings_from, previous_of, ring_of, slot_of, IsRing, IsKept, HasRoom, Takes, Unlinks, Inserts}
-use Rattle.pfl_edits.specs.Linked.{next_of, entries_from}
+use Rattle.pfl_containers.specs.inner.Rings.{Nodes, next_of, Holds, walk, rings_from, previous_of, ring_of, slot_of, IsNumber, IsRing, IsKept, HasRoom, Takes, Unlinks, Inserts}
+use Rattle.pfl_edits.specs.declared.in_order.Node.{Node}
+use Rattle.pfl_edits.specs.Linked.{entries_from, next_of as next_in}
 use Rattle.pfl_containers.proofs.Links.{found, Holds-back, Holds-front, Lacks-back, count-get}
 use Rattle.pfl_containers.proofs.Paths.{path-front, path-back}
 use Rattle.pfl_containers.proofs.Valued.{kept-valued}
 use Rattle.pfl_containers.proofs.WalkEntries.{rings_from-get, walk-entries}
-use Rattle.pfl_containers.proofs.Kept.{slot-first, slot-last, length-rings_from, list-ring, drop-near, drop-next, drop-kept, put-slot, put-behind, put-next, put-apart, put-kept}
+use Rattle.pfl_containers.proofs.Kept.{IsNear, slot-first, slot-last, length-rings_from, list-ring, drop-near, drop-next, drop-kept, put-slot, put-after, put-next, put-apart, put-kept}
 
 -- the lists c are those of the nodes
-module _ {V : Type 0} (nodes : List Node) (values : List V) (limit lists len : ℕ) (kept : IsKept nodes values limit lists len)
+module _ {V : Type 0} (nodes : Nodes) (values : List V) (limit lists len : ℕ) (kept : IsKept nodes values limit lists len)
     (c : Lists V) (is : record { lists = rings_from nodes values (suc limit) lists; limit = limit } ≡ c) where
   pub lists-counted : length c.lists ≡ lists
   lists-counted = ap (λ (d : Lists V). length d.lists) (sym is) ∙ length-rings_from nodes values (suc limit) lists
@@ -32,11 +32,12 @@ module _ {V : Type 0} (nodes : List Node) (values : List V) (limit lists len : �
   last-read k i h begins = let ring = list-links k (list-within k h) in ap (λ n. slot_of limit (previous_of nodes n)) begins ∙ slot-last nodes values limit (suc k) (limit + suc k) (links_of c k) (limit + suc k) ring.path ring.held kept.few (omega arith)
 
   -- a list's values are those on the way from the node i that begins its ring
-  pub list-entries : (k i : ℕ) → k < length c.lists → i ≡ limit + 1 + k → map value_of (links_of c k) ≡ entries_from nodes values (length values) (next_of nodes i)
-  list-entries k i h begins =
+  pub list-entries : (items : List Node) → ((i : ℕ) → i < length values → next_of nodes i ≡ next_in items i)
+      → (k i : ℕ) → k < length c.lists → i ≡ limit + 1 + k → map value_of (links_of c k) ≡ entries_from items values (length values) (next_of nodes i)
+  list-entries items same_nodes k i h begins =
       let there : links_of c k ≡ walk nodes values (length values) (next_of nodes (suc limit + k)) = ap (λ (d : Lists V). links_of d k) (sym is) ∙ rings_from-get nodes values (suc limit) lists k (list-within k h) in
       let same : suc limit + k ≡ i = omega arith in
-      ap (map value_of) there ∙ (walk-entries nodes values (length values) (next_of nodes (suc limit + k)) ∙ ap (λ n. entries_from nodes values (length values) (next_of nodes n)) same)
+      ap (map value_of) there ∙ (walk-entries nodes values items same_nodes (length values) (next_of nodes (suc limit + k)) ∙ ap (λ n. entries_from items values (length values) (next_of nodes n)) same)
 
   module _ (slot : ℕ) (at : Place c slot) where
     place-ring : IsRing nodes values (length values) (suc at.list) (limit + suc at.list) (at.front ++ link slot at.value ∷ at.back)
@@ -74,20 +75,23 @@ module _ {V : Type 0} (nodes : List Node) (values : List V) (limit lists len : �
         let new = kept-valued nodes values limit lists len kept at.list (list-within at.list at.within) slot at.value v at.front at.back place-split in
         (new.0, ap (λ (ls : List (List (Link V))). record { lists = ls; limit = limit }) new.1 ∙ ap (λ (d : Lists V). with_links d at.list (at.front ++ link slot v ∷ at.back)) is)
 
-    pub place-near : (previous_of nodes slot < length nodes) × (next_of nodes slot < length nodes)
+    pub place-near : IsNear nodes (length values) limit (suc lists) slot
     place-near = drop-near nodes values limit lists len kept at.list (list-within at.list at.within) slot at.value at.front at.back place-split
 
     pub place-counted : 1 ≤ len
     place-counted = omega (arith, kept.linked, count-get (rings_from nodes values (suc limit) lists) at.list, ap length place-split, length-append at.front (link slot at.value ∷ at.back))
 
-    pub place-loose : (new : List Node) → Unlinks nodes new slot → (next_of new limit < length new) × (slot ≢ next_of new limit)
+    pub place-loose : (new : Nodes) → Unlinks nodes new slot → IsNumber (length values) limit (suc lists) (next_of new limit) × (slot ≢ next_of new limit)
     place-loose new u = drop-next nodes values limit lists len kept at.list (list-within at.list at.within) slot at.value at.front at.back place-split new u
 
     -- and given back
-    pub place-dropped : (new last : List Node) → Unlinks nodes new slot → Inserts new last 0 slot limit
-        → IsKept last values limit lists (len - 1) × (record { lists = rings_from last values (suc limit) lists; limit = limit } ≡ with_links c at.list (at.front ++ at.back))
-    place-dropped new last u i =
+    pub place-dropped : (new last : Nodes) → Unlinks nodes new slot → Inserts new last 0 slot limit → (still : ℕ) → still ≡ limit
+        → IsKept last values still lists (len - 1) × (record { lists = rings_from last values (suc still) lists; limit = still } ≡ with_links c at.list (at.front ++ at.back))
+    place-dropped new last u i still same =
         let kept_less = drop-kept nodes values limit lists len kept at.list (list-within at.list at.within) slot at.value at.front at.back place-split new u last i (len - 1) (omega (arith, place-counted)) in
+        subst
+        (λ (l : ℕ). IsKept last values l lists (len - 1) × (record { lists = rings_from last values (suc l) lists; limit = l } ≡ with_links c at.list (at.front ++ at.back)))
+        (sym same)
         (kept_less.0, ap (λ (ls : List (List (Link V))). record { lists = ls; limit = limit }) kept_less.1 ∙ ap (λ (d : Lists V). with_links d at.list (at.front ++ at.back)) is)
 
   -- where links may be added, a slot may be taken
@@ -97,8 +101,8 @@ module _ {V : Type 0} (nodes : List Node) (values : List V) (limit lists len : �
   abbrev pub has-room : count_of c.lists < c.limit → HasRoom nodes values limit
   has-room h = record { lists = lists; len = len; kept = kept; room = room-read h }
 
-  -- A slot was taken. It is put into a gap of list k, behind the node p.
-  module _ (new : List Node) (now : List V) (slot : ℕ) (value : V) (t : Takes nodes new values now limit lists slot value)
+  -- A slot was taken. It is put into a gap of list k, after the node p.
+  module _ (new : Nodes) (now : List V) (slot : ℕ) (value : V) (t : Takes nodes new values now limit lists slot value)
       (k : ℕ) (h : k < length c.lists) (behind : Option ℕ) (gap : Gap c k behind) (p : ℕ) (place : p ≡ unwrap_or behind (limit + 1 + k)) where
     gap-split : get_or (rings_from nodes values (suc limit) lists) k [] ≡ gap.front ++ gap.back
     gap-split = subst (λ (d : Lists V). links_of d k ≡ gap.front ++ gap.back) (sym is) gap.split
@@ -112,29 +116,32 @@ module _ {V : Type 0} (nodes : List Node) (values : List V) (limit lists len : �
         let begins : limit + suc k ≡ limit + 1 + k = omega arith in
         last_is gap.front (limit + suc k) ∙ (ap (λ o. unwrap_or o (limit + suc k)) gap.ends ∙ (ap (unwrap_or behind) begins ∙ sym place))
 
-    pub gap-slot : slot < length new
+    pub gap-slot : slot < length now
     gap-slot = put-slot nodes values limit lists len kept new now slot value t k (list-within k h) gap.front gap.back gap-split p gap-ends
 
-    pub gap-behind : p < length new
-    gap-behind = put-behind nodes values limit lists len kept new now slot value t k (list-within k h) gap.front gap.back gap-split p gap-ends
+    pub gap-after : IsNumber (length now) limit (suc lists) p
+    gap-after = put-after nodes values limit lists len kept new now slot value t k (list-within k h) gap.front gap.back gap-split p gap-ends
 
-    pub gap-next : (next_of new p < length new) × (slot ≢ next_of new p)
+    pub gap-next : IsNumber (length now) limit (suc lists) (next_of new p) × (slot ≢ next_of new p)
     gap-next = put-next nodes values limit lists len kept new now slot value t k (list-within k h) gap.front gap.back gap-split p gap-ends
 
     pub gap-apart : slot ≢ p
     gap-apart = put-apart nodes values limit lists len kept new now slot value t k (list-within k h) gap.front gap.back gap-split p gap-ends
 
-    pub gap-filled : (last : List Node) → Inserts new last (k + 1) slot p
-        → IsKept last now limit lists (len + 1) × (record { lists = rings_from last now (suc limit) lists; limit = limit } ≡ with_links c k (gap.front ++ link slot value ∷ gap.back))
-    gap-filled last i =
+    pub gap-filled : (last : Nodes) → Inserts new last (k + 1) slot p → (still : ℕ) → still ≡ limit
+        → IsKept last now still lists (len + 1) × (record { lists = rings_from last now (suc still) lists; limit = still } ≡ with_links c k (gap.front ++ link slot value ∷ gap.back))
+    gap-filled last i still same =
         let inserts : Inserts new last (suc k) slot p = subst (λ r. Inserts new last r slot p) (add-one k) i in
-        let more = put-kept nodes values limit lists len kept new now slot value t k (list-within k h) gap.front gap.back gap-split p gap-ends last inserts in (
+        let more = put-kept nodes values limit lists len kept new now slot value t k (list-within k h) gap.front gap.back gap-split p gap-ends last inserts in
+        subst
+        (λ (l : ℕ). IsKept last now l lists (len + 1) × (record { lists = rings_from last now (suc l) lists; limit = l } ≡ with_links c k (gap.front ++ link slot value ∷ gap.back)))
+        (sym same) (
           subst (IsKept last now limit lists) (sym (add-one len)) more.0,
           ap (λ (ls : List (List (Link V))). record { lists = ls; limit = limit }) more.1 ∙ ap (λ (d : Lists V). with_links d k (gap.front ++ link slot value ∷ gap.back)) is,
         )
 
   -- it stood in no list
-  pub taken-fresh : (new : List Node) (now : List V) (slot : ℕ) (value : V) → Takes nodes new values now limit lists slot value → Place c slot → ⊥
+  pub taken-fresh : (new : Nodes) (now : List V) (slot : ℕ) (value : V) → Takes nodes new values now limit lists slot value → Place c slot → ⊥
   taken-fresh new now slot value t at =
       let apart : Lacks slot (get_or (rings_from nodes values (suc limit) lists) at.list []) = (t.rings.each (suc at.list) (omega (arith, list-within at.list at.within, length-rings_from nodes values (suc limit) lists))).apart in
       (Lacks-back slot at.front (link slot at.value ∷ at.back) (subst (Lacks slot) (place-split slot at) apart)).0 refl

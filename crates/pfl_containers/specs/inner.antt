@@ -2,6 +2,7 @@
 -- it. First what maps by hash have of it, then maps in order, then lists, and then names as keys.
 pub mod Homes
 pub mod HashSlots
+pub mod SlotWords
 pub mod Arenas
 pub mod Balances
 pub mod Changes

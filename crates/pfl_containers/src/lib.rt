@@ -6,6 +6,7 @@ mod by_name;
 mod chains;
 mod hash;
 mod order;
+mod slots;
 
 pub use by_name::ByName;
 pub use chains::Chains;
@@ -14,3 +15,4 @@ pub use hash::hashed::{Hashed, mix};
 pub use order::OrderedMap;
 pub use order::iter::Iter;
 pub use order::ordered::Ordered;
+pub use slots::{SlotIndex, tag_of};

@@ -92,21 +92,18 @@ impl<K: Ordered, V: Copy, A: Allocator> OrderedMap<K, V, A> {
         ensures map { map_of K.order self.new.list ≡ set_at (map_of K.order self.old.list) key at }
         ensures limit { self.new.limit ≡ self.old.limit }
     {
-        match (self.arena.find(key), at) {
-            (Some((place, node)), Some(value)) => {
-                self.arena.change(place, node, value);
-                Some(node.value)
-            }
-            (Some((place, node)), None) => {
-                self.arena.remove(key, place, node);
-                Some(node.value)
-            }
-            (None, Some(value)) => {
-                self.arena.insert(key, value);
-                None
-            }
-            (None, None) => None,
+        let Some(value) = at else {
+            return self.arena.remove(key);
+        };
+        if self.arena.len < self.limit {
+            return self.arena.insert(key, value);
         }
+        // A full map has the key, since there is room for what stands there afterwards.
+        let Some((place, node)) = self.arena.find(key) else {
+            return None;
+        };
+        self.arena.change(place, node, value);
+        Some(node.value)
     }
 
     /// Puts an entry into a map that is not full, and gives what stood under its key.

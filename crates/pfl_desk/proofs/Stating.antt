@@ -8,13 +8,16 @@ use Rattle.pfl_edits.specs.Maps as maps
 use Rattle.pfl_edits.specs.Maps.{set_at}
 use Rattle.pfl_edits.proofs.ForCallers.{get-set_at_cases}
 use Rattle.pfl_rules.specs.Rules.{Rules}
+use Rattle.pfl_track.specs.declared.motion.Motion.{Motion}
 use Rattle.pfl_track.specs.declared.state.State.{State}
+use Rattle.pfl_track.specs.Motions.{with_motion}
 use Rattle.pfl_table.specs.declared.row.Row.{Row}
-use Rattle.pfl_table.specs.Tables.{Table, States, IsTable, AreStates, states_of, row_with, with_row, put_fault, key_in_use}
-use Rattle.pfl_table.proofs.ForCallers.{states_of-with_row, len-states_of}
+use Rattle.pfl_table.specs.Tables.{Table, States, IsTable, AreStates, states_of, row_with, row_moved, with_row, with_moved, put_fault, key_in_use}
+use Rattle.pfl_table.proofs.ForCallers.{get-states_of, states_of-with_row, len-states_of}
 use Rattle.pfl_table.specs.declared.fault.PutFault.TheVariants.{Full, NameInUse, WireInUse, StackInUse}
 use Rattle.std.proofs.lemmas.Bool.Decides.{nat_tests}
 use Rattle.pfl_language.specs.declared.limits.Limits.{Limits}
+use Rattle.pfl_desk.specs.Edits.{moved_at}
 use Rattle.pfl_desk.specs.inner.Kept.{IsTimely, MayAdd, timeout_by}
 use Rattle.pfl_desk.specs.Nodes.{Node, AreParts}
 
@@ -79,6 +82,25 @@ pub written-timely : (limits : Limits) (rules : Rules) (t u : Table) (name : Sta
     → IfSome at (λ s. seconds ≡ timeout_by rules s) → u ≡ with_row t name (row_with at seconds) → IsTimely limits rules u
 written-timely limits rules t u name at seconds timely by is =
     subst (λ (v : Table). IsTimely limits rules v) (sym is) (set-timely limits rules t name at (row_with at seconds) timely (row-by rules at seconds by))
+
+-- a row is moved where its state is
+moved_row : (to : Motion) (seconds : ℕ) (at : Option Row) → option_map (λ (r : Row). r.state) (option_map (row_moved to seconds) at) ≡ option_map (with_motion to) (option_map (λ (r : Row). r.state) at)
+moved_row to seconds None = refl
+moved_row to seconds (Some r) = refl
+
+-- the states of a table of which one was moved
+pub moved-states : (t u : Table) (name : StateName) (to : Motion) (seconds : ℕ) → u ≡ with_moved t name to seconds → states_of u ≡ moved_at (states_of t) name to
+moved-states t u name to seconds is =
+    ap states_of is ∙ (states_of-with_row t name (option_map (row_moved to seconds) (maps.get t.rows name))
+    ∙ ap (set_at (states_of t) name) (moved_row to seconds (maps.get t.rows name) ∙ ap (option_map (with_motion to)) (sym (get-states_of t name))))
+
+-- where it is moved with the timeout that follows from the rules, each row of it has its timeout
+pub moved-timely : (limits : Limits) (rules : Rules) (t u : Table) (name : StateName) (r : Row) (to : Motion) (seconds : ℕ) → IsTimely limits rules t
+    → Some r ≡ maps.get t.rows name → seconds ≡ timeout_by rules (record r.state { class = to.class }) → u ≡ with_moved t name to seconds → IsTimely limits rules u
+moved-timely limits rules t u name r to seconds timely at by is =
+    subst (λ (v : Table). IsTimely limits rules v) (sym is)
+    (set-timely limits rules t name (Some (with_motion to r.state)) (option_map (row_moved to seconds) (maps.get t.rows name)) timely
+    (ap (option_map (row_moved to seconds)) (sym at) ∙ ap (λ (k : ℕ). Some (timed (with_motion to r.state) k)) by))
 
 -- nothing keeps a state from being added that may be
 pub addable : (n : Node) (t : Table) (s : State) → n.states ≡ states_of t → t.limit ≡ n.limits.states → MayAdd n s → put_fault t s ≡ None

@@ -4,6 +4,7 @@ use pfl_base::{Millis, StateName};
 use pfl_bulk::{BulkClient, BulkServer};
 use pfl_defer::DeferEdit;
 use pfl_queue::QueueEdit;
+use pfl_table::Slot;
 use pfl_track::{Motion, State};
 
 /// What stands under a name among the states of a node. A state's timeout follows from the rules.
@@ -14,10 +15,11 @@ pub struct StateEdit {
     pub after: Option<State>,
 }
 
-/// What packets move of the state of a name, which stays.
+/// What packets move of the state of a name, which stays. The slot is where it stood, a hint for who takes the edit back.
 #[derive(Clone, Copy, Debug)]
 pub struct MotionEdit {
     pub name: StateName,
+    pub slot: Slot,
     pub before: Motion,
     pub after: Motion,
 }

@@ -15,4 +15,4 @@ pub use laws::new_nodes_are_nodes;
 pub use parts::judge::Overfull;
 pub use pfl_defer::Deferrals;
 pub use pfl_queue::{Entry, Kind, Pending};
-pub use pfl_table::StateTable;
+pub use pfl_table::{Slot, StateTable};

@@ -1,14 +1,14 @@
--- Commands that end with their line.
-use Rattle.std.proofs.Common.{◌≡◌, ◌∙◌, ℕ, List, [], ◌∷◌, Result, Ok, Err, refl, sym, Bool, false, true}
-use Rattle.std.specs.Prelude.{is_ok}
-use Rattle.pfl_language.specs.declared.command.Command.{Command}
+-- Commands that end with their line, and the word of a packet.
+use Rattle.std.proofs.Common.{◌≡◌, ℕ, List, [], ◌∷◌, Result, Ok, Err, refl, false, true}
+use Rattle.std.specs.Prelude.{is_ok, bytes_eq, codes}
+use Rattle.std.proofs.lemmas.Slice.Eq.{bytes_eq-Decides}
 use Rattle.pfl_lines.specs.declared.fault.LineFault.{LineFault}
 use Rattle.pfl_lines.specs.declared.draft.CommandDraft.{CommandDraft}
-use Rattle.pfl_lines.specs.Commands.{command_at, command_of, whole_command}
+use Rattle.pfl_lines.specs.Commands.{command_at, command_of, event_by, packet_at, whole_command}
 use Rattle.pfl_lines.specs.Readings.{word_at}
 use Rattle.pfl_lines.specs.inner.Readings.{Gives}
 
--- a command with no word behind it is what the words say
+-- a command with no word after it is what the words say
 pub command_of-whole : (ws rest : List (List ℕ)) (draft : CommandDraft) → command_at ws ≡ Ok (draft, rest) → is_ok (word_at rest) ≡ false →
     whole_command draft ≡ command_of ws
 unfolding command_of
@@ -20,3 +20,7 @@ pub Gives-none : {X Y : Type 0} (view : X → Y) (result : Result X LineFault) (
     is_ok result ≡ false → is_ok read ≡ false
 Gives-none view (Ok x) read gives none = cc
 Gives-none view (Err e) read gives none = rw gives refl
+
+-- `packet` is none of the words that the definition tries before it
+pub packet_first : (word : List ℕ) (ws : List (List ℕ)) → bytes_eq word (codes "packet") ≡ true → event_by word ws ≡ packet_at ws
+packet_first word ws is = rw ((bytes_eq-Decides word (codes "packet")).0 is) refl

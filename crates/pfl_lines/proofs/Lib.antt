@@ -1,5 +1,7 @@
 pub mod Commanded
 pub mod Values
+pub mod Before
+pub mod Dotted
 pub mod Fronts
 pub mod Timeouts
 pub mod Letters

@@ -3,3 +3,5 @@
 pub mod Words
 pub mod Readings
 pub mod Parts
+pub mod Numbers
+pub mod Addresses

@@ -2,26 +2,34 @@
 
 ghost use Rattle.std.specs.Prelude.{◌≡◌, ◌<◌, IfOk};
 ghost use Rattle.pfl_lines.specs.inner.Readings.{Gives};
-ghost use Rattle.pfl_lines.specs.Addresses.{v4_of, hex_digit, mark_at, hex_at, group_at, pair_at, quad_at, v6_at, v6_of, v4_end, v6_end, end_of, addr_of, net_at_word};
+ghost use Rattle.pfl_lines.specs.inner.Addresses.{v4_front, v4_read, v4_end_read};
+ghost use Rattle.pfl_lines.specs.Addresses.{hex_digit, mark_at, hex_at, group_at, pair_at, quad_at, v6_at, v6_of, v6_end, end_of, addr_of, net_at_word};
 
 use crate::fault::LineFault;
-use crate::numbers::{cut, number_of};
+use crate::numbers::{cut, number_before, number_of};
 use pfl_base::{Addr, End};
 use pfl_rules::Net;
 
-/// Four numbers from 0 to 255 joined by dots.
-#[tactic(auto, unfolding(crate::specs::Addresses::v4_of))]
-fn v4_of(word: &[u8]) -> Result<u32, LineFault>
-    ensures { result ≡ v4_of word.now }
+/// Three numbers from 0 to 255, a dot after each, as one number, and what stands after them.
+#[tactic(auto, unfolding(crate::specs::inner::Addresses::v4_front))]
+fn v4_front(word: &[u8]) -> Result<(u64, &[u8]), LineFault>
+    ensures exact { Gives (λ x. (x.0, x.1.now)) result (v4_front word.now) }
+    ensures small { IfOk result (λ x. x.0 < 16777216) }
 {
-    let (first, rest) = cut(word, b'.')?;
-    let (second, rest) = cut(rest, b'.')?;
-    let (third, fourth) = cut(rest, b'.')?;
-    let a = number_of(first, 255)?;
-    let b = number_of(second, 255)?;
-    let c = number_of(third, 255)?;
-    let d = number_of(fourth, 255)?;
-    Ok((((a * 256 + b) * 256 + c) * 256 + d) as u32)
+    let (a, rest) = number_before(word, b'.', 255)?;
+    let (b, rest) = number_before(rest, b'.', 255)?;
+    let (c, rest) = number_before(rest, b'.', 255)?;
+    Ok(((a * 256 + b) * 256 + c, rest))
+}
+
+/// Four numbers from 0 to 255 joined by dots.
+#[tactic(auto, unfolding(crate::specs::inner::Addresses::v4_read))]
+fn v4_of(word: &[u8]) -> Result<u32, LineFault>
+    ensures { result ≡ v4_read word.now }
+{
+    let (front, last) = v4_front(word)?;
+    let last = number_of(last, 255)?;
+    Ok((front * 256 + last) as u32)
 }
 
 /// The value of one of 0 to 9 and a to f.
@@ -36,7 +44,7 @@ fn hex_digit(byte: u8) -> Result<u8, LineFault>
     }
 }
 
-/// What is behind this byte, which comes first.
+/// What stands after this byte, which comes first.
 fn mark_at(bytes: &[u8], mark: u8) -> Result<&[u8], LineFault>
     ensures { Gives (λ x. x.now) result (mark_at mark bytes.now) }
 {
@@ -119,20 +127,20 @@ fn v6_of(word: &[u8]) -> Result<u128, LineFault>
 }
 
 /// `ADDR:PORT`.
-#[tactic(auto, unfolding(crate::specs::Addresses::v4_end))]
+#[tactic(auto, unfolding(crate::specs::inner::Addresses::v4_end_read))]
 fn v4_end(word: &[u8]) -> Result<End, LineFault>
-    ensures { result ≡ v4_end word.now }
+    ensures { result ≡ v4_end_read word.now }
 {
-    let (addr, port) = cut(word, b':')?;
-    let addr = v4_of(addr)?;
+    let (front, rest) = v4_front(word)?;
+    let (last, port) = number_before(rest, b':', 255)?;
     let port = number_of(port, 65535)?;
     Ok(End {
-        addr: Addr::V4(addr),
+        addr: Addr::V4((front * 256 + last) as u32),
         port: port as u16,
     })
 }
 
-/// `ADDR]:PORT`, behind `[`.
+/// `ADDR]:PORT`, after `[`.
 #[tactic(auto, unfolding(crate::specs::Addresses::v6_end))]
 fn v6_end(word: &[u8]) -> Result<End, LineFault>
     ensures { result ≡ v6_end word.now }
@@ -148,7 +156,7 @@ fn v6_end(word: &[u8]) -> Result<End, LineFault>
 }
 
 /// `ADDR:PORT`, for IPv6 `[ADDR]:PORT`.
-#[tactic(auto, unfolding(crate::specs::Addresses::end_of))]
+#[tactic(auto, using(crate::proofs::Dotted::v4_end_is), unfolding(crate::specs::Addresses::end_of))]
 pub fn end_of(word: &[u8]) -> Result<End, LineFault>
     ensures { result ≡ end_of word.now }
 {
@@ -160,7 +168,7 @@ pub fn end_of(word: &[u8]) -> Result<End, LineFault>
 }
 
 /// An address of either family.
-#[tactic(auto, unfolding(crate::specs::Addresses::addr_of))]
+#[tactic(auto, using(crate::proofs::Dotted::v4_is), unfolding(crate::specs::Addresses::addr_of))]
 fn addr_of(word: &[u8]) -> Result<Addr, LineFault>
     ensures { result ≡ addr_of word.now }
 {

@@ -1,6 +1,6 @@
 //! Commands.
 
-ghost use Rattle.std.specs.Prelude.{◌≡◌};
+ghost use Rattle.std.specs.Prelude.{◌≡◌, false, bytes_eq, codes};
 ghost use Rattle.std.specs.List.{list_all};
 ghost use Rattle.pfl_lines.specs.Words.{words};
 ghost use Rattle.pfl_lines.specs.inner.Readings.{Gives};
@@ -106,13 +106,11 @@ fn bare_frame_event_at(event: FrameEvent, line: &[u8]) -> Result<(EventDraft, &[
     Ok((EventDraft::Whole(Event::Of { ticket, event }), rest))
 }
 
-/// What belongs to the word of an event of a node.
+/// What belongs to the word of an event of a node, where that is not `packet`.
 fn node_event_by<'a>(word: &[u8], line: &'a [u8]) -> Result<(EventDraft, &'a [u8]), LineFault>
+    requires other { bytes_eq word.now (codes "packet") ≡ false }
     ensures { Gives (λ x. (x.0, words x.1.now)) result (node_event_by word.now (words line.now)) }
 {
-    if is_word(word, "packet") {
-        return packet_at(line);
-    }
     if is_word(word, "tick") {
         return tick_at(line);
     }
@@ -125,8 +123,9 @@ fn node_event_by<'a>(word: &[u8], line: &'a [u8]) -> Result<(EventDraft, &'a [u8
     }
 }
 
-/// What belongs to the word of an event of a frame in flight, or of a node.
+/// What belongs to the word of an event of a frame in flight, or of a node, where that is not `packet`.
 fn frame_event_by<'a>(word: &[u8], line: &'a [u8]) -> Result<(EventDraft, &'a [u8]), LineFault>
+    requires other { bytes_eq word.now (codes "packet") ≡ false }
     ensures { Gives (λ x. (x.0, words x.1.now)) result (frame_event_by word.now (words line.now)) }
 {
     if is_word(word, "cut") {
@@ -138,10 +137,14 @@ fn frame_event_by<'a>(word: &[u8], line: &'a [u8]) -> Result<(EventDraft, &'a [u
     }
 }
 
-/// What belongs to an event's word.
+/// What belongs to an event's word. The commonest word is tried first.
+#[tactic(auto, using(crate::proofs::Commanded::packet_first))]
 fn event_by<'a>(word: &[u8], line: &'a [u8]) -> Result<(EventDraft, &'a [u8]), LineFault>
     ensures { Gives (λ x. (x.0, words x.1.now)) result (event_by word.now (words line.now)) }
 {
+    if is_word(word, "packet") {
+        return packet_at(line);
+    }
     if is_word(word, "flush") {
         return flush_at(line);
     }

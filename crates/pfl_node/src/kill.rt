@@ -13,7 +13,7 @@ ghost use Rattle.pfl_receive.specs.desk.Weights.{deleted_edits};
 use crate::node::Node;
 use pfl_base::{Refusal, StateName};
 use pfl_edits::Change;
-use pfl_receive::{Desk, NodeEdit, Overfull};
+use pfl_receive::{Desk, NodeEdit, Overfull, Slot};
 use pfl_track::State;
 use std::alloc::Allocator;
 
@@ -45,6 +45,6 @@ fn delete<A: Allocator>(desk: &mut Desk<A>, state: State) -> Result<(State, bool
     ensures state { IfOk result (λ r. r.0 ≡ state) }
     ensures writes { Writes 5 desk.old desk.new }
 {
-    desk.delete(&state)?;
+    desk.delete(Slot::UNKNOWN, &state)?;
     Ok((state, desk.is_overcounted()))
 }

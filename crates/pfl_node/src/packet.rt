@@ -23,7 +23,7 @@ use crate::packet::start::{drop_packet, judge, pass};
 use pfl_base::{Dir, Packet, Refusal, key};
 use pfl_edits::Change;
 use pfl_language::{Fate, Reason};
-use pfl_receive::{Desk, NodeEdit, Overfull};
+use pfl_receive::{Desk, NodeEdit, Overfull, Slot};
 use pfl_track::{State, Tracked, track};
 use std::alloc::Allocator;
 
@@ -56,16 +56,18 @@ fn handle<A: Allocator>(
     requires room { 14 ≤ desk.old.edits.spare }
     ensures done { Handles result desk.old desk.new (handled desk.old.node dir packet.now) (packet_points desk.old.node dir packet.now) }
 {
-    let Some(state) = desk.states().found(&key(packet, dir), dir).copied() else {
+    let Some((slot, state)) = desk.states().find(&key(packet, dir), dir) else {
         let fate = judge(desk, dir, packet)?;
         return Ok((fate, desk.is_overcounted()));
     };
-    follow(desk, &state, dir, packet)
+    let state = *state;
+    follow(desk, slot, &state, dir, packet)
 }
 
-/// A packet of a state.
+/// A packet of a state, which may stand at this slot.
 fn follow<A: Allocator>(
     desk: &mut Desk<A>,
+    slot: Slot,
     state: &State,
     dir: Dir,
     packet: &Packet,
@@ -78,32 +80,33 @@ fn follow<A: Allocator>(
 {
     match track(state, packet, dir, desk.clock()) {
         Tracked::Moved(state) => {
-            let fate = accept(desk, state)?;
+            let fate = accept(desk, slot, state)?;
             Ok((fate, desk.is_overcounted()))
         }
         Tracked::OutOfWindow => {
             let fate = drop_packet(desk, Reason::Window);
             Ok((fate, desk.is_overcounted()))
         }
-        Tracked::Reused => reuse(desk, state, dir, packet),
+        Tracked::Reused => reuse(desk, slot, state, dir, packet),
     }
 }
 
-/// A packet was accepted on a state, which then is this one.
-fn accept<A: Allocator>(desk: &mut Desk<A>, state: State) -> Result<Fate, Overfull>
+/// A packet was accepted on a state, which then is this one, and may stand at this slot.
+fn accept<A: Allocator>(desk: &mut Desk<A>, slot: Slot, state: State) -> Result<Fate, Overfull>
     requires room { 6 ≤ desk.old.edits.spare }
     requires known { MayReplace desk.old.node state }
     ensures done { Tried 6 result desk.old desk.new (accepted desk.old.node state) }
 {
     let name = state.name();
     desk.free(name);
-    desk.change_state(state.with_ack_wanted(false))?;
+    desk.change_state(slot, state.with_ack_wanted(false))?;
     Ok(pass(desk, Some(name)))
 }
 
 /// A new connection over a closed one: the state of that is deleted, and the packet is one that no state takes.
 fn reuse<A: Allocator>(
     desk: &mut Desk<A>,
+    slot: Slot,
     closed: &State,
     dir: Dir,
     packet: &Packet,
@@ -113,7 +116,7 @@ fn reuse<A: Allocator>(
     requires room { 14 ≤ desk.old.edits.spare }
     ensures done { Handles result desk.old desk.new (judged (to.deleted desk.old.node closed.now) dir packet.now) ((judged (to.deleted desk.old.node closed.now) dir packet.now).node ∷ to.deleted desk.old.node closed.now ∷ []) }
 {
-    desk.delete(closed)?;
+    desk.delete(slot, closed)?;
     let before = desk.is_overcounted();
     let fate = judge(desk, dir, packet)?;
     Ok((fate, desk.is_overcounted() | before))

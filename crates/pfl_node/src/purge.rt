@@ -12,7 +12,7 @@ ghost use Rattle.pfl_receive.specs.desk.Weights.{deleted_edits};
 use crate::node::Node;
 use pfl_base::Refusal;
 use pfl_edits::Change;
-use pfl_receive::{Desk, NodeEdit, Overfull};
+use pfl_receive::{Desk, NodeEdit, Overfull, Slot};
 use pfl_rules::scaled;
 use pfl_track::State;
 use std::alloc::Allocator;
@@ -47,10 +47,12 @@ fn purge<A: Allocator>(desk: &mut Desk<A>) -> Result<(usize, bool), Overfull>
     let states = desk.states().len();
     let mut count = 0;
     let mut overcounted = false;
+    desk.order_expiries(states);
     while let Some(state) = first_expired(desk, states) {
-        desk.delete(&state)?;
+        desk.delete(Slot::UNKNOWN, &state)?;
         overcounted |= desk.is_overcounted();
         count += 1;
+        desk.order_expiries(states);
     }
     Ok((count, overcounted))
 }

@@ -1,5 +1,5 @@
--- Marks at slots: what the index finds stands there, and all is kept when a mark comes or goes.
-use Rattle.std.specs.Prelude.{◌≡◌, ◌≢◌, ℕ, zero, suc, ◌+◌, ◌<◌, ◌≤◌, Bool, true, false, List, [], ◌∷◌, ◌++◌, length, map, get_or, Option, Some, None, IfSome, is_some, refl}
+-- Marks at slots: what is found stands there, and all is kept when a mark comes or goes.
+use Rattle.std.specs.Prelude.{◌≡◌, ◌≢◌, ℕ, zero, suc, ◌+◌, ◌<◌, ◌≤◌, ◌^◌, Bool, true, false, List, [], ◌∷◌, ◌++◌, length, map, get_or, Option, Some, None, IfSome, is_some, refl}
 use Rattle.std.specs.Option.{option_map}
 use Rattle.std.specs.declared.cmp.Ordering.{Ordering}
 use Rattle.std.specs.Ordering.{eq_by_cmp}
@@ -12,20 +12,17 @@ use Rattle.pfl_edits.specs.Maps as maps
 use Rattle.pfl_edits.specs.Maps.{Map, set_at}
 use Rattle.pfl_edits.proofs.ForCallers.{len-insert, get-set_at_same, get-set_at_other, set_at-set_at, set_at-same, row_at, Distinct, get-map_of, len-map_of, map_of-between, map_of-without, some_is_none}
 use Rattle.pfl_edits.specs.Rows.{map_of}
-use Rattle.pfl_containers.specs.declared.by_name.ByName.{ByName}
-use Rattle.pfl_containers.specs.HashEntries.{EntryList}
 use Rattle.pfl_containers.specs.OrderEntries.{EntryList as TurnList}
-use Rattle.pfl_containers.specs.Lists.{Link, link, Lists, Place, links_of, with_links, count_of}
-use Rattle.pfl_containers.specs.NameKeys.{by_name_cmp}
-use Rattle.pfl_containers.specs.SlotIndexes.{IsIndex, HasNone, key_of}
-use Rattle.pfl_containers.specs.inner.NameOrder.{by_name_total, by_name_exact}
-use Rattle.pfl_containers.proofs.ForCallers.{length-with_links, key_of_row, found-stands, stands-found, others-none, index-get, index-new, gained, lost}
+use Rattle.pfl_containers.specs.Lists.{AreLists, Link, link, Lists, Place, links_of, with_links, count_of}
+use Rattle.pfl_containers.specs.SlotIndexes.{IsIndex, IsTagged, HasNone, key_of}
+use Rattle.pfl_containers.specs.Slots.{Tags, HasTag}
+use Rattle.pfl_containers.proofs.ForCallers.{Place-new, length-with_links, key_of_row, found-stands, stands-found, others-none, index-new, gained, lost, tagged-gained, tagged-has, tagged-lost, tagged-new, tagged-stands}
 use Rattle.pfl_queue.specs.declared.Kind.{Kind}
 use Rattle.pfl_queue.specs.declared.Kind.TheVariants.{Insert, InsertAck, Update, UpdateShort, Delete}
 use Rattle.pfl_queue.specs.declared.Mark.{Mark}
 use Rattle.pfl_queue.specs.declared.marks.Turn.{Turn}
 use Rattle.pfl_queue.specs.inner.Rising.{IsRising, HasNone as NoNumber, InsertsInOrder, OrderedGap}
-use Rattle.pfl_queue.specs.inner.Marked.{by_name, slot_of_link, mark_of_link, mark_name, mark_number, turn_of, turn_cmp, turn_total, turn_exact, all_links, listed, marks_of, AreOfKind, AreInTurn, AreOrdered, AreMarked, IsNew, AreApart}
+use Rattle.pfl_queue.specs.inner.Marked.{slot_of_link, mark_of_link, mark_name, mark_number, name_tag, turn_of, turn_cmp, turn_total, turn_exact, all_links, listed, marks_of, slot_named, AreOfKind, AreTagged, AreInTurn, AreOrdered, AreMarked, IsNew, AreApart}
 use Rattle.pfl_queue.specs.Taking.{kind_place}
 use Rattle.pfl_queue.proofs.Gaps.{IsRising-without, gap-ordered}
 use Rattle.pfl_queue.proofs.Joined.{count-all, around, place, each_list}
@@ -42,37 +39,28 @@ row_at-map R f key (x ∷ xs) q =
     ap (cond (eq_by_cmp R q (key (f x))) (Some (f x))) (row_at-map R f key xs q)
     ∙ mapped f (eq_by_cmp R q (key (f x))) x (row_at R (λ y. key (f y)) xs q)
 
--- a name as a key of the index
-pub by_name-found : (links : List (Link Mark)) (name : StateName) → row_at by_name_cmp (key_of by_name) links (record { 0 = name }) ≡ row_at name_cmp (key_of mark_name) links name
-by_name-found [] name = refl
-by_name-found (l ∷ links) name = ap (cond (eq_by_cmp name_cmp name (mark_name l.value)) (Some l)) (by_name-found links name)
-
-named_key : (name : StateName) (m : Mark) → m.name ≡ name → ◌≡◌ {A = ByName} (record { 0 = name }) (by_name m)
-named_key name m same = ap (λ (n : StateName). record { 0 = n }) (sym same)
-
 -- what stands under a name
 pub get-marks_of : (lists : List (List (Link Mark))) (q : StateName) → maps.get (marks_of lists) q ≡ option_map mark_of_link (row_at name_cmp (key_of mark_name) (all_links lists) q)
 get-marks_of lists q = get-map_of names_total names_exact mark_name (listed lists) q ∙ row_at-map name_cmp mark_of_link mark_name (all_links lists) q
 
--- a name that the index has not
-no-mark : (links : List (Link Mark)) (name : StateName) → HasNone by_name_cmp by_name links (record { 0 = name }) → row_at name_cmp mark_name (map mark_of_link links) name ≡ None
-no-mark links name none = row_at-map name_cmp mark_of_link mark_name links name ∙ ap (option_map mark_of_link) (sym (by_name-found links name) ∙ none)
+-- a name that no link has
+no-mark : (links : List (Link Mark)) (name : StateName) → HasNone name_cmp mark_name links name → row_at name_cmp mark_name (map mark_of_link links) name ≡ None
+no-mark links name none = row_at-map name_cmp mark_of_link mark_name links name ∙ ap (option_map mark_of_link) none
 
 none_before : (o : Option (Link Mark)) → option_map mark_of_link o ≡ None → o ≡ None
 none_before None e = refl
 none_before (Some l) e = absurd (some_is_none l.value e)
 
-pub no-link : (lists : List (List (Link Mark))) (name : StateName) → maps.get (marks_of lists) name ≡ None → HasNone by_name_cmp by_name (all_links lists) (record { 0 = name })
-no-link lists name none =
-    by_name-found (all_links lists) name ∙ none_before (row_at name_cmp (key_of mark_name) (all_links lists) name) (sym (get-marks_of lists name) ∙ none)
+pub no-link : (lists : List (List (Link Mark))) (name : StateName) → maps.get (marks_of lists) name ≡ None → HasNone name_cmp mark_name (all_links lists) name
+no-link lists name none = none_before (row_at name_cmp (key_of mark_name) (all_links lists) name) (sym (get-marks_of lists name) ∙ none)
 
-pub apart-marks : (links : List (Link Mark)) → Distinct by_name_cmp (key_of by_name) links → Distinct name_cmp mark_name (map mark_of_link links)
+pub apart-marks : (links : List (Link Mark)) → Distinct name_cmp (key_of mark_name) links → Distinct name_cmp mark_name (map mark_of_link links)
 apart-marks [] d = tt
 apart-marks (x ∷ links) d = (no-mark links x.value.name d.0, apart-marks links d.1)
 
 -- the marks stand in turn
-pub marked-turn : (c : Lists Mark) (names : EntryList ByName ℕ) (order : TurnList Turn ℕ) → AreMarked c names order → AreInTurn c
-marked-turn c names order kept = record { five = kept.ordered.five; kinds = kept.ordered.kinds; rising = kept.ordered.rising; apart = apart-marks (all_links c.lists) kept.index.apart }
+pub marked-turn : (c : Lists Mark) (names : Tags) (order : TurnList Turn ℕ) → AreMarked c names order → AreInTurn c
+marked-turn c names order kept = record { five = kept.ordered.five; kinds = kept.ordered.kinds; rising = kept.ordered.rising; apart = apart-marks (all_links c.lists) kept.tagged.apart }
 
 -- a mark more, and one less
 marks-with : (f : List (Link Mark)) (x : Link Mark) (b : List (Link Mark)) → row_at name_cmp mark_name (map mark_of_link (f ++ b)) x.value.name ≡ None
@@ -100,20 +88,10 @@ pub record NamePlace (c : Lists Mark) (slot : ℕ) (name : StateName) : Type 0 w
   pub is : row_at name_cmp (key_of mark_name) (all_links c.lists) name ≡ Some (link slot at.value)
   pub named : at.value.name ≡ name
 
-module _ (c : Lists Mark) (names : EntryList ByName ℕ) (order : TurnList Turn ℕ) (kept : AreMarked c names order) where
-  -- as many marks as links
-  pub len-marks : maps.len (marks_of c.lists) ≡ count_of c.lists
-  len-marks =
-      len-map_of names_total names_exact mark_name (listed c.lists) (apart-marks (all_links c.lists) kept.index.apart)
-      ∙ (length-map (all_links c.lists) mark_of_link ∙ sym (count-all c.lists))
-
-  found-at : (name : StateName) → maps.get (maps.from_sorted {R = by_name_cmp} names.list) (record { 0 = name }) ≡ option_map slot_of_link (row_at name_cmp (key_of mark_name) (all_links c.lists) name)
-  found-at name =
-      index-get by_name_total by_name_exact by_name (all_links c.lists) (maps.from_sorted names.list) (record { 0 = name }) kept.index
-      ∙ ap (option_map slot_of_link) (by_name-found (all_links c.lists) name)
-
-  pub name-place : (name : StateName) (slot : ℕ) → Some slot ≡ maps.get (maps.from_sorted {R = by_name_cmp} names.list) (record { 0 = name }) → NamePlace c slot name
-  name-place name slot is = through (row_at name_cmp (key_of mark_name) (all_links c.lists) name) refl (is ∙ found-at name)
+module _ (c : Lists Mark) where
+  -- what a search finds
+  pub name-place : (name : StateName) (slot : ℕ) → Some slot ≡ slot_named (all_links c.lists) name → NamePlace c slot name
+  name-place name slot is = through (row_at name_cmp (key_of mark_name) (all_links c.lists) name) refl is
     where
       through : (at : Option (Link Mark)) → row_at name_cmp (key_of mark_name) (all_links c.lists) name ≡ at → Some slot ≡ option_map slot_of_link at → NamePlace c slot name
       through None e found = absurd (some_is_none slot found)
@@ -133,12 +111,41 @@ module _ (c : Lists Mark) (names : EntryList ByName ℕ) (order : TurnList Turn 
   found-mark name slot p v is = ap Some is ∙ sym (get-marks_of c.lists name ∙ ap (option_map mark_of_link) p.is)
 
   -- and that none is there
-  pub no-name : (name : StateName) → None ≡ maps.get (maps.from_sorted {R = by_name_cmp} names.list) (record { 0 = name }) → maps.get (marks_of c.lists) name ≡ None
-  no-name name is = get-marks_of c.lists name ∙ through (row_at name_cmp (key_of mark_name) (all_links c.lists) name) (is ∙ found-at name)
+  pub no-name : (name : StateName) → None ≡ slot_named (all_links c.lists) name → maps.get (marks_of c.lists) name ≡ None
+  no-name name is = get-marks_of c.lists name ∙ through (row_at name_cmp (key_of mark_name) (all_links c.lists) name) is
     where
       through : (at : Option (Link Mark)) → None ≡ option_map slot_of_link at → option_map mark_of_link at ≡ None
       through None found = refl
       through (Some l) found = absurd (some_is_none l.slot (sym found))
+
+  -- then nothing is taken off
+  pub none-less : (name : StateName) → None ≡ slot_named (all_links c.lists) name → marks_of c.lists ≡ maps.remove (marks_of c.lists) name
+  none-less name none = sym (set_at-same names_total names_exact (marks_of c.lists) name None (no-name name none))
+
+module _ (c : Lists Mark) (names : Tags) (order : TurnList Turn ℕ) (kept : AreMarked c names order) where
+  -- as many marks as links
+  pub len-marks : maps.len (marks_of c.lists) ≡ count_of c.lists
+  len-marks =
+      len-map_of names_total names_exact mark_name (listed c.lists) (apart-marks (all_links c.lists) kept.tagged.apart)
+      ∙ (length-map (all_links c.lists) mark_of_link ∙ sym (count-all c.lists))
+
+  -- the tag of a name is at the slot of its mark
+  pub name-tagged : (name : StateName) (slot : ℕ) → NamePlace c slot name → (t : ℕ) → t ≡ name_tag name → HasTag names.tags t slot
+  name-tagged name slot p t is =
+      let a = around c.lists p.at.list p.at.front p.at.back p.at.within in
+      let l = link slot p.at.value in
+      let tagged = subst (λ (ls : List (Link Mark)). IsTagged name_cmp mark_name name_tag ls names.tags) (a.was (l ∷ []) p.at.split) kept.tagged in
+      tagged-has names_total names_exact mark_name name_tag a.before l a.behind names.tags tagged ∙ (ap (λ n. Some (name_tag n)) p.named ∙ ap Some (sym is))
+
+  -- and a slot that has no mark has no tag
+  pub fresh-untagged : (slot : ℕ) → (Place c slot → ⊥) → maps.get names.tags slot ≡ None
+  fresh-untagged slot fresh = through (maps.get names.tags slot) refl
+    where
+      through : (at : Option ℕ) → maps.get names.tags slot ≡ at → at ≡ None
+      through None is = refl
+      through (Some t) is =
+          let s = tagged-stands names_total names_exact mark_name name_tag (all_links c.lists) names.tags slot t kept.tagged is in
+          absurd (fresh (place c slot s.0 s.1).at)
 
 -- ---- a mark goes
 
@@ -150,19 +157,19 @@ kind-with : (k : ℕ) (f : List (Link Mark)) (x : Link Mark) (b : List (Link Mar
 kind-with k [] x b is all = (is, all)
 kind-with k (y ∷ f) x b is all = (all.0, kind-with k f x b is all.1)
 
-module _ (c new : Lists Mark) (names : EntryList ByName ℕ) (order : TurnList Turn ℕ) (kept : AreMarked c names order) (name : StateName) (slot : ℕ) (p : NamePlace c slot name)
+module _ (c new : Lists Mark) (names : Tags) (order : TurnList Turn ℕ) (kept : AreMarked c names order) (name : StateName) (slot : ℕ) (p : NamePlace c slot name)
     (gone : new ≡ with_links c p.at.list (p.at.front ++ p.at.back)) where
   abbrev gone_link : Link Mark
   gone_link = link slot p.at.value
 
-  pub marked-less : (now : EntryList ByName ℕ) → maps.from_sorted {R = by_name_cmp} now.list ≡ maps.remove (maps.from_sorted {R = by_name_cmp} names.list) (record { 0 = name }) → now.limit ≡ names.limit
+  pub marked-less : (now : Tags) → now.tags ≡ maps.remove names.tags slot → now.limit ≡ names.limit
       → (turns : TurnList Turn ℕ) (turn : Turn) → turn ≡ turn_of p.at.value → maps.from_sorted {R = turn_cmp} turns.list ≡ maps.remove (maps.from_sorted {R = turn_cmp} order.list) turn → turns.limit ≡ order.limit
       → AreMarked new now turns
   marked-less now fewer limit turns turn its less_turns turns_limit =
       let at = p.at in
       let a = around c.lists at.list at.front at.back at.within in
-      let index = subst (λ (ls : List (Link Mark)). IsIndex by_name_cmp by_name ls (maps.from_sorted names.list)) (a.was (gone_link ∷ []) at.split) kept.index in
-      let less = lost by_name_total by_name_exact by_name a.before a.behind slot at.value (maps.from_sorted names.list) (maps.from_sorted now.list) (record { 0 = name }) (named_key name at.value p.named) fewer index in
+      let tagged = subst (λ (ls : List (Link Mark)). IsTagged name_cmp mark_name name_tag ls names.tags) (a.was (gone_link ∷ []) at.split) kept.tagged in
+      let less = tagged-lost names_total names_exact mark_name name_tag a.before a.behind slot at.value names.tags now.tags fewer tagged in
       let in_order = subst (λ (ls : List (Link Mark)). IsIndex turn_cmp turn_of ls (maps.from_sorted order.list)) (a.was (gone_link ∷ []) at.split) kept.ordered.turns in
       let in_less = lost turn_total turn_exact turn_of a.before a.behind slot at.value (maps.from_sorted order.list) (maps.from_sorted turns.list) turn its less_turns in_order in
       let were = kept.ordered in
@@ -174,9 +181,10 @@ module _ (c new : Lists Mark) (names : EntryList ByName ℕ) (order : TurnList T
           rising = each_list (λ k ls. IsRising mark_number ls) 5 c at.list (at.front ++ at.back) at.within (IsRising-without mark_number at.front gone_link at.back (subst (IsRising mark_number) at.split (were.rising at.list there))) were.rising;
           turns = subst (λ (ls : List (Link Mark)). IsIndex turn_cmp turn_of ls (maps.from_sorted turns.list)) (sym (a.now [])) in_less;
         };
-        index = subst (λ (ls : List (Link Mark)). IsIndex by_name_cmp by_name ls (maps.from_sorted now.list)) (sym (a.now [])) less;
+        tagged = subst (λ (ls : List (Link Mark)). IsTagged name_cmp mark_name name_tag ls now.tags) (sym (a.now [])) less;
         room = limit ∙ kept.room;
         order_room = turns_limit ∙ kept.order_room;
+        bound = kept.bound;
       })
 
   pub marks-less : marks_of new.lists ≡ maps.remove (marks_of c.lists) name
@@ -184,8 +192,8 @@ module _ (c new : Lists Mark) (names : EntryList ByName ℕ) (order : TurnList T
       let at = p.at in
       let a = around c.lists at.list at.front at.back at.within in
       let was : all_links c.lists ≡ a.before ++ gone_link ∷ a.behind = a.was (gone_link ∷ []) at.split in
-      let apart = subst (Distinct by_name_cmp (key_of by_name)) was kept.index.apart in
-      let none = no-mark (a.before ++ a.behind) at.value.name (others-none by_name_total by_name_exact by_name a.before gone_link a.behind apart) in
+      let apart = subst (Distinct name_cmp (key_of mark_name)) was kept.tagged.apart in
+      let none = no-mark (a.before ++ a.behind) at.value.name (others-none names_total names_exact mark_name a.before gone_link a.behind apart) in
       ap (λ (d : Lists Mark). marks_of d.lists) gone
       ∙ (ap (λ (ls : List (Link Mark)). map_of name_cmp mark_name (map mark_of_link ls)) (a.now [])
       ∙ (marks-without a.before gone_link a.behind none
@@ -196,18 +204,19 @@ module _ (c new : Lists Mark) (names : EntryList ByName ℕ) (order : TurnList T
 abbrev pub empty_five : (V : Type 0) → List (List (Link V))
 empty_five V = [] ∷ [] ∷ [] ∷ [] ∷ [] ∷ []
 
-pub marked-none : (limit : ℕ) (c : Lists Mark) (names : EntryList ByName ℕ) (order : TurnList Turn ℕ) → c.limit ≡ limit → c.lists ≡ empty_five Mark → names.limit ≡ limit → names.list ≡ [] → order.limit ≡ limit → order.list ≡ []
+pub marked-none : (limit : ℕ) (c : Lists Mark) (names : Tags) (order : TurnList Turn ℕ) → limit ≤ 2 ^ 30 → c.limit ≡ limit → c.lists ≡ empty_five Mark → names.limit ≡ limit → names.tags ≡ maps.empty → order.limit ≡ limit → order.list ≡ []
     → AreMarked c names order
-marked-none limit c names order same lists room none order_room no_turn = record {
+marked-none limit c names order bound same lists room none order_room no_turn = record {
   ordered = record {
     five = ap length lists;
     kinds = λ k h. subst (AreOfKind k) (sym (each k)) tt;
     rising = λ k h. subst (IsRising mark_number) (sym (each k)) tt;
     turns = subst (λ (ls : List (List (Link Mark))). IsIndex turn_cmp turn_of (all_links ls) (maps.from_sorted order.list)) (sym lists) (index-new turn_total turn_exact turn_of order.list no_turn);
   };
-  index = subst (λ (ls : List (List (Link Mark))). IsIndex by_name_cmp by_name (all_links ls) (maps.from_sorted names.list)) (sym lists) (index-new by_name_total by_name_exact by_name names.list none);
+  tagged = subst (λ (ls : List (List (Link Mark))). AreTagged ls names.tags) (sym lists) (tagged-new names_total names_exact mark_name name_tag names.tags none);
   room = room ∙ sym same;
   order_room = order_room ∙ sym same;
+  bound = omega (arith, same, bound);
 }
   where
     of_five : (k : ℕ) → get_or (empty_five Mark) k [] ≡ []
@@ -221,31 +230,15 @@ marked-none limit c names order same lists room none order_room no_turn = record
     each : (k : ℕ) → links_of c k ≡ []
     each k = ap (λ (ls : List (List (Link Mark))). get_or ls k []) lists ∙ of_five k
 
--- where the index had no slot nothing was taken off
-pub removed-none : (c : Lists Mark) (names : EntryList ByName ℕ) (order : TurnList Turn ℕ) → AreMarked c names order → (now : EntryList ByName ℕ) (name : StateName) → None ≡ maps.get (maps.from_sorted {R = by_name_cmp} names.list) (record { 0 = name })
-    → maps.from_sorted {R = by_name_cmp} now.list ≡ maps.remove (maps.from_sorted {R = by_name_cmp} names.list) (record { 0 = name }) → now.limit ≡ names.limit → AreMarked c now order
-removed-none c names order kept now name none is limit =
-    let same = is ∙ set_at-same by_name_total by_name_exact (maps.from_sorted names.list) (record { 0 = name }) None (sym none) in
-    record {
-      ordered = kept.ordered;
-      index = subst (IsIndex by_name_cmp by_name (all_links c.lists)) (sym same) kept.index;
-      room = limit ∙ kept.room;
-      order_room = kept.order_room;
-    }
-
-pub none-less : (c : Lists Mark) (names : EntryList ByName ℕ) (order : TurnList Turn ℕ) → AreMarked c names order → (name : StateName) → None ≡ maps.get (maps.from_sorted {R = by_name_cmp} names.list) (record { 0 = name })
-    → marks_of c.lists ≡ maps.remove (marks_of c.lists) name
-none-less c names order kept name none = sym (set_at-same names_total names_exact (marks_of c.lists) name None (no-name c names order kept name none))
-
 -- ---- a number that no mark has
 
-module _ (c : Lists Mark) (names : EntryList ByName ℕ) (order : TurnList Turn ℕ) (kept : AreMarked c names order) where
+module _ (c : Lists Mark) (names : Tags) (order : TurnList Turn ℕ) (kept : AreMarked c names order) where
   -- a link's mark stands under its name
   stands-marked : (f : List (Link Mark)) (x : Link Mark) (b : List (Link Mark)) → all_links c.lists ≡ f ++ x ∷ b → maps.get (marks_of c.lists) x.value.name ≡ Some x.value
   stands-marked f x b was =
-      let apart = subst (Distinct by_name_cmp (key_of by_name)) was kept.index.apart in
-      let found = ap (λ (ls : List (Link Mark)). row_at by_name_cmp (key_of by_name) ls (by_name x.value)) was ∙ stands-found by_name_total by_name_exact by_name f x b apart in
-      get-marks_of c.lists x.value.name ∙ ap (option_map mark_of_link) (sym (by_name-found (all_links c.lists) x.value.name) ∙ found)
+      let apart = subst (Distinct name_cmp (key_of mark_name)) was kept.tagged.apart in
+      let found = ap (λ (ls : List (Link Mark)). row_at name_cmp (key_of mark_name) ls x.value.name) was ∙ stands-found names_total names_exact mark_name f x b apart in
+      get-marks_of c.lists x.value.name ∙ ap (option_map mark_of_link) found
 
   none_numbered : (n : ℕ) (links : List (Link Mark)) → ((f : List (Link Mark)) (x : Link Mark) (b : List (Link Mark)) → links ≡ f ++ x ∷ b → x.value.number ≢ n) → NoNumber mark_number n links
   none_numbered n [] out = tt
@@ -273,24 +266,25 @@ module _ (c : Lists Mark) (names : EntryList ByName ℕ) (order : TurnList Turn 
 
 -- ---- a mark comes
 
-module _ (c new : Lists Mark) (names : EntryList ByName ℕ) (order : TurnList Turn ℕ) (kept : AreMarked c names order) (mark : Mark) (k slot : ℕ) (its : k ≡ kind_place mark.kind) (here : k < length c.lists)
+module _ (c new : Lists Mark) (names : Tags) (order : TurnList Turn ℕ) (kept : AreMarked c names order) (mark : Mark) (k slot : ℕ) (its : k ≡ kind_place mark.kind) (here : k < length c.lists)
     (put : InsertsInOrder mark_number (links_of c k) (links_of new k) (link slot mark)) (come : new ≡ with_links c k (links_of new k))
     (off : maps.get (marks_of c.lists) mark.name ≡ None) where
   come_to : new ≡ with_links c k (put.front ++ link slot mark ∷ put.back)
   come_to = come ∙ ap (with_links c k) put.is
 
   pub marked-more : IsNew (marks_of c.lists) mark.number
-      → (now : EntryList ByName ℕ) → maps.from_sorted {R = by_name_cmp} now.list ≡ maps.insert (maps.from_sorted {R = by_name_cmp} names.list) (record { 0 = mark.name }) slot → now.limit ≡ names.limit
+      → (Place c slot → ⊥) → (now : Tags) (t : ℕ) → t ≡ name_tag mark.name → now.tags ≡ maps.insert names.tags slot t → now.limit ≡ names.limit
       → (turns : TurnList Turn ℕ) (turn : Turn) → turn ≡ turn_of mark → maps.from_sorted {R = turn_cmp} turns.list ≡ maps.insert (maps.from_sorted {R = turn_cmp} order.list) turn slot → turns.limit ≡ order.limit
       → AreMarked new now turns
-  marked-more fresh now more limit turns turn the_turn more_turns turns_limit =
+  marked-more new_number fresh now t the_tag more limit turns turn the_turn more_turns turns_limit =
       let a = around c.lists k put.front put.back here in
       let was : all_links c.lists ≡ a.before ++ a.behind = a.was [] put.was in
-      let index = subst (λ (ls : List (Link Mark)). IsIndex by_name_cmp by_name ls (maps.from_sorted names.list)) was kept.index in
-      let none = subst (λ (ls : List (Link Mark)). HasNone by_name_cmp by_name ls (by_name mark)) was (no-link c.lists mark.name off) in
-      let with_it = gained by_name_total by_name_exact by_name a.before a.behind slot mark (maps.from_sorted names.list) (maps.from_sorted now.list) (record { 0 = mark.name }) refl more index none in
+      let tagged = subst (λ (ls : List (Link Mark)). IsTagged name_cmp mark_name name_tag ls names.tags) was kept.tagged in
+      let none = subst (λ (ls : List (Link Mark)). HasNone name_cmp mark_name ls mark.name) was (no-link c.lists mark.name off) in
+      let untagged = fresh-untagged c names order kept slot fresh in
+      let with_it = tagged-gained names_total names_exact mark_name name_tag a.before a.behind slot mark names.tags now.tags t the_tag more untagged tagged none in
       let in_order = subst (λ (ls : List (Link Mark)). IsIndex turn_cmp turn_of ls (maps.from_sorted order.list)) was kept.ordered.turns in
-      let no_turn = subst (λ (ls : List (Link Mark)). HasNone turn_cmp turn_of ls (turn_of mark)) was (no-turn c names order kept mark fresh) in
+      let no_turn = subst (λ (ls : List (Link Mark)). HasNone turn_cmp turn_of ls (turn_of mark)) was (no-turn c names order kept mark new_number) in
       let with_turn = gained turn_total turn_exact turn_of a.before a.behind slot mark (maps.from_sorted order.list) (maps.from_sorted turns.list) turn the_turn more_turns in_order no_turn in
       let links = put.front ++ link slot mark ∷ put.back in
       let were = kept.ordered in
@@ -301,16 +295,17 @@ module _ (c new : Lists Mark) (names : EntryList ByName ℕ) (order : TurnList T
           rising = each_list (λ j ls. IsRising mark_number ls) 5 c k links here (subst (IsRising mark_number) put.is put.rising) were.rising;
           turns = subst (λ (ls : List (Link Mark)). IsIndex turn_cmp turn_of ls (maps.from_sorted turns.list)) (sym (a.now (link slot mark ∷ []))) with_turn;
         };
-        index = subst (λ (ls : List (Link Mark)). IsIndex by_name_cmp by_name ls (maps.from_sorted now.list)) (sym (a.now (link slot mark ∷ []))) with_it;
+        tagged = subst (λ (ls : List (Link Mark)). IsTagged name_cmp mark_name name_tag ls now.tags) (sym (a.now (link slot mark ∷ []))) with_it;
         room = limit ∙ kept.room;
         order_room = turns_limit ∙ kept.order_room;
+        bound = kept.bound;
       })
 
   pub marks-more : marks_of new.lists ≡ maps.insert (marks_of c.lists) mark.name mark
   marks-more =
       let a = around c.lists k put.front put.back here in
       let was : all_links c.lists ≡ a.before ++ a.behind = a.was [] put.was in
-      let none = subst (λ (ls : List (Link Mark)). HasNone by_name_cmp by_name ls (by_name mark)) was (no-link c.lists mark.name off) in
+      let none = subst (λ (ls : List (Link Mark)). HasNone name_cmp mark_name ls mark.name) was (no-link c.lists mark.name off) in
       ap (λ (d : Lists Mark). marks_of d.lists) come_to
       ∙ (ap (λ (ls : List (Link Mark)). map_of name_cmp mark_name (map mark_of_link ls)) (a.now (link slot mark ∷ []))
       ∙ (marks-with a.before (link slot mark) a.behind (no-mark (a.before ++ a.behind) mark.name none)
@@ -336,6 +331,10 @@ put-turn c new order are mark t is behind gap slot put =
     let rising = are.rising t.kind (omega (arith, here, are.five)) in
     let done = gap-ordered mark_number t.number c new t.kind behind gap here rising (link slot mark) (sym (ap (λ (u : Turn). u.number) is)) put in
     subst (λ (u : Turn). InsertsInOrder mark_number (links_of c u.kind) (links_of new u.kind) (link slot mark) × (new ≡ with_links c u.kind (links_of new u.kind))) is done
+
+-- its slot is below the limit
+pub put-below : (c new : Lists Mark) (list : ℕ) (front back : List (Link Mark)) (slot : ℕ) (mark : Mark) → AreLists new → list < length c.lists → new ≡ with_links c list (front ++ link slot mark ∷ back) → slot < new.limit
+put-below c new list front back slot mark are within put = are.below slot (subst (λ (d : Lists Mark). Place d slot) (sym put) (Place-new c list front back slot mark within))
 
 -- ---- what is set under a name
 

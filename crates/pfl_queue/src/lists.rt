@@ -9,7 +9,7 @@ use std::alloc::Allocator;
 use std::collections::VecDeque;
 use std::collections::vec_deque::Iter;
 
-/// Changes what stands at a position, in room that was made. None means that the entry is absent, and those behind it
+/// Changes what stands at a position, in room that was made. None means that the entry is absent, and those after it
 /// move by one, or those before it where they are fewer.
 pub fn set_position<X: Copy, A: Allocator>(
     list: &mut VecDeque<X, A>,
@@ -33,6 +33,7 @@ pub fn set_position<X: Copy, A: Allocator>(
 }
 
 /// The entries, from the front to the back.
+#[inline]
 pub fn in_order<X, A: Allocator>(list: &VecDeque<X, A>) -> InOrder<'_, X>
     ensures entries { result ≡ list.now.items }
 {
@@ -40,7 +41,8 @@ pub fn in_order<X, A: Allocator>(list: &VecDeque<X, A>) -> InOrder<'_, X>
     InOrder::of_slices(front, back)
 }
 
-/// The first entries, at most so many.
+/// The first `most` entries, or all where there are fewer.
+#[inline]
 pub fn first<X, A: Allocator>(list: &VecDeque<X, A>, most: usize) -> Iter<'_, X>
     ensures first { deque_iter_rest result ≡ take most list.now.items }
 {

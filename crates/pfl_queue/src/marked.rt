@@ -1,16 +1,16 @@
 //! Marks at slots: a list of each kind, in the order of the numbers, and the slot of each name and of each turn.
-ghost use Rattle.std.specs.Prelude.{◌≡◌, [], ◌++◌, ◌<◌, ◌≤◌, IfOk, IfSome, IsTrue, None, OnOk, length, map, take};
-ghost use Rattle.pfl_containers.specs.Lists.{count_of, link, links_of, with_links};
+ghost use Rattle.std.specs.Prelude.{◌≡◌, ◌↔◌, [], ◌++◌, ◌<◌, ◌≤◌, IfOk, IfSome, IsTrue, None, OnOk, length, map, take};
+ghost use Rattle.pfl_containers.specs.Lists.{Place, count_of, link, links_of, with_links};
 ghost use Rattle.pfl_edits.specs.Maps as maps;
 ghost use Rattle.pfl_edits.specs.Maps.{set_at};
-ghost use Rattle.pfl_queue.specs.inner.Marked.{AreApart, AreInTurn, AreOrdered, IsNew, listed, mark_number, mark_of_link, marks_of};
+ghost use Rattle.pfl_queue.specs.inner.Marked.{AreApart, AreInTurn, AreOrdered, AreTagged, IsNew, all_links, listed, mark_number, mark_of_link, marks_of, name_tag, slot_named};
 ghost use Rattle.pfl_queue.specs.inner.Rising.{HasNone, InsertsInOrder, IsAbove, IsBelow, IsRising, OrderedGap};
 ghost use Rattle.pfl_queue.specs.Taking.{kind_place};
 
-use crate::Mark;
 use crate::marks::Turn;
+use crate::{MOST, Mark};
 use pfl_base::StateName;
-use pfl_containers::{ByName, Chains, HashIndex, OrderedMap};
+use pfl_containers::{ByName, Chains, Hashed, OrderedMap, SlotIndex, tag_of};
 use pfl_edits::NoMemory;
 use std::alloc::{AllocError, Allocator};
 use std::marker::Model;
@@ -18,15 +18,13 @@ use std::marker::Model;
 /// How many kinds there are.
 const KINDS: usize = 5;
 
-/// The most marks that there can be room for.
-const MOST: usize = 1 << 30;
-
 /// Marks at slots: a list of each kind, in the order of the numbers, and the slot of each name and of each turn, so that
-/// where a mark belongs is found in time in the logarithm of what stands. All room is made by `new` and by `copy`.
+/// a name is found in a few steps, and the place where a mark belongs in time in the logarithm of what stands. All room
+/// is made by `new` and by `copy`.
 #[derive(Drop)]
 pub(crate) struct Marks<A: Allocator> {
     queues: Chains<Mark, A>,
-    names: HashIndex<ByName, usize, A>,
+    names: SlotIndex<A>,
     order: OrderedMap<Turn, usize, A>,
 }
 
@@ -52,7 +50,7 @@ impl<A: Allocator + Copy> Marks<A> {
             return Err(NoMemory);
         }
         let queues = Chains::new(alloc, KINDS, limit)?;
-        let names = HashIndex::new(alloc, limit)?;
+        let names = SlotIndex::new(alloc, limit)?;
         let order = OrderedMap::new(alloc, limit)?;
         Ok(Marks {
             queues,
@@ -78,6 +76,7 @@ impl<A: Allocator + Copy> Marks<A> {
 
 impl<A: Allocator> Marks<A> {
     /// How many marks there are.
+    #[inline]
     pub(crate) fn len(&self) -> usize
         ensures marks { result ≡ maps.len (marks_of self.now.lists) }
     {
@@ -85,10 +84,11 @@ impl<A: Allocator> Marks<A> {
     }
 
     /// The mark of a name.
+    #[inline]
     pub(crate) fn get(&self, name: StateName) -> Option<Mark>
         ensures found { result ≡ maps.get (marks_of self.now.lists) name }
     {
-        match self.names.get(&ByName(name)) {
+        match slot_of(&self.queues, &self.names, name) {
             Some(slot) => Some(self.queues.value(slot)),
             None => None,
         }
@@ -115,9 +115,10 @@ impl<A: Allocator> Marks<A> {
         ensures marks { marks_of self.new.lists ≡ maps.remove (marks_of self.old.lists) name }
         ensures limit { self.new.limit ≡ self.old.limit }
     {
-        match self.names.remove(ByName(name)) {
+        match slot_of(&self.queues, &self.names, name) {
             Some(slot) => {
                 let gone = self.queues.remove(slot);
+                self.names.remove(tag(name), slot);
                 self.order.remove(Turn::of(&gone));
             }
             None => {}
@@ -133,13 +134,13 @@ impl<A: Allocator> Marks<A> {
         ensures limit { self.new.limit ≡ self.old.limit }
     {
         let slot = put_in_order(&mut self.queues, &self.order, mark);
-        self.names.insert(ByName(mark.name), slot);
+        self.names.insert(tag(mark.name), slot);
         self.order.insert(Turn::of(&mark), slot);
     }
 }
 
 impl<A: Allocator + Copy> Marks<A> {
-    /// The first marks, kind after kind and then by number, at most so many.
+    /// The marks, kind after kind and then by number: the first `most` of them, or all where there are fewer.
     pub(crate) fn first(&self, alloc: A, most: usize) -> Result<Vec<Mark, A>, NoMemory>
         ensures first { IfOk result (λ marks. marks.items ≡ take most (listed self.now.lists)) }
         ensures turn { OnOk result (AreInTurn self.now) }
@@ -148,6 +149,34 @@ impl<A: Allocator + Copy> Marks<A> {
         push_kinds(&self.queues, most, &mut marks)?;
         Ok(marks)
     }
+}
+
+/// The tag that the index has for a name.
+#[inline]
+#[tactic(auto, unfolding(crate::specs::inner::Marked::name_tag))]
+fn tag(name: StateName) -> u32
+    ensures tag { result ≡ name_tag name }
+{
+    tag_of(ByName(name).hash())
+}
+
+/// The slot where the mark of a name stands. Each mark whose name has the same tag may be asked for its name.
+#[inline]
+fn slot_of<A: Allocator>(
+    queues: &Chains<Mark, A>,
+    names: &SlotIndex<A>,
+    name: StateName,
+) -> Option<usize>
+    requires tagged { AreTagged queues.now.lists names.now.tags }
+    ensures slot { result ≡ slot_named (all_links queues.now.lists) name }
+{
+    names.find(
+        tag(name),
+        |slot|
+            requires { Place queues.now slot }
+            ensures { (at : Place queues.entry.now slot) → IsTrue result ↔ (at.value.name ≡ name) }
+        { queues.at(slot).name == name },
+    )
 }
 
 /// Puts a mark into the list of its kind, at the place of its number. Gives its slot, which no list had.
@@ -161,14 +190,18 @@ fn put_in_order<A: Allocator>(
     requires new { HasNone mark_number mark.number (links_of queues.old (kind_place mark.kind)) }
     ensures inserted { InsertsInOrder mark_number (links_of queues.old (kind_place mark.kind)) (links_of queues.new (kind_place mark.kind)) (link result mark) }
     ensures others { queues.new ≡ with_links queues.old (kind_place mark.kind) (links_of queues.new (kind_place mark.kind)) }
+    ensures fresh { Place queues.old result → ⊥ }
+    ensures below { result < queues.new.limit }
 {
     let turn = Turn::of(&mark);
-    let behind = place_of(queues, order, turn);
-    queues.insert_after(turn.kind, behind, mark)
+    let previous = place_of(queues, order, turn);
+    let slot = queues.insert_after(turn.kind, previous, mark);
+    queues.known();
+    slot
 }
 
-/// Behind which slot of its list a turn belongs: None is in front of the first. The list's ends are looked at before the
-/// order is searched: marks that a frame had taken belong in front, and a new mark at the end.
+/// The slot of its list after which a turn belongs: None is in front of the first. The list's ends are looked at before
+/// the order is searched: marks that a frame had taken belong in front, and a new mark at the end.
 fn place_of<A: Allocator>(
     queues: &Chains<Mark, A>,
     order: &OrderedMap<Turn, usize, A>,
@@ -185,7 +218,7 @@ fn place_of<A: Allocator>(
     if belongs_last(queues, turn.kind, turn.number) {
         return queues.last(turn.kind);
     }
-    behind(queues, order, turn)
+    place_among(queues, order, turn)
 }
 
 /// A number is below those of a list.
@@ -195,7 +228,7 @@ fn belongs_first<A: Allocator>(queues: &Chains<Mark, A>, kind: usize, number: u6
     ensures first { IsTrue result → IsAbove mark_number number (links_of queues.now kind) }
 {
     match queues.first(kind) {
-        Some(slot) => number < queues.value(slot).number,
+        Some(slot) => number < queues.at(slot).number,
         None => true,
     }
 }
@@ -207,14 +240,14 @@ fn belongs_last<A: Allocator>(queues: &Chains<Mark, A>, kind: usize, number: u64
     ensures last { IsTrue result → IsBelow mark_number number (links_of queues.now kind) }
 {
     match queues.last(kind) {
-        Some(slot) => queues.value(slot).number < number,
+        Some(slot) => queues.at(slot).number < number,
         None => true,
     }
 }
 
-/// Behind which slot of its list a turn belongs, by the first turn above it: that is of the same list, or else the turn
-/// belongs at the list's end.
-fn behind<A: Allocator>(
+/// The slot of its list after which a turn belongs, by the first turn above it: that is of the same list, or else the
+/// turn belongs at the list's end.
+fn place_among<A: Allocator>(
     queues: &Chains<Mark, A>,
     order: &OrderedMap<Turn, usize, A>,
     turn: Turn,
@@ -237,7 +270,7 @@ fn behind<A: Allocator>(
     }
 }
 
-/// Puts the marks of all kinds behind one another, at most so many.
+/// Puts the marks of all kinds one after another: the first `most` of them, or all where there are fewer.
 fn push_kinds<A: Allocator>(
     queues: &Chains<Mark, A>,
     most: usize,
@@ -253,7 +286,7 @@ fn push_kinds<A: Allocator>(
     Ok(())
 }
 
-/// Puts the marks of one kind behind others, in the order of their numbers, up to so many in all.
+/// Puts the marks of one kind after others, in the order of their numbers, until there are `most` in all.
 fn push_kind<A: Allocator>(
     queues: &Chains<Mark, A>,
     kind: usize,

@@ -89,6 +89,7 @@ impl<A: Allocator + Copy> Pending<A> {
 
 impl<A: Allocator> Pending<A> {
     /// How much there is room for.
+    #[inline]
     pub fn limit(&self) -> usize
         ensures limit { result ≡ self.now.limit }
     {
@@ -96,6 +97,7 @@ impl<A: Allocator> Pending<A> {
     }
 
     /// The number of the next marking.
+    #[inline]
     pub fn next(&self) -> u64
         ensures next { result ≡ self.now.next }
     {
@@ -103,6 +105,7 @@ impl<A: Allocator> Pending<A> {
     }
 
     /// How much is pending.
+    #[inline]
     pub fn len(&self) -> usize
         ensures pending { result ≡ pending self.now }
     {
@@ -111,6 +114,7 @@ impl<A: Allocator> Pending<A> {
     }
 
     /// Nothing is pending.
+    #[inline]
     pub fn is_empty(&self) -> bool
         ensures empty { result ≡ (pending self.now == 0) }
     {
@@ -118,6 +122,7 @@ impl<A: Allocator> Pending<A> {
     }
 
     /// There is no room for another entry.
+    #[inline]
     pub fn is_full(&self) -> bool
         ensures full { result ≡ nat_le self.now.limit (pending self.now) }
     {
@@ -125,6 +130,7 @@ impl<A: Allocator> Pending<A> {
     }
 
     /// The requests, in the order in which they were listed.
+    #[inline]
     pub fn requests(&self) -> InOrder<'_, StateName>
         ensures requests { result ≡ self.now.requests }
     {
@@ -132,6 +138,7 @@ impl<A: Allocator> Pending<A> {
     }
 
     /// The bulk statuses, in the order in which they were listed.
+    #[inline]
     pub fn statuses(&self) -> InOrder<'_, BulkStatus>
         ensures statuses { result ≡ self.now.statuses }
     {
@@ -139,27 +146,28 @@ impl<A: Allocator> Pending<A> {
     }
 
     /// The clears, in the order in which they were listed.
+    #[inline]
     pub fn clears(&self) -> InOrder<'_, Cleared>
         ensures clears { result ≡ self.now.clears }
     {
         in_order_of(&self.clears)
     }
 
-    /// The first requests, at most so many.
+    /// The first `most` requests, or all where there are fewer.
     pub(crate) fn first_requests(&self, most: usize) -> Iter<'_, StateName>
         ensures first { deque_iter_rest result ≡ take most self.now.requests }
     {
         self.requests.first(most)
     }
 
-    /// The first bulk statuses, at most so many.
+    /// The first `most` bulk statuses, or all where there are fewer.
     pub(crate) fn first_statuses(&self, most: usize) -> Iter<'_, BulkStatus>
         ensures first { deque_iter_rest result ≡ take most self.now.statuses }
     {
         first(&self.statuses, most)
     }
 
-    /// The first clears, at most so many.
+    /// The first `most` clears, or all where there are fewer.
     pub(crate) fn first_clears(&self, most: usize) -> Iter<'_, Cleared>
         ensures first { deque_iter_rest result ≡ take most self.now.clears }
     {
@@ -175,6 +183,7 @@ impl<A: Allocator> Pending<A> {
     }
 
     /// The mark of a name.
+    #[inline]
     pub fn mark_of(&self, name: StateName) -> Option<Mark>
         ensures mark { result ≡ maps.get self.now.marks name }
     {
@@ -182,6 +191,7 @@ impl<A: Allocator> Pending<A> {
     }
 
     /// The queue that a name is on.
+    #[inline]
     pub fn kind_of(&self, name: StateName) -> Option<Kind>
         ensures kind { result ≡ kind_of self.now name }
     {
@@ -228,7 +238,7 @@ impl<A: Allocator> Pending<A> {
     }
 
     /// Marks as `mark` does, also with a number past the greatest. An event goes on so, since one that meets QueueFull
-    /// later is refused with that; where it ends, the next number tells of CountFull.
+    /// later is refused with that; where it ends, the next number shows CountFull.
     pub fn mark_on(&mut self, name: StateName, kind: Kind) -> Result<QueueEdit, QueueFault>
         requires countable { self.old.next < most_numbers }
         ensures fault { IfErr result (λ f. room_fault self.old name ≡ Some f) }
@@ -284,6 +294,7 @@ impl<A: Allocator> Pending<A> {
     }
 
     /// The name is on the list of requests.
+    #[inline]
     pub fn is_requested(&self, name: StateName) -> bool
         ensures requested { result ≡ is_requested self.now name }
     {
@@ -477,7 +488,7 @@ impl<A: Allocator + Copy> Pending<A> {
         Ok(marks)
     }
 
-    /// The first marks by kind and then by number, at most so many.
+    /// The marks by kind and then by number: the first `most` of them, or all where there are fewer.
     pub(crate) fn first_marks(&self, most: usize) -> Result<Vec<Mark, A>, NoMemory>
         ensures first { IfOk result (λ marks. marks.items ≡ take most (in_order mark_before (maps.values self.now.marks))) }
     {

@@ -5,21 +5,23 @@ ghost use Rattle.std.specs.List.{IsDistinct, insert, list_any, remove};
 ghost use Rattle.pfl_base.specs.Names.{is_name};
 ghost use Rattle.pfl_edits.specs.Places.{StandsAt, with_position};
 
+use crate::MOST;
 use crate::lists::{copied, first, in_order};
 use pfl_base::StateName;
-use pfl_containers::{ByName, HashIndex};
+use pfl_containers::{ByName, OrderedMap};
 use pfl_edits::{InOrder, NoMemory};
 use std::alloc::Allocator;
 use std::collections::VecDeque;
 use std::collections::vec_deque::Iter;
 use std::marker::Model;
 
-/// The names that are asked for, in the order in which they were listed, and an index of them, so that none has to be
-/// sought. All room is made by `new` and by `copy`.
+/// The names that are asked for, in the order in which they were listed, and a map of them, by which one is found in
+/// time in the logarithm of their number. Positions change, so the map keeps none. All room is made by `new` and by
+/// `copy`.
 #[derive(Drop)]
 pub(crate) struct Requests<A: Allocator> {
     listed: VecDeque<StateName, A>,
-    names: HashIndex<ByName, (), A>,
+    names: OrderedMap<ByName, (), A>,
 }
 
 impl<A: Allocator> Model for Requests<A> {
@@ -39,7 +41,10 @@ impl<A: Allocator + Copy> Requests<A> {
         ensures limit { IfOk result (λ r. r.limit ≡ limit) }
         ensures empty { IfOk result (λ r. r.listed ≡ []) }
     {
-        let names = HashIndex::new(alloc, limit)?;
+        if limit > MOST {
+            return Err(NoMemory);
+        }
+        let names = OrderedMap::new(alloc, limit)?;
         let listed = VecDeque::with_capacity(alloc, limit)?;
         Ok(Requests { listed, names })
     }
@@ -57,6 +62,7 @@ impl<A: Allocator + Copy> Requests<A> {
 
 impl<A: Allocator> Requests<A> {
     /// How many requests there are.
+    #[inline]
     pub(crate) fn len(&self) -> usize
         ensures many { result ≡ length self.now.listed }
     {
@@ -64,13 +70,14 @@ impl<A: Allocator> Requests<A> {
     }
 
     /// The requests, in the order in which they were listed.
+    #[inline]
     pub(crate) fn iter(&self) -> InOrder<'_, StateName>
         ensures requests { result ≡ self.now.listed }
     {
         in_order(&self.listed)
     }
 
-    /// The first requests, at most so many.
+    /// The first `most` requests, or all where there are fewer.
     pub(crate) fn first(&self, most: usize) -> Iter<'_, StateName>
         ensures first { deque_iter_rest result ≡ take most self.now.listed }
     {
@@ -78,13 +85,14 @@ impl<A: Allocator> Requests<A> {
     }
 
     /// The name is asked for.
+    #[inline]
     pub(crate) fn contains(&self, name: StateName) -> bool
         ensures contains { result ≡ list_any (is_name name) self.now.listed }
     {
-        self.names.get(&ByName(name)).is_some()
+        self.names.get(ByName(name)).is_some()
     }
 
-    /// Changes what stands at a position, in room that was made. None means that the entry is absent, and those behind it
+    /// Changes what stands at a position, in room that was made. None means that the entry is absent, and those after it
     /// move by one.
     pub(crate) fn set(
         &mut self,

@@ -10,7 +10,7 @@ ghost use Rattle.pfl_desk.specs.Nodes.{AreParts, is_overfull};
 ghost use Rattle.pfl_receive.specs.Receiving as receiving;
 
 use crate::insertion::take_insertion;
-use pfl_desk::{Counter, Desk, Overfull};
+use pfl_desk::{Counter, Desk, Overfull, Slot};
 use pfl_merge::{Merged, Received, merge};
 use pfl_track::State;
 use pfl_wire::{StateRecord, UpdateRecord};
@@ -79,11 +79,11 @@ fn put_merged<A: Allocator>(desk: &mut Desk<A>, merged: &Merged) -> Result<(), O
     let state = merged.state.with_ack_wanted(false);
     let stale = merged.stale_src || merged.stale_dst;
     if !stale {
-        desk.replace_state(state);
+        desk.replace_state(Slot::UNKNOWN, state);
         return Ok(());
     }
     desk.count(Counter::Stale);
-    desk.change_state(state)?;
+    desk.change_state(Slot::UNKNOWN, state)?;
     desk.push_if(true);
     Ok(())
 }

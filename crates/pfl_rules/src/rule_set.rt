@@ -82,7 +82,7 @@ impl<A: Allocator> RuleSet<A> {
     pub fn timeout(&self, rule: Option<u16>, class: Class) -> u32
         ensures { result ≡ timeout self.now.list rule class }
     {
-        rule.and_then(|number| self.rule(number))
+        rule.and_then(|number| self.rules.get(usize::from(number)))
             .and_then(|rule| rule.own_timeout(class))
             .unwrap_or(class.default_seconds())
     }
@@ -108,7 +108,7 @@ impl<A: Allocator> RuleSet<A> {
         self.print
     }
 
-    /// Tells a proof what each rule set keeps. It does nothing.
+    /// Gives a proof what each rule set keeps. It does nothing.
     pub fn known(&self)
         ensures { AreRules self.now }
     {

@@ -2,4 +2,4 @@
 
 /// The release, the sum of its sources, and the logic that proves them.
 pub(crate) const VERSION: &str =
-    "release 6, sources 6a9458153a408d9815397146d7fbbf213f3256eabac228fb5c5bfd4ec9814e39, logic dac8208d650f15bf";
+    "release 7, sources 5e3eb9d54f0ddc89b598e51d8706fb12ebd8fc9809a18fed5330f1bfd89ee5ee, logic dac8208d650f15bf";

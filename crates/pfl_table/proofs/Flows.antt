@@ -1,7 +1,7 @@
 -- Keys are one flow where their numbers are one.
-use Rattle.std.specs.Prelude.{◌≡◌, ℕ, Bool, true, false, ◌&&◌, ◌==◌, refl}
+use Rattle.std.specs.Prelude.{◌≡◌, ◌↔◌, ℕ, IsTrue, Bool, true, false, ◌&&◌, ◌==◌, refl}
 use Rattle.std.specs.Ordering.{eq_by_cmp}
-use Rattle.std.proofs.Common.{T, ap, sym, subst, arith}
+use Rattle.std.proofs.Common.{T, ◌∙◌, ap, sym, subst, arith}
 use Rattle.std.proofs.lemmas.Bool.Decides.{nat_tests}
 use Rattle.pfl_base.specs.declared.addr.Addr.{Addr}
 use Rattle.pfl_base.specs.declared.addr.Addr.TheVariants.{V4, V6}
@@ -9,8 +9,7 @@ use Rattle.pfl_base.specs.declared.flow.Key.{Key}
 use Rattle.pfl_base.specs.Ends.{is_addr, is_end}
 use Rattle.pfl_base.specs.Keys.{is_key}
 use Rattle.pfl_edits.proofs.ForCallers.{own_key, same_key}
-use Rattle.pfl_table.specs.declared.keys.Flow.{Flow}
-use Rattle.pfl_table.specs.inner.Ordering.{number_of, version_of, flow_of, flow_cmp, flow_total, flow_exact}
+use Rattle.pfl_table.specs.inner.Ordering.{Flow, number_of, version_of, flow_of, flow_cmp, flow_total, flow_exact}
 
 pub number_is : (m n : ℕ) → (m == n) ≡ true → m ≡ n
 number_is m n e = grind (arith, nat_tests)
@@ -82,3 +81,7 @@ pub key_is : (a b : Key) → is_key a b ≡ eq_by_cmp flow_cmp (flow_of b) (flow
 key_is a b = same_test (is_key a b) (eq_by_cmp flow_cmp (flow_of b) (flow_of a))
     (λ e. same_flow (flow_of b) (flow_of a) (sym (key_numbers a b e)))
     (λ e. numbers_key a b (sym (same_key flow_total flow_exact (λ (h : Flow). h) (flow_of b) (flow_of a) e)))
+
+-- and so is the test of a key that is kept
+pub flow-is : (a b : Key) (test : Bool) → test ≡ is_key a b → IsTrue test ↔ (flow_of a ≡ flow_of b)
+flow-is a b test is = (λ t. key_numbers a b (sym is ∙ t), λ flow. is ∙ numbers_key a b flow)

@@ -27,7 +27,8 @@ pub same_inside : {X : Type 0} (x y : X) → Some x ≡ Some y → x ≡ y
 same_inside x y e = cc
 
 module _ {X : Type 0} (before : X → X → Bool) where
-  foremost-more : (x : X) (xs : List X) → foremost before (x ∷ xs) ≡ joined before (Some x) (foremost before xs)
+  -- a list with one more before it
+  pub foremost-more : (x : X) (xs : List X) → foremost before (x ∷ xs) ≡ joined before (Some x) (foremost before xs)
   foremost-more x xs = first-put_before before x (in_order before xs) ∙ same (foremost before xs)
     where
       same : (o : Option X) → Some (option_map_or (λ y. cond (before x y) x y) o x) ≡ joined before (Some x) o
@@ -113,6 +114,10 @@ module _ {X : Type 0} (before : X → X → Bool) where
     foremost-skips x ys zs all =
         ap (λ o. joined before o (foremost before zs)) (sym (foremost-more x ys ∙ leads x ys all))
         ∙ sym (foremost-append (x ∷ ys) zs)
+
+    -- the first of those that were looked at and of those that are left, when one more is looked at
+    pub joined-next : (o : Option X) (x : X) (xs all : List X) → joined before o (foremost before (x ∷ xs)) ≡ foremost before all → joined before (joined before o (Some x)) (foremost before xs) ≡ foremost before all
+    joined-next o x xs all is = joined-twice o (Some x) (foremost before xs) ∙ (ap (joined before o) (sym (foremost-more x xs)) ∙ is)
 
     -- none of the list stands before the first
     pub foremost-none_before : (xs : List X) (m : X) → foremost before xs ≡ Some m → NoneBefore before m xs

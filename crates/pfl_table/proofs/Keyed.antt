@@ -12,7 +12,7 @@ use Rattle.pfl_containers.specs.declared.by_name.ByName.{ByName}
 use Rattle.pfl_table.specs.declared.row.Row.{Row}
 use Rattle.pfl_table.specs.inner.Ordering.{by_name}
 
-true_is_false : {A : Type 0} → true ≡ false → A
+pub true_is_false : {A : Type 0} → true ≡ false → A
 true_is_false e = absurd (subst T e tt)
 
 -- a name as a key of indexes

@@ -3,6 +3,8 @@ pub mod Expiring
 pub mod Scanned
 pub mod Foremost
 pub mod Earliest
+pub mod FirstOfEach
+pub mod Dues
 pub mod Setting
 pub mod Tables
 pub mod Expiries
@@ -11,10 +13,12 @@ pub mod Ranked
 pub mod Flows
 pub mod Viewed
 pub mod First
+pub mod Settling
 pub mod Replaced
 pub mod Storing
 pub mod Listed
 pub mod Putting
+pub mod Moving
 pub mod Counted
 pub mod Empty
 pub mod ForCallers

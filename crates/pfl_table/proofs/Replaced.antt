@@ -24,8 +24,7 @@ use Rattle.pfl_containers.proofs.ForCallers.{key_of_row, map_values-set_at, foun
 use Rattle.pfl_track.specs.declared.state.State.{State}
 use Rattle.pfl_track.specs.States.{IsState}
 use Rattle.pfl_table.specs.declared.row.Row.{Row}
-use Rattle.pfl_table.specs.declared.keys.Flow.{Flow}
-use Rattle.pfl_table.specs.inner.Ordering.{number_of, version_of, flow_of, flow_cmp, flow_total, flow_exact, by_name, expiry_of, expiry_cmp, expiry_total, expiry_exact, name_in}
+use Rattle.pfl_table.specs.inner.Ordering.{Flow, number_of, version_of, flow_of, flow_cmp, flow_total, flow_exact, by_name}
 use Rattle.pfl_table.specs.Tables.{Table, IsTable, AreStates, states_of, with_row}
 use Rattle.pfl_table.proofs.Tables.{get-states_of}
 use Rattle.pfl_table.specs.inner.Filed.{Filing, AreStated, HasNoKey, OthersHaveNoKey, GainsRow, LosesRow, ChangesRow, name_of, wire_flow, stack_flow, rows_of, table_of, row_of_link}
@@ -162,17 +161,11 @@ module _ (limit : ℕ) (links : List (Link Row)) (r : Row) (none : HasNone name_
       let at = found-again by_name_cmp names_total names_exact name_of by_name links (by_name r) l names found in
       other_name l at (ap (λ (n : ByName). n.0) (key_of_row by_name_total by_name_exact (key_of by_name) links (by_name r) l found))
 
-  no_expiry : (l : Link Row) → row_at expiry_cmp (key_of expiry_of) links (expiry_of r) ≡ Some l → ⊥
-  no_expiry l found =
-      let at = found-again expiry_cmp names_total names_exact name_of expiry_of links (expiry_of r) l names found in
-      other_name l at (ap name_in (key_of_row expiry_total expiry_exact (key_of expiry_of) links (expiry_of r) l found))
-
   pub has_no_key : HasNoKey links r
   has_no_key = record {
     name = has_none by_name_cmp by_name links (by_name r) no_name;
     wire = has_none flow_cmp wire_flow links (wire_flow r) no_wire;
     stack = has_none flow_cmp stack_flow links (stack_flow r) no_stack;
-    expiry = has_none expiry_cmp expiry_of links (expiry_of r) no_expiry;
   }
 
 -- what makes a table of the rows with one more leaves it keys of its own

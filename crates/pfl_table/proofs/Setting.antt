@@ -37,8 +37,12 @@ is_some-map : {X Y : Type 0} (f : X → Y) (o : Option X) → is_some (option_ma
 is_some-map f None = refl
 is_some-map f (Some x) = refl
 
+pub is_none : {X : Type 0} (o : Option X) → is_some o ≡ false → o ≡ None
+is_none None e = refl
+is_none (Some x) e = absurd (cc)
+
 -- a row stands under a name where its state does
-known_row : (t : Table) (name : StateName) → is_some (maps.get t.rows name) ≡ is_some (maps.get (states_of t) name)
+pub known_row : (t : Table) (name : StateName) → is_some (maps.get t.rows name) ≡ is_some (maps.get (states_of t) name)
 known_row t name = sym (ap is_some (get-states_of t name) ∙ is_some-map (λ (r : Row). r.state) (maps.get t.rows name))
 
 -- a state more

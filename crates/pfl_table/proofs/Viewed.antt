@@ -21,8 +21,7 @@ use Rattle.pfl_containers.proofs.ForCallers.{key_of_row, get-map_values, values-
 use Rattle.pfl_table.proofs.Keyed.{first_value-none, first_value-some}
 use Rattle.pfl_track.specs.declared.state.State.{State}
 use Rattle.pfl_table.specs.declared.row.Row.{Row}
-use Rattle.pfl_table.specs.declared.keys.Flow.{Flow}
-use Rattle.pfl_table.specs.inner.Ordering.{flow_of, flow_cmp, flow_total, flow_exact}
+use Rattle.pfl_table.specs.inner.Ordering.{Flow, flow_of, flow_cmp, flow_total, flow_exact}
 use Rattle.pfl_table.specs.Tables.{states_of}
 use Rattle.pfl_table.proofs.Tables.{get-states_of}
 use Rattle.pfl_table.specs.inner.Filed.{Filing, name_of, rows_of, table_of, row_of_link}

@@ -16,7 +16,9 @@ use Rattle.pfl_edits.specs.Maps as maps
 use Rattle.pfl_edits.specs.Maps.{Map, set_at}
 use Rattle.pfl_rules.specs.declared.adaptive.Adaptive.{Adaptive}
 use Rattle.pfl_rules.specs.Scaling.{scaled}
+use Rattle.pfl_track.specs.declared.motion.Motion.{Motion}
 use Rattle.pfl_track.specs.declared.state.State.{State}
+use Rattle.pfl_track.specs.Motions.{with_motion}
 use Rattle.pfl_track.specs.Tracking.{expiry}
 use Rattle.pfl_containers.specs.Mapped.{map_values}
 use Rattle.pfl_table.specs.declared.row.Row.{Row}
@@ -125,6 +127,14 @@ put_fault_text StackInUse = codes "the stack key is in use"
 -- the row of a state with this timeout, if there is a state
 abbrev pub row_with : Option State → ℕ → Option Row
 row_with state timeout = option_map (λ s. record { state = s; timeout = timeout }) state
+
+-- a row whose state was moved so, with another timeout
+abbrev pub row_moved : Motion → ℕ → Row → Row
+row_moved to timeout r = record { state = with_motion to r.state; timeout = timeout }
+
+-- the table with the row of the name moved so, if there is one
+abbrev pub with_moved : Table → StateName → Motion → ℕ → Table
+with_moved t name to timeout = record { limit = t.limit; rows = set_at t.rows name (option_map (row_moved to timeout) (maps.get t.rows name)) }
 
 -- the table with this under the name
 abbrev pub with_row : Table → StateName → Option Row → Table

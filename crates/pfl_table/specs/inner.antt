@@ -2,5 +2,7 @@
 -- pair or of a timeline says any of it.
 pub mod BothWays
 pub mod Counts
+pub mod Dues
 pub mod Filed
+pub mod Heads
 pub mod Ordering

@@ -1,111 +1,93 @@
 //! How many rows each rule has.
 
-ghost use Rattle.std.specs.Prelude.{◌≡◌, ◌<◌, ◌==◌, ℕ, true, false, Some};
-ghost use Rattle.std.specs.Option.{option_map_or};
-ghost use Rattle.std.specs.Ordering.{nat_cmp};
-ghost use Rattle.pfl_edits.specs.Maps as maps;
-ghost use Rattle.pfl_containers.specs.OrderEntries.{map_of};
-ghost use Rattle.pfl_table.specs.inner.Counts.{count_at, one_less, one_more};
+ghost use Rattle.std.specs.Prelude.{◌≡◌, ◌+◌, ◌-◌, ◌<◌, ◌≤◌, ◌^◌, ℕ, [], get_or, length, vec_capacity, IfOk};
+ghost use Rattle.pfl_table.specs.inner.Counts.{once};
 
-use pfl_containers::OrderedMap;
+use pfl_edits::NoMemory;
 use std::alloc::Allocator;
+use std::marker::Model;
 
-/// How many rows a rule has.
-pub(crate) fn count_of<A: Allocator>(counts: &OrderedMap<u32, usize, A>, rule: u16) -> usize
-    ensures { result ≡ count_at (map_of nat_cmp counts.now.list) rule }
-{
-    counts.get(rule as u32).unwrap_or(0)
+/// How many numbers of rules there are.
+const NUMBERS: usize = 1 << 16;
+
+/// How many rows each rule has, by the number of the rule. Room for every number is made by `new`, and by `copy` for the copy, but no
+/// more of it is touched than up to the greatest number that came.
+#[derive(Drop)]
+pub(crate) struct RuleCounts<A: Allocator> {
+    counts: Vec<u32, A>,
 }
 
-/// Counts a row more of a rule, if it has one.
-pub(crate) fn count_more<A: Allocator>(counts: &mut OrderedMap<u32, usize, A>, rule: Option<u16>)
-    requires room { maps.len (map_of nat_cmp counts.old.list) < counts.old.limit }
-    requires few { (r : ℕ) → count_at (map_of nat_cmp counts.old.list) r < counts.old.limit }
-    ensures counted { map_of nat_cmp counts.new.list ≡ one_more rule (map_of nat_cmp counts.old.list) }
-    ensures limit { counts.new.limit ≡ counts.old.limit }
-{
-    match rule {
-        Some(number) => count_one_more(counts, number),
-        None => {}
+impl<A: Allocator> Model for RuleCounts<A> {
+    ghost use Rattle.std.specs.Prelude.{ℕ, ◌≤◌, ◌^◌, List, vec_capacity};
+
+    ghost Value = { List ℕ };
+
+    ghost view = { λ c. c.counts.items };
+
+    ghost invariant = { λ c. 2 ^ 16 ≤ vec_capacity c.counts };
+}
+
+impl<A: Allocator + Copy> RuleCounts<A> {
+    /// No rows.
+    pub(crate) fn new(alloc: A) -> Result<Self, NoMemory>
+        ensures none { IfOk result (λ c. c ≡ []) }
+    {
+        let counts = Vec::with_capacity(alloc, NUMBERS)?;
+        Ok(RuleCounts { counts })
+    }
+
+    /// The same rows, with room of their own.
+    pub(crate) fn copy(&self) -> Result<Self, NoMemory>
+        ensures same { IfOk result (λ c. c ≡ self.now) }
+    {
+        let mut counts = Vec::with_capacity(*self.counts.allocator(), NUMBERS)?;
+        counts.extend_from_slice(&self.counts)?;
+        Ok(RuleCounts { counts })
     }
 }
 
-/// Counts a row more of a rule.
-fn count_one_more<A: Allocator>(counts: &mut OrderedMap<u32, usize, A>, rule: u16)
-    requires room { maps.len (map_of nat_cmp counts.old.list) < counts.old.limit }
-    requires few { count_at (map_of nat_cmp counts.old.list) rule < counts.old.limit }
-    ensures counted { map_of nat_cmp counts.new.list ≡ one_more (Some rule) (map_of nat_cmp counts.old.list) }
-    ensures limit { counts.new.limit ≡ counts.old.limit }
-{
-    let most = counts.limit();
-    let count = count_of(counts, rule);
-    prove!(count < most);
-    counts.insert(rule as u32, count + 1);
-}
+impl<A: Allocator> RuleCounts<A> {
+    /// How many rows a rule has.
+    pub(crate) fn count_of(&self, rule: u16) -> usize
+        ensures count { result ≡ get_or self.now rule 0 }
+    {
+        match self.counts.get(rule as usize) {
+            Some(&count) => count as usize,
+            None => 0,
+        }
+    }
 
-/// Counts a row less of a rule, if it has one.
-pub(crate) fn count_less<A: Allocator>(counts: &mut OrderedMap<u32, usize, A>, rule: Option<u16>)
-    ensures counted { map_of nat_cmp counts.new.list ≡ one_less rule (map_of nat_cmp counts.old.list) }
-    ensures limit { counts.new.limit ≡ counts.old.limit }
-{
-    match rule {
-        Some(number) => count_one_less(counts, number),
-        None => {}
+    /// Counts a row more of a rule, if it has one.
+    pub(crate) fn more(&mut self, rule: Option<u16>)
+        requires few { (r : ℕ) → get_or self.old r 0 < 2 ^ 32 - 1 }
+        ensures counted { (r : ℕ) → get_or self.new r 0 ≡ get_or self.old r 0 + once r rule }
+    {
+        if let Some(rule) = rule {
+            reach(&mut self.counts, rule);
+            self.counts[rule as usize] += 1;
+        }
+    }
+
+    /// Counts a row less of a rule, if it has one.
+    pub(crate) fn less(&mut self, rule: Option<u16>)
+        requires counted { (r : ℕ) → once r rule ≤ get_or self.old r 0 }
+        ensures counted { (r : ℕ) → get_or self.old r 0 ≡ get_or self.new r 0 + once r rule }
+    {
+        if let Some(rule) = rule {
+            self.counts[rule as usize] -= 1;
+        }
     }
 }
 
-/// Counts a row less of a rule. A rule without rows is not kept.
-fn count_one_less<A: Allocator>(counts: &mut OrderedMap<u32, usize, A>, rule: u16)
-    ensures counted { map_of nat_cmp counts.new.list ≡ one_less (Some rule) (map_of nat_cmp counts.old.list) }
-    ensures limit { counts.new.limit ≡ counts.old.limit }
+/// Counts on to the number of a rule, in room that was made.
+fn reach<A: Allocator>(counts: &mut Vec<u32, A>, rule: u16)
+    requires room { 2 ^ 16 ≤ vec_capacity counts.old }
+    ensures reached { rule < length counts.new.items }
+    ensures same { (r : ℕ) → get_or counts.new.items r 0 ≡ get_or counts.old.items r 0 }
+    ensures room { 2 ^ 16 ≤ vec_capacity counts.new }
 {
-    let count = count_of(counts, rule);
-    counts.known();
-    if count <= 1 {
-        counts.remove(rule as u32);
-        return;
-    }
-    counts.set(rule as u32, Some(count - 1));
-}
-
-/// Counts a row less of one rule, and one more of another.
-pub(crate) fn recount<A: Allocator>(
-    counts: &mut OrderedMap<u32, usize, A>,
-    was: Option<u16>,
-    now: Option<u16>,
-)
-    requires counted { one_more was (one_less was (map_of nat_cmp counts.old.list)) ≡ map_of nat_cmp counts.old.list }
-    requires room { maps.len (one_less was (map_of nat_cmp counts.old.list)) < counts.old.limit }
-    requires few { (r : ℕ) → count_at (one_less was (map_of nat_cmp counts.old.list)) r < counts.old.limit }
-    ensures recounted { map_of nat_cmp counts.new.list ≡ one_more now (one_less was (map_of nat_cmp counts.old.list)) }
-    ensures limit { counts.new.limit ≡ counts.old.limit }
-{
-    if is_same(was, now) {
-        return;
-    }
-    count_less(counts, was);
-    count_more(counts, now);
-}
-
-/// Whether both are one rule, or none.
-fn is_same(was: Option<u16>, now: Option<u16>) -> bool
-    ensures { result ≡ true → was ≡ now }
-{
-    match now {
-        Some(rule) => has_rule(was, rule),
-        None => match was {
-            Some(_) => false,
-            None => true,
-        },
-    }
-}
-
-/// Whether it is this rule.
-fn has_rule(rule: Option<u16>, number: u16) -> bool
-    ensures { result ≡ option_map_or (λ n. n == number) rule false }
-{
-    match rule {
-        Some(rule) => rule == number,
-        None => false,
+    let rule = rule as usize;
+    if rule >= counts.len() {
+        counts.resize(rule + 1, 0).unwrap();
     }
 }

@@ -1,27 +1,27 @@
 //! The slots of rows, by each of their keys.
 
-ghost use Rattle.std.specs.Prelude.{◌≡◌, [], IfOk, Some};
+ghost use Rattle.std.specs.Prelude.{◌≡◌, ◌<◌, ◌≤◌, ◌-◌, ◌^◌, [], IfOk};
 ghost use Rattle.pfl_edits.specs.Maps as maps;
-ghost use Rattle.pfl_containers.specs.OrderEntries.{map_of};
-ghost use Rattle.pfl_table.specs.inner.Ordering.{expiry_cmp};
-ghost use Rattle.pfl_table.specs.inner.Filed.{AreIndexes, MayGain, Gains, Loses, MayChange, Changes};
+ghost use Rattle.pfl_containers.specs.Slots.{HasTag};
+ghost use Rattle.pfl_table.specs.inner.Filed.{AreIndexes, MayGain, Gains, Loses, MayChange, Changes, Refiles};
 
-use crate::counts::{count_less, count_more, recount};
-use crate::keys::{Expiry, Flow};
+use crate::counts::RuleCounts;
+use crate::due_order::DueOrder;
+use crate::keys::{tag_of_flow, tag_of_name};
 use crate::row::Row;
-use pfl_containers::{ByName, HashIndex, Ordered, OrderedMap};
+use pfl_containers::{ByName, OrderedMap, SlotIndex};
 use pfl_edits::NoMemory;
 use std::alloc::Allocator;
 
 /// The slots of rows, by each of their keys, and how many of them each rule has.
 #[derive(Drop)]
 pub(crate) struct Indexes<A: Allocator> {
-    pub(crate) names: HashIndex<ByName, usize, A>,
+    pub(crate) names: SlotIndex<A>,
     pub(crate) order: OrderedMap<ByName, usize, A>,
-    pub(crate) wires: HashIndex<Flow, usize, A>,
-    pub(crate) stacks: HashIndex<Flow, usize, A>,
-    pub(crate) expiries: OrderedMap<Expiry, usize, A>,
-    pub(crate) rules: OrderedMap<u32, usize, A>,
+    pub(crate) wires: SlotIndex<A>,
+    pub(crate) stacks: SlotIndex<A>,
+    pub(crate) expiries: DueOrder<A>,
+    pub(crate) rules: RuleCounts<A>,
 }
 
 impl<A: Allocator + Copy> Indexes<A> {
@@ -29,12 +29,12 @@ impl<A: Allocator + Copy> Indexes<A> {
     pub(crate) fn new(alloc: A, limit: usize) -> Result<Self, NoMemory>
         ensures empty { IfOk result (λ i. AreIndexes limit [] i) }
     {
-        let names = HashIndex::new(alloc, limit)?;
+        let names = SlotIndex::new(alloc, limit)?;
         let order = OrderedMap::new(alloc, limit)?;
-        let wires = HashIndex::new(alloc, limit)?;
-        let stacks = HashIndex::new(alloc, limit)?;
-        let expiries = OrderedMap::new(alloc, limit)?;
-        let rules = OrderedMap::new(alloc, limit)?;
+        let wires = SlotIndex::new(alloc, limit)?;
+        let stacks = SlotIndex::new(alloc, limit)?;
+        let expiries = DueOrder::new(alloc, limit)?;
+        let rules = RuleCounts::new(alloc)?;
         Ok(Indexes {
             names,
             order,
@@ -69,58 +69,76 @@ impl<A: Allocator + Copy> Indexes<A> {
 impl<A: Allocator> Indexes<A> {
     /// Names the slot of a row that none of the others shares a key with.
     pub(crate) fn insert(&mut self, slot: usize, row: &Row)
-        requires new { MayGain self.old row.now }
+        requires new { MayGain self.old slot row.now }
         ensures gains { Gains self.old self.new slot row.now }
     {
-        self.names.insert(ByName(row.state.name()), slot);
-        self.order.insert(ByName(row.state.name()), slot);
-        self.wires.insert(Flow::of(&row.state.wire()), slot);
-        self.stacks.insert(Flow::of(&row.state.stack()), slot);
-        self.expiries.insert(Expiry::of(row), slot);
-        count_more(&mut self.rules, row.state.rule());
+        let name = row.state.name();
+        self.names.insert(tag_of_name(name), slot);
+        self.order.insert(ByName(name), slot);
+        self.wires.insert(tag_of_flow(&row.state.wire()), slot);
+        self.stacks.insert(tag_of_flow(&row.state.stack()), slot);
+        self.expiries.insert(slot, row);
+        self.rules.more(row.state.rule());
     }
 
     /// Forgets the slot of a row.
-    pub(crate) fn remove(&mut self, row: &Row)
-        ensures loses { Loses self.old self.new row.now }
+    pub(crate) fn remove(&mut self, slot: usize, row: &Row)
+        requires stands { MayChange self.old slot row.now }
+        ensures loses { Loses self.old self.new slot row.now }
     {
-        self.names.remove(ByName(row.state.name()));
-        self.order.remove(ByName(row.state.name()));
-        self.wires.remove(Flow::of(&row.state.wire()));
-        self.stacks.remove(Flow::of(&row.state.stack()));
-        self.expiries.remove(Expiry::of(row));
-        count_less(&mut self.rules, row.state.rule());
+        let name = row.state.name();
+        self.names.remove(tag_of_name(name), slot);
+        self.order.remove(ByName(name));
+        self.wires.remove(tag_of_flow(&row.state.wire()), slot);
+        self.stacks.remove(tag_of_flow(&row.state.stack()), slot);
+        self.expiries.remove(slot, row);
+        self.rules.less(row.state.rule());
     }
 
     /// Names the slot of a row by the keys of another one of its name, which comes in its place.
+    #[inline]
     pub(crate) fn change(&mut self, slot: usize, was: &Row, row: &Row)
         requires changes { MayChange self.old slot was.now }
         ensures changes { Changes self.old self.new slot was.now row.now }
     {
-        self.wires
-            .rename(Flow::of(&was.state.wire()), Flow::of(&row.state.wire()));
-        self.stacks
-            .rename(Flow::of(&was.state.stack()), Flow::of(&row.state.stack()));
-        move_expiry(&mut self.expiries, Expiry::of(was), Expiry::of(row), slot);
-        recount(&mut self.rules, was.state.rule(), row.state.rule());
+        retag(
+            &mut self.wires,
+            slot,
+            tag_of_flow(&was.state.wire()),
+            tag_of_flow(&row.state.wire()),
+        );
+        retag(
+            &mut self.stacks,
+            slot,
+            tag_of_flow(&was.state.stack()),
+            tag_of_flow(&row.state.stack()),
+        );
+        self.expiries.change(slot, was, row);
+        self.rules.less(was.state.rule());
+        self.rules.more(row.state.rule());
+    }
+
+    /// Keeps the order of expiry where another row comes in the place of one, whose keys and rule are the same.
+    #[inline]
+    pub(crate) fn refile(&mut self, slot: usize, was: &Row, row: &Row)
+        requires changes { MayChange self.old slot was.now }
+        ensures refiled { Refiles self.old self.new slot was.now row.now }
+    {
+        self.expiries.change(slot, was, row);
     }
 }
 
-/// Names a slot by another expiry.
-fn move_expiry<A: Allocator>(
-    expiries: &mut OrderedMap<Expiry, usize, A>,
-    was: Expiry,
-    now: Expiry,
-    slot: usize,
-)
-    requires there { maps.get (map_of expiry_cmp expiries.old.list) was ≡ Some slot }
-    ensures moved { map_of expiry_cmp expiries.new.list ≡ maps.insert (maps.remove (map_of expiry_cmp expiries.old.list) was) now slot }
-    ensures limit { expiries.new.limit ≡ expiries.old.limit }
+/// Gives a slot another tag.
+fn retag<A: Allocator>(index: &mut SlotIndex<A>, slot: usize, was: u32, now: u32)
+    requires small { slot < 2 ^ 32 - 1 }
+    requires there { HasTag index.old.tags was slot }
+    requires few { maps.len index.old.tags ≤ index.old.limit }
+    ensures tagged { index.new.tags ≡ maps.insert (maps.remove index.old.tags slot) slot now }
+    ensures limit { index.new.limit ≡ index.old.limit }
 {
-    if was.compare(now).is_eq() {
+    if was == now {
         return;
     }
-    expiries.known();
-    expiries.remove(was);
-    expiries.insert(now, slot);
+    index.remove(was, slot);
+    index.insert(now, slot);
 }

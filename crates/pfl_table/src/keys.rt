@@ -1,14 +1,16 @@
 //! What the indexes of a table go by.
 
-ghost use Rattle.std.specs.Prelude.{◌≡◌, false};
-ghost use Rattle.std.specs.Ordering.{is_lt};
-ghost use Rattle.pfl_table.specs.inner.Ordering.{flow_of, number_of as address_number, version_of as address_version, halves as halves_of, flow_cmp, flow_hash, flow_total, flow_exact, expiry_cmp, expiry_total, expiry_exact, expiry_of, name_in, due_at, due_before, last_of_timeout as last_of_timeout_of};
+ghost use Rattle.std.specs.Prelude.{◌≡◌, ◌+◌, ◌*◌, ◌^◌};
+ghost use Rattle.pfl_table.specs.inner.Ordering.{flow_of, number_of as address_number, flow_tag, addresses_hash, mixed_halves, name_tag, expiry_cmp, expiry_total, expiry_exact, expiry_at, expiry_of, name_in, due_at, due_before};
 
 use crate::row::Row;
 use pfl_base::{Addr, Key, Millis, StateName};
-use pfl_containers::{Hashed, Ordered, mix};
+use pfl_containers::{ByName, Hashed, Ordered, mix, tag_of};
 use pfl_rules::{Adaptive, scaled};
 use std::cmp::Ordering;
+
+/// How many addresses of IPv4 there are.
+const ADDRESSES: u64 = 1 << 32;
 
 /// How many ports there are.
 const PORTS: u64 = 1 << 16;
@@ -16,36 +18,47 @@ const PORTS: u64 = 1 << 16;
 /// How many protocols there are.
 const PROTOS: u64 = 1 << 8;
 
-/// The numbers that make a flow, in no more room than they need.
-#[derive(Clone, Copy, PartialEq, Eq)]
-pub(crate) struct Flow {
-    far: u128,
-    near: u128,
-    far_port: u16,
-    near_port: u16,
-    far_version: u8,
-    near_version: u8,
-    proto: u8,
+/// The tag under which an index has the slot of a row with this flow.
+pub(crate) fn tag_of_flow(key: &Key) -> u32
+    ensures tag { result ≡ flow_tag (flow_of key.now) }
+{
+    let ports = (key.far.port as u64 * PORTS + key.near.port as u64) * PROTOS
+        + key.proto.number() as u64;
+    tag_of(mix(hash_of_addresses(key), ports))
 }
 
-impl Flow {
-    /// The numbers of a key.
-    pub(crate) fn of(key: &Key) -> Flow
-        ensures { result ≡ flow_of key.now }
-    {
-        Flow {
-            far: number_of(key.far.addr),
-            near: number_of(key.near.addr),
-            far_port: key.far.port,
-            near_port: key.near.port,
-            far_version: version_of(key.far.addr),
-            near_version: version_of(key.near.addr),
-            proto: key.proto.number(),
-        }
+/// A hash of the addresses of a flow: two of IPv4 are one word, and others are two words each.
+#[inline]
+fn hash_of_addresses(key: &Key) -> u64
+    ensures { result ≡ addresses_hash (flow_of key.now) }
+{
+    match (key.far.addr, key.near.addr) {
+        (Addr::V4(far), Addr::V4(near)) => mix(0, word_of(far, near)),
+        (far, near) => mix_halves(mix_halves(0, number_of(far)), number_of(near)),
     }
 }
 
+/// Two addresses of IPv4 as one word.
+#[inline]
+fn word_of(far: u32, near: u32) -> u64
+    ensures { result ≡ far * 2 ^ 32 + near }
+{
+    far as u64 * ADDRESSES + near as u64
+}
+
+/// A hash with both halves of a number in it.
+#[inline]
+fn mix_halves(hash: u64, number: u128) -> u64
+    ensures { result ≡ mixed_halves hash number }
+{
+    mix(
+        mix(hash, (number >> 64) as u64),
+        (number % (1 << 64)) as u64,
+    )
+}
+
 /// An address as a number.
+#[inline]
 fn number_of(addr: Addr) -> u128
     ensures { result ≡ address_number addr }
 {
@@ -55,50 +68,20 @@ fn number_of(addr: Addr) -> u128
     }
 }
 
-/// The version of an address.
-fn version_of(addr: Addr) -> u8
-    ensures { result ≡ address_version addr }
+/// The tag under which an index has the slot of a name's row.
+pub(crate) fn tag_of_name(name: StateName) -> u32
+    ensures tag { result ≡ name_tag (record { 0 = name }) }
 {
-    if addr.is_v4() { 4 } else { 6 }
+    tag_of(ByName(name).hash())
 }
 
-impl Hashed for Flow {
-    ghost order = { flow_cmp };
-
-    ghost hash_of = { flow_hash };
-
-    fn same(&self, other: &Flow) -> bool {
-        *self == *other
-    }
-
-    fn hash(&self) -> u64 {
-        let (far, far_rest) = halves(self.far);
-        let (near, near_rest) = halves(self.near);
-        let ends = mix(mix(mix(mix(0, far), far_rest), near), near_rest);
-        let ports = (self.far_port as u64 * PORTS + self.near_port as u64) * PROTOS
-            + self.proto as u64;
-        mix(ends, ports)
-    }
-
-    ghost total = { flow_total };
-
-    ghost exact = { flow_exact };
-}
-
-/// The two halves of a number.
-fn halves(number: u128) -> (u64, u64)
-    ensures { result ≡ halves_of number }
-{
-    ((number >> 64) as u64, (number % (1 << 64)) as u64)
-}
-
-/// What says when a row expires: its timeout, its last use and its name. Rows of one timeout expire in this order, however timeouts
-/// are scaled. The two numbers of the name stand apart, so that a key is three words long.
+/// What says when a row expires: its timeout, the time of a use and its name. Rows of one timeout expire in this order, however
+/// timeouts are scaled. The two numbers of the name stand apart, so that a key is three words long.
 #[derive(Clone, Copy)]
 pub(crate) struct Expiry {
     timeout: u32,
     creator: u32,
-    last: Millis,
+    time: Millis,
     id: u64,
 }
 
@@ -107,13 +90,27 @@ impl Expiry {
     pub(crate) fn of(row: &Row) -> Expiry
         ensures { result ≡ expiry_of row.now }
     {
+        Expiry::at(row, row.state.last())
+    }
+
+    /// What says when this row would expire if it had last been used at this time.
+    pub(crate) fn at(row: &Row, time: Millis) -> Expiry
+        ensures { result ≡ expiry_at row.now time }
+    {
         let name = row.state.name();
         Expiry {
             timeout: row.timeout,
             creator: name.creator,
-            last: row.state.last(),
+            time,
             id: name.id,
         }
+    }
+
+    /// The timeout of the row, in seconds.
+    pub(crate) fn timeout(self) -> u32
+        ensures { result ≡ self.timeout }
+    {
+        self.timeout
     }
 
     /// The name of the row.
@@ -131,7 +128,7 @@ impl Expiry {
         ensures { result ≡ due_at adaptive states self }
     {
         let seconds = scaled(self.timeout, adaptive, states);
-        self.last as u128 + seconds as u128 * 1000
+        self.time as u128 + seconds as u128 * 1000
     }
 
     /// Whether the row expires before another one: by expiry, then by name.
@@ -142,19 +139,6 @@ impl Expiry {
         let other_due = other.due(adaptive, states);
         due < other_due || (due == other_due && self.name().compare(other.name()).is_lt())
     }
-
-    /// What no key of a row with this timeout is above.
-    pub(crate) fn last_of_timeout(self) -> Expiry
-        ensures last { result ≡ last_of_timeout_of self }
-        ensures not_above { is_lt (expiry_cmp result self) ≡ false }
-    {
-        Expiry {
-            timeout: self.timeout,
-            creator: u32::MAX,
-            last: Millis::MAX,
-            id: u64::MAX,
-        }
-    }
 }
 
 impl Ordered for Expiry {
@@ -162,7 +146,7 @@ impl Ordered for Expiry {
 
     fn compare(self, other: Expiry) -> Ordering {
         match self.timeout.cmp(&other.timeout) {
-            Ordering::Equal => match self.last.cmp(&other.last) {
+            Ordering::Equal => match self.time.cmp(&other.time) {
                 Ordering::Equal => self.name().compare(other.name()),
                 apart => apart,
             },

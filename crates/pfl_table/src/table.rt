@@ -4,16 +4,18 @@ ghost use Rattle.std.specs.Prelude.{◌≡◌, ℕ, [], ◌∷◌, map, nat_le, 
 ghost use Rattle.std.specs.Option.{option_copied, option_map};
 ghost use Rattle.pfl_edits.specs.Maps as maps;
 ghost use Rattle.pfl_edits.specs.Maps.{set_at};
-ghost use Rattle.pfl_table.specs.Tables.{Table, IsTable, TableLeadsBack, states_of, by_wire, by_stack, found, count_of_rule, first_expiring, row_after, state_after, put_fault, row_with, with_row, edit_of};
+ghost use Rattle.pfl_table.specs.Tables.{Table, IsTable, TableLeadsBack, states_of, by_wire, by_stack, found, count_of_rule, first_expiring, row_after, state_after, put_fault, row_with, with_moved, with_row, edit_of};
+ghost use Rattle.pfl_track.specs.Motions.{motion as motion_of};
 
 use crate::edit::TableEdit;
 use crate::fault::PutFault;
 use crate::row::{Row, row_with};
+use crate::slot::Slot;
 use crate::stored::Stored;
 use pfl_base::{Dir, Key, StateName};
 use pfl_edits::{InOrder, NoMemory, Reversible};
 use pfl_rules::Adaptive;
-use pfl_track::State;
+use pfl_track::{Motion, State};
 use std::alloc::Allocator;
 use std::marker::Model;
 
@@ -88,6 +90,7 @@ impl<A: Allocator> StateTable<A> {
     }
 
     /// The row of the state with the name.
+    #[inline]
     pub fn row(&self, name: StateName) -> Option<&Row>
         ensures row { option_copied result ≡ maps.get self.now.rows name }
     {
@@ -95,6 +98,7 @@ impl<A: Allocator> StateTable<A> {
     }
 
     /// The state with the name.
+    #[inline]
     pub fn by_name(&self, name: StateName) -> Option<&State>
         ensures state { option_copied result ≡ maps.get (states_of self.now) name }
     {
@@ -102,6 +106,7 @@ impl<A: Allocator> StateTable<A> {
     }
 
     /// The state with the wire key.
+    #[inline]
     pub fn by_wire(&self, key: &Key) -> Option<&State>
         ensures state { option_copied result ≡ by_wire (states_of self.now) key.now }
     {
@@ -110,6 +115,7 @@ impl<A: Allocator> StateTable<A> {
     }
 
     /// The state with the stack key.
+    #[inline]
     pub fn by_stack(&self, key: &Key) -> Option<&State>
         ensures state { option_copied result ≡ by_stack (states_of self.now) key.now }
     {
@@ -118,6 +124,7 @@ impl<A: Allocator> StateTable<A> {
     }
 
     /// The state of a packet with the key: of an inbound one by the wire key, of an outbound one by the stack key.
+    #[inline]
     pub fn found(&self, key: &Key, direction: Dir) -> Option<&State>
         ensures state { option_copied result ≡ found (states_of self.now) key.now direction }
     {
@@ -125,6 +132,23 @@ impl<A: Allocator> StateTable<A> {
             Dir::Inbound => self.by_wire(key),
             Dir::Outbound => self.by_stack(key),
         }
+    }
+
+    /// The state of a packet with the key, as `found` gives it, and where it stands.
+    pub fn find(&self, key: &Key, direction: Dir) -> Option<(Slot, &State)>
+        ensures state { option_map (λ r. r.1.now) result ≡ found (states_of self.now) key.now direction }
+    {
+        self.stored.known();
+        let (slot, row) = self.stored.found(key, direction)?;
+        Some((Slot::of(slot), &row.state))
+    }
+
+    /// The row of the state with the name, which may stand at this slot, and where it stands.
+    pub fn row_at(&self, slot: Slot, name: StateName) -> Option<(Slot, &Row)>
+        ensures row { option_map (λ r. r.1.now) result ≡ maps.get self.now.rows name }
+    {
+        let (slot, row) = self.stored.near(slot.place(), name)?;
+        Some((Slot::of(slot), row))
     }
 
     /// The row of the first name above this one.
@@ -143,6 +167,14 @@ impl<A: Allocator> StateTable<A> {
     {
         self.stored.known();
         self.stored.first_expiring(adaptive, states)
+    }
+
+    /// Files rows anew that were used since they were filed for expiry, until the one that is due first is filed at its last use: then
+    /// `first_expiring` finds it without a look at each. The table stays the same. It takes no memory.
+    pub fn settle_first(&mut self, adaptive: Adaptive, states: usize)
+        ensures same { self.new ≡ self.old }
+    {
+        self.stored.settle_first(adaptive, states);
     }
 
     /// How many states have the rule with this number.
@@ -191,6 +223,7 @@ impl<A: Allocator> StateTable<A> {
 
     /// Gives a state of the table, whose keys stay, other parts and another timeout, in seconds. `None`: no state has its name.
     /// It takes no memory.
+    #[inline]
     pub fn change(&mut self, state: State, timeout: u32) -> Option<TableEdit>
         requires wire { IfSome (maps.get (states_of self.old) state.name) (λ s. s.wire ≡ state.wire) }
         requires stack { IfSome (maps.get (states_of self.old) state.name) (λ s. s.stack ≡ state.stack) }
@@ -224,7 +257,53 @@ impl<A: Allocator> StateTable<A> {
         }
     }
 
+    /// Adds a state that may be put, with its timeout in seconds. It takes no memory.
+    pub fn add(&mut self, state: &State, timeout: u32)
+        requires may { put_fault self.old state.now ≡ None }
+        ensures added { self.new ≡ with_row self.old state.now.name (Some (record { state = state.now; timeout = timeout })) }
+    {
+        self.known();
+        self.stored.add(&Row {
+            state: *state,
+            timeout,
+        });
+    }
+
+    /// Moves the state of a name, which may stand at this slot, and gives it another timeout, in seconds. Gives how it was moved
+    /// before. `None`: no state has the name. It takes no memory.
+    pub fn move_at(
+        &mut self,
+        slot: Slot,
+        name: StateName,
+        motion: &Motion,
+        timeout: u32,
+    ) -> Option<Motion>
+        ensures former { result ≡ option_map motion_of (maps.get (states_of self.old) name) }
+        ensures moved { self.new ≡ with_moved self.old name motion.now timeout }
+    {
+        self.known();
+        let (place, row) = self.stored.near(slot.place(), name)?;
+        let former = row.state.motion();
+        let moved = Row {
+            state: row.state.with_motion(*motion),
+            timeout,
+        };
+        self.stored.renew(place, &moved);
+        Some(former)
+    }
+
+    /// Takes the state of a name out, which may stand at this slot. `None`: there is none. It takes no memory.
+    pub fn take_at(&mut self, slot: Slot, name: StateName) -> Option<State>
+        ensures state { result ≡ maps.get (states_of self.old) name }
+        ensures taken { self.new ≡ with_row self.old name None }
+    {
+        self.known();
+        let row = self.stored.take(slot.place(), name)?;
+        Some(row.state)
+    }
+
     /// Sets what stands under a name: a state with its timeout in seconds, or none, whatever stood there. It takes no memory.
+    #[inline]
     pub fn set(&mut self, name: StateName, state: Option<State>, timeout: u32) -> TableEdit
         requires table { IsTable (with_row self.old name (row_with state timeout)) }
         ensures set { self.new ≡ with_row self.old name (row_with state timeout) }
@@ -236,6 +315,7 @@ impl<A: Allocator> StateTable<A> {
     }
 
     /// Sets the row that stands under a name.
+    #[inline]
     fn set_row(&mut self, name: StateName, at: &Option<Row>) -> TableEdit
         requires { IsTable (with_row self.old name at.now) }
         ensures set { self.new ≡ with_row self.old name at.now }
@@ -271,6 +351,7 @@ impl<A: Allocator + Copy> StateTable<A> {
 }
 
 /// The state of the row.
+#[inline]
 fn state_of(row: Option<&Row>) -> Option<&State>
     ensures { option_copied result ≡ option_map (λ r. r.state) (option_copied row.entry) }
 {

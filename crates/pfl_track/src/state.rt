@@ -6,7 +6,7 @@ use crate::key_pair::KeyPair;
 use crate::keys::are_keys;
 use crate::motion::Motion;
 use crate::peer::Peer;
-use pfl_base::{Class, Dir, Key, Millis, PackedKey, StateName};
+use pfl_base::{Class, Dir, Key, Millis, PackedKey, Proto, StateName};
 use std::marker::Model;
 
 /// What a state is made from. Times are in milliseconds.
@@ -81,6 +81,7 @@ impl Model for State {
 
 impl State {
     ghost use Rattle.std.specs.Prelude.{◌≤◌, ◌^◌};
+    ghost use Rattle.pfl_base.specs.Keys.{is_key};
     ghost use Rattle.pfl_track.specs.Keys.{are_keys as may_be_keys, AreKeys};
     ghost use Rattle.pfl_track.specs.Motions.{motion as motion_of, with_motion as moved_to};
     ghost use Rattle.pfl_track.specs.States.{IsState};
@@ -129,7 +130,7 @@ impl State {
         State { kept }
     }
 
-    /// Tells a proof what each state keeps. It does nothing.
+    /// Gives a proof what each state keeps. It does nothing.
     pub fn known(&self)
         ensures { IsState self.now }
     {
@@ -188,11 +189,32 @@ impl State {
         self.kept.wire.key()
     }
 
+    /// The protocol of the flow.
+    pub fn proto(&self) -> Proto
+        ensures { result ≡ self.now.wire.proto }
+    {
+        self.kept.wire.proto()
+    }
+
     /// The flow before translation.
     pub fn stack(&self) -> Key
         ensures { result ≡ self.now.stack }
     {
         self.kept.stack.key()
+    }
+
+    /// Whether the flow as it is on the wire is this one.
+    pub fn has_wire(&self, key: &PackedKey) -> bool
+        ensures { result ≡ is_key self.now.wire key.now }
+    {
+        self.kept.wire == *key
+    }
+
+    /// Whether the flow before translation is this one.
+    pub fn has_stack(&self, key: &PackedKey) -> bool
+        ensures { result ≡ is_key self.now.stack key.now }
+    {
+        self.kept.stack == *key
     }
 
     /// The two keys.

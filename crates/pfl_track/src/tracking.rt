@@ -94,7 +94,7 @@ fn moved(state: &State, dir: Dir, from: Peer, to: Peer, now: Millis) -> State
     } else {
         (to, from)
     };
-    let class = class_after(state.wire().proto, src.level(), dst.level());
+    let class = class_after(state.proto(), src.level(), dst.level());
     state.with_ends(src, dst).refreshed(class, now)
 }
 

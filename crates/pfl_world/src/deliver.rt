@@ -49,7 +49,7 @@ impl<A: Allocator + Copy> World<A> {
         }
     }
 
-    /// A frame leaves the link, behind what was changed for it. Where there is no memory, all that is taken back.
+    /// A frame leaves the link, after what was changed for it. Where there is no memory, all that is taken back.
     fn take_off(
         &mut self,
         ticket: u32,

@@ -58,7 +58,7 @@ impl<A: Allocator + Copy> World<A> {
         }
     }
 
-    /// The link takes a frame, behind what was changed for it. Where there is no memory, all that is taken back.
+    /// The link takes a frame, after what was changed for it. Where there is no memory, all that is taken back.
     fn send(
         &mut self,
         to: NodeId,

@@ -47,7 +47,8 @@ impl<A: Allocator + Copy> World<A> {
     {
         self.known();
         let mut edits = Change::new(self.alloc);
-        if edits.reserve(change.len()).is_err() {
+        // Room for one more: a flush and a delivery append an edit of the link.
+        if edits.reserve(change.len().saturating_add(1)).is_err() {
             undo_all(self.nodes.at_mut(node), change);
             return Err(Refusal::NoMemory);
         }

@@ -54,7 +54,7 @@ pub struct MovedEdit {
 // Few bytes are at most so many, and some more so many.
 const _: () = prove!(size_of::<SmallEdit>() <= 40);
 
-const _: () = prove!(size_of::<MovedEdit>() <= 120);
+const _: () = prove!(size_of::<MovedEdit>() <= 128);
 
 /// The change of a node as a small one, unless it is larger.
 fn small_of(node: NodeId, edit: &NodeEdit) -> Option<SmallEdit>

@@ -16,3 +16,5 @@ mod records;
 mod scripts;
 #[cfg(test)]
 mod searches;
+#[cfg(test)]
+mod tables;

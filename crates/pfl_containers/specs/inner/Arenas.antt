@@ -1,5 +1,5 @@
 -- What stands in an arena: a tree, and a tree of the places that are free. This project's profile.
-use Rattle.std.specs.Prelude.{◌≡◌, ℕ, ◌+◌, ◌≤◌, ◌<◌, ◌^◌, List, length, Option, Some, None, vec_capacity}
+use Rattle.std.specs.Prelude.{◌≡◌, ℕ, ◌+◌, ◌≤◌, ◌<◌, ◌^◌, List, length, Option, Some, vec_capacity}
 use Rattle.std.specs.declared.cmp.Ordering.{Ordering}
 use Rattle.std.specs.FinMap.Entries.{put, find, is_sorted}
 use Rattle.std.proofs.Common.{T}
@@ -10,8 +10,8 @@ use Rattle.pfl_containers.specs.inner.Searches.{under}
 use Rattle.pfl_containers.specs.inner.Changes.{without}
 use Rattle.pfl_containers.specs.inner.Balances.{IsBalanced}
 
--- The tree stands at the root. The other places are free, but for as many as `count` says, which `held` names.
-pub record Fills {K V : Type 0} (limit capacity : ℕ) (nodes : List (Node K V)) (root free : Option ℕ) (t : Tree K V) (held : ℕ → ℕ) (count : ℕ) : Type 0 where
+-- The tree stands at the root. The other places are free, all but `count` of them, which `held` names.
+pub record Fills {K V : Type 0} (limit capacity : ℕ) (nodes : List (Node K V)) (root free : ℕ) (t : Tree K V) (held : ℕ → ℕ) (count : ℕ) : Type 0 where
   pub spare : Tree K V
   pub holds : Holds nodes t root
   pub spare_holds : Holds nodes spare free
@@ -35,6 +35,12 @@ module _ {K V A : Type 0} (R : K → K → Ordering) where
     pub long : a.len ≡ length es
     pub balanced : IsBalanced tree
 
+  -- the arena has some entries
+  pub record IsArena (a : Arena K V A) : Type 0 where
+    pub limit : ℕ
+    pub es : List (K × V)
+    pub stores : Stores limit a es
+
   -- there is room for an entry more
   pub record HasRoom (a : Arena K V A) : Type 0 where
     pub limit : ℕ
@@ -57,13 +63,13 @@ module _ {K V A : Type 0} (R : K → K → Ordering) where
   pub record Changes (old new : Arena K V A) (place : ℕ) (node : Node K V) (v : V) : Type 0 where
     pub stores : (limit : ℕ) (es : List (K × V)) (s : Stores limit old es) (q : K) → under R s.tree q ≡ Some (place, node) → Stores limit new (put R q v es)
 
-  -- there is an entry more, whose key was in none
-  pub record Gains (old new : Arena K V A) (k : K) (v : V) : Type 0 where
-    pub stores : (limit : ℕ) (es : List (K × V)) (s : Stores limit old es) → length es < limit → find R k es ≡ None → Stores limit new (put R k v es)
+  -- the value stands under the key, and what stood there is given
+  pub record Gains (old new : Arena K V A) (k : K) (v : V) (former : Option V) : Type 0 where
+    pub stores : (limit : ℕ) (es : List (K × V)) → Stores limit old es → length es < limit → Stores limit new (put R k v es) × (former ≡ find R k es)
 
-  -- the entry of this key is gone
-  pub record Loses (old new : Arena K V A) (q : K) (place : ℕ) (node : Node K V) : Type 0 where
-    pub stores : (limit : ℕ) (es : List (K × V)) (s : Stores limit old es) → under R s.tree q ≡ Some (place, node) → Stores limit new (without R q es)
+  -- the entry of this key is gone, if there was one, whose value is given
+  pub record Loses (old new : Arena K V A) (q : K) (former : Option V) : Type 0 where
+    pub stores : (limit : ℕ) (es : List (K × V)) → Stores limit old es → Stores limit new (without R q es) × (former ≡ find R q es)
 
   -- the copy has the same entries
   pub record Copies (limit : ℕ) (a copied : Arena K V A) : Type 0 where

@@ -16,17 +16,17 @@ under R (fork l i n r) q = by_order (R q n.key) (under R l q) (Some (i, n)) (und
 
 module _ {K V : Type 0} where
   -- the place of the node with the key q
-  pub record Finds (R : K → K → Ordering) (nodes : List (Node K V)) (link : Option ℕ) (q : K) (steps : ℕ) (found : Option ℕ) : Type 0 where
+  pub record Finds (R : K → K → Ordering) (nodes : List (Node K V)) (link : ℕ) (q : K) (steps : ℕ) (found : Option ℕ) : Type 0 where
     pub is : (t : Tree K V) → Holds nodes t link → length (entries t) ≤ steps → found ≡ option_map (λ p. p.0) (under R t q)
 
   -- the first entry
-  pub record IsFirst (nodes : List (Node K V)) (link : Option ℕ) (steps : ℕ) (found : Option (K × V)) : Type 0 where
+  pub record IsFirst (nodes : List (Node K V)) (link : ℕ) (steps : ℕ) (found : Option (K × V)) : Type 0 where
     pub is : (t : Tree K V) → Holds nodes t link → length (entries t) ≤ steps → found ≡ slice_get (entries t) 0
 
   -- the last entry
-  pub record IsLast (nodes : List (Node K V)) (link : Option ℕ) (steps : ℕ) (found : Option (K × V)) : Type 0 where
+  pub record IsLast (nodes : List (Node K V)) (link : ℕ) (steps : ℕ) (found : Option (K × V)) : Type 0 where
     pub is : (t : Tree K V) → Holds nodes t link → length (entries t) ≤ steps → found ≡ slice_get (entries t) (length (entries t) - 1)
 
   -- the first entry above the key q
-  pub record IsNext (R : K → K → Ordering) (nodes : List (Node K V)) (link : Option ℕ) (q : K) (steps : ℕ) (found : Option (K × V)) : Type 0 where
+  pub record IsNext (R : K → K → Ordering) (nodes : List (Node K V)) (link : ℕ) (q : K) (steps : ℕ) (found : Option (K × V)) : Type 0 where
     pub is : (t : Tree K V) → Holds nodes t link → length (entries t) ≤ steps → T (is_sorted R (entries t)) → found ≡ find (λ e. is_lt (R q e.0)) (entries t)

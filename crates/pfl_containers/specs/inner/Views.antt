@@ -11,10 +11,9 @@ abbrev pub IsNextBehind : {K V : Type 0} → (K → K → Ordering) → Option K
 IsNextBehind R seen es found = MatchOption found (behind R seen es ≡ []) (λ e. behind R seen es ≡ e ∷ behind R (Some e.0) es)
 
 -- the tree at a link, as far down as there are steps
-unfoldable pub tree_at : {K V : Type 0} → List (Node K V) → ℕ → Option ℕ → Tree K V
+unfoldable pub tree_at : {K V : Type 0} → List (Node K V) → ℕ → ℕ → Tree K V
 tree_at nodes zero link = leaf
-tree_at nodes (suc steps) None = leaf
-tree_at nodes (suc steps) (Some i) = elim (slice_get nodes i) [ None ↦ leaf | Some n ↦ fork (tree_at nodes steps n.left) i n (tree_at nodes steps n.right) ]
+tree_at nodes (suc steps) link = elim (slice_get nodes link) [ None ↦ leaf | Some n ↦ fork (tree_at nodes steps n.left) link n (tree_at nodes steps n.right) ]
 
 -- the entries of an arena
 abbrev pub listed : {K V A : Type 0} → Arena K V A → List (K × V)

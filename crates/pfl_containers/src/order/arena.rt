@@ -1,10 +1,9 @@
 //! Nodes in room that was made at once: a tree in the order of the keys, and the places that are free.
 ghost use Rattle.std.specs.Prelude.{◌<◌, ◌^◌, [], IfOk};
-ghost use Rattle.pfl_containers.specs.inner.Arenas.{Stores, HasRoom, TakesPlace, Locates, Changes, Gains, Loses, Copies};
+ghost use Rattle.pfl_containers.specs.inner.Arenas.{Stores, IsArena, HasRoom, TakesPlace, Locates, Changes, Gains, Loses, Copies};
 
-use crate::order::changes::{inserted, removed, without_first};
-use crate::order::joins::linked;
-use crate::order::node::{Node, fork_at, put};
+use crate::order::changes::{Grown, Remaining, inserted, removed, without_first};
+use crate::order::node::{NO_PLACE, Node, node_at, put};
 use crate::order::ordered::Ordered;
 use crate::order::search::found;
 use pfl_edits::NoMemory;
@@ -14,8 +13,8 @@ use std::alloc::Allocator;
 #[derive(Drop)]
 pub(crate) struct Arena<K: Ordered, V: Copy, A: Allocator> {
     pub(crate) nodes: Vec<Node<K, V>, A>,
-    pub(crate) root: Option<u32>,
-    pub(crate) free: Option<u32>,
+    pub(crate) root: u32,
+    pub(crate) free: u32,
     pub(crate) len: usize,
 }
 
@@ -28,8 +27,8 @@ impl<K: Ordered, V: Copy, A: Allocator> Arena<K, V, A> {
         let nodes = Vec::with_capacity(alloc, limit)?;
         Ok(Arena {
             nodes,
-            root: None,
-            free: None,
+            root: NO_PLACE,
+            free: NO_PLACE,
             len: 0,
         })
     }
@@ -38,8 +37,13 @@ impl<K: Ordered, V: Copy, A: Allocator> Arena<K, V, A> {
     pub(crate) fn find(&self, key: K) -> Option<(u32, Node<K, V>)>
         ensures locates { Locates K.order self.now key result }
     {
-        let place = found(&self.nodes, self.root, key, self.len);
-        fork_at(&self.nodes, place)
+        let Some(place) = found(&self.nodes, self.root, key, self.len) else {
+            return None;
+        };
+        let Some(node) = node_at(&self.nodes, place) else {
+            return None;
+        };
+        Some((place, *node))
     }
 
     /// Puts a new value into the node that stands at a place.
@@ -49,37 +53,57 @@ impl<K: Ordered, V: Copy, A: Allocator> Arena<K, V, A> {
         put(&mut self.nodes, place, Node { value, ..node });
     }
 
-    /// Takes the node of a key out, whose place is free then.
-    pub(crate) fn remove(&mut self, key: K, place: u32, node: Node<K, V>)
-        requires some { 0 < self.old.len }
-        ensures loses { Loses K.order self.old self.new key place node }
+    /// Takes the entry of a key out and gives its value. The place of its node is free then.
+    pub(crate) fn remove(&mut self, key: K) -> Option<V>
+        requires stored { IsArena K.order self.old }
+        ensures loses { Loses K.order self.old self.new key result }
     {
         let nodes = self.nodes.as_mut_slice();
-        self.root = removed(nodes, self.root, key, self.len);
-        let freed = Node {
-            left: None,
-            right: self.free,
-            ..node
+        let Remaining { link, taken } = removed(nodes, self.root, &key, self.len);
+        self.root = link;
+        let Some(taken) = taken else {
+            return None;
         };
-        self.free = linked(nodes, place, freed);
+        let freed = Node {
+            key,
+            value: taken.value,
+            left: NO_PLACE,
+            right: self.free,
+            height: 0,
+        };
+        put(nodes, taken.place, freed);
+        self.free = taken.place;
         self.len -= 1;
+        Some(taken.value)
     }
 
-    /// Adds an entry, whose key is new.
-    pub(crate) fn insert(&mut self, key: K, value: V)
+    /// Puts an entry in where there is room for one more, and gives what stood under its key.
+    pub(crate) fn insert(&mut self, key: K, value: V) -> Option<V>
         requires room { HasRoom K.order self.old }
-        ensures gains { Gains K.order self.old self.new key value }
+        ensures gains { Gains K.order self.old self.new key value result }
     {
         let item = Node {
             key,
             value,
-            left: None,
-            right: None,
+            left: NO_PLACE,
+            right: NO_PLACE,
             height: 1,
         };
         let place = self.take_place(item);
-        self.root = inserted(&mut self.nodes, self.root, place, item, self.len);
-        self.len += 1;
+        let Grown { link, former } = inserted(&mut self.nodes, self.root, place, &item, self.len);
+        self.root = link;
+        match former {
+            Some(value) => {
+                let right = self.free;
+                put(&mut self.nodes, place, Node { right, ..item });
+                self.free = place;
+                Some(value)
+            }
+            None => {
+                self.len += 1;
+                None
+            }
+        }
     }
 
     /// A place that was free, or a new one, at which any node may stand.

@@ -1,8 +1,9 @@
-//! Trees with an entry more, and with one less. Each function goes down at most `steps` nodes.
+//! Trees with an entry more, and with one less. Each function goes down at most `steps` nodes, and writes those alone whose trees
+//! stand elsewhere or are of another height then.
 ghost use Rattle.pfl_containers.specs.inner.Changes.{Inserts, Parts, Merges, Removes};
 
-use crate::order::joins::{balanced, linked};
-use crate::order::node::{Node, fork_at};
+use crate::order::joins::{balanced, linked, with_left, with_right};
+use crate::order::node::{Node, height, node_at, put};
 use crate::order::ordered::Ordered;
 use std::cmp::Ordering;
 
@@ -11,34 +12,56 @@ use std::cmp::Ordering;
 pub(crate) struct Parted<K, V> {
     pub(crate) place: u32,
     pub(crate) node: Node<K, V>,
-    pub(crate) rest: Option<u32>,
+    pub(crate) rest: u32,
 }
 
-/// The tree with one node more, which stands at a place of its own.
+/// A tree with an entry, and what stood under its key.
+#[derive(Clone, Copy)]
+pub(crate) struct Grown<V> {
+    pub(crate) link: u32,
+    pub(crate) former: Option<V>,
+}
+
+/// The tree with the entry of an item. A node that has its key takes its value; if there is none, the item stands at the place.
 pub(crate) fn inserted<K: Ordered, V: Copy>(
     nodes: &mut [Node<K, V>],
-    link: Option<u32>,
+    link: u32,
     place: u32,
-    item: Node<K, V>,
+    item: &Node<K, V>,
     steps: usize,
-) -> Option<u32>
-    ensures inserts { Inserts K.order nodes.old nodes.new link place item steps result }
+) -> Grown<V>
+    ensures inserts { Inserts K.order nodes.old nodes.new link place item.now steps result }
 {
-    let Some((at, mut node)) = fork_at(nodes, link) else {
-        return linked(nodes, place, item);
+    let Some(node) = node_at(nodes, link) else {
+        let link = linked(nodes, place, *item);
+        return Grown { link, former: None };
     };
     if steps == 0 {
-        return link;
+        return Grown { link, former: None };
     }
     match item.key.compare(node.key) {
         Ordering::Less => {
-            node.left = inserted(nodes, node.left, place, item, steps - 1);
-            balanced(nodes, at, node)
+            let left = node.left;
+            let was = height(nodes, left);
+            let below = inserted(nodes, left, place, item, steps - 1);
+            let link = with_left(nodes, link, below.link, was);
+            Grown { link, ..below }
         }
-        Ordering::Equal => link,
+        Ordering::Equal => {
+            let former = Some(node.value);
+            let node = Node {
+                value: item.value,
+                ..*node
+            };
+            put(nodes, link, node);
+            Grown { link, former }
+        }
         Ordering::Greater => {
-            node.right = inserted(nodes, node.right, place, item, steps - 1);
-            balanced(nodes, at, node)
+            let right = node.right;
+            let was = height(nodes, right);
+            let below = inserted(nodes, right, place, item, steps - 1);
+            let link = with_right(nodes, link, below.link, was);
+            Grown { link, ..below }
         }
     }
 }
@@ -46,33 +69,37 @@ pub(crate) fn inserted<K: Ordered, V: Copy>(
 /// The tree's first node, and the tree without it.
 pub(crate) fn without_first<K: Copy, V: Copy>(
     nodes: &mut [Node<K, V>],
-    link: Option<u32>,
+    link: u32,
     steps: usize,
 ) -> Option<Parted<K, V>>
     ensures parts { Parts nodes.old nodes.new link steps result }
 {
-    let Some((place, mut node)) = fork_at(nodes, link) else {
+    let Some(node) = node_at(nodes, link) else {
         return None;
     };
     if steps == 0 {
         return None;
     }
+    let node = *node;
+    let was = height(nodes, node.left);
     let Some(mut parted) = without_first(nodes, node.left, steps - 1) else {
-        let rest = node.right;
-        return Some(Parted { place, node, rest });
+        return Some(Parted {
+            place: link,
+            node,
+            rest: node.right,
+        });
     };
-    node.left = parted.rest;
-    parted.rest = balanced(nodes, place, node);
+    parted.rest = with_left(nodes, link, parted.rest, was);
     Some(parted)
 }
 
 /// One tree of the entries of two.
 pub(crate) fn merged<K: Copy, V: Copy>(
     nodes: &mut [Node<K, V>],
-    left: Option<u32>,
-    right: Option<u32>,
+    left: u32,
+    right: u32,
     steps: usize,
-) -> Option<u32>
+) -> u32
     ensures merges { Merges nodes.old nodes.new left right steps result }
 {
     let Some(parted) = without_first(nodes, right, steps) else {
@@ -84,30 +111,53 @@ pub(crate) fn merged<K: Copy, V: Copy>(
     balanced(nodes, parted.place, node)
 }
 
-/// The tree without the node of this key.
+/// A node that was taken out of a tree.
+#[derive(Clone, Copy)]
+pub(crate) struct Taken<V> {
+    pub(crate) place: u32,
+    pub(crate) value: V,
+}
+
+/// A tree without a key, and the node of it.
+#[derive(Clone, Copy)]
+pub(crate) struct Remaining<V> {
+    pub(crate) link: u32,
+    pub(crate) taken: Option<Taken<V>>,
+}
+
+/// The tree without the node of this key, and that node.
 pub(crate) fn removed<K: Ordered, V: Copy>(
     nodes: &mut [Node<K, V>],
-    link: Option<u32>,
-    key: K,
+    link: u32,
+    key: &K,
     steps: usize,
-) -> Option<u32>
-    ensures removes { Removes K.order nodes.old nodes.new link key steps result }
+) -> Remaining<V>
+    ensures removes { Removes K.order nodes.old nodes.new link key.now steps result }
 {
-    let Some((place, mut node)) = fork_at(nodes, link) else {
-        return link;
+    let Some(node) = node_at(nodes, link) else {
+        return Remaining { link, taken: None };
     };
     if steps == 0 {
-        return link;
+        return Remaining { link, taken: None };
     }
+    let (left, right, value) = (node.left, node.right, node.value);
     match key.compare(node.key) {
         Ordering::Less => {
-            node.left = removed(nodes, node.left, key, steps - 1);
-            balanced(nodes, place, node)
+            let was = height(nodes, left);
+            let below = removed(nodes, left, key, steps - 1);
+            let link = with_left(nodes, link, below.link, was);
+            Remaining { link, ..below }
         }
-        Ordering::Equal => merged(nodes, node.left, node.right, steps - 1),
+        Ordering::Equal => {
+            let taken = Some(Taken { place: link, value });
+            let link = merged(nodes, left, right, steps - 1);
+            Remaining { link, taken }
+        }
         Ordering::Greater => {
-            node.right = removed(nodes, node.right, key, steps - 1);
-            balanced(nodes, place, node)
+            let was = height(nodes, right);
+            let below = removed(nodes, right, key, steps - 1);
+            let link = with_right(nodes, link, below.link, was);
+            Remaining { link, ..below }
         }
     }
 }

@@ -2,93 +2,102 @@
 ghost use Rattle.std.specs.Prelude.{◌≡◌};
 ghost use Rattle.pfl_containers.specs.inner.Searches.{Finds, IsFirst, IsLast, IsNext};
 
-use crate::order::node::{Node, fork_at};
+use crate::order::node::{Node, node_at};
 use crate::order::ordered::Ordered;
 use std::cmp::Ordering;
 
 /// The place of the node with the key.
 pub(crate) fn found<K: Ordered, V: Copy>(
     nodes: &[Node<K, V>],
-    link: Option<u32>,
+    root: u32,
     key: K,
     steps: usize,
 ) -> Option<u32>
-    ensures finds { Finds K.order nodes.now link key steps result }
+    ensures finds { Finds K.order nodes.now root key steps result }
 {
-    let Some((place, node)) = fork_at(nodes, link) else {
-        return None;
-    };
-    if steps == 0 {
-        return None;
+    let mut link = root;
+    let mut steps_left = steps;
+    while steps_left > 0 {
+        let Some(node) = node_at(nodes, link) else {
+            return None;
+        };
+        match key.compare(node.key) {
+            Ordering::Less => link = node.left,
+            Ordering::Equal => return Some(link),
+            Ordering::Greater => link = node.right,
+        }
+        steps_left -= 1;
     }
-    match key.compare(node.key) {
-        Ordering::Less => found(nodes, node.left, key, steps - 1),
-        Ordering::Equal => Some(place),
-        Ordering::Greater => found(nodes, node.right, key, steps - 1),
-    }
+    None
 }
 
 /// The first entry.
 pub(crate) fn first<K: Copy, V: Copy>(
     nodes: &[Node<K, V>],
-    link: Option<u32>,
+    root: u32,
     steps: usize,
 ) -> Option<(K, V)>
-    ensures first { IsFirst nodes.now link steps result }
+    ensures first { IsFirst nodes.now root steps result }
 {
-    let Some((_, node)) = fork_at(nodes, link) else {
-        return None;
-    };
-    if steps == 0 {
-        return None;
+    let mut first = None;
+    let mut link = root;
+    let mut steps_left = steps;
+    while steps_left > 0 {
+        let Some(node) = node_at(nodes, link) else {
+            return first;
+        };
+        first = Some((node.key, node.value));
+        link = node.left;
+        steps_left -= 1;
     }
-    match first(nodes, node.left, steps - 1) {
-        Some(entry) => Some(entry),
-        None => Some((node.key, node.value)),
-    }
+    first
 }
 
 /// The last entry.
 pub(crate) fn last<K: Copy, V: Copy>(
     nodes: &[Node<K, V>],
-    link: Option<u32>,
+    root: u32,
     steps: usize,
 ) -> Option<(K, V)>
-    ensures last { IsLast nodes.now link steps result }
+    ensures last { IsLast nodes.now root steps result }
 {
-    let Some((_, node)) = fork_at(nodes, link) else {
-        return None;
-    };
-    if steps == 0 {
-        return None;
+    let mut last = None;
+    let mut link = root;
+    let mut steps_left = steps;
+    while steps_left > 0 {
+        let Some(node) = node_at(nodes, link) else {
+            return last;
+        };
+        last = Some((node.key, node.value));
+        link = node.right;
+        steps_left -= 1;
     }
-    match last(nodes, node.right, steps - 1) {
-        Some(entry) => Some(entry),
-        None => Some((node.key, node.value)),
-    }
+    last
 }
 
 /// The first entry above a key.
 pub(crate) fn next<K: Ordered, V: Copy>(
     nodes: &[Node<K, V>],
-    link: Option<u32>,
+    root: u32,
     key: K,
     steps: usize,
 ) -> Option<(K, V)>
-    ensures next { IsNext K.order nodes.now link key steps result }
+    ensures next { IsNext K.order nodes.now root key steps result }
 {
-    let Some((_, node)) = fork_at(nodes, link) else {
-        return None;
-    };
-    if steps == 0 {
-        return None;
-    }
-    if key.compare(node.key).is_lt() {
-        match next(nodes, node.left, key, steps - 1) {
-            Some(entry) => Some(entry),
-            None => Some((node.key, node.value)),
+    let mut next = None;
+    let mut link = root;
+    let mut steps_left = steps;
+    while steps_left > 0 {
+        let Some(node) = node_at(nodes, link) else {
+            return next;
+        };
+        if key.compare(node.key).is_lt() {
+            next = Some((node.key, node.value));
+            link = node.left;
+        } else {
+            link = node.right;
         }
-    } else {
-        next(nodes, node.right, key, steps - 1)
+        steps_left -= 1;
     }
+    next
 }

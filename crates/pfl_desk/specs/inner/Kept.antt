@@ -1,6 +1,5 @@
 -- How the parts of the code stand for a node, and what some changes of one place ask of it.
 use Rattle.std.specs.Prelude.{ℕ, Bool, ◌≡◌, Some, ◌<◌, false, None, ◌≤◌, IfSome, length}
-use Rattle.std.specs.Option.{option_map}
 use Rattle.pfl_base.specs.declared.state_name.StateName.{StateName}
 use Rattle.pfl_edits.specs.Maps as maps
 use Rattle.pfl_rules.specs.Rules.{Rules, timeout}
@@ -8,7 +7,6 @@ use Rattle.pfl_track.specs.declared.state.State.{State}
 use Rattle.pfl_track.specs.Motions.{motion, with_motion}
 use Rattle.pfl_track.specs.States.{IsState}
 use Rattle.pfl_table.specs.declared.row.Row.{Row}
-use Rattle.pfl_table.specs.declared.edit.TableEdit.{TableEdit}
 use Rattle.pfl_table.specs.Tables.{Table, states_of, key_in_use}
 use Rattle.pfl_queue.specs.declared.Kind.{Kind}
 use Rattle.pfl_queue.specs.Queues.{Queue}
@@ -19,7 +17,6 @@ use Rattle.pfl_language.specs.declared.limits.Limits.{Limits}
 use Rattle.pfl_desk.specs.declared.counters.Counters.{Counters}
 use Rattle.pfl_desk.specs.declared.edit.NodeEdit.{NodeEdit}
 use Rattle.pfl_desk.specs.declared.edit.NodeEdit.TheVariants.{OfState, Moved}
-use Rattle.pfl_desk.specs.declared.edit.StateEdit.{StateEdit}
 use Rattle.pfl_desk.specs.Nodes.{Node, IsNodeState, IsPast, IsGiven, MarksRightly}
 
 -- the table holds the states alone, as far as a node goes
@@ -83,9 +80,5 @@ pub record MayMark (n : Node) (name : StateName) (kind : Kind) : Type 0 where
 -- the edit puts the state in the place of the former one: it holds what moved where nothing else changed
 abbrev pub Replaces : State → State → NodeEdit → Type 0
 Replaces former s (OfState e) = e ≡ record { name = s.name; before = Some former; after = Some s }
-Replaces former s (Moved e) = (e ≡ record { name = s.name; before = motion former; after = motion s }) × (s ≡ with_motion (motion s) former)
+Replaces former s (Moved e) = (e ≡ record { name = s.name; slot = e.slot; before = motion former; after = motion s }) × (s ≡ with_motion (motion s) former)
 Replaces former s _ = ⊥
-
--- the edit of the states that an edit of the table makes
-abbrev pub written : TableEdit → StateEdit
-written e = record { name = e.name; before = option_map (λ r. r.state) e.before; after = option_map (λ r. r.state) e.after }

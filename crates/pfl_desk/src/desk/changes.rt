@@ -15,6 +15,7 @@ use crate::edit::Counter;
 use crate::parts::judge::Overfull;
 use pfl_base::{Proto, StateName};
 use pfl_queue::Kind;
+use pfl_table::Slot;
 use pfl_track::State;
 use std::alloc::Allocator;
 
@@ -50,7 +51,7 @@ impl<A: Allocator> Desk<A> {
         let Some(state) = self.states().by_name(name).copied() else {
             return;
         };
-        self.replace_state(state.with_ack_wanted(false));
+        self.replace_state(Slot::UNKNOWN, state.with_ack_wanted(false));
     }
 
     /// Lets the packet of a name go out, if one is held, and its state waits no more.
@@ -63,8 +64,8 @@ impl<A: Allocator> Desk<A> {
         self.stop_waiting(name);
     }
 
-    /// Puts a state in the place of one, and has the peer told of it.
-    pub fn change_state(&mut self, state: State) -> Result<(), Overfull>
+    /// Puts a state in the place of one, which may stand at this slot, and has the peer told of it.
+    pub fn change_state(&mut self, slot: Slot, state: State) -> Result<(), Overfull>
         requires room { changed_edits ≤ self.old.edits.spare }
         requires known { MayReplace self.old.node state }
         ensures full { OnErr result (is_overfull (to.changed self.old.node state) ≡ true) }
@@ -73,16 +74,16 @@ impl<A: Allocator> Desk<A> {
     {
         let recent = self.is_recent(&state);
         if state.no_sync() {
-            self.replace_state(state);
+            self.replace_state(slot, state);
             return Ok(());
         }
-        self.tell(state)?;
+        self.tell(slot, state)?;
         self.push_if(recent);
         Ok(())
     }
 
     /// Puts a state in the place of one, and has the peer told of it by an update.
-    fn tell(&mut self, state: State) -> Result<(), Overfull>
+    fn tell(&mut self, slot: Slot, state: State) -> Result<(), Overfull>
         requires room { 2 ≤ self.old.edits.spare }
         requires known { MayReplace self.old.node state }
         requires told { state.no_sync ≡ false }
@@ -92,28 +93,28 @@ impl<A: Allocator> Desk<A> {
     {
         let name = state.name();
         if self.is_untold(name) {
-            self.replace_state(state.with_updates(0));
+            self.replace_state(slot, state.with_updates(0));
             return self.mark(name, Kind::UpdateShort);
         }
-        self.count_update(state);
+        self.count_update(slot, state);
         Ok(())
     }
 
     /// Puts a state in the place of one that the peer is told of already.
-    fn count_update(&mut self, state: State)
+    fn count_update(&mut self, slot: Slot, state: State)
         requires room { 2 ≤ self.old.edits.spare }
         requires known { MayReplace self.old.node state }
         ensures node { self.new.node ≡ to.counted self.old.node state }
         ensures writes { Writes 2 self.old self.new }
     {
-        match state.wire().proto {
+        match state.proto() {
             Proto::Tcp => {
                 let updates = state.updates().saturating_add(1);
                 let many = self.limits().maxupd <= u32::from(updates);
-                self.replace_state(state.with_updates(updates));
+                self.replace_state(slot, state.with_updates(updates));
                 self.push_if(many);
             }
-            Proto::Udp | Proto::Icmp | Proto::Other(_) => self.replace_state(state),
+            Proto::Udp | Proto::Icmp | Proto::Other(_) => self.replace_state(slot, state),
         }
     }
 
@@ -137,8 +138,8 @@ impl<A: Allocator> Desk<A> {
         }
     }
 
-    /// Deletes the state by itself, and has the peer told of it.
-    pub fn delete(&mut self, state: &State) -> Result<(), Overfull>
+    /// Deletes the state by itself, which may stand at this slot, and has the peer told of it.
+    pub fn delete(&mut self, slot: Slot, state: &State) -> Result<(), Overfull>
         requires room { deleted_edits ≤ self.old.edits.spare }
         requires stands { maps.get self.old.node.states state.now.name ≡ Some state.now }
         ensures full { OnErr result (is_overfull (to.deleted self.old.node state.now) ≡ true) }
@@ -146,11 +147,11 @@ impl<A: Allocator> Desk<A> {
         ensures writes { Writes deleted_edits self.old self.new }
     {
         self.drop_held(state.name());
-        self.tell_deletion(state)
+        self.tell_deletion(slot, state)
     }
 
     /// Takes the state out, and has the peer told of it.
-    fn tell_deletion(&mut self, state: &State) -> Result<(), Overfull>
+    fn tell_deletion(&mut self, slot: Slot, state: &State) -> Result<(), Overfull>
         requires room { 3 ≤ self.old.edits.spare }
         requires stands { maps.get self.old.node.states state.now.name ≡ Some state.now }
         ensures full { OnErr result (is_overfull (to.deletion_told (to.without_state self.old.node state.now.name) state.now) ≡ true) }
@@ -159,21 +160,21 @@ impl<A: Allocator> Desk<A> {
     {
         let name = state.name();
         let told = self.is_deletion_told(state);
-        self.take_out(name);
+        self.take_out(slot, name);
         if !told {
             return Ok(());
         }
         self.mark(name, Kind::Delete)
     }
 
-    /// Takes a name off its queue, and its state out.
-    pub fn take_out(&mut self, name: StateName)
+    /// Takes a name off its queue, and its state out, which may stand at this slot.
+    pub fn take_out(&mut self, slot: Slot, name: StateName)
         requires room { taken_out_edits ≤ self.old.edits.spare }
         ensures node { self.new.node ≡ to.unmark (to.without_state self.old.node name) name }
         ensures writes { Writes taken_out_edits self.old self.new }
     {
         self.unmark(name);
-        self.take_state(name);
+        self.take_state(slot, name);
     }
 
     /// Drops the packet of a name, takes the name off its queue and its state out, and tells the peer nothing.
@@ -183,7 +184,7 @@ impl<A: Allocator> Desk<A> {
         ensures writes { Writes forgotten_edits self.old self.new }
     {
         self.drop_held(name);
-        self.take_out(name);
+        self.take_out(Slot::UNKNOWN, name);
     }
 
     /// The peer is told of the deletion of the state.

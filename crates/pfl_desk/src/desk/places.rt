@@ -16,6 +16,7 @@ use pfl_base::{Millis, Packet, StateName};
 use pfl_bulk::{BulkClient, BulkServer};
 use pfl_edits::Change;
 use pfl_queue::Kind;
+use pfl_table::Slot;
 use pfl_track::State;
 use std::alloc::Allocator;
 
@@ -32,26 +33,35 @@ impl<A: Allocator> Desk<A> {
         self.edits.push(edit);
     }
 
-    /// Puts a state in the place of one of its name and keys. Nothing is recorded where it is the same one.
-    pub fn replace_state(&mut self, state: State)
+    /// Puts a state in the place of one of its name and keys, which may stand at this slot. Nothing is recorded where it is the same
+    /// one.
+    pub fn replace_state(&mut self, slot: Slot, state: State)
         requires room { 0 < self.old.edits.spare }
         requires may { MayReplace self.old.node state }
         ensures node { self.new.node ≡ to.put_state self.old.node state }
         ensures writes { Writes 1 self.old self.new }
     {
-        let edit = self.parts.replace_state(state);
+        let edit = self.parts.replace_state(slot, state);
         record_if(&mut self.edits, edit);
     }
 
-    /// Takes the state of a name out. Nothing is recorded where there is none.
-    pub(crate) fn take_state(&mut self, name: StateName)
+    /// Takes the state of a name out, which may stand at this slot. Nothing is recorded where there is none.
+    pub(crate) fn take_state(&mut self, slot: Slot, name: StateName)
         requires room { 0 < self.old.edits.spare }
         requires parts { AreParts (to.without_state self.old.node name) }
         ensures node { self.new.node ≡ to.without_state self.old.node name }
         ensures writes { Writes 1 self.old self.new }
     {
-        let edit = self.parts.take_state(name);
+        let edit = self.parts.take_state(slot, name);
         record_if(&mut self.edits, edit);
+    }
+
+    /// Makes the state that expires first quick to find, where timeouts are scaled for that many states. It changes nothing that is
+    /// seen of the node.
+    pub fn order_expiries(&mut self, states: usize)
+        ensures same { self.new ≡ self.old }
+    {
+        self.parts.order_expiries(states);
     }
 
     /// Puts a name on a queue, with the next number.

@@ -14,6 +14,7 @@ use crate::edit::NodeEdit;
 use pfl_base::StateName;
 use pfl_edits::{Change, NoMemory};
 use pfl_queue::{Entry, QueueEdit};
+use pfl_table::Slot;
 use std::alloc::Allocator;
 
 impl<A: Allocator + Copy> Desk<A> {
@@ -42,7 +43,7 @@ impl<A: Allocator> Desk<A> {
         let Some(state) = self.states().by_name(name).copied() else {
             return;
         };
-        self.replace_state(state.with_updates(0));
+        self.replace_state(Slot::UNKNOWN, state.with_updates(0));
     }
 }
 

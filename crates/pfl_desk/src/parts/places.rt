@@ -1,23 +1,26 @@
 //! The places of a node, each changed by itself. What changes is answered as an edit.
 
 ghost use Rattle.std.specs.Option.{option_map};
-ghost use Rattle.std.specs.Prelude.{◌≡◌, ◌≤◌, ◌<◌, ◌+◌, true, None, OnOk, OnErr, IfOk, length, Some, ◌∷◌, [], IfSome, MatchOption, is_some};
+ghost use Rattle.std.specs.Prelude.{◌≡◌, ◌≤◌, ◌<◌, ◌+◌, true, None, OnOk, OnErr, IfOk, length, Some, ◌∷◌, [], IfNone, IfSome, MatchOption, is_some};
 ghost use Rattle.pfl_defer.specs.Deferring.{held_of, with_held};
+ghost use Rattle.pfl_edits.specs.Maps as maps;
 ghost use Rattle.pfl_edits.specs.Maps.{set_at};
+ghost use Rattle.pfl_track.specs.declared.state.State.{State};
 ghost use Rattle.pfl_desk.specs.Changes as to;
+ghost use Rattle.pfl_desk.specs.declared.edit.NodeEdit.TheVariants.{Moved};
 ghost use Rattle.pfl_desk.specs.Edits.{count_of, moved_at, total, with_count};
 ghost use Rattle.pfl_desk.specs.inner.Drafting.{Makes, MakesIf};
-ghost use Rattle.pfl_desk.specs.inner.Kept.{MayAdd, MayMark, MayReplace, Replaces, timeout_by, written};
+ghost use Rattle.pfl_desk.specs.inner.Kept.{MayAdd, MayMark, MayReplace, Replaces, timeout_by};
 ghost use Rattle.pfl_desk.specs.Nodes.{Node as Whole, IsGiven, AreParts, AskedAt, ServesSince, is_overfull, last_millisecond};
 ghost use Rattle.pfl_queue.specs.Queues.{most_numbers};
 
 use crate::edit::{Counter, MotionEdit, NodeEdit, StateEdit};
 use crate::parts::Parts;
 use crate::parts::judge::Overfull;
-use pfl_base::{Millis, Packet, StateName};
+use pfl_base::{Class, Millis, Packet, StateName};
 use pfl_bulk::{BulkClient, BulkServer};
 use pfl_queue::Kind;
-use pfl_table::{Row, TableEdit};
+use pfl_table::{Row, Slot};
 use pfl_track::{Motion, State};
 use std::alloc::Allocator;
 
@@ -30,35 +33,55 @@ impl<A: Allocator> Parts<A> {
         ensures makes { Makes (result ∷ []) self.old self.new }
     {
         let timeout = self.timeout(&state);
-        let Ok(edit) = self.table.put(state, timeout) else {
-            unreachable!();
-        };
-        NodeEdit::OfState(state_edit(&edit))
+        self.table.add(&state, timeout);
+        NodeEdit::OfState(StateEdit {
+            name: state.name(),
+            before: None,
+            after: Some(state),
+        })
     }
 
-    /// Puts a state in the place of one of its name and keys. There is no edit where it is the same one.
-    pub(crate) fn replace_state(&mut self, state: State) -> Option<NodeEdit>
+    /// Puts a state in the place of one of its name and keys, which may stand at this slot. There is no edit where it is the same one.
+    pub(crate) fn replace_state(&mut self, slot: Slot, state: State) -> Option<NodeEdit>
         requires may { MayReplace self.old state }
         ensures node { self.new ≡ to.put_state self.old state }
         ensures makes { MakesIf result self.old self.new }
     {
+        self.known();
+        let edit = self.replaced_by(slot, &state)?;
         let name = state.name();
-        let Some(former) = self.table.by_name(name).copied() else {
-            unreachable!();
-        };
-        let edit = replacement(&former, &state)?;
+        if let Some(moved) = moved_in(&edit) {
+            self.set_motion(moved.slot, name, moved.after);
+            return Some(edit);
+        }
         self.set_state(name, Some(state));
         Some(edit)
     }
 
-    /// Takes the state of a name out. There is no edit where there is no state.
-    pub(crate) fn take_state(&mut self, name: StateName) -> Option<NodeEdit>
+    /// What is recorded where a state takes the place of one of its name and keys, which may stand at this slot.
+    fn replaced_by(&self, slot: Slot, state: &State) -> Option<NodeEdit>
+        requires may { MayReplace self.now state.now }
+        ensures same { IfNone result (maps.get self.now.states state.now.name ≡ Some state.now) }
+        ensures replaced { IfSome result (λ edit. (former : State) × (maps.get self.now.states state.now.name ≡ Some former) × Replaces former state.now edit) }
+    {
+        let Some((slot, row)) = self.table.row_at(slot, state.name()) else {
+            unreachable!();
+        };
+        replacement(slot, &row.state, state)
+    }
+
+    /// Takes the state of a name out, which may stand at this slot. There is no edit where there is no state.
+    pub(crate) fn take_state(&mut self, slot: Slot, name: StateName) -> Option<NodeEdit>
         requires parts { AreParts (to.without_state self.old name) }
         ensures node { self.new ≡ to.without_state self.old name }
         ensures makes { MakesIf result self.old self.new }
     {
-        let (_, edit) = self.table.take(name)?;
-        Some(NodeEdit::OfState(state_edit(&edit)))
+        let state = self.table.take_at(slot, name)?;
+        Some(NodeEdit::OfState(StateEdit {
+            name,
+            before: Some(state),
+            after: None,
+        }))
     }
 
     /// Sets what stands under a name.
@@ -70,15 +93,37 @@ impl<A: Allocator> Parts<A> {
         self.table.set(name, at, timeout);
     }
 
-    /// Moves the state of a name so, if there is one.
-    pub(crate) fn set_motion(&mut self, name: StateName, motion: Motion)
+    /// Moves the state of a name so, if there is one: it may stand at this slot.
+    pub(crate) fn set_motion(&mut self, slot: Slot, name: StateName, motion: Motion)
         requires node { AreParts (record self.old { states = moved_at self.old.states name motion }) }
         ensures node { self.new ≡ record self.old { states = moved_at self.old.states name motion } }
     {
-        let Some(state) = self.table.by_name(name).copied() else {
+        let Some((slot, row)) = self.table.row_at(slot, name) else {
             return;
         };
-        self.set_state(name, Some(state.with_motion(motion)));
+        let timeout = self.timeout_after(row, motion.class);
+        self.table.move_at(slot, name, &motion, timeout);
+    }
+
+    /// The timeout of a row of the table under another class, in seconds.
+    fn timeout_after(&self, row: &Row, class: Class) -> u32
+        requires timely { row.now.timeout ≡ timeout_by self.now.rules row.now.state }
+        ensures timeout { result ≡ timeout_by self.now.rules (record row.now.state { class = class }) }
+    {
+        if row.state.class() == class {
+            row.timeout
+        } else {
+            self.rules.timeout(row.state.rule(), class)
+        }
+    }
+
+    /// Files states that were used since they were filed for expiry, until the one that expires first is filed at its last use, where
+    /// timeouts are scaled for that many states. It changes nothing that is seen of the node.
+    pub(crate) fn order_expiries(&mut self, states: usize)
+        ensures same { self.new ≡ self.old }
+    {
+        let adaptive = self.limits.adaptive();
+        self.table.settle_first(adaptive, states);
     }
 
     /// The timeout of the state under the node's rules, if it is one, in seconds.
@@ -241,7 +286,7 @@ impl<A: Allocator> Parts<A> {
 
 /// What is recorded where a state takes the place of one of its name and keys: nothing where it is the same one, and what moved where
 /// nothing else changed.
-fn replacement(former: &State, state: &State) -> Option<NodeEdit>
+fn replacement(slot: Slot, former: &State, state: &State) -> Option<NodeEdit>
     requires name { state.now.name ≡ former.now.name }
     requires wire { state.now.wire ≡ former.now.wire }
     requires stack { state.now.stack ≡ former.now.stack }
@@ -261,26 +306,19 @@ fn replacement(former: &State, state: &State) -> Option<NodeEdit>
     }
     Some(NodeEdit::Moved(MotionEdit {
         name,
+        slot,
         before,
         after,
     }))
 }
 
-/// The edit of the states that an edit of the table makes.
-fn state_edit(edit: &TableEdit) -> StateEdit
-    ensures { result ≡ written edit.now }
+/// What packets moved of a state, where the edit says no more.
+fn moved_in(edit: &NodeEdit) -> Option<MotionEdit>
+    ensures { IfSome result (λ moved. edit.now ≡ Moved moved) }
 {
-    StateEdit {
-        name: edit.name,
-        before: state_in(&edit.before),
-        after: state_in(&edit.after),
+    if let NodeEdit::Moved(moved) = *edit {
+        Some(moved)
+    } else {
+        None
     }
-}
-
-/// The state of a row, if there is one.
-fn state_in(row: &Option<Row>) -> Option<State>
-    ensures { result ≡ option_map (λ r. r.state) row.now }
-{
-    let row = (*row)?;
-    Some(row.state)
 }

@@ -25,7 +25,7 @@ impl<A: Allocator> Reversible for Parts<A> {
     fn undo(&mut self, edit: NodeEdit) {
         match edit {
             NodeEdit::OfState(edit) => self.set_state(edit.name, edit.before),
-            NodeEdit::Moved(edit) => self.set_motion(edit.name, edit.before),
+            NodeEdit::Moved(edit) => self.set_motion(edit.slot, edit.name, edit.before),
             NodeEdit::OfQueue(edit) => self.queue.undo(edit),
             NodeEdit::OfHeld(edit) => self.held.undo(edit),
             NodeEdit::Server { before, .. } => self.server = before,

@@ -10,7 +10,7 @@ ghost use Rattle.pfl_node.specs.Starting as starting;
 
 use pfl_base::{Dir, Packet};
 use pfl_language::Fate;
-use pfl_receive::Desk;
+use pfl_receive::{Desk, Slot};
 use pfl_track::State;
 use std::alloc::Allocator;
 
@@ -62,7 +62,7 @@ fn hold<A: Allocator>(desk: &mut Desk<A>, waiting: State, packet: &Packet) -> Fa
 {
     let name = waiting.name();
     desk.keep(name, packet);
-    desk.replace_state(waiting);
+    desk.replace_state(Slot::UNKNOWN, waiting);
     desk.push_if(true);
     Fate::Held(name)
 }

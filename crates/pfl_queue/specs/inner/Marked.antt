@@ -1,6 +1,7 @@
 -- Marks at slots: a list of each kind, in which the numbers rise, and the slot of each name and of each turn. No contract of a
 -- public call cites this.
-use Rattle.std.specs.Prelude.{◌≡◌, ◌≢◌, ℕ, ◌<◌, List, [], ◌∷◌, ◌++◌, length, map, Some}
+use Rattle.std.specs.Prelude.{◌≡◌, ◌≢◌, ℕ, ◌<◌, ◌≤◌, ◌^◌, List, [], ◌∷◌, ◌++◌, length, map, Option, Some}
+use Rattle.std.specs.Option.{option_map}
 use Rattle.std.specs.declared.cmp.Ordering.{Ordering}
 use Rattle.std.specs.Ordering.{nat_cmp, on, then_cmp}
 use Rattle.std.specs.Cmp.{IsTotalOrder, nat_cmp_total}
@@ -13,13 +14,12 @@ use Rattle.pfl_base.specs.Names.{name_cmp}
 use Rattle.pfl_edits.specs.Maps as maps
 use Rattle.pfl_edits.specs.Maps.{Map}
 use Rattle.pfl_edits.specs.Rows.{map_of}
-use Rattle.pfl_edits.proofs.ForCallers.{Distinct}
-use Rattle.pfl_containers.specs.declared.by_name.ByName.{ByName}
-use Rattle.pfl_containers.specs.HashEntries.{EntryList}
+use Rattle.pfl_edits.proofs.ForCallers.{Distinct, row_at}
 use Rattle.pfl_containers.specs.OrderEntries.{EntryList as TurnList}
 use Rattle.pfl_containers.specs.Lists.{Link, Lists, links_of}
-use Rattle.pfl_containers.specs.NameKeys.{by_name_cmp}
-use Rattle.pfl_containers.specs.SlotIndexes.{IsIndex}
+use Rattle.pfl_containers.specs.NameKeys.{by_name_hash}
+use Rattle.pfl_containers.specs.SlotIndexes.{IsIndex, IsTagged, key_of}
+use Rattle.pfl_containers.specs.Slots.{Tags, tag_in}
 use Rattle.pfl_queue.specs.declared.Mark.{Mark}
 use Rattle.pfl_queue.specs.declared.marks.Turn.{Turn}
 use Rattle.pfl_queue.specs.inner.Rising.{IsRising}
@@ -27,9 +27,9 @@ use Rattle.pfl_queue.specs.Taking.{kind_place}
 
 -- ---- what the indexes go by
 
--- the key that a mark stands under: its name
-abbrev pub by_name : Mark → ByName
-by_name m = record { 0 = m.name }
+-- the tag of a name: the upper half of its hash
+unfoldable pub name_tag : StateName → ℕ
+name_tag name = tag_in (by_name_hash (record { 0 = name }))
 
 -- the turn of a mark: the place of its kind, and its number
 abbrev pub turn_of : Mark → Turn
@@ -79,6 +79,14 @@ listed lists = map mark_of_link (all_links lists)
 abbrev pub marks_of : List (List (Link Mark)) → Map name_cmp Mark
 marks_of lists = map_of name_cmp mark_name (listed lists)
 
+-- the slot of a name among links
+abbrev pub slot_named : List (Link Mark) → StateName → Option ℕ
+slot_named links name = option_map slot_of_link (row_at name_cmp (key_of mark_name) links name)
+
+-- under the slot of each mark there is the tag of its name, and no two marks have one name
+abbrev pub AreTagged : List (List (Link Mark)) → Map nat_cmp ℕ → Type 0
+AreTagged lists tags = IsTagged name_cmp mark_name name_tag (all_links lists) tags
+
 -- each of these marks is of the kind with this place
 abbrev pub AreOfKind : ℕ → List (Link Mark) → Type 0
 AreOfKind k [] = Unit {0}
@@ -91,12 +99,13 @@ pub record AreOrdered (c : Lists Mark) (order : TurnList Turn ℕ) : Type 0 wher
   pub rising : (k : ℕ) → k < 5 → IsRising mark_number (links_of c k)
   pub turns : IsIndex turn_cmp turn_of (all_links c.lists) (maps.from_sorted order.list)
 
--- besides, the index has the slot of each name, and there is as much room for names and turns as for marks
-pub record AreMarked (c : Lists Mark) (names : EntryList ByName ℕ) (order : TurnList Turn ℕ) : Type 0 where
+-- besides, the index has the tag of each name at its slot, and there is as much room for names and turns as for marks
+pub record AreMarked (c : Lists Mark) (names : Tags) (order : TurnList Turn ℕ) : Type 0 where
   pub ordered : AreOrdered c order
-  pub index : IsIndex by_name_cmp by_name (all_links c.lists) (maps.from_sorted names.list)
+  pub tagged : AreTagged c.lists names.tags
   pub room : names.limit ≡ c.limit
   pub order_room : order.limit ≡ c.limit
+  pub bound : c.limit ≤ 2 ^ 30
 
 -- what is true of all marks at slots
 pub record AreInTurn (c : Lists Mark) : Type 0 where

@@ -1,4 +1,4 @@
-use Rattle.std.proofs.Common.{◌∙◌, sym, List, ℕ}
+use Rattle.std.proofs.Common.{◌∙◌, sym}
 use Rattle.pfl_lines.specs.Words.{words}
 use Rattle.pfl_lines.specs.Readings.{word_at}
 use Rattle.pfl_lines.proofs.Commanded.{command_of-whole, Gives-none}

@@ -3,15 +3,15 @@ use Rattle.std.proofs.lemmas.Bool.Decides.{nat_tests}
 use Rattle.pfl_queue.proofs.Turned.{first-place, first-above, none-above}
 use Rattle.pfl_queue.proofs.marked.belongs_first.Goals as goal
 
-pub value-requires : goal.value-requires
-value-requires g c = record { stands = (first-place c.args.queues.now c.args.kind c.in-Some.slot c.requires.kind (sym c.in-Some.is ∙ c.first.ensures.first)).at }
+pub at-requires : goal.at-requires
+at-requires g c = record { stands = (first-place c.args.queues.now c.args.kind c.in-Some.slot c.requires.kind (sym c.in-Some.is ∙ c.first.ensures.first)).at }
 
 pub returns-in-Some : goal.returns-in-Some
 returns-in-Some g c = record {
   first = λ low.
       let first = first-place c.args.queues.now c.args.kind c.in-Some.slot c.requires.kind (sym c.in-Some.is ∙ c.first.ensures.first) in
-      let less : c.args.number < c.value.result.number = grind (arith, nat_tests) in
-      first-above c.args.queues.now c.args.kind c.in-Some.slot c.args.number first c.requires.rising c.value.result (c.value.ensures.value first.at) less;
+      let less : c.args.number < c.at.result.now.number = grind (arith, nat_tests) in
+      first-above c.args.queues.now c.args.kind c.in-Some.slot c.args.number first c.requires.rising c.at.result.now (c.at.ensures.value first.at) less;
 }
 
 pub returns-in-None : goal.returns-in-None

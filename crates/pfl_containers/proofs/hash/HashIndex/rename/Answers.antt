@@ -1,5 +1,4 @@
 use Rattle.std.proofs.Common.{sym, ◌∙◌, arith}
-use Rattle.pfl_edits.specs.Maps as maps
 use Rattle.pfl_containers.specs.HashEntries.{entry_map}
 use Rattle.pfl_containers.proofs.HashEntries.{len-entry_map, shorter, renamed-itself, renamed-none, renamed-some}
 use Rattle.pfl_containers.proofs.hash.HashIndex.rename.Goals as goal

@@ -5,16 +5,16 @@ use Rattle.pfl_containers.proofs.Standing.{joined_anew, left_empty, left_standin
 use Rattle.pfl_containers.proofs.order.joins.leant_left.Goals as goal
 
 pub returns-in_default : goal.returns-in_default
-returns-in_default g c = record { steadies = left_empty LeansLeft c.in_default.ensures.fork leans_left-leaf }
+returns-in_default g c = record { steadies = left_empty LeansLeft c.in_default.ensures.node leans_left-leaf }
 
 pub returns-then-height : goal.returns-then-height
 returns-then-height g c = record {
-  steadies = left_standing LeansLeft c.in-Some.ensures.fork (λ l r left right. leans_left-still l r _ c.in-Some.node (λ b d.
+  steadies = left_standing LeansLeft c.in-Some.ensures.node (λ l r left right. leans_left-still l r _ c.in-Some.node.now (λ b d.
       omega (arith, c.if-height.true, c.height.ensures.height, c.height-2.ensures.height, height-is _ r _ right d, height-is _ l _ left b)));
 }
 
 pub returns : goal.returns
 returns g c = record {
-  steadies = joined_anew LeansLeft c.in-Some.ensures.fork c.turned_left.ensures.joins (λ l r u left right. leans_left-turned l r _ c.in-Some.node u (λ b d.
+  steadies = joined_anew LeansLeft c.in-Some.ensures.node c.turned_left.ensures.joins (λ l r u left right. leans_left-turned l r _ c.in-Some.node.now u (λ b d.
       omega (arith, c.if-height.false, c.height.ensures.height, c.height-2.ensures.height, height-is _ r _ right d, height-is _ l _ left b)));
 }

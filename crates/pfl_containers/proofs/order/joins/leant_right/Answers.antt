@@ -5,16 +5,16 @@ use Rattle.pfl_containers.proofs.Standing.{joined_anew, left_empty, left_standin
 use Rattle.pfl_containers.proofs.order.joins.leant_right.Goals as goal
 
 pub returns-in_default : goal.returns-in_default
-returns-in_default g c = record { steadies = left_empty LeansRight c.in_default.ensures.fork leans_right-leaf }
+returns-in_default g c = record { steadies = left_empty LeansRight c.in_default.ensures.node leans_right-leaf }
 
 pub returns-then-height : goal.returns-then-height
 returns-then-height g c = record {
-  steadies = left_standing LeansRight c.in-Some.ensures.fork (λ l r left right. leans_right-still l r _ c.in-Some.node (λ b d.
+  steadies = left_standing LeansRight c.in-Some.ensures.node (λ l r left right. leans_right-still l r _ c.in-Some.node.now (λ b d.
       omega (arith, c.if-height.true, c.height.ensures.height, c.height-2.ensures.height, height-is _ l _ left b, height-is _ r _ right d)));
 }
 
 pub returns : goal.returns
 returns g c = record {
-  steadies = joined_anew LeansRight c.in-Some.ensures.fork c.turned_right.ensures.joins (λ l r u left right. leans_right-turned l r _ c.in-Some.node u (λ b d.
+  steadies = joined_anew LeansRight c.in-Some.ensures.node c.turned_right.ensures.joins (λ l r u left right. leans_right-turned l r _ c.in-Some.node.now u (λ b d.
       omega (arith, c.if-height.false, c.height.ensures.height, c.height-2.ensures.height, height-is _ l _ left b, height-is _ r _ right d)));
 }

@@ -4,9 +4,7 @@ use Rattle.pfl_edits.specs.Maps as maps
 use Rattle.pfl_table.specs.declared.row.Row.{Row}
 use Rattle.pfl_table.specs.Tables.{IsTable, with_row}
 use Rattle.pfl_table.specs.inner.Filed.{rows_of, table_of}
-use Rattle.pfl_table.proofs.Putting.{table-removed}
 use Rattle.pfl_table.proofs.Setting.{own_name}
-use Rattle.pfl_table.proofs.Viewed.{get-rows_of}
 use Rattle.pfl_table.proofs.stored.Stored.set.Goals as goal
 
 pub put-requires : goal.put-requires
@@ -30,10 +28,5 @@ returns-in-Some-clause-set g c =
     let named = subst (λ (o : Option Row). IfSome o (λ r. r.state.name ≡ name)) c.in-Some.is (own_name t name c.args.at.now c.requires.table) in
     c.put.ensures.set ∙ (ap (λ (n : StateName). with_row t n (Some c.in-Some.row)) named ∙ ap (with_row t name) (sym c.in-Some.is))
 
-pub returns-in-None-clause-former : goal.returns-in-None-clause-former
-returns-in-None-clause-former g c = c.remove.ensures.former ∙ sym (get-rows_of c.args.self.now.links c.args.name)
-
 pub returns-in-None-clause-set : goal.returns-in-None-clause-set
-returns-in-None-clause-set g c =
-    let old = c.args.self.now in
-    table-removed old _ c.args.name c.remove.result c.remove.ensures.former c.remove.ensures.unchanged c.remove.ensures.loses c.known.ensures.filed ∙ ap (with_row (table_of old) c.args.name) (sym c.in-None.is)
+returns-in-None-clause-set g c = c.take.ensures.taken ∙ ap (with_row (table_of c.args.self.now) c.args.name) (sym c.in-None.is)

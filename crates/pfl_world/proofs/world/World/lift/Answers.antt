@@ -6,8 +6,8 @@ use Rattle.pfl_world.proofs.world.World.lift.Goals as goal
 
 pub record_all-requires : goal.record_all-requires
 record_all-requires g c =
-    let room : c.len.result ≤ c.reserve.new.self.spare = where_ok c.reserve.result (sym c.is_err.ensures.value ∙ c.if-is_err.false) c.reserve.ensures.room in
-    record { room = omega (arith, room, c.len.ensures.length) }
+    let room : c.saturating_add.result ≤ c.reserve.new.self.spare = where_ok c.reserve.result (sym c.is_err.ensures.value ∙ c.if-is_err.false) c.reserve.ensures.room in
+    record { room = omega (arith, room, c.len.ensures.length, c.saturating_add.ensures) }
 
 pub invariant_of-self : goal.invariant_of-self
 invariant_of-self g c =

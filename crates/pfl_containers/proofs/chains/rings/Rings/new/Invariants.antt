@@ -1,9 +1,9 @@
 use Rattle.std.proofs.Common.{◌≡◌, length}
-use Rattle.pfl_containers.specs.inner.Rings.{AreAlone}
+use Rattle.pfl_containers.proofs.RingNodes.{HeadsAlone}
 use Rattle.pfl_containers.proofs.chains.rings.Rings.new.Given as goal
 
-abbrev pub invariant-loop-node : goal.invariant-loop-node
-invariant-loop-node g l = record {
-  count : length l.nodes.items ≡ l.node;
-  alone : AreAlone l.nodes.items;
+abbrev pub invariant-loop-ring : goal.invariant-loop-ring
+invariant-loop-ring g l = record {
+  count : length l.heads.items ≡ l.ring;
+  alone : HeadsAlone l.limit l.heads.items;
 }
