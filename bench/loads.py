@@ -272,11 +272,11 @@ def frames(pair):
     yield from Sender(pair, "a", STATE_RECORD).send(asked, "11 states asked for", came)
 
 
-def purges(pair, expired_ms=EXPIRED_MS, of=""):
+def purge(pair, expired_ms=EXPIRED_MS, of=""):
     """All states expire and are purged, and that is undone."""
-    yield pair.fill()
     expired = Part()
-    pair.step(expired, f"tick a {expired_ms}", f"clock {expired_ms}")
+    pair.clock += expired_ms
+    pair.step(expired, f"tick a {expired_ms}", f"clock {pair.clock}")
     yield expired
     for at in range(ROUNDS):
         purged, undone = Part(f"a purge of all{of}"), Part(f"the undo of a purge of all{of}")
@@ -286,11 +286,30 @@ def purges(pair, expired_ms=EXPIRED_MS, of=""):
         yield undone
 
 
+def purges(pair):
+    """All states expire in the order of their names."""
+    yield pair.fill()
+    yield from purge(pair)
+
+
+def scattered(pair):
+    """As `purges`, where the states expire in any order: each has had one more packet since, at one of some hundred times."""
+    yield pair.fill()
+    part, flows = Part(), pair.chance.sample(range(pair.states), pair.states)
+    for at, flow in enumerate(flows):
+        if at % (pair.states // TIMEOUTS) == 0:
+            pair.tick(part)
+        pair.packet(part, flow, True)
+    yield part
+    yield from purge(pair, of=", in any order")
+
+
 def timeouts(pair):
-    """As `purges`, where the states have many timeouts."""
+    """As `scattered`, since the states have many timeouts."""
     places = pair.chance.sample(range(1 << 24), pair.states)
     pair.flows = [pair.ends(at, FIRST_PORT + pair.chance.randrange(TIMEOUTS)) for at in places]
-    yield from purges(pair, TIMEOUTS * 1000, f", of {TIMEOUTS} timeouts")
+    yield pair.fill()
+    yield from purge(pair, TIMEOUTS * 1000, f", of {TIMEOUTS} timeouts")
 
 
 def shown(pair):
@@ -353,7 +372,7 @@ def limits(pair):
 
 LOADS = {
     it.__name__: it
-    for it in (replies, flows, rooms, hits, ticks, undo, connections, frames, purges, timeouts, shows, forks, short_forks, limits)
+    for it in (replies, flows, rooms, hits, ticks, undo, connections, frames, purges, scattered, timeouts, shows, forks, short_forks, limits)
 }
 # The number of states of the loads that are measured at one number alone.
 STATES_OF = {"short_forks": SHORT_STATES, "limits": 10}

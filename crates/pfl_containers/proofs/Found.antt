@@ -8,7 +8,7 @@ use Rattle.std.specs.FinMap.{IsAntisymmetric}
 use Rattle.pfl_edits.specs.Maps as maps
 use Rattle.pfl_edits.specs.Maps.{set_at}
 use Rattle.pfl_edits.proofs.ForCallers.{same_map, get-empty, get-insert, len-insert, set_at-back, same_key, own_key, some_is_none}
-use Rattle.pfl_containers.specs.inner.HashSlots.{slot, value_at, slot_map, Distinct}
+use Rattle.pfl_containers.specs.inner.Entries.{slot, value_at, slot_map, Distinct}
 
 cond_none : {X : Type 0} (b : Bool) (x : X) (z : Option X) → cond b (Some x) z ≡ None → (b ≡ false) × (z ≡ None)
 cond_none true x z e = absurd (some_is_none x e)

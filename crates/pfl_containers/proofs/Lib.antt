@@ -1,12 +1,5 @@
--- maps by hash
-pub mod HashEntries
-pub mod Found
-pub mod Free
-pub mod Reached
-pub mod Sound
-pub mod Closing
-pub mod Fields
 -- indexes of slots by tags
+pub mod Found
 pub mod SlotHomes
 pub mod SlotTagged
 pub mod SlotEntries

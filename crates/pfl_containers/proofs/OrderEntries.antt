@@ -1,12 +1,12 @@
 -- The map of entries in order, and for what there is room. Proofs of the crates above cite these.
-use Rattle.std.specs.Prelude.{◌≡◌, ◌≤◌, ◌<◌, ◌+◌, ◌-◌, ℕ, Bool, true, false, is_some, List, length, Option, Some, None}
+use Rattle.std.specs.Prelude.{◌≡◌, ◌≤◌, ◌<◌, ◌+◌, ◌-◌, ℕ, Bool, true, false, is_some, List, [], length, Option, Some, None}
 use Rattle.std.specs.declared.cmp.Ordering.{Ordering}
 use Rattle.std.specs.Cmp.{IsTotalOrder}
 use Rattle.std.specs.FinMap.Entries.{put, find, is_sorted, is_sorted-put, is_sorted-where_key}
 use Rattle.std.proofs.Common.{T, cond, ◌∙◌, ap, sym, arith}
 use Rattle.pfl_edits.specs.Maps as maps
 use Rattle.pfl_edits.specs.Maps.{same_entries_map, set_at}
-use Rattle.pfl_edits.proofs.ForCallers.{get-entries, entries-from_sorted, len-entries, entries-insert, len-insert, len-remove}
+use Rattle.pfl_edits.proofs.ForCallers.{get-entries, entries-empty, entries-from_sorted, len-entries, entries-insert, len-insert, len-remove}
 use Rattle.pfl_containers.specs.inner.Changes.{without}
 use Rattle.pfl_containers.specs.OrderEntries.{EntryList, map_of, AreEntries}
 
@@ -22,6 +22,10 @@ module _ {K V : Type 0} (R : K → K → Ordering) where
   -- and is as long
   pub len-map_of : (es : List (K × V)) → T (is_sorted R es) → maps.len (map_of R es) ≡ length es
   len-map_of es sorted = len-entries (map_of R es) ∙ ap length (entries-map_of es sorted)
+
+  -- no entries are of the empty map
+  pub map_of-none : map_of {V = V} R [] ≡ maps.empty
+  map_of-none = same_entries_map _ _ (entries-map_of [] tt ∙ sym (entries-empty R))
 
 module _ {K V : Type 0} {R : K → K → Ordering} (o : IsTotalOrder R) (es : List (K × V)) (sorted : T (is_sorted R es)) where
   -- an entry put among them is an insertion into their map,
@@ -47,12 +51,6 @@ module _ {K V : Type 0} {R : K → K → Ordering} (o : IsTotalOrder R) (m : Ent
       at_most : (b : Bool) {n : ℕ} → n ≤ m.limit → cond b (n - 1) n ≤ m.limit
       at_most true h = omega arith
       at_most false h = h
-
-  -- to set another value under a key that has one,
-  pub room_to_change : (was v : V) → maps.get (map_of R m.list) q ≡ Some was → maps.len (set_at (map_of R m.list) q (Some v)) ≤ m.limit
-  room_to_change was v is =
-      let same = len-insert o (map_of R m.list) q v ∙ ap (λ (at : Option V). cond (is_some at) (maps.len (map_of R m.list)) (maps.len (map_of R m.list) + 1)) is in
-      omega (arith, same, len-map_of R m.list are.sorted, are.few)
 
   -- and to set any where not all room is taken
   pub room_to_set : length m.list < m.limit → (at : Option V) → maps.len (set_at (map_of R m.list) q at) ≤ m.limit

@@ -9,7 +9,7 @@ use Rattle.pfl_edits.specs.Maps as maps
 use Rattle.pfl_edits.proofs.ForCallers.{same_key, some_is_none}
 use Rattle.pfl_containers.specs.declared.slots.words.Word.{Word}
 use Rattle.pfl_containers.specs.Slots.{FindsBy, HasTag}
-use Rattle.pfl_containers.specs.inner.HashSlots.{slot, slot_map, value_at, NoGap, GapAt}
+use Rattle.pfl_containers.specs.inner.Entries.{slot, slot_map, value_at, NoGap, GapAt}
 use Rattle.pfl_containers.specs.inner.SlotWords.{no_slot, entry_in, entries_in, entry_at, tag_map, home_in, AreTagged, AreWords, StandsAt, SearchGives, IsFree}
 use Rattle.pfl_containers.proofs.Found.{slot_map-filled, get-slot_map, entries_from}
 use Rattle.pfl_containers.proofs.SlotTagged.{IsClosing, tagged-filled, closing-moved, map-moved, tagged-taken, map-taken, get-here}

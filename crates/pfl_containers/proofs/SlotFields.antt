@@ -1,6 +1,6 @@
 -- The fields of an index of slots, when it is made, and when a slot comes or goes.
-use Rattle.std.proofs.Common.{◌≡◌, inl, inr, ◌+◌, ◌-◌, ◌*◌, ◌/◌, ◌≤◌, ◌<◌, ◌^◌, ℕ, zero, suc, cond, List, ◌∷◌, length, replicate, Option, Some, None, is_some, sym, ◌∙◌, ap, subst, arith, refl}
-use Rattle.std.proofs.lemmas.List.{length-replicate, get_or-replicate, get_or_past}
+use Rattle.std.proofs.Common.{◌≡◌, inl, inr, ◌+◌, ◌-◌, ◌*◌, ◌/◌, ◌≤◌, ◌<◌, ◌^◌, ℕ, zero, suc, cond, List, [], ◌∷◌, ◌++◌, length, take, drop, replicate, Option, Some, None, is_some, sym, ◌∙◌, ap, subst, arith, refl}
+use Rattle.std.proofs.lemmas.List.{length-replicate, get_or-replicate, get_or_past, take_all, drop_all, append-nil}
 use Rattle.std.proofs.lemmas.Bool.{cases_lt}
 use Rattle.std.proofs.lemmas.Cmp.{nat_cmp_total}
 use Rattle.std.specs.Ordering.{nat_cmp}
@@ -8,9 +8,21 @@ use Rattle.pfl_edits.specs.Maps as maps
 use Rattle.pfl_edits.specs.Maps.{Map}
 use Rattle.pfl_edits.proofs.ForCallers.{get-empty, len-empty, len-insert, len-remove, empty_of_len, some_is_none}
 use Rattle.pfl_containers.specs.declared.slots.words.Word.{Word}
-use Rattle.pfl_containers.specs.inner.HashSlots.{slot, slot_map, Distinct, NoGap}
+use Rattle.pfl_containers.specs.inner.Entries.{slot, slot_map, Distinct, NoGap}
 use Rattle.pfl_containers.specs.inner.SlotWords.{entry_in, entries_in, tag_map, AreTagged, AreWords, AreFields}
-use Rattle.pfl_containers.proofs.Free.{slot_map-free}
+
+-- ---- lists of words
+
+-- an empty list, made as long
+pub resized : {X : Type 0} (n m : ℕ) (old : List X) (x : X) → old ≡ [] → m ≡ 0 → take n old ++ replicate (n - m) x ≡ replicate n x
+resized n m old x none nought =
+    ap (λ (xs : List _). take n xs ++ replicate (n - m) x) none
+    ∙ (ap (λ (xs : List _). xs ++ replicate (n - m) x) (take_all n [] (omega arith)) ∙ ap (λ k. replicate k x) (omega (arith, nought)))
+
+-- a slice that was the whole of a list, once it is written back
+pub whole : {X : Type 0} (xs ys : List X) (n : ℕ) → length ys ≡ length xs → n ≡ length xs → take n (ys ++ drop (length ys) xs) ≡ ys
+whole xs ys n same is =
+    ap (λ (zs : List _). take n (ys ++ zs)) (drop_all (length ys) xs (omega (arith, same))) ∙ (ap (take n) (append-nil ys) ∙ take_all n ys (omega (arith, same, is)))
 
 -- ---- words that are all free
 
@@ -22,6 +34,10 @@ Distinct-free : (n : ℕ) → Distinct {V = ℕ} nat_cmp (replicate n None)
 Distinct-free zero = tt
 Distinct-free (suc n) = Distinct-free n
 
+slot_map-free : (n : ℕ) → slot_map {V = ℕ} nat_cmp (replicate n None) ≡ maps.empty
+slot_map-free zero = refl
+slot_map-free (suc n) = slot_map-free n
+
 slot-free : (n i : ℕ) → slot {K = ℕ} {V = ℕ} (replicate n None) i ≡ None
 slot-free n i =
     elim (cases_lt i n) [
@@ -31,7 +47,7 @@ slot-free n i =
 
 -- they have no entry,
 pub tag_map-free : (n : ℕ) (w : Word) → entry_in w ≡ None → tag_map (replicate n w) ≡ maps.empty
-tag_map-free n w none = ap (slot_map nat_cmp) (entries-free n w none) ∙ slot_map-free nat_cmp n
+tag_map-free n w none = ap (slot_map nat_cmp) (entries-free n w none) ∙ slot_map-free n
 
 -- and each of none is found
 pub words-free : (buckets n : ℕ) (w : Word) → entry_in w ≡ None → AreWords buckets (replicate n w) NoGap
@@ -69,14 +85,6 @@ some_entry m q v is =
     ]
 
 module _ {limit len buckets capacity : ℕ} (words : List Word) (fields : AreFields limit len buckets words capacity) where
-  -- the buckets are so few that a home fits
-  pub buckets_few : buckets < 2 ^ 32
-  buckets_few = omega (arith, fields.most, fields.small)
-
-  -- there are words after the buckets
-  pub room_after : len < buckets / 2 → maps.len (tag_map words) + buckets ≤ length words
-  room_after less = omega (arith, fields.count, fields.long)
-
   -- there is a slot
   pub not_empty : (s tag : ℕ) → maps.get (tag_map words) s ≡ Some tag → 1 ≤ len
   not_empty s tag has = omega (arith, fields.count, some_entry (tag_map words) s tag has)

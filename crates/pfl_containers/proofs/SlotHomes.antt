@@ -3,7 +3,7 @@ use Rattle.std.proofs.Common.{◌≡◌, ◌≢◌, inl, inr, ◌≤◌, ◌<◌
 use Rattle.std.proofs.lemmas.List.{get_or-set_same, get_or-set_other}
 use Rattle.std.proofs.lemmas.Bool.{cases_eq, cases_order}
 use Rattle.pfl_edits.proofs.ForCallers.{some_is_none}
-use Rattle.pfl_containers.specs.inner.HashSlots.{slot, NoGap, GapAt}
+use Rattle.pfl_containers.specs.inner.Entries.{slot, NoGap, GapAt}
 use Rattle.pfl_containers.specs.inner.SlotWords.{AreHoused}
 
 module _ {K V : Type 0} (home : K × V → ℕ) (slots : List (Option (K × V))) where

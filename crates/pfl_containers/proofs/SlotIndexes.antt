@@ -10,12 +10,11 @@ use Rattle.pfl_edits.specs.Maps as maps
 use Rattle.pfl_edits.specs.Maps.{Map}
 use Rattle.pfl_edits.specs.Rows.{map_of}
 use Rattle.pfl_edits.proofs.ForCallers.{row_at, Distinct, own_key, same_key, get-map_of, len-map_of, row_at-between, map_of-between, map_of-without, Distinct-without, some_is_none, set_at-back}
-use Rattle.pfl_containers.specs.HashEntries.{renamed}
 use Rattle.pfl_containers.specs.Lists.{Link, link}
 use Rattle.pfl_containers.specs.Mapped.{map_values}
 use Rattle.pfl_containers.specs.SlotIndexes.{key_of, IsIndexOf, IsIndex, HasNone}
-use Rattle.pfl_containers.proofs.HashEntries.{entry_map-none, renamed-some}
 use Rattle.pfl_containers.proofs.Mapped.{get-map_values, len-map_values, map_values-set_at, map_values-empty}
+use Rattle.pfl_containers.proofs.OrderEntries.{map_of-none}
 use Rattle.pfl_containers.proofs.Places.{Stands}
 
 module _ {K X : Type 0} {R : K → K → Ordering} (o : IsTotalOrder R) (exact : IsAntisymmetric R) (key : X → K) where
@@ -167,7 +166,7 @@ module _ {V K : Type 0} {R : K → K → Ordering} (o : IsTotalOrder R) (exact :
 module _ {V K : Type 0} {R : K → K → Ordering} (o : IsTotalOrder R) (exact : IsAntisymmetric R) (key : V → K) where
   -- the index of no rows, as it was made
   pub index-new : (list : List (K × ℕ)) → list ≡ [] → IsIndex R key [] (maps.from_sorted list)
-  index-new list none = subst (IsIndex R key []) (sym (ap (λ (es : List (K × ℕ)). maps.from_sorted es) none ∙ entry_map-none R)) (index-empty o exact key)
+  index-new list none = subst (IsIndex R key []) (sym (ap (λ (es : List (K × ℕ)). maps.from_sorted es) none ∙ map_of-none R)) (index-empty o exact key)
 
   -- it has room where the rows do
   pub index-room : (limit n : ℕ) (links : List (Link V)) (m : Map R ℕ) → IsIndex R key links m → n ≡ limit → length links < limit → maps.len m < n
@@ -184,17 +183,3 @@ module _ {V K : Type 0} {R : K → K → Ordering} (o : IsTotalOrder R) (exact :
       → IsIndex R key (front ++ back) new
   lost front back slot r old new k same is i =
       subst (IsIndex R key (front ++ back)) (sym (is ∙ ap (maps.remove old) same)) (index-without o exact key front (link slot r) back old i)
-
-  -- what stands under a row's key was moved to that of another
-  pub moved : (front back : List (Link V)) (slot : ℕ) (was r : V) (old new : Map R ℕ) (k q : K) → k ≡ key was → q ≡ key r → new ≡ maps.insert (maps.remove old k) q slot
-      → IsIndex R key (front ++ link slot was ∷ back) old → HasNone R key (front ++ back) (key r) → IsIndex R key (front ++ link slot r ∷ back) new
-  moved front back slot was r old new k q from to is i none =
-      subst (IsIndex R key (front ++ link slot r ∷ back)) (sym (is ∙ (ap (λ p. maps.insert (maps.remove old p) q slot) from ∙ ap (λ p. maps.insert (maps.remove old (key was)) p slot) to)))
-      (index-changed o exact key front slot was r back old i none)
-
-  -- and the same by the call that renames
-  pub renamed_to : (front back : List (Link V)) (slot : ℕ) (was r : V) (old new : Map R ℕ) (k q : K) → k ≡ key was → q ≡ key r → new ≡ renamed R old k q
-      → IsIndex R key (front ++ link slot was ∷ back) old → HasNone R key (front ++ back) (key r) → IsIndex R key (front ++ link slot r ∷ back) new
-  renamed_to front back slot was r old new k q from to is i none =
-      let there : maps.get old k ≡ Some slot = ap (maps.get old) from ∙ index-has o exact key front (link slot was) back old i in
-      moved front back slot was r old new k q from to (is ∙ sym (renamed-some o exact old k q slot there)) i none

@@ -1,5 +1,5 @@
 -- Entries that are put among other words one after another, as when the buckets grow.
-use Rattle.std.proofs.Common.{◌≡◌, ◌+◌, ◌≤◌, ℕ, Bool, true, false, cond, List, [], ◌∷◌, ◌++◌, append_assoc, Option, Some, None, is_some, sym, ◌∙◌, ap, subst, arith, refl}
+use Rattle.std.proofs.Common.{◌≡◌, ◌+◌, ◌≤◌, ℕ, Bool, true, false, cond, List, [], ◌∷◌, ◌++◌, append_assoc, Option, Some, None, is_some, ◌∙◌, ap, subst, arith}
 use Rattle.std.proofs.lemmas.List.{map-append}
 use Rattle.std.proofs.lemmas.Cmp.{nat_cmp_total}
 use Rattle.std.proofs.lemmas.Map.Lookups.{exact_unsigned}
@@ -7,7 +7,7 @@ use Rattle.std.specs.Ordering.{nat_cmp}
 use Rattle.pfl_edits.specs.Maps as maps
 use Rattle.pfl_edits.proofs.ForCallers.{len-insert}
 use Rattle.pfl_containers.specs.declared.slots.words.Word.{Word}
-use Rattle.pfl_containers.specs.inner.HashSlots.{slot_map, Distinct, NoGap}
+use Rattle.pfl_containers.specs.inner.Entries.{slot_map, Distinct, NoGap}
 use Rattle.pfl_containers.specs.inner.SlotWords.{entry_in, entries_in, tag_map, AreWords}
 use Rattle.pfl_containers.proofs.Found.{get-slot_map}
 
@@ -36,19 +36,7 @@ pub record ArePut (buckets : ℕ) (words spare all : List Word) : Type 0 where
   pub sound : AreWords buckets words NoGap
   pub map : tag_map words ≡ tag_map done
 
--- at first none was,
-pub put-none : (buckets : ℕ) (words all : List Word) → AreWords buckets words NoGap → tag_map words ≡ maps.empty → ArePut buckets words all all
-put-none buckets words all sound empty = record { done = []; split = sym (append_nil all); sound = sound; map = empty }
-  where
-    append_nil : (xs : List Word) → xs ++ [] ≡ xs
-    append_nil [] = refl
-    append_nil (x ∷ xs) = ap (λ (ys : List Word). x ∷ ys) (append_nil xs)
-
 module _ {buckets : ℕ} {words spare all : List Word} (put : ArePut buckets words spare all) where
-  -- and in the end all are
-  pub put-all : spare ≡ [] → tag_map words ≡ tag_map all
-  put-all none = put.map ∙ ap tag_map (sym (put.split ∙ ap (λ (xs : List Word). xs ++ put.done) none))
-
   -- The last of the spare words is taken.
   module _ (rest : List Word) (w : Word) (last : spare ≡ rest ++ w ∷ []) where
     split : all ≡ rest ++ w ∷ put.done
@@ -57,16 +45,7 @@ module _ {buckets : ℕ} {words spare all : List Word} (put : ArePut buckets wor
     parts : entries_in all ≡ entries_in rest ++ entry_in w ∷ entries_in put.done
     parts = ap entries_in split ∙ map-append entry_in rest (w ∷ put.done)
 
-    -- it is free,
-    pub put-free : entry_in w ≡ None → ArePut buckets words rest all
-    put-free none = record {
-      done = w ∷ put.done;
-      split = split;
-      sound = put.sound;
-      map = put.map ∙ sym (ap (λ at. slot_map nat_cmp (at ∷ entries_in put.done)) none);
-    }
-
-    -- or has an entry: its slot is new, there is room for it,
+    -- It has an entry, whose slot is new.
     module _ (s tag : ℕ) (is : entry_in w ≡ Some (s, tag)) (distinct : Distinct nat_cmp (entries_in all)) where
       whole : entries_in all ≡ entries_in rest ++ Some (s, tag) ∷ entries_in put.done
       whole = parts ∙ ap (λ at. entries_in rest ++ at ∷ entries_in put.done) is
@@ -75,15 +54,6 @@ module _ {buckets : ℕ} {words spare all : List Word} (put : ArePut buckets wor
       put-new =
           ap (λ m. maps.get m s) put.map
           ∙ (get-slot_map nat_cmp_total exact_unsigned (entries_in put.done) s ∙ (Distinct-back (entries_in rest) (Some (s, tag) ∷ entries_in put.done) (subst (λ es. Distinct nat_cmp es) whole distinct)).0)
-
-      -- and it is put
-      pub put-one : (new : List Word) → AreWords buckets new NoGap → tag_map new ≡ maps.insert (tag_map words) s tag → ArePut buckets new rest all
-      put-one new sound map = record {
-        done = w ∷ put.done;
-        split = split;
-        sound = sound;
-        map = map ∙ (ap (λ m. maps.insert m s tag) put.map ∙ sym (ap (λ at. slot_map nat_cmp (at ∷ entries_in put.done)) is));
-      }
 
   -- at any time there are at most as many entries as in the end
   pub put-room : maps.len (tag_map words) ≤ maps.len (tag_map all)

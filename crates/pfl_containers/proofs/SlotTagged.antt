@@ -6,7 +6,7 @@ use Rattle.std.proofs.lemmas.Cmp.{nat_cmp_total}
 use Rattle.std.proofs.lemmas.Map.Lookups.{exact_unsigned}
 use Rattle.std.specs.Ordering.{nat_cmp}
 use Rattle.pfl_edits.specs.Maps as maps
-use Rattle.pfl_containers.specs.inner.HashSlots.{slot, slot_map, value_at, NoGap, GapAt}
+use Rattle.pfl_containers.specs.inner.Entries.{slot, slot_map, value_at, NoGap, GapAt}
 use Rattle.pfl_containers.specs.inner.SlotWords.{home_in, AreTagged}
 use Rattle.pfl_containers.proofs.Found.{Distinct-freed, Distinct-filled, slot_map-filled, slot_map-freed, slot_map-removed, get-slot_map, value_at-here, within_slots}
 use Rattle.pfl_containers.proofs.SlotHomes.{housed-freed, housed-filled, housed-closed}

@@ -1,6 +1,6 @@
 -- How hashes are made of words.
 use Rattle.std.specs.Prelude.{ℕ, ◌*◌, ◌/◌, ◌%◌, ◌^◌, bit_xor}
-use Rattle.pfl_containers.specs.declared.hash.hashed.TheConstants.{MULTIPLIER}
+use Rattle.pfl_containers.specs.declared.hash.TheConstants.{MULTIPLIER}
 
 -- the halves of a product of 128 bits, laid over each other
 abbrev pub folded : ℕ → ℕ

@@ -1,4 +1,3 @@
-pub mod HashEntries
 pub mod Hashes
 pub mod OrderEntries
 pub mod Lists

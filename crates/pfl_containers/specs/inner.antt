@@ -1,7 +1,6 @@
 -- What only contracts of private functions and what a type keeps cite, and the proofs that an impl names: no public call says any of
--- it. First what maps by hash have of it, then maps in order, then lists, and then names as keys.
-pub mod Homes
-pub mod HashSlots
+-- it. First what indexes of slots have of it, then maps in order, then lists, and then names as keys.
+pub mod Entries
 pub mod SlotWords
 pub mod Arenas
 pub mod Balances

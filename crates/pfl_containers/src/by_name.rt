@@ -1,8 +1,9 @@
-//! Names of states as keys of maps by hash and of maps in order.
+//! Names of states as keys of maps, and their hashes.
+ghost use Rattle.std.specs.Prelude.{◌≡◌};
 ghost use Rattle.pfl_containers.specs.NameKeys.{by_name_cmp, by_name_hash};
 ghost use Rattle.pfl_containers.specs.inner.NameOrder.{by_name_total, by_name_exact};
 
-use crate::hash::hashed::{Hashed, mix};
+use crate::hash::mix;
 use crate::order::ordered::Ordered;
 use pfl_base::StateName;
 use std::cmp::Ordering;
@@ -11,22 +12,13 @@ use std::cmp::Ordering;
 #[derive(Clone, Copy)]
 pub struct ByName(pub StateName);
 
-impl Hashed for ByName {
-    ghost order = { by_name_cmp };
-
-    ghost hash_of = { by_name_hash };
-
-    fn same(&self, other: &ByName) -> bool {
-        self.0 == other.0
-    }
-
-    fn hash(&self) -> u64 {
+impl ByName {
+    /// The hash of the name.
+    pub fn hash(self) -> u64
+        ensures hash { result ≡ by_name_hash self }
+    {
         mix(mix(0, self.0.creator as u64), self.0.id)
     }
-
-    ghost total = { by_name_total };
-
-    ghost exact = { by_name_exact };
 }
 
 impl Ordered for ByName {

@@ -1,5 +1,5 @@
-//! Containers in room that is fixed when they are made: maps by hash, maps in the order of their keys, and lists linked by slots.
-//! Names as keys of such maps stand beside them.
+//! Containers in room that is fixed when they are made: indexes of slots by hash, maps in the order of their keys, and lists linked by
+//! slots. Names as keys stand beside them.
 #![tactic(auto)]
 
 mod by_name;
@@ -10,8 +10,7 @@ mod slots;
 
 pub use by_name::ByName;
 pub use chains::Chains;
-pub use hash::HashIndex;
-pub use hash::hashed::{Hashed, mix};
+pub use hash::mix;
 pub use order::OrderedMap;
 pub use order::iter::Iter;
 pub use order::ordered::Ordered;

@@ -14,5 +14,5 @@ pub use edit::{Counter, MotionEdit, NodeEdit, StateEdit};
 pub use laws::new_nodes_are_nodes;
 pub use parts::judge::Overfull;
 pub use pfl_defer::Deferrals;
-pub use pfl_queue::{Entry, Kind, Pending};
+pub use pfl_queue::{Entry, Kind, Pending, QueueEdit};
 pub use pfl_table::{Slot, StateTable};

@@ -362,11 +362,15 @@ fn is_text(byte: u8) -> bool
     byte == b'\t' || (32..=126).contains(&byte)
 }
 
-/// Whether each byte is a tab, or printable.
+/// Whether each byte is a tab, or printable. All are looked at, whatever the first ones are, so that many are at once.
 fn is_all_text(line: &[u8]) -> bool
     ensures { result ≡ list_all is_text line.now }
 {
-    line.iter().all(|byte| is_text(*byte))
+    let mut all = true;
+    for byte in line {
+        all &= is_text(*byte);
+    }
+    all
 }
 
 /// The line, which has at most 512 bytes, all of them text.

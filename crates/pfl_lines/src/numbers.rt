@@ -17,11 +17,14 @@ fn with_digit(n: u64, digit: u8, greatest: u64) -> Result<u64, LineFault>
     if !digit.is_ascii_digit() {
         return Err(LineFault::Number);
     }
-    let more = u128::from(n) * 10 + u128::from(digit - b'0');
-    if more > u128::from(greatest) {
+    let tens = n.checked_mul(10).ok_or(LineFault::Number)?;
+    let more = tens
+        .checked_add(u64::from(digit - b'0'))
+        .ok_or(LineFault::Number)?;
+    if more > greatest {
         return Err(LineFault::Number);
     }
-    Ok(more as u64)
+    Ok(more)
 }
 
 /// A number from 0 to the greatest.

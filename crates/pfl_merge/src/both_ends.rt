@@ -36,7 +36,7 @@ fn is_stale_destination(held: &Peer, received: &Peer) -> bool
 fn is_source_behind(held: &State, received: &Received) -> bool
     ensures { result ≡ behind_src held.now received.now }
 {
-    match held.wire().proto {
+    match held.proto() {
         Proto::Tcp => is_stale_source(&held.src(), &received.src),
         Proto::Udp | Proto::Icmp | Proto::Other(_) => is_ahead(&held.src(), &received.src),
     }
@@ -46,7 +46,7 @@ fn is_source_behind(held: &State, received: &Received) -> bool
 fn is_destination_behind(held: &State, received: &Received) -> bool
     ensures { result ≡ behind_dst held.now received.now }
 {
-    match held.wire().proto {
+    match held.proto() {
         Proto::Tcp => is_stale_destination(&held.dst(), &received.dst),
         Proto::Udp | Proto::Icmp | Proto::Other(_) => is_ahead(&held.dst(), &received.dst),
     }

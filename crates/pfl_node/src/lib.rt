@@ -20,4 +20,4 @@ mod turn;
 pub use laws::{one_state_per_key, records_leave_the_rest};
 pub use node::Node;
 pub use pfl_bulk::BulkClient;
-pub use pfl_receive::{Counter, Counters, MotionEdit, NodeEdit};
+pub use pfl_receive::{Counter, Counters, MotionEdit, NodeEdit, QueueEdit};

@@ -17,7 +17,7 @@ use Rattle.pfl_containers.specs.declared.by_name.ByName.{ByName}
 use Rattle.pfl_containers.specs.NameKeys.{by_name_cmp}
 use Rattle.pfl_containers.specs.SlotIndexes.{IsIndexOf}
 use Rattle.pfl_containers.specs.inner.NameOrder.{by_name_total, by_name_exact}
-use Rattle.pfl_containers.proofs.ForCallers.{entry_map-none, made-get, made-len, made-empty, made-with, made-without}
+use Rattle.pfl_containers.proofs.ForCallers.{map_of-none, made-get, made-len, made-empty, made-with, made-without}
 use Rattle.pfl_queue.specs.inner.Asked.{as_key}
 use Rattle.pfl_queue.proofs.Keeping.{same_other_way}
 
@@ -68,7 +68,7 @@ asked-len = made-len by_name_total by_name_exact as_key (λ _. tt)
 -- no names
 pub asked-none : (list : List (ByName × Unit {0})) → list ≡ [] → HasKeys [] (maps.from_sorted list)
 asked-none list none =
-    subst (HasKeys []) (sym (ap (λ (es : List (ByName × Unit {0})). maps.from_sorted es) none ∙ entry_map-none by_name_cmp)) (made-empty by_name_total by_name_exact as_key (λ _. tt))
+    subst (HasKeys []) (sym (ap (λ (es : List (ByName × Unit {0})). maps.from_sorted es) none ∙ map_of-none by_name_cmp)) (made-empty by_name_total by_name_exact as_key (λ _. tt))
 
 -- a name more
 pub asked-more : (listed : List StateName) (i : ℕ) (name : StateName) (m : Map by_name_cmp (Unit {0})) → HasKeys listed m → IsDistinct is_name (insert listed i name) → HasKeys (insert listed i name) (maps.insert m (as_key name) tt)

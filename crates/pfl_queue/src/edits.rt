@@ -8,8 +8,7 @@ use std::mem::swap;
 
 /// A change of one place of the pending queues.
 ///
-/// In a list a place is a position, counted from 0: none there means that the entry is absent, and those behind it move
-/// by one.
+/// In a list a place is a position, counted from 0: none there means that the entry is absent, and those after it move by one.
 #[derive(Clone, Copy, Debug)]
 pub enum QueueEdit {
     /// What stands under a name, together with the next queueing number: both were set.

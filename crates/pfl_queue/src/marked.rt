@@ -10,7 +10,7 @@ ghost use Rattle.pfl_queue.specs.Taking.{kind_place};
 use crate::marks::Turn;
 use crate::{MOST, Mark};
 use pfl_base::StateName;
-use pfl_containers::{ByName, Chains, Hashed, OrderedMap, SlotIndex, tag_of};
+use pfl_containers::{ByName, Chains, OrderedMap, SlotIndex, tag_of};
 use pfl_edits::NoMemory;
 use std::alloc::{AllocError, Allocator};
 use std::marker::Model;

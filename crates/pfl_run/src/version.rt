@@ -2,4 +2,4 @@
 
 /// The release, the sum of its sources, and the logic that proves them.
 pub(crate) const VERSION: &str =
-    "release 7, sources 5e3eb9d54f0ddc89b598e51d8706fb12ebd8fc9809a18fed5330f1bfd89ee5ee, logic dac8208d650f15bf";
+    "release 8, sources 810631a966c69a4113df5b2c30379f01a00f8e688149a9ec3de8ee666ad01d75, logic dac8208d650f15bf";

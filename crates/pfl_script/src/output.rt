@@ -2,16 +2,18 @@
 
 ghost use Rattle.std.specs.Prelude.{◌≡◌, ◌≤◌, ℕ, true, length, take, OnOk, OnErr, IfErr, IfSome};
 ghost use Rattle.std.specs.Io.KnownBytes.{Appends};
-ghost use Rattle.pfl_timeline.specs.Replies.{reply_of};
+ghost use Rattle.pfl_timeline.specs.Replies.{Stepped, reply_of};
 ghost use Rattle.pfl_script.specs.Readers.{IsWriteFault};
 ghost use Rattle.pfl_script.specs.Replies.{reply_text, takes_memory};
 ghost use Rattle.pfl_script.specs.inner.Answers.{branch_text};
 ghost use Rattle.pfl_timeline.specs.Rooted.{shown};
 
 use crate::fault::EngineFault;
-use crate::replies::reply_text;
+use crate::replies::{push_stepped, reply_text};
+use crate::short_line::ShortLine;
 use crate::shown::shown_text;
 use pfl_base::Output;
+use pfl_language::Outcome;
 use pfl_timeline::{Branch, Reply};
 use std::alloc::Allocator;
 
@@ -33,6 +35,23 @@ pub fn write_text<W: Output>(writer: &mut W, text: &[u8]) -> Result<(), EngineFa
     Ok(())
 }
 
+/// Writes the line of an event that was accepted, or the first part of it. The commonest reply is written from where it is made.
+fn write_stepped<W: Output>(
+    writer: &mut W,
+    outcome: Outcome,
+    dropped: usize,
+) -> Result<(), EngineFault>
+    ensures whole { OnOk result (Appends (W.written writer.old) (W.written writer.new) (reply_text (Stepped outcome dropped))) }
+    ensures stays { OnOk result (W.has_failed writer.new ≡ W.has_failed writer.old) }
+    ensures part { OnErr result ((n : ℕ) × Appends (W.written writer.old) (W.written writer.new) (take n (reply_text (Stepped outcome dropped)))) }
+    ensures fails { OnErr result (W.has_failed writer.new ≡ true) }
+    ensures fault { IfErr result (λ e. e ≡ EngineFault.Write) }
+{
+    let mut line = ShortLine::new();
+    push_stepped(&mut line, outcome, dropped);
+    write_text(writer, line.as_str().as_bytes())
+}
+
 /// Writes the lines of a reply, or the first part of them. Without memory for them nothing is written; none is wanted but
 /// where the reply lists branches or events, or shows a branch.
 pub fn write_reply<A: Allocator, B: Allocator + Copy, W: Output>(
@@ -47,6 +66,9 @@ pub fn write_reply<A: Allocator, B: Allocator + Copy, W: Output>(
     ensures part { OnErr result ((n : ℕ) × Appends (W.written writer.old) (W.written writer.new) (take n (reply_text (reply_of reply.now)))) }
     ensures fault { IfErr result (λ e. IsWriteFault e (W.has_failed writer.new)) }
 {
+    if let Reply::Stepped { outcome, dropped } = reply {
+        return write_stepped(writer, *outcome, *dropped);
+    }
     match reply_text(alloc, reply) {
         Ok(text) => text.write(writer),
         Err(_) => Err(EngineFault::NoMemory),

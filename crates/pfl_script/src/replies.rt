@@ -3,6 +3,7 @@
 ghost use Rattle.std.specs.Prelude.{◌≡◌, ◌++◌, true, codes, IfOk, OnOk, OnErr};
 ghost use Rattle.std.specs.List.{flat_map};
 ghost use Rattle.std.specs.Fmt.{decimal};
+ghost use Rattle.arrayvec.specs.ArrayString.{array_string_len};
 ghost use Rattle.pfl_timeline.specs.Replies.{Stepped, At, Names, Restored, Refused as Refusing, reply_of};
 ghost use Rattle.pfl_script.specs.Texts.{bad_text};
 ghost use Rattle.pfl_script.specs.Replies.{named, reply_text, takes_memory};
@@ -35,15 +36,24 @@ pub fn fault_line(fault: LineFault) -> &'static str
     }
 }
 
+/// Appends the line of an event that was accepted to an empty one.
+pub(crate) fn push_stepped(line: &mut ShortLine, outcome: Outcome, dropped: usize)
+    requires empty { array_string_len line.old ≡ 0 }
+    ensures { line.new.bytes ≡ line.old.bytes ++ reply_text (Stepped outcome dropped) }
+{
+    line.push_str("step ");
+    push_outcome(line, outcome);
+    line.push_str(" dropped ");
+    push_number(line, dropped as u64);
+    line.push_str("\n");
+}
+
 /// The line of an event that was accepted.
 fn stepped_line(outcome: Outcome, dropped: usize) -> ShortLine
     ensures { result.bytes ≡ reply_text (Stepped outcome dropped) }
 {
-    let mut line = plain_line("step ");
-    push_outcome(&mut line, outcome);
-    line.push_str(" dropped ");
-    push_number(&mut line, dropped as u64);
-    line.push_str("\n");
+    let mut line = ShortLine::new();
+    push_stepped(&mut line, outcome, dropped);
     line
 }
 

@@ -20,7 +20,7 @@ use Rattle.pfl_containers.specs.Lists.{Link, link, Lacks, Distinct as Apart}
 use Rattle.pfl_containers.specs.Mapped.{map_values}
 use Rattle.pfl_containers.specs.OrderEntries.{AreEntries}
 use Rattle.pfl_containers.specs.SlotIndexes.{IsIndexOf, HasNone, key_of}
-use Rattle.pfl_containers.proofs.ForCallers.{entry_map-none, len-map_of, made-empty, made-get, made-len, made-with, made-without}
+use Rattle.pfl_containers.proofs.ForCallers.{map_of-none, len-map_of, made-empty, made-get, made-len, made-with, made-without}
 use Rattle.pfl_table.specs.declared.row.Row.{Row}
 use Rattle.pfl_table.specs.declared.keys.Expiry.{Expiry}
 use Rattle.pfl_table.specs.inner.Ordering.{expiry_at, expiry_cmp, expiry_total, expiry_exact, name_in}
@@ -190,7 +190,7 @@ no_expiry times (l ∷ links) r time none =
 -- no rows
 pub dues-none : (d : Dues) (limit : ℕ) → d.list ≡ [] → d.limit ≡ limit → AreDues limit [] d
 dues-none d limit none room = record {
-  order = subst (IsIndexOf expiry_cmp (expiry_filed d.filed) its_slot []) (sym (ap (λ (es : List (Expiry × ℕ)). maps.from_sorted es) none ∙ entry_map-none expiry_cmp)) (made-empty expiry_total expiry_exact (expiry_filed d.filed) its_slot);
+  order = subst (IsIndexOf expiry_cmp (expiry_filed d.filed) its_slot []) (sym (ap (λ (es : List (Expiry × ℕ)). maps.from_sorted es) none ∙ map_of-none expiry_cmp)) (made-empty expiry_total expiry_exact (expiry_filed d.filed) its_slot);
   used = tt;
   order_limit = room;
 }

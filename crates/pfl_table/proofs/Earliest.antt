@@ -14,7 +14,7 @@ use Rattle.pfl_rules.specs.Scaling.{scaled}
 use Rattle.pfl_table.specs.declared.keys.Expiry.{Expiry}
 use Rattle.pfl_table.specs.declared.row.Row.{Row}
 use Rattle.pfl_table.specs.Tables.{row_before}
-use Rattle.pfl_table.specs.inner.Ordering.{due_at, due_before, earlier, expiry_of, sooner, expiry_cmp, name_in}
+use Rattle.pfl_table.specs.inner.Ordering.{due_at, due_before, expiry_of, sooner, expiry_cmp, name_in}
 use Rattle.pfl_table.proofs.Expiring.{as_test, both_answers, less-asymmetric, less-passed_on}
 use Rattle.pfl_table.proofs.Foremost.{foremost, joined, joined-next}
 
@@ -45,6 +45,11 @@ less_then x y r same e = known (nat_lt x y) (x == y) above (sym (less_by x y r) 
     known false false lt h = both_answers false h refl
 
 -- ---- entries
+
+-- which of these entries is due first: the latter unless the former is due before it
+abbrev pub earlier : Adaptive → ℕ → Option (Expiry × ℕ) → Expiry × ℕ → Expiry × ℕ
+earlier a states None entry = entry
+earlier a states (Some first) entry = cond (due_before a states first.0 entry.0) first entry
 
 pub both : (a b : Bool) → T (a && b) → T a × T b
 both true b t = (tt, t)

@@ -101,7 +101,7 @@ stands-by key (x ∷ links) q l is = elim (eq_by_cmp expiry_cmp q (key x)) as (�
   | false ↦ λ e. let s = stands-by key links q l e in record { front = x ∷ s.front; back = s.back; split = ap (λ (ls : List (Link Row)). x ∷ ls) s.split }
 ] is
 
-used-at : (times : List ℕ) (front : List (Link Row)) (l : Link Row) (back : List (Link Row)) → NoneLater times (front ++ l ∷ back) → get_or times l.slot 0 ≤ l.value.state.last
+pub used-at : (times : List ℕ) (front : List (Link Row)) (l : Link Row) (back : List (Link Row)) → NoneLater times (front ++ l ∷ back) → get_or times l.slot 0 ≤ l.value.state.last
 used-at times [] l back none = none.0
 used-at times (x ∷ front) l back none = used-at times front l back none.1
 

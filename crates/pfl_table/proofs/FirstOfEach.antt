@@ -17,8 +17,8 @@ use Rattle.pfl_rules.specs.declared.adaptive.Adaptive.{Adaptive}
 use Rattle.pfl_table.specs.declared.heads.Head.{Head}
 use Rattle.pfl_table.specs.declared.keys.Expiry.{Expiry}
 use Rattle.pfl_table.specs.inner.Heads.{by_timeout, comes_first, entry_of, head_after, head_of, heads_of, heads_with, heads_without, is_head, timeout_of}
-use Rattle.pfl_table.specs.inner.Ordering.{earlier, expiry_cmp, expiry_exact, expiry_total}
-use Rattle.pfl_table.proofs.Earliest.{at_most, both, entry-next, entry_before, entry_before-asymmetric, entry_before-passed_on, is_true, less-due}
+use Rattle.pfl_table.specs.inner.Ordering.{expiry_cmp, expiry_exact, expiry_total}
+use Rattle.pfl_table.proofs.Earliest.{at_most, both, earlier, entry-next, entry_before, entry_before-asymmetric, entry_before-passed_on, is_true, less-due}
 use Rattle.pfl_table.proofs.Expiring.{both_answers, less-asymmetric}
 use Rattle.pfl_table.proofs.Foremost.{foremost, foremost-more, foremost-skips, joined}
 

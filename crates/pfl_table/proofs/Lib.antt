@@ -3,6 +3,7 @@ pub mod Expiring
 pub mod Scanned
 pub mod Foremost
 pub mod Earliest
+pub mod DueFirst
 pub mod FirstOfEach
 pub mod Dues
 pub mod Setting

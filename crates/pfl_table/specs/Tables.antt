@@ -78,7 +78,7 @@ pub record IsTable (t : Table) : Type 0 where
   pub few : maps.len t.rows ≤ t.limit
   pub states : AreStates (states_of t)
 
--- when a row expires where timeouts are scaled for so many states (pf.conf(5))
+-- when a row expires where timeouts are scaled for this number of states (pf.conf(5))
 abbrev pub row_expiry : Adaptive → ℕ → Row → ℕ
 row_expiry a states r = expiry r.state (scaled r.timeout a states)
 

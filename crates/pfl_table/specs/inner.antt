@@ -2,7 +2,9 @@
 -- pair or of a timeline says any of it.
 pub mod BothWays
 pub mod Counts
+pub mod DueHeads
 pub mod Dues
 pub mod Filed
 pub mod Heads
 pub mod Ordering
+pub mod Scales

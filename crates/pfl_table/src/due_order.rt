@@ -9,6 +9,7 @@ ghost use Rattle.pfl_table.specs.inner.Ordering.{expiry_cmp};
 use crate::heads::{Head, enter, first_due, leave};
 use crate::keys::Expiry;
 use crate::row::Row;
+use crate::scales::Scales;
 use pfl_base::Millis;
 use pfl_containers::OrderedMap;
 use pfl_edits::{NoMemory, Rows};
@@ -23,19 +24,29 @@ use std::marker::Model;
 pub(crate) struct DueOrder<A: Allocator> {
     order: OrderedMap<Expiry, usize, A>,
     heads: Rows<Head, A>,
+    scales: Scales<A>,
     filed: Vec<Millis, A>,
+    found: Option<FoundFirst>,
+}
+
+/// Which row was found to be due first, for these limits and this number of states. It is dropped when a row comes or goes.
+#[derive(Clone, Copy)]
+struct FoundFirst {
+    adaptive: Adaptive,
+    states: usize,
+    slot: Option<usize>,
 }
 
 impl<A: Allocator> Model for DueOrder<A> {
-    ghost use Rattle.std.specs.Prelude.{◌≤◌, vec_capacity};
-    ghost use Rattle.pfl_table.specs.inner.Dues.{Dues};
+    ghost use Rattle.std.specs.Prelude.{◌≤◌, IfSome, vec_capacity};
+    ghost use Rattle.pfl_table.specs.inner.Dues.{Dues, IsFirst};
     ghost use Rattle.pfl_table.specs.inner.Heads.{AreHeads};
 
     ghost Value = { Dues };
 
     ghost view = { λ d. record { list = d.order.list; limit = d.order.limit; filed = d.filed.items } };
 
-    ghost invariant = { λ d. (d.order.limit ≤ vec_capacity d.filed) × AreHeads d.order.list d.order.limit d.heads };
+    ghost invariant = { λ d. (d.order.limit ≤ vec_capacity d.filed) × AreHeads d.order.list d.order.limit d.heads × IfSome d.found (λ f. IsFirst f.adaptive f.states d.order.list f.slot) };
 }
 
 impl<A: Allocator + Copy> DueOrder<A> {
@@ -46,11 +57,14 @@ impl<A: Allocator + Copy> DueOrder<A> {
     {
         let order = OrderedMap::new(alloc, limit)?;
         let heads = Rows::new(alloc, limit)?;
+        let scales = Scales::new(alloc, limit)?;
         let filed = Vec::with_capacity(alloc, limit)?;
         Ok(DueOrder {
             order,
             heads,
+            scales,
             filed,
+            found: None,
         })
     }
 
@@ -60,12 +74,16 @@ impl<A: Allocator + Copy> DueOrder<A> {
     {
         let order = self.order.copy()?;
         let heads = self.heads.copy()?;
-        let mut filed = Vec::with_capacity(*self.filed.allocator(), order.limit())?;
+        let alloc = *self.filed.allocator();
+        let scales = Scales::new(alloc, order.limit())?;
+        let mut filed = Vec::with_capacity(alloc, order.limit())?;
         filed.extend_from_slice(&self.filed)?;
         Ok(DueOrder {
             order,
             heads,
+            scales,
             filed,
+            found: None,
         })
     }
 }
@@ -78,13 +96,39 @@ impl<A: Allocator> DueOrder<A> {
         self.order.known();
     }
 
-    /// The slot of the row that expires first where timeouts are scaled for so many states, if no row was used since it was filed.
+    /// The slot of the row that expires first where timeouts are scaled for this number of states, if no row was used since it was
+    /// filed.
     pub(crate) fn first(&self, adaptive: Adaptive, states: usize) -> Option<usize>
         ensures first { result ≡ due_first adaptive states self.now }
     {
+        match self.found {
+            Some(found) if found.adaptive == adaptive && found.states == states => found.slot,
+            _ => self.first_of_heads(adaptive, states),
+        }
+    }
+
+    /// The same, found among the first rows of all timeouts.
+    fn first_of_heads(&self, adaptive: Adaptive, states: usize) -> Option<usize>
+        ensures first { result ≡ due_first adaptive states self.now }
+    {
         self.order.known();
-        let (_, slot) = first_due(self.heads.as_slice(), adaptive, states)?;
+        let scales = self.scales.for_states(adaptive, states);
+        let (_, slot) = first_due(self.heads.as_slice(), scales, adaptive, states)?;
         Some(slot)
+    }
+
+    /// Finds which row expires first where timeouts are scaled for this number of states, and keeps that until a row comes or goes,
+    /// with what each timeout is scaled to.
+    pub(crate) fn find_first(&mut self, adaptive: Adaptive, states: usize)
+        ensures same { self.new ≡ self.old }
+    {
+        self.scales.renew(self.heads.as_slice(), adaptive, states);
+        let slot = self.first_of_heads(adaptive, states);
+        self.found = Some(FoundFirst {
+            adaptive,
+            states,
+            slot,
+        });
     }
 
     /// When the row at a slot was filed.
@@ -125,6 +169,7 @@ impl<A: Allocator> DueOrder<A> {
         ensures files { Files self.old self.new slot row.now }
     {
         let key = Expiry::of(row);
+        self.found = None;
         self.order.known();
         self.order.insert(key, slot);
         self.order.known();
@@ -137,6 +182,7 @@ impl<A: Allocator> DueOrder<A> {
         ensures unfiles { Unfiles self.old self.new slot row.now }
     {
         let key = Expiry::at(row, self.filed_at(slot));
+        self.found = None;
         self.order.known();
         self.order.remove(key);
         self.order.known();
@@ -155,13 +201,15 @@ impl<A: Allocator> DueOrder<A> {
     }
 
     /// Keeps the order where a row comes in place of another one of its name. It stands where that one was filed, unless it has
-    /// another timeout or was used last before that.
+    /// another timeout or was used last before that. A row used no earlier than the other one was used no earlier than that one was
+    /// filed, so the filed time is not read.
     #[inline]
     pub(crate) fn change(&mut self, slot: usize, was: &Row, row: &Row)
         requires filed { MayMove self.old slot was.now }
         ensures moves { Moves self.old self.new slot was.now row.now }
     {
-        if was.timeout != row.timeout || row.state.last() < self.filed_at(slot) {
+        let earlier = row.state.last() < was.state.last();
+        if was.timeout != row.timeout || (earlier && row.state.last() < self.filed_at(slot)) {
             self.file_anew(slot, was, row);
         }
     }

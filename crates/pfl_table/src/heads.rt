@@ -1,15 +1,18 @@
 //! The first row of each timeout.
 
 ghost use Rattle.std.specs.Prelude.{◌≡◌, ◌≤◌, find, map};
-ghost use Rattle.std.specs.List.{slice_get};
-ghost use Rattle.std.specs.Option.{option_copied};
+ghost use Rattle.std.specs.List.{All, slice_get};
+ghost use Rattle.std.specs.Option.{option_copied, option_map};
 ghost use Rattle.std.specs.Ordering.{is_lt};
 ghost use Rattle.pfl_base.specs.Lists.{in_order};
 ghost use Rattle.pfl_edits.specs.Maps as maps;
-ghost use Rattle.pfl_table.specs.inner.Heads.{by_timeout, comes_first, entry_of, head_after, heads_with, heads_without, is_head};
-ghost use Rattle.pfl_table.specs.inner.Ordering.{due_before, earlier as earlier_of, expiry_cmp};
+ghost use Rattle.pfl_table.specs.inner.DueHeads.{due_head, earlier as earlier_of, is_before};
+ghost use Rattle.pfl_table.specs.inner.Heads.{by_timeout, comes_first as is_first_of, entry_of, head_after, heads_with, heads_without, is_head, timeout_of};
+ghost use Rattle.pfl_table.specs.inner.Ordering.{due_before, expiry_cmp};
+ghost use Rattle.pfl_table.specs.inner.Scales.{IsScaled};
 
 use crate::keys::Expiry;
+use crate::scales::{ScaledTimeout, seconds_of};
 use pfl_containers::{Ordered, OrderedMap};
 use pfl_edits::{Keyed, Rows};
 use pfl_rules::Adaptive;
@@ -21,6 +24,16 @@ use std::cmp::Ordering;
 pub(crate) struct Head {
     key: Expiry,
     slot: usize,
+}
+
+impl Head {
+    /// The timeout of its row, in seconds.
+    #[inline]
+    pub(crate) fn timeout(&self) -> u32
+        ensures { result ≡ timeout_of self.now }
+    {
+        self.key.timeout()
+    }
 }
 
 impl Keyed for Head {
@@ -36,7 +49,7 @@ impl Keyed for Head {
     ghost order = { nat_cmp };
 
     fn key(&self) -> u32 {
-        self.key.timeout()
+        self.timeout()
     }
 
     fn compare(a: u32, b: u32) -> Ordering {
@@ -54,14 +67,14 @@ pub(crate) fn enter<A: Allocator>(heads: &mut Rows<Head, A>, key: Expiry, slot: 
     ensures heads { by_timeout heads.new.list ≡ heads_with (by_timeout heads.old.list) (record { key = key; slot = slot }) }
     ensures limit { heads.new.limit ≡ heads.old.limit }
 {
-    if is_before(key, heads.get(key.timeout())) {
+    if comes_first(key, heads.get(key.timeout())) {
         heads.set(key.timeout(), Some(Head { key, slot }));
     }
 }
 
 /// Whether no entry is first of the timeout of this one, or one that is not before it.
-fn is_before(key: Expiry, first: Option<&Head>) -> bool
-    ensures before { result ≡ comes_first (option_copied first.entry) key }
+fn comes_first(key: Expiry, first: Option<&Head>) -> bool
+    ensures first { result ≡ is_first_of (option_copied first.entry) key }
 {
     match first {
         Some(first) => !first.key.compare(key).is_lt(),
@@ -106,32 +119,69 @@ fn with_timeout(timeout: u32, entry: Option<(Expiry, usize)>) -> Option<Head>
     }
 }
 
-/// The entry that is due first of these where timeouts are scaled for so many states.
+/// The entry that is due first of these where timeouts are scaled for this number of states. `scales` may have, at a head's place, what
+/// its timeout is scaled to; where it has another timeout there, or none, this one is scaled here.
 pub(crate) fn first_due(
     heads: &[Head],
+    scales: &[ScaledTimeout],
     adaptive: Adaptive,
     states: usize,
 ) -> Option<(Expiry, usize)>
+    requires scaled { All (IsScaled adaptive states) scales.now }
     ensures first { result ≡ slice_get (in_order (λ e f. due_before adaptive states e.0 f.0) (map entry_of heads.now)) 0 }
 {
     let mut first = None;
-    for head in heads {
-        first = Some(earlier(first, (head.key, head.slot), adaptive, states));
+    for (place, head) in heads.iter().enumerate() {
+        let seconds = seconds_of(scales.get(place), head.timeout(), adaptive, states);
+        first = Some(earlier(first, DueHead::of(head, seconds)));
     }
-    first
+    entry_in(first)
 }
 
-/// Which of two entries is due first: the latter one unless the former is due before it.
-fn earlier(
-    first: Option<(Expiry, usize)>,
-    entry: (Expiry, usize),
-    adaptive: Adaptive,
-    states: usize,
-) -> (Expiry, usize)
-    ensures { result ≡ earlier_of adaptive states first entry }
+/// A head, and when its row is due, in milliseconds.
+#[derive(Clone, Copy)]
+struct DueHead {
+    at: u128,
+    head: Head,
+}
+
+impl DueHead {
+    /// The head with when it is due, if its timeout scales to this many seconds.
+    #[inline]
+    fn of(head: &Head, seconds: u32) -> DueHead
+        ensures { result ≡ due_head head.now seconds }
+    {
+        DueHead {
+            at: head.key.due_after(seconds),
+            head: *head,
+        }
+    }
+
+    /// Whether its row is due before that of another one: by when, then by name.
+    #[inline]
+    fn is_before(&self, other: &DueHead) -> bool
+        ensures { result ≡ is_before self.now other.now }
+    {
+        self.at < other.at
+            || (self.at == other.at && self.head.key.name().compare(other.head.key.name()).is_lt())
+    }
+}
+
+/// Which of two heads is due first: the latter one unless the former is due before it.
+#[inline]
+fn earlier(first: Option<DueHead>, other: DueHead) -> DueHead
+    ensures { result ≡ earlier_of first other }
 {
     match first {
-        Some(first) if first.0.is_before(entry.0, adaptive, states) => first,
-        _ => entry,
+        Some(first) if first.is_before(&other) => first,
+        _ => other,
     }
+}
+
+/// The entry of the head.
+fn entry_in(first: Option<DueHead>) -> Option<(Expiry, usize)>
+    ensures { result ≡ option_map (λ d. entry_of d.head) first }
+{
+    let first = first?;
+    Some((first.head.key, first.head.slot))
 }

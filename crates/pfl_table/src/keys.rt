@@ -5,7 +5,7 @@ ghost use Rattle.pfl_table.specs.inner.Ordering.{flow_of, number_of as address_n
 
 use crate::row::Row;
 use pfl_base::{Addr, Key, Millis, StateName};
-use pfl_containers::{ByName, Hashed, Ordered, mix, tag_of};
+use pfl_containers::{ByName, Ordered, mix, tag_of};
 use pfl_rules::{Adaptive, scaled};
 use std::cmp::Ordering;
 
@@ -114,7 +114,7 @@ impl Expiry {
     }
 
     /// The name of the row.
-    fn name(self) -> StateName
+    pub(crate) fn name(self) -> StateName
         ensures { result ≡ name_in self }
     {
         StateName {
@@ -123,11 +123,18 @@ impl Expiry {
         }
     }
 
-    /// When the row expires where timeouts are scaled for so many states, in milliseconds.
+    /// When the row expires where timeouts are scaled for this number of states, in milliseconds.
     fn due(self, adaptive: Adaptive, states: usize) -> u128
         ensures { result ≡ due_at adaptive states self }
     {
-        let seconds = scaled(self.timeout, adaptive, states);
+        self.due_after(scaled(self.timeout, adaptive, states))
+    }
+
+    /// When the row expires where its timeout is scaled to these seconds, in milliseconds.
+    #[inline]
+    pub(crate) fn due_after(self, seconds: u32) -> u128
+        ensures { result ≡ self.time + seconds * 1000 }
+    {
         self.time as u128 + seconds as u128 * 1000
     }
 

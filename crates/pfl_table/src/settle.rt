@@ -14,7 +14,7 @@ use pfl_containers::Chains;
 use pfl_rules::Adaptive;
 use std::alloc::Allocator;
 
-/// Files stale rows anew until the one that is due first is filed at its last use.
+/// Files stale rows anew until the one that is due first is filed at its last use, and keeps which one that is.
 pub(crate) fn settle<A: Allocator>(
     rows: &Chains<Row, A>,
     expiries: &mut DueOrder<A>,
@@ -28,9 +28,11 @@ pub(crate) fn settle<A: Allocator>(
     ensures settled { IsSettled adaptive states rows.now expiries.new }
 {
     rows.known();
+    expiries.find_first(adaptive, states);
     while let Some(slot) = stale_first(rows, expiries, adaptive, states) {
         let row = rows.at(slot);
         expiries.file_anew(slot, row, row);
+        expiries.find_first(adaptive, states);
     }
 }
 

@@ -251,7 +251,7 @@ impl<A: Allocator> Stored<A> {
         }
     }
 
-    /// The row that expires first where timeouts are scaled for so many states.
+    /// The row that expires first where timeouts are scaled for this number of states.
     pub(crate) fn first_expiring(&self, adaptive: Adaptive, states: usize) -> Option<&Row>
         ensures row { option_copied result ≡ slice_get (in_order (row_before adaptive states) (map row_of_link self.now.links)) 0 }
     {

@@ -160,7 +160,7 @@ impl<A: Allocator> StateTable<A> {
         self.stored.after(name)
     }
 
-    /// The row that expires first where timeouts are scaled for so many states (pf.conf(5), `adaptive.start`): the one of least
+    /// The row that expires first where timeouts are scaled for this number of states (pf.conf(5), `adaptive.start`): the one of least
     /// expiry, and among those the one of least name.
     pub fn first_expiring(&self, adaptive: Adaptive, states: usize) -> Option<&Row>
         ensures row { option_copied result ≡ first_expiring adaptive states self.now }

@@ -21,6 +21,7 @@ pub enum WorldEdit<A: Allocator> {
 }
 
 impl<A: Allocator + Copy> Copied for WorldEdit<A> {
+    #[inline]
     fn copied(&self) -> Result<WorldEdit<A>, NoMemory> {
         match self {
             WorldEdit::OfNode(node, edit) => Ok(WorldEdit::OfNode(*node, *edit)),

@@ -23,5 +23,5 @@ pub use fault::WorldFault;
 pub use laws::new_worlds_are_worlds;
 pub use pfl_node::{Counters, Node};
 pub use restart_edit::RestartEdit;
-pub use small_edit::{MovedEdit, SmallEdit};
+pub use small_edit::{MiddleEdit, SmallEdit};
 pub use world::World;

@@ -1,13 +1,12 @@
-//! Changes of the pair that take few bytes, and what packets move, which takes some more.
+//! Changes of the pair that take few bytes, and those of middle size: what packets move, and what changes in the queues.
 
 ghost use Rattle.std.specs.Prelude.{◌≡◌, MatchOption};
-ghost use Rattle.pfl_world.specs.inner.SmallEdits.{node_of, edit_of, IsLarger, IsNoMotion};
-ghost use Rattle.pfl_node.specs.desk.declared.edit.NodeEdit.TheVariants.{Moved};
+ghost use Rattle.pfl_world.specs.inner.SmallEdits.{edit_of, edit_of_middle, node_of, node_of_middle, IsLarger, IsNotMiddle};
 
 use crate::edit::WorldEdit;
 use pfl_base::{Millis, NodeId};
 use pfl_edits::{Packed, Packing};
-use pfl_node::{BulkClient, Counter, MotionEdit, NodeEdit};
+use pfl_node::{BulkClient, Counter, MotionEdit, NodeEdit, QueueEdit};
 use std::alloc::Allocator;
 use std::mem::size_of;
 
@@ -44,17 +43,17 @@ pub enum SmallEdit {
     },
 }
 
-/// What a packet moved of a state of a node, which stays.
+/// A change of a node of middle size: what a packet moved of a state that stays, or a change of the queues.
 #[derive(Clone, Copy, Debug)]
-pub struct MovedEdit {
-    pub edit: MotionEdit,
-    pub node: NodeId,
+pub enum MiddleEdit {
+    Moved { node: NodeId, edit: MotionEdit },
+    OfQueue { node: NodeId, edit: QueueEdit },
 }
 
-// Few bytes are at most so many, and some more so many.
+// How many bytes each takes at most.
 const _: () = prove!(size_of::<SmallEdit>() <= 40);
 
-const _: () = prove!(size_of::<MovedEdit>() <= 128);
+const _: () = prove!(size_of::<MiddleEdit>() <= 128);
 
 /// The change of a node as a small one, unless it is larger.
 fn small_of(node: NodeId, edit: &NodeEdit) -> Option<SmallEdit>
@@ -99,32 +98,32 @@ fn small_of(node: NodeId, edit: &NodeEdit) -> Option<SmallEdit>
     }
 }
 
-/// The change of a node as one of middle size, if packets made it of a state that stays.
-fn moved_of(node: NodeId, edit: &NodeEdit) -> Option<MovedEdit>
-    ensures moved { MatchOption result (IsNoMotion edit.now) (λ moved. (moved.node ≡ node) × (Moved moved.edit ≡ edit.now)) }
+/// The change of a node as one of middle size, or none where it is of another size.
+fn middle_of(node: NodeId, edit: &NodeEdit) -> Option<MiddleEdit>
+    ensures middle { MatchOption result (IsNotMiddle edit.now) (λ middle. (node_of_middle middle ≡ node) × (edit_of_middle middle ≡ edit.now)) }
 {
-    if let NodeEdit::Moved(edit) = *edit {
-        Some(MovedEdit { edit, node })
-    } else {
-        None
+    match *edit {
+        NodeEdit::Moved(edit) => Some(MiddleEdit::Moved { node, edit }),
+        NodeEdit::OfQueue(edit) => Some(MiddleEdit::OfQueue { node, edit }),
+        _ => None,
     }
 }
 
 impl<A: Allocator> Packed for WorldEdit<A> {
-    ghost use Rattle.pfl_world.specs.inner.SmallEdits.{whole_edit, whole_moved};
+    ghost use Rattle.pfl_world.specs.inner.SmallEdits.{whole_edit, whole_middle};
 
     type Small = SmallEdit;
 
-    type Middle = MovedEdit;
+    type Middle = MiddleEdit;
 
     ghost whole_small = { whole_edit };
 
-    ghost whole_middle = { whole_moved };
+    ghost whole_middle = { whole_middle };
 
-    fn pack(self) -> Packing<SmallEdit, MovedEdit, Self> {
+    fn pack(self) -> Packing<SmallEdit, MiddleEdit, Self> {
         if let WorldEdit::OfNode(node, edit) = &self {
-            if let Some(moved) = moved_of(*node, edit) {
-                return Packing::Middle(moved);
+            if let Some(middle) = middle_of(*node, edit) {
+                return Packing::Middle(middle);
             }
             if let Some(small) = small_of(*node, edit) {
                 return Packing::Small(small);
@@ -133,8 +132,11 @@ impl<A: Allocator> Packed for WorldEdit<A> {
         Packing::Large(self)
     }
 
-    fn unpack_middle(middle: MovedEdit) -> Self {
-        WorldEdit::OfNode(middle.node, NodeEdit::Moved(middle.edit))
+    fn unpack_middle(middle: MiddleEdit) -> Self {
+        match middle {
+            MiddleEdit::Moved { node, edit } => WorldEdit::OfNode(node, NodeEdit::Moved(edit)),
+            MiddleEdit::OfQueue { node, edit } => WorldEdit::OfNode(node, NodeEdit::OfQueue(edit)),
+        }
     }
 
     fn unpack_small(small: SmallEdit) -> Self {

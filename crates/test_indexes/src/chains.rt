@@ -6,7 +6,7 @@ use linked_list_allocator::LocalHeap;
 use pfl_containers::Chains;
 use std::alloc::{Allocator, Global};
 use std::test::*;
-use test_devices::Refusing;
+use test_devices::{RefusesOne, Refusing};
 
 /// A value that is a number.
 #[derive(Clone, Copy)]
@@ -15,7 +15,11 @@ struct Entry {
 }
 
 /// The numbers of a list, from its first link to its last.
-fn numbers(alloc: Global, chains: &Chains<Entry, Global>, list: usize) -> Result<Vec<u64>, Fail> {
+fn numbers<A: Allocator>(
+    alloc: Global,
+    chains: &Chains<Entry, A>,
+    list: usize,
+) -> Result<Vec<u64>, Fail> {
     let mut numbers = Vec::new(alloc);
     if list >= chains.lists() {
         return Ok(numbers);
@@ -33,7 +37,11 @@ fn numbers(alloc: Global, chains: &Chains<Entry, Global>, list: usize) -> Result
 }
 
 /// The same numbers, as the list's iterator gives them.
-fn listed(alloc: Global, chains: &Chains<Entry, Global>, list: usize) -> Result<Vec<u64>, Fail> {
+fn listed<A: Allocator>(
+    alloc: Global,
+    chains: &Chains<Entry, A>,
+    list: usize,
+) -> Result<Vec<u64>, Fail> {
     let mut numbers = Vec::new(alloc);
     if list < chains.lists() {
         for entry in chains.iter(list) {
@@ -45,7 +53,9 @@ fn listed(alloc: Global, chains: &Chains<Entry, Global>, list: usize) -> Result<
 
 #[test]
 fn links_keep_their_order(rt: HostRuntime) -> Result<(), Fail> {
-    let mut chains = Chains::new(rt.alloc(), 2, 3)?;
+    let memory = RefusesOne::new(rt.alloc());
+    let mut chains = Chains::new(&memory, 2, 3)?;
+    memory.refuse(1);
     assert!(rt; chains.is_empty());
     let three = chains.insert_after(0, None, Entry { number: 3 });
     assert!(rt; 1 < chains.lists() && !chains.is_full());
@@ -58,10 +68,11 @@ fn links_keep_their_order(rt: HostRuntime) -> Result<(), Fail> {
     assert!(rt; one != three);
     assert!(rt; listed(rt.alloc(), &chains, 0)?.as_slice() == [1, 3].as_slice());
     assert!(rt; listed(rt.alloc(), &chains, 1)?.as_slice() == [5].as_slice());
+    assert!(rt; !memory.relent());
     Ok(())
 }
 
-/// Takes a link out of a list, and puts it back behind the one that stood before it. It then stands where it stood.
+/// Takes a link out of a list, and puts it back after the one that stood before it. It then stands where it stood.
 fn put_back<V: Copy, A: Allocator>(chains: &mut Chains<V, A>, list: usize, slot: usize) -> usize
     requires stands { (at : Place chains.old slot) × (at.list ≡ list) }
     ensures back { (at : Place chains.old slot) → chains.new ≡ with_links chains.old at.list (at.front ++ link result at.value ∷ at.back) }
@@ -74,15 +85,20 @@ fn put_back<V: Copy, A: Allocator>(chains: &mut Chains<V, A>, list: usize, slot:
 
 #[test]
 fn a_link_goes_back_to_its_place(rt: HostRuntime) -> Result<(), Fail> {
-    let mut chains = Chains::new(rt.alloc(), 1, 2)?;
+    let memory = RefusesOne::new(rt.alloc());
+    let mut chains = Chains::new(&memory, 1, 2)?;
+    memory.refuse(1);
     chains.insert_after(0, None, Entry { number: 7 });
     assert!(rt; 0 < chains.lists() && !chains.is_full());
     let four = chains.insert_after(0, None, Entry { number: 4 });
+    assert!(rt; !memory.relent());
     let copied = chains.copy()?;
+    memory.refuse(1);
     assert!(rt; chains.value(four).number == 4);
     put_back(&mut chains, 0, four);
     assert!(rt; numbers(rt.alloc(), &chains, 0)?.as_slice() == [4, 7].as_slice());
     assert!(rt; numbers(rt.alloc(), &copied, 0)?.as_slice() == [4, 7].as_slice());
+    assert!(rt; !memory.relent());
     Ok(())
 }
 
@@ -91,7 +107,7 @@ fn is_made<A: Allocator + Copy>(alloc: A) -> bool {
     Chains::<Entry, A>::new(alloc, 1, 4).is_ok()
 }
 
-/// Whether two lists of 8 links in a heap of so many bytes are copied, and how many links they have then.
+/// Whether two lists of 8 links in a heap of this size are copied, and how many links they have then.
 fn copied(alloc: Global, bytes: usize) -> Option<(bool, usize)> {
     let heap = LocalHeap::new(alloc, bytes).ok()?;
     let mut chains = Chains::new(&heap, 2, 8).ok()?;

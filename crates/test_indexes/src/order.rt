@@ -5,7 +5,7 @@ use pfl_containers::{Ordered, OrderedMap};
 use pfl_edits::NoMemory;
 use std::alloc::{Allocator, Global};
 use std::test::*;
-use test_devices::Refusing;
+use test_devices::{RefusesOne, Refusing};
 
 /// Puts a value under a key, if there is room.
 fn fill<K: Ordered, A: Allocator>(
@@ -27,7 +27,9 @@ fn mixed(number: u32) -> u32 {
 
 #[test]
 fn sets_and_finds(rt: HostRuntime) -> Result<(), Fail> {
-    let mut map = OrderedMap::new(rt.alloc(), 3)?;
+    let memory = RefusesOne::new(rt.alloc());
+    let mut map = OrderedMap::new(&memory, 3)?;
+    memory.refuse(1);
     assert!(rt; fill(&mut map, 5u32, 50) == None);
     assert!(rt; fill(&mut map, 2, 20) == None);
     assert!(rt; fill(&mut map, 5, 51) == Some(50));
@@ -44,31 +46,38 @@ fn sets_and_finds(rt: HostRuntime) -> Result<(), Fail> {
     assert!(rt; map.remove(5) == None);
     assert!(rt; map.after(2) == Some((9, 90)));
     assert!(rt; map.len() == 2);
+    assert!(rt; !memory.relent());
     Ok(())
 }
 
 #[test]
 fn goes_through_in_order(rt: HostRuntime) -> Result<(), Fail> {
-    let mut map = OrderedMap::new(rt.alloc(), 4)?;
+    let memory = RefusesOne::new(rt.alloc());
+    let mut map = OrderedMap::new(&memory, 4)?;
     for key in [7u64, 1, 4] {
         fill(&mut map, key, 0);
     }
-    let copied = map.copy()?;
+    let mut copied = map.copy()?;
+    memory.refuse(1);
+    fill(&mut copied, 9, 0);
     map.remove(4);
     let mut keys = Vec::new(rt.alloc());
     for (key, _value) in copied.iter() {
         keys.push(key)?;
     }
-    assert!(rt; keys.as_slice() == [1, 4, 7].as_slice());
+    assert!(rt; keys.as_slice() == [1, 4, 7, 9].as_slice());
     assert!(rt; map.iter().next() == Some((1, 0)));
     assert!(rt; copied.limit() == 4);
+    assert!(rt; !memory.relent());
     Ok(())
 }
 
-/// A map of two entries, through which a thousand have gone, has no more memory than a new one.
+/// A thousand entries go through a map of two.
 #[test]
 fn free_places_are_taken_again(rt: HostRuntime) -> Result<(), Fail> {
-    let mut map = OrderedMap::new(rt.alloc(), 2)?;
+    let memory = RefusesOne::new(rt.alloc());
+    let mut map = OrderedMap::new(&memory, 2)?;
+    memory.refuse(1);
     for key in 0..1000u32 {
         fill(&mut map, key, key);
         fill(&mut map, key + 1, key);
@@ -76,12 +85,15 @@ fn free_places_are_taken_again(rt: HostRuntime) -> Result<(), Fail> {
     }
     assert!(rt; map.len() == 1);
     assert!(rt; map.get(1000) == Some(999));
+    assert!(rt; !memory.relent());
     Ok(())
 }
 
 #[test]
 fn mixed_keys_come_and_go(rt: HostRuntime) -> Result<(), Fail> {
-    let mut map = OrderedMap::new(rt.alloc(), 65_536)?;
+    let memory = RefusesOne::new(rt.alloc());
+    let mut map = OrderedMap::new(&memory, 65_536)?;
+    memory.refuse(1);
     let mut key = 1;
     for round in 0..65_536 {
         key = mixed(key);
@@ -97,16 +109,17 @@ fn mixed_keys_come_and_go(rt: HostRuntime) -> Result<(), Fail> {
         }
     }
     assert!(rt; map.len() == 4096);
+    assert!(rt; !memory.relent());
     Ok(())
 }
 
-/// Whether there is memory for a map of so many entries.
+/// Whether there is memory for a map of this limit.
 fn is_made<A: Allocator>(alloc: A, limit: usize) -> bool {
     let map: Result<OrderedMap<u32, u32, A>, NoMemory> = OrderedMap::new(alloc, limit);
     map.is_ok()
 }
 
-/// Whether a map of 8 entries in a heap of so many bytes is copied, and what it has at 1 then.
+/// Whether a map of 8 entries in a heap of this size is copied, and what it has at 1 then.
 fn copied(alloc: Global, bytes: usize) -> Option<(bool, Option<u32>)> {
     let heap = LocalHeap::new(alloc, bytes).ok()?;
     let mut map = OrderedMap::new(&heap, 8).ok()?;

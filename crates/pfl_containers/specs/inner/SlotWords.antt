@@ -6,7 +6,7 @@ use Rattle.std.proofs.Common.{cond}
 use Rattle.pfl_edits.specs.Maps as maps
 use Rattle.pfl_edits.specs.Maps.{Map}
 use Rattle.pfl_containers.specs.declared.slots.words.Word.{Word}
-use Rattle.pfl_containers.specs.inner.HashSlots.{slot, slot_map, Distinct, NoGap}
+use Rattle.pfl_containers.specs.inner.Entries.{slot, slot_map, Distinct, NoGap}
 
 -- no slot has this number: it marks a free word
 abbrev pub no_slot : ℕ

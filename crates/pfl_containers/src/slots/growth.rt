@@ -2,7 +2,7 @@
 ghost use Rattle.std.specs.Prelude.{◌≡◌, ◌≤◌, ◌<◌, ◌+◌, ◌*◌, ◌/◌, ◌^◌, [], length, vec_capacity};
 ghost use Rattle.std.specs.Ordering.{nat_cmp};
 ghost use Rattle.pfl_edits.specs.Maps as maps;
-ghost use Rattle.pfl_containers.specs.inner.HashSlots.{Distinct, NoGap};
+ghost use Rattle.pfl_containers.specs.inner.Entries.{Distinct, NoGap};
 ghost use Rattle.pfl_containers.specs.inner.SlotWords.{entries_in, tag_map, AreWords, AreFields, AreSpare};
 
 use crate::slots::words::{Word, put};

@@ -1,7 +1,7 @@
 //! The words of an index of slots. An entry stands at the home of its tag, or after it with no free word between.
 ghost use Rattle.std.specs.Prelude.{◌≡◌, ◌↔◌, ◌≤◌, ◌<◌, ◌+◌, ◌^◌, ℕ, IfSome, IsTrue, length, Some, None, true, false};
 ghost use Rattle.pfl_edits.specs.Maps as maps;
-ghost use Rattle.pfl_containers.specs.inner.HashSlots.{NoGap, GapAt};
+ghost use Rattle.pfl_containers.specs.inner.Entries.{NoGap, GapAt};
 ghost use Rattle.pfl_containers.specs.inner.SlotWords.{no_slot, entry_in, entry_at, tag_map, home_in, AreWords, StandsAt, SearchGives, IsFree};
 
 /// The number that no slot has: it marks a free word.

@@ -77,9 +77,17 @@ pub record IsStale (rows : Lists Row) (d : Dues) (slot : ℕ) : Type 0 where
   pub here : at.list ≡ 0
   pub used : get_or d.filed slot 0 < at.value.state.last
 
+-- the slot of the row that is due first of these entries
+abbrev pub first_slot : Adaptive → ℕ → List (Expiry × ℕ) → Option ℕ
+first_slot a states es = option_map (λ e. e.1) (slice_get (in_order (λ e f. due_before a states e.0 f.0) es) 0)
+
+-- this is that one
+abbrev pub IsFirst : Adaptive → ℕ → List (Expiry × ℕ) → Option ℕ → Type 0
+IsFirst a states es slot = slot ≡ first_slot a states es
+
 -- the slot of the row that is due first as the rows were filed
 abbrev pub due_first : Adaptive → ℕ → Dues → Option ℕ
-due_first a states d = option_map (λ e. e.1) (slice_get (in_order (λ e f. due_before a states e.0 f.0) d.list) 0)
+due_first a states d = first_slot a states d.list
 
 -- that row was not used
 abbrev pub IsSettled : Adaptive → ℕ → Lists Row → Dues → Type 0

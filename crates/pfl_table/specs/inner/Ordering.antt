@@ -130,7 +130,7 @@ expiry_exact a b e =
     (exact_pairs nat_cmp (then_cmp (on (λ q. q.0) nat_cmp) (on (λ q. q.1) name_cmp)) exact_unsigned (exact_pairs nat_cmp name_cmp exact_unsigned names_exact)
     (a.timeout, (a.time, name_in a)) (b.timeout, (b.time, name_in b)) e)
 
--- when the row expires where timeouts are scaled for so many states
+-- when the row expires where timeouts are scaled for this number of states
 abbrev pub due_at : Adaptive → ℕ → Expiry → ℕ
 due_at a states e = e.time + scaled e.timeout a states * 1000
 
@@ -138,11 +138,6 @@ due_at a states e = e.time + scaled e.timeout a states * 1000
 abbrev pub due_before : Adaptive → ℕ → Expiry → Expiry → Bool
 due_before a states e f =
     nat_lt (due_at a states e) (due_at a states f) || ((due_at a states e == due_at a states f) && is_lt (name_cmp (name_in e) (name_in f)))
-
--- which of these entries is due first: the latter unless the former is due before it
-abbrev pub earlier : Adaptive → ℕ → Option (Expiry × ℕ) → Expiry × ℕ → Expiry × ℕ
-earlier a states None entry = entry
-earlier a states (Some first) entry = if due_before a states first.0 entry.0 then first else entry
 
 -- which of these rows expires first: the latter unless the former expires before it
 abbrev pub sooner : Adaptive → ℕ → Option Row → Row → Row

@@ -6,7 +6,8 @@ use Rattle.pfl_world.specs.declared.edit.WorldEdit.{WorldEdit}
 use Rattle.pfl_world.specs.declared.edit.WorldEdit.TheVariants.{OfNode}
 use Rattle.pfl_world.specs.declared.small_edit.SmallEdit.{SmallEdit}
 use Rattle.pfl_world.specs.declared.small_edit.SmallEdit.TheVariants as small
-use Rattle.pfl_world.specs.declared.small_edit.MovedEdit.{MovedEdit}
+use Rattle.pfl_world.specs.declared.small_edit.MiddleEdit.{MiddleEdit}
+use Rattle.pfl_world.specs.declared.small_edit.MiddleEdit.TheVariants as middle
 
 -- the node that a small edit is of
 abbrev pub node_of : SmallEdit → NodeId
@@ -28,9 +29,19 @@ edit_of (small.Count node counter before after) = nodes.Count counter before aft
 abbrev pub whole_edit : {M : Type 0} → SmallEdit → WorldEdit M
 whole_edit s = OfNode (node_of s) (edit_of s)
 
--- the edit of the pair that a motion is
-abbrev pub whole_moved : {M : Type 0} → MovedEdit → WorldEdit M
-whole_moved m = OfNode m.node (nodes.Moved m.edit)
+-- the node that an edit of middle size is of
+abbrev pub node_of_middle : MiddleEdit → NodeId
+node_of_middle (middle.Moved node edit) = node
+node_of_middle (middle.OfQueue node edit) = node
+
+-- the edit of that node
+abbrev pub edit_of_middle : MiddleEdit → NodeEdit
+edit_of_middle (middle.Moved node edit) = nodes.Moved edit
+edit_of_middle (middle.OfQueue node edit) = nodes.OfQueue edit
+
+-- the edit of the pair that it is
+abbrev pub whole_middle : {M : Type 0} → MiddleEdit → WorldEdit M
+whole_middle m = OfNode (node_of_middle m) (edit_of_middle m)
 
 -- the edit of a node is none of those that take few bytes
 abbrev pub IsLarger : NodeEdit → Type 0
@@ -41,7 +52,8 @@ IsLarger (nodes.Push before after) = ⊥
 IsLarger (nodes.Count counter before after) = ⊥
 IsLarger _ = Unit {0}
 
--- it is not what packets moved
-abbrev pub IsNoMotion : NodeEdit → Type 0
-IsNoMotion (nodes.Moved e) = ⊥
-IsNoMotion _ = Unit {0}
+-- it is neither what packets moved nor a change of the queues
+abbrev pub IsNotMiddle : NodeEdit → Type 0
+IsNotMiddle (nodes.Moved e) = ⊥
+IsNotMiddle (nodes.OfQueue e) = ⊥
+IsNotMiddle _ = Unit {0}

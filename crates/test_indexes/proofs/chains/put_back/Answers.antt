@@ -1,5 +1,4 @@
 use Rattle.std.proofs.Common.{◌∙◌}
-use Rattle.pfl_containers.specs.Lists.{Place}
 use Rattle.pfl_containers.proofs.ForCallers.{within-removed, gap-removed, room-removed, put-back}
 use Rattle.test_indexes.proofs.chains.put_back.Goals as goal
 

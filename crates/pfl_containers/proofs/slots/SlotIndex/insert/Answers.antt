@@ -1,8 +1,7 @@
 use Rattle.std.proofs.Common.{◌≡◌, ◌<◌, None, ◌∙◌, ap, sym, subst, length, arith}
 use Rattle.pfl_edits.specs.Maps as maps
 use Rattle.pfl_containers.specs.Slots.{Tags}
-use Rattle.pfl_containers.proofs.Fields.{whole}
-use Rattle.pfl_containers.proofs.SlotFields.{fields-put}
+use Rattle.pfl_containers.proofs.SlotFields.{fields-put, whole}
 use Rattle.pfl_containers.proofs.slots.SlotIndex.insert.Goals as goal
 
 pub invariant_of-self : goal.invariant_of-self

@@ -1,6 +1,5 @@
 use Rattle.std.proofs.Common.{◌≤◌, ◌*◌, ◌+◌, vec_capacity, arith}
-use Rattle.pfl_containers.proofs.Free.{resized}
-use Rattle.pfl_containers.proofs.SlotFields.{fields-free, tag_map-free}
+use Rattle.pfl_containers.proofs.SlotFields.{fields-free, resized, tag_map-free}
 use Rattle.pfl_containers.proofs.slots.SlotIndex.new.Goals as goal
 
 pub invariant_of-result : goal.invariant_of-result

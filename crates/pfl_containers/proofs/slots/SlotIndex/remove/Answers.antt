@@ -1,7 +1,6 @@
 use Rattle.std.proofs.Common.{◌∙◌, ap, sym, subst, length}
 use Rattle.pfl_containers.specs.Slots.{Tags, HasTag}
-use Rattle.pfl_containers.proofs.Fields.{whole}
-use Rattle.pfl_containers.proofs.SlotFields.{fields-taken, not_empty}
+use Rattle.pfl_containers.proofs.SlotFields.{fields-taken, not_empty, whole}
 use Rattle.pfl_containers.proofs.slots.SlotIndex.remove.Goals as goal
 
 pub overflow_sub-self : goal.overflow_sub-self

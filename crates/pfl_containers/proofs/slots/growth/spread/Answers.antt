@@ -1,7 +1,6 @@
 use Rattle.std.proofs.Common.{◌∙◌, ap}
 use Rattle.pfl_containers.specs.inner.SlotWords.{tag_map}
-use Rattle.pfl_containers.proofs.Free.{resized}
-use Rattle.pfl_containers.proofs.SlotFields.{tag_map-free, words-free}
+use Rattle.pfl_containers.proofs.SlotFields.{resized, tag_map-free, words-free}
 use Rattle.pfl_containers.proofs.slots.growth.spread.Goals as goal
 
 pub put_all-requires-clause-words : goal.put_all-requires-clause-words

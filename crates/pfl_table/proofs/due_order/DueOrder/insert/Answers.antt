@@ -21,4 +21,5 @@ invariant_of-self g c =
     ap (λ m. heads_with m h) c.self.invariant.1.first ∙ heads-more c.of-key.result c.args.slot old.list new.list c.known.ensures.entries.sorted c.known-2.ensures.entries.sorted c.insert.ensures.map in (
       omega (arith, c.self.invariant.0, c.insert.ensures.limit),
       record { first = c.enter.ensures.heads ∙ same; room = c.enter.ensures.limit ∙ (c.self.invariant.1.room ∙ sym c.insert.ensures.limit) },
+      tt,
     )

@@ -23,4 +23,5 @@ invariant_of-self g c =
     ap (λ m. heads_without m key (find (λ e. is_lt (expiry_cmp key e.0)) new.list)) c.self.invariant.1.first ∙ heads-less key old.list new.list c.known.ensures.entries.sorted c.known-2.ensures.entries.sorted c.remove.ensures.map in (
       omega (arith, c.self.invariant.0, c.remove.ensures.limit),
       record { first = c.leave.ensures.heads ∙ same; room = c.leave.ensures.limit ∙ (c.self.invariant.1.room ∙ sym c.remove.ensures.limit) },
+      tt,
     )
