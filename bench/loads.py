@@ -296,8 +296,9 @@ def scattered(pair):
     """As `purges`, where the states expire in any order: each has had one more packet since, at one of some hundred times."""
     yield pair.fill()
     part, flows = Part(), pair.chance.sample(range(pair.states), pair.states)
+    packets_a_tick = max(1, pair.states // TIMEOUTS)
     for at, flow in enumerate(flows):
-        if at % (pair.states // TIMEOUTS) == 0:
+        if at % packets_a_tick == 0:
             pair.tick(part)
         pair.packet(part, flow, True)
     yield part
@@ -372,7 +373,10 @@ def limits(pair):
 
 LOADS = {
     it.__name__: it
-    for it in (replies, flows, rooms, hits, ticks, undo, connections, frames, purges, scattered, timeouts, shows, forks, short_forks, limits)
+    for it in (
+        *(replies, flows, rooms, hits, ticks, undo, connections, frames),
+        *(purges, scattered, timeouts, shows, forks, short_forks, limits),
+    )
 }
 # The number of states of the loads that are measured at one number alone.
 STATES_OF = {"short_forks": SHORT_STATES, "limits": 10}
