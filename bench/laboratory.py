@@ -1,4 +1,6 @@
 """A run of the program, to which a load is given part by part, and what each part costs it. Linux alone."""
+from __future__ import annotations
+
 import array
 import fcntl
 import os
@@ -6,6 +8,7 @@ import re
 import subprocess
 import termios
 import time
+from typing import Sequence
 
 PIPE_BYTES = 1 << 20
 LONGEST_NAP = 0.02
@@ -18,7 +21,7 @@ class Wrong(Exception):
 class Late(Exception):
     """The load has had its time."""
 
-    def __init__(self, cost):
+    def __init__(self, cost: Cost):
         super().__init__("given up")
         self.cost = cost
 
@@ -26,29 +29,31 @@ class Late(Exception):
 class Cost:
     """What commands took: processor seconds, the most memory of the run so far, and how much more memory is kept."""
 
-    def __init__(self, commands, seconds, most, kept, is_late=False):
+    def __init__(self, commands: int, seconds: float, most: int, kept: int, is_late: bool = False):
         self.commands, self.seconds, self.most, self.kept, self.is_late = commands, seconds, most, kept, is_late
 
-    def and_then(self, later):
+    def and_then(self, later: Cost) -> Cost:
         commands, seconds, kept = self.commands + later.commands, self.seconds + later.seconds, self.kept + later.kept
         return Cost(commands, seconds, later.most, kept, later.is_late)
 
 
-class Laboratory:
+class MeasuredRun:
     """The program reads from a pipe and writes to a file in memory, so that no reply wakes anybody."""
 
-    def __init__(self, program, seconds):
+    def __init__(self, program: str, seconds: float):
         self.end = time.monotonic() + seconds
         self.replies = os.memfd_create("replies")
         self.run = subprocess.Popen([program, "run"], bufsize=0, stdin=subprocess.PIPE, stdout=self.replies, stderr=subprocess.PIPE)
+        assert self.run.stdin and self.run.stderr
+        self.pipe, self.faults = self.run.stdin, self.run.stderr
         # (the number of the clock that counts another process's processor time)
         self.clock = ~self.run.pid << 3 | 2
-        self.input = self.run.stdin.fileno()
+        self.input = self.pipe.fileno()
         fcntl.fcntl(self.input, fcntl.F_SETPIPE_SZ, PIPE_BYTES)
         os.set_blocking(self.input, False)
         self.seen = 0
 
-    def tell(self, lines, wanted, commands):
+    def tell(self, lines: Sequence[str], wanted: Sequence[str], commands: int) -> Cost:
         """Gives lines and waits for the replies, which have to be those wanted; what that took, for that many commands."""
         left = memoryview("".join(f"{it}\n" for it in lines).encode())
         before, nap = self.taken(0), 0.0005
@@ -63,7 +68,7 @@ class Laboratory:
         self.compare("".join(f"{it}\n" for it in wanted).encode())
         return took
 
-    def give(self, left):
+    def give(self, left: memoryview) -> int:
         """As many of the bytes as there is room for."""
         try:
             return os.write(self.input, left) if left else 0
@@ -72,7 +77,7 @@ class Laboratory:
         except BrokenPipeError:
             raise self.ended() from None
 
-    def waits(self):
+    def waits(self) -> bool:
         """The program has read all that it was given, and waits for more."""
         if self.run.poll() is not None:
             raise self.ended()
@@ -82,14 +87,14 @@ class Laboratory:
             state = it.read().rpartition(")")[2].split()[0]
         return unread[0] == 0 and state == "S"
 
-    def ended(self):
-        return Wrong(f"the program ended with {self.run.wait()}: {self.run.stderr.read().decode().strip()}")
+    def ended(self) -> Wrong:
+        return Wrong(f"the program ended with {self.run.wait()}: {self.faults.read().decode().strip()}")
 
-    def told(self):
+    def told(self) -> bytes:
         """What the program has written since it was last looked at."""
         return os.pread(self.replies, os.fstat(self.replies).st_size - self.seen, self.seen)
 
-    def compare(self, wanted):
+    def compare(self, wanted: bytes) -> None:
         told = self.told()
         if told != wanted:
             pairs = enumerate(zip(told.split(b"\n"), wanted.split(b"\n")), 1)
@@ -97,23 +102,23 @@ class Laboratory:
             raise Wrong(f"line {line} of the replies is {it.decode()!r}, and not {other.decode()!r}")
         self.seen += len(told)
 
-    def taken(self, commands):
+    def taken(self, commands: int) -> Cost:
         """What the program has taken since its start."""
         return Cost(commands, time.clock_gettime(self.clock), self.memory("VmHWM"), self.memory("VmRSS"))
 
-    def since(self, before, commands, is_late=False):
+    def since(self, before: Cost, commands: int, is_late: bool = False) -> Cost:
         now = self.taken(commands)
         return Cost(commands, now.seconds - before.seconds, now.most, now.kept - before.kept, is_late)
 
-    def memory(self, field):
+    def memory(self, field: str) -> int:
         """Bytes, by a field of what /proc says of the program."""
         with open(f"/proc/{self.run.pid}/status", encoding="utf-8") as it:
             found = re.search(rf"^{field}:\s+(\d+) kB", it.read(), re.M)
         return 1024 * int(found[1]) if found else 0
 
-    def close(self):
+    def close(self) -> None:
         self.run.kill()
         self.run.wait()
-        self.run.stdin.close()
-        self.run.stderr.close()
+        self.pipe.close()
+        self.faults.close()
         os.close(self.replies)

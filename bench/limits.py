@@ -1,7 +1,10 @@
 """What the machine takes for what no program of this kind goes without, in microseconds."""
+from __future__ import annotations
+
 import array
 import os
 import time
+from typing import Callable
 
 REPLY = b"step pass 1.12345 dropped 0\n"
 WRITES = 200_000
@@ -11,17 +14,17 @@ FAR = 1 << 22
 NEAR = 1 << 9
 
 
-def microseconds(work, many):
+def microseconds(work: Callable[[int], None], many: int) -> float:
     start = time.process_time()
     work(many)
     return (time.process_time() - start) / many * 1e6
 
 
-def write_of_a_reply():
+def write_of_a_reply() -> float:
     """A write of a reply to a file in memory, with what the interpreter takes for a call, some 0.05 microseconds."""
     file = os.memfd_create("replies")
 
-    def work(many):
+    def work(many: int) -> None:
         for _ in range(many):
             os.write(file, REPLY)
 
@@ -31,11 +34,11 @@ def write_of_a_reply():
         os.close(file)
 
 
-def chase(size):
+def chase(size: int) -> float:
     """Microseconds a look-up, each of which has to wait for the one before; the places follow no order."""
     places = array.array("Q", ((at * 2_862_933 + 3_037_493) % size for at in range(size)))
 
-    def work(many):
+    def work(many: int) -> None:
         at = 0
         for _ in range(many):
             at = places[at]
@@ -44,6 +47,6 @@ def chase(size):
     return microseconds(work, LOOKUPS)
 
 
-def cache_miss():
+def cache_miss() -> float:
     """What a look-up far away takes longer than one that is near."""
     return chase(FAR) - chase(NEAR)

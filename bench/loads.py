@@ -3,7 +3,10 @@
 A load is a function that gives its parts in order. A part that is named is measured; the others prepare. Replies are computed
 here and not asked of the program, so that a load that does not do what it is meant to do is seen.
 """
+from __future__ import annotations
+
 import random
+from typing import Callable, Dict, Iterable, Iterator, List, Optional, Sequence, Tuple
 
 MOST_STATES = 65536
 MTU = 1500
@@ -20,15 +23,17 @@ RESTARTS, LIMIT_FORKS = 20, 15
 MOST_FRAMES, MOST_MTU = 4096, 9000
 TIMEOUTS = 200
 FIRST_PORT = 1000
+# The near and the far end of a flow.
+Ends = Tuple[str, str]
 
 
-def setup_of(frames=FRAMES_IN_FLIGHT, mtu=MTU, rules=("pass out",)):
+def setup_of(frames: int = FRAMES_IN_FLIGHT, mtu: int = MTU, rules: Sequence[str] = ("pass out",)) -> List[str]:
     limits = {"states": MOST_STATES, "queue": MOST_STATES, "frames": frames, "mtu": mtu}
     lines = [f"set {name} {most}" for name, most in limits.items()]
     return lines + [f"rule {node} {rule}" for node in "ab" for rule in rules] + ["open"]
 
 
-def rules_of_timeouts():
+def rules_of_timeouts() -> List[str]:
     """A rule for each of some ports, with a timeout of its own."""
     return [f"pass out proto udp tport {FIRST_PORT + at} timeout udp.first {at + 1}" for at in range(TIMEOUTS)]
 
@@ -36,35 +41,37 @@ def rules_of_timeouts():
 class Part:
     """Commands of one kind, and the lines that have to answer them. `more` of them belong to others, whose cost has theirs in it."""
 
-    def __init__(self, what=None):
-        self.what, self.lines, self.replies, self.more = what, [], [], 0
+    def __init__(self, what: Optional[str] = None):
+        self.what, self.more = what, 0
+        self.lines: List[str] = []
+        self.replies: List[str] = []
 
-    def ask(self, line, *replies):
+    def ask(self, line: str, *replies: str) -> None:
         self.lines.append(line)
         self.replies += replies
 
-    def commands(self):
+    def commands(self) -> int:
         return len(self.lines) - self.more
 
 
-class Pair:
+class TrackedPair:
     """What was told to the pair so far, as far as replies depend on it; its states are flows of UDP through node a."""
 
-    def __init__(self, states, commands, chance):
+    def __init__(self, states: int, commands: int, chance: random.Random):
         self.states, self.commands, self.chance = states, commands, chance
         self.cursor, self.next_id, self.next_ticket, self.clock = 0, 1, 1, 0
         self.flows = [self.ends(at, 53) for at in chance.sample(range(1 << 24), states)]
 
-    def ends(self, at, port):
+    def ends(self, at: int, port: int) -> Ends:
         """The near end of a flow, which no other flow has, and its far end."""
         near = f"10.{at >> 16}.{at >> 8 & 255}.{at & 255}:{self.chance.randint(1024, 65535)}"
         return near, f"192.0.2.{self.chance.randint(1, 254)}:{port}"
 
-    def step(self, part, event, outcome, dropped=0):
+    def step(self, part: Part, event: str, outcome: str, dropped: int = 0) -> None:
         part.ask(f"step main {event}", f"step {outcome} dropped {dropped}")
         self.cursor += 1
 
-    def begin(self, first, last, what=None):
+    def begin(self, first: int, last: int, what: Optional[str] = None) -> Part:
         """A packet of each of some new flows, in order."""
         part = Part(what)
         for near, far in self.flows[first:last]:
@@ -72,30 +79,30 @@ class Pair:
             self.next_id += 1
         return part
 
-    def fill(self):
+    def fill(self) -> Part:
         return self.begin(0, self.states)
 
-    def packet(self, part, flow, is_out):
+    def packet(self, part: Part, flow: int, is_out: bool) -> None:
         """A packet of a flow that stands."""
         near, far = self.flows[flow]
         ends = f"out udp {near} {far}" if is_out else f"in udp {far} {near}"
         self.step(part, f"packet a {ends} 80", f"pass 1.{flow + 1}")
 
-    def answer(self, flows, what=None):
+    def answer(self, flows: Iterable[int], what: Optional[str] = None) -> Part:
         """The first answer of each of some flows."""
         part = Part(what)
         for flow in flows:
             self.packet(part, flow, False)
         return part
 
-    def settle(self):
+    def settle(self) -> Part:
         """A packet more in each direction of each flow: from then on no packet changes the class of a state."""
         part = self.answer(range(self.states))
         for flow in range(self.states):
             self.packet(part, flow, True)
         return part
 
-    def hit(self, flows, what=None, hits_a_tick=None):
+    def hit(self, flows: Iterable[int], what: Optional[str] = None, hits_a_tick: Optional[int] = None) -> Part:
         """A packet of each of some flows that stand, in either direction, and a tick before every `hits_a_tick` of them."""
         part = Part(what)
         for at, flow in enumerate(flows):
@@ -105,23 +112,23 @@ class Pair:
             self.packet(part, flow, self.chance.choice((False, True)))
         return part
 
-    def tick(self, part):
+    def tick(self, part: Part) -> None:
         self.clock += 1
         self.step(part, "tick a 1", f"clock {self.clock}")
 
-    def any_flows(self):
+    def any_flows(self) -> List[int]:
         return self.chance.choices(range(self.states), k=self.commands)
 
-    def back(self, part):
+    def back(self, part: Part) -> None:
         self.cursor -= 1
         part.ask("back main 1", f"at {self.cursor}")
 
-    def forward(self, part):
+    def forward(self, part: Part) -> None:
         self.cursor += 1
         part.ask("forward main 1", f"at {self.cursor}")
 
 
-def replies(pair):
+def replies(pair: TrackedPair) -> Iterator[Part]:
     """What any command costs: a line that is passed over, and one that is answered and does nothing else."""
     yield pair.fill()
     passed = Part("a line that is passed over")
@@ -135,14 +142,14 @@ def replies(pair):
     yield names
 
 
-def flows(pair):
+def flows(pair: TrackedPair) -> Iterator[Part]:
     """New flows, from none to all."""
     most = pair.states * 9 // 10
     yield pair.begin(0, most, "a new flow, the first nine tenths")
     yield pair.begin(most, pair.states, "a new flow, the last tenth")
 
 
-def rooms(pair):
+def rooms(pair: TrackedPair) -> Iterator[Part]:
     """New flows where as many stood before, so that what they keep is history alone: the pair has the room for them already."""
     yield pair.fill()
     expired = Part()
@@ -153,7 +160,7 @@ def rooms(pair):
     yield pair.begin(0, pair.states, "a new flow in room that was used before")
 
 
-def hits(pair):
+def hits(pair: TrackedPair) -> Iterator[Part]:
     """Packets of states whose insertion is queued: first answers, which change the class, and then hits, which change none."""
     yield pair.fill()
     yield pair.answer(pair.chance.sample(range(pair.states), min(pair.states, pair.commands)), "the first answer of a flow")
@@ -162,7 +169,7 @@ def hits(pair):
     yield pair.hit(pair.any_flows(), "a hit, with a tick before each tenth", HITS_A_TICK)
 
 
-def ticks(pair):
+def ticks(pair: TrackedPair) -> Iterator[Part]:
     yield pair.fill()
     part = Part("a tick")
     for _ in range(pair.commands):
@@ -170,7 +177,7 @@ def ticks(pair):
     yield part
 
 
-def undo(pair):
+def undo(pair: TrackedPair) -> Iterator[Part]:
     """Hits with a tick before each tenth, undone one by one and then done again one by one."""
     yield pair.fill()
     yield pair.settle()
@@ -186,11 +193,11 @@ def undo(pair):
     yield redone
 
 
-def segments(near, far, chance):
+def segments(near: str, far: str, chance: random.Random) -> Iterator[str]:
     """The packets of a connection of TCP, from the handshake to the end that closed last."""
     own, other = chance.randrange(1 << 32), chance.randrange(1 << 32)
 
-    def segment(is_out, flags, sent, seen, length=0):
+    def segment(is_out: bool, flags: str, sent: int, seen: int, length: int = 0) -> str:
         sequence, acknowledged = (own + sent, other + seen) if is_out else (other + sent, own + seen)
         acknowledged = acknowledged % (1 << 32) if "A" in flags else 0
         ends = f"out tcp {near} {far}" if is_out else f"in tcp {far} {near}"
@@ -206,7 +213,7 @@ def segments(near, far, chance):
     yield segment(True, "A", 102, 1002)
 
 
-def connections(pair):
+def connections(pair: TrackedPair) -> Iterator[Part]:
     """Connections from handshake to close, each tenth of the states a closed one that the next of its ports takes the place of."""
     ports = max(1, pair.states // 10)
     yield pair.begin(0, pair.states - ports)
@@ -224,19 +231,20 @@ def connections(pair):
 class Sender:
     """What a node has to tell the other, by batches of frames that are in flight together."""
 
-    def __init__(self, pair, node, record):
+    def __init__(self, pair: TrackedPair, node: str, record: int):
         self.pair, self.node, self.size = pair, node, record
         self.most = (MTU - FRAME_HEADER - GROUP_HEADER) // record
 
-    def frames(self, told):
+    def frames(self, told: List[int]) -> List[List[List[int]]]:
         """What each frame of a batch tells, batch by batch."""
         frames = [told[at : at + self.most] for at in range(0, len(told), self.most)]
         return [frames[at : at + FRAMES_IN_FLIGHT] for at in range(0, len(frames), FRAMES_IN_FLIGHT)]
 
-    def send(self, told, what, taken):
+    def send(self, told: List[int], what: str, taken: List[int]) -> Iterator[Part]:
         """Flushes all, and delivers or loses each frame, in any order; `taken` gets what is delivered."""
         for batch in self.frames(told):
-            flushed, fates = Part(f"a flush of {what}"), {}
+            flushed = Part(f"a flush of {what}")
+            fates: Dict[int, List[int]] = {}
             for frame in batch:
                 ticket = self.pair.next_ticket
                 self.pair.next_ticket += 1
@@ -246,7 +254,7 @@ class Sender:
             yield flushed
             yield from self.decide(fates, what, taken)
 
-    def decide(self, fates, what, taken):
+    def decide(self, fates: Dict[int, List[int]], what: str, taken: List[int]) -> Iterator[Part]:
         delivered, lost = Part(f"a delivery of {what}"), Part("a loss")
         for ticket in self.pair.chance.sample(list(fates), len(fates)):
             if self.pair.chance.randrange(ONE_LOST_IN) == 0:
@@ -258,10 +266,12 @@ class Sender:
         yield lost
 
 
-def frames(pair):
+def frames(pair: TrackedPair) -> Iterator[Part]:
     """Node a tells b of all its states and of updates; b asks for those that it never got. One frame in ten is lost."""
     yield pair.fill()
-    known, updated, asked, came = [], [], [], []
+    known: List[int] = []
+    updated: List[int] = []
+    asked: List[int] = []
     yield from Sender(pair, "a", STATE_RECORD).send(list(range(pair.states)), "11 new states", known)
     hits_of = pair.chance.sample(range(pair.states), min(pair.states, pair.commands))
     yield pair.hit(hits_of, "a hit that queues an update")
@@ -269,10 +279,10 @@ def frames(pair):
     unknown = set(range(pair.states)).difference(known)
     wanted = [flow for flow in updated if flow in unknown]
     yield from Sender(pair, "b", NAME_RECORD).send(wanted, "123 requests", asked)
-    yield from Sender(pair, "a", STATE_RECORD).send(asked, "11 states asked for", came)
+    yield from Sender(pair, "a", STATE_RECORD).send(asked, "11 states asked for", [])
 
 
-def purge(pair, expired_ms=EXPIRED_MS, of=""):
+def purge(pair: TrackedPair, expired_ms: int = EXPIRED_MS, of: str = "") -> Iterator[Part]:
     """All states expire and are purged, and that is undone."""
     expired = Part()
     pair.clock += expired_ms
@@ -286,13 +296,13 @@ def purge(pair, expired_ms=EXPIRED_MS, of=""):
         yield undone
 
 
-def purges(pair):
+def purges(pair: TrackedPair) -> Iterator[Part]:
     """All states expire in the order of their names."""
     yield pair.fill()
     yield from purge(pair)
 
 
-def scattered(pair):
+def scattered(pair: TrackedPair) -> Iterator[Part]:
     """As `purges`, where the states expire in any order: each has had one more packet since, at one of some hundred times."""
     yield pair.fill()
     part, flows = Part(), pair.chance.sample(range(pair.states), pair.states)
@@ -305,7 +315,7 @@ def scattered(pair):
     yield from purge(pair, of=", in any order")
 
 
-def timeouts(pair):
+def timeouts(pair: TrackedPair) -> Iterator[Part]:
     """As `scattered`, since the states have many timeouts."""
     places = pair.chance.sample(range(1 << 24), pair.states)
     pair.flows = [pair.ends(at, FIRST_PORT + pair.chance.randrange(TIMEOUTS)) for at in places]
@@ -313,13 +323,12 @@ def timeouts(pair):
     yield from purge(pair, TIMEOUTS * 1000, f", of {TIMEOUTS} timeouts")
 
 
-def shown(pair):
-    """The lines of a pair that has seen a packet of each of its flows and nothing else."""
-    many = pair.states
-    yield f"branch main events {many} cursor {many}"
+def shown(pair: TrackedPair, many: int) -> Iterator[str]:
+    """The lines of a pair that has seen a packet of each of its first flows and nothing else."""
+    yield f"branch main events {pair.cursor} cursor {many}"
     yield f"node a clock 0 boot 1 id {many + 1} seq {many + 1} push 0 serve - sync -"
     yield f"count a {many} 0 0 0 0 0 0"
-    by_name = list(enumerate(pair.flows, 1))
+    by_name = list(enumerate(pair.flows[:many], 1))
     for at, (near, far) in by_name:
         yield f"state a 1.{at} udp out {far} {near} {far} {near} 1 - 0 0 0 0 - 0 0 0 udp.first 0 0 - 0 -"
     for at, _ in by_name:
@@ -330,15 +339,25 @@ def shown(pair):
     yield "end"
 
 
-def shows(pair):
+def shows(pair: TrackedPair) -> Iterator[Part]:
     yield pair.fill()
-    part, lines = Part("a show"), list(shown(pair))
+    part, lines = Part("a show"), list(shown(pair, pair.states))
     for _ in range(ROUNDS):
         part.ask("show main", *lines)
     yield part
 
 
-def forks(pair):
+def pasts(pair: TrackedPair) -> Iterator[Part]:
+    """Looks at other places: all the way to the opening and back, and half of it, where there are half as many states to show."""
+    yield pair.fill()
+    for what, place in (("a look at the opening", 0), ("a look half the way back", pair.states // 2)):
+        part, lines = Part(what), list(shown(pair, place))
+        for _ in range(ROUNDS):
+            part.ask(f"past main {place}", *lines)
+        yield part
+
+
+def forks(pair: TrackedPair) -> Iterator[Part]:
     """Branches of all events so far, which are dropped again."""
     yield pair.fill()
     forked, removed = Part("a fork of all events"), Part("a drop")
@@ -349,7 +368,7 @@ def forks(pair):
     yield removed
 
 
-def short_forks(pair):
+def short_forks(pair: TrackedPair) -> Iterator[Part]:
     """Branches of some thousand events, one after the other."""
     yield pair.fill()
     yield pair.hit(pair.chance.choices(range(pair.states), k=SHORT_EVENTS - pair.states))
@@ -359,7 +378,7 @@ def short_forks(pair):
     yield part
 
 
-def limits(pair):
+def limits(pair: TrackedPair) -> Iterator[Part]:
     """Restarts and forks of a pair that has few states, and room for as many as there may be."""
     yield pair.fill()
     restarts, forked = Part("a restart at the greatest limits"), Part("a fork of all that at the greatest limits")
@@ -371,11 +390,11 @@ def limits(pair):
     yield forked
 
 
-LOADS = {
+LOADS: Dict[str, Callable[[TrackedPair], Iterator[Part]]] = {
     it.__name__: it
     for it in (
         *(replies, flows, rooms, hits, ticks, undo, connections, frames),
-        *(purges, scattered, timeouts, shows, forks, short_forks, limits),
+        *(purges, scattered, timeouts, shows, pasts, forks, short_forks, limits),
     )
 }
 # The number of states of the loads that are measured at one number alone.
@@ -383,10 +402,10 @@ STATES_OF = {"short_forks": SHORT_STATES, "limits": 10}
 SETUPS = {"limits": setup_of(MOST_FRAMES, MOST_MTU), "timeouts": setup_of(rules=rules_of_timeouts())}
 
 
-def parts(load, states, commands, seed):
+def parts(load: str, states: int, commands: int, seed: str) -> Iterator[Part]:
     """The parts of a load, the setup first."""
     setup = Part()
     setup.lines += SETUPS.get(load, setup_of())
     yield setup
-    pair = Pair(states, commands, random.Random(f"{seed} {load} {states}"))
+    pair = TrackedPair(states, commands, random.Random(f"{seed} {load} {states}"))
     yield from (it for it in LOADS[load](pair) if it.lines)

@@ -24,6 +24,8 @@ them: each has to be quoted in docs/PROVED.md, and a page has to say what that p
     docs/reading.py --check    changes nothing, and ends with 1 where a block is stale or a name is not found
 """
 
+from __future__ import annotations
+
 import collections
 import functools
 import itertools
@@ -31,10 +33,12 @@ import re
 import sys
 import textwrap
 from pathlib import Path
+from typing import Callable, Dict, Iterator, List, Sequence, Set, Tuple, TypeVar
 
 sys.dont_write_bytecode = True
 import definitions
 import meanings
+from definitions import Place
 
 TOP = Path(__file__).resolve().parent.parent
 # Crates that are one to a page, so that it need not know in which of them a name stands.
@@ -58,22 +62,27 @@ WITH_SOURCES = ("crates/*/src", "crates/*/specs", "crates/*/proofs", "shell", "o
 SOURCES = (".rt", ".antt", ".py")
 
 
+# A line in a file: the file, its lines, and the index of the line.
+Line = Tuple[Path, List[str], int]
+T = TypeVar("T")
+
+
 class Missing(Exception):
     """A name that stands nowhere, or in more than one place."""
 
 
-def crates(family):
+def crates(family: str) -> Tuple[str, ...]:
     return FAMILIES.get(family, (family,))
 
 
-def sources(family, folder, suffix):
+def sources(family: str, folder: str, suffix: str) -> Iterator[Tuple[Path, List[str]]]:
     """The files of a crate's folder, with their lines."""
     for crate in crates(family):
         for path in sorted((TOP / "crates" / crate / folder).rglob("*" + suffix)):
             yield path, path.read_text().splitlines()
 
 
-def only(found, what):
+def only(found: List[Line], what: str) -> Line:
     """The one thing that was found."""
     if len(found) != 1:
         places = ", ".join(str(path.relative_to(TOP)) for path, *_ in found)
@@ -81,9 +90,10 @@ def only(found, what):
     return found[0]
 
 
-def all_found(quote, family, names):
+def all_found(quote: Callable[[str, str], T], family: str, names: Sequence[str]) -> List[T]:
     """What is quoted of each name; an error has all names that are not found."""
-    found, missing = [], []
+    found: List[T] = []
+    missing = []
     for name in names:
         try:
             found.append(quote(family, name))
@@ -94,50 +104,50 @@ def all_found(quote, family, names):
     return found
 
 
-def search(family, folder, suffix, pattern, what):
+def search(family: str, folder: str, suffix: str, pattern: str, what: str) -> Line:
     """The file, the lines and the index of the one line that matches."""
     matcher = re.compile(pattern)
     return only([(path, lines, at) for path, lines in sources(family, folder, suffix)
                  for at, line in enumerate(lines) if matcher.match(line)], what)
 
 
-def with_comment(lines, at, *signs):
+def with_comment(lines: List[str], at: int, *signs: str) -> int:
     """The index of the first line of the comment above."""
     while at > 0 and lines[at - 1].lstrip().startswith(signs):
         at -= 1
     return at
 
 
-def paragraph_end(lines, at):
+def paragraph_end(lines: List[str], at: int) -> int:
     """The index of the first blank line from here on."""
     while at < len(lines) and lines[at].strip():
         at += 1
     return at
 
 
-def module(path):
+def module(path: Path) -> str:
     return ".".join(path.relative_to(TOP / "crates").with_suffix("").parts)
 
 
-def dedented(lines):
+def dedented(lines: List[str]) -> List[str]:
     return textwrap.dedent("\n".join(lines)).splitlines()
 
 
-def one_definition(family, name):
+def one_definition(family: str, name: str) -> Tuple[str, List[str]]:
     """The module of a definition, and its lines with the sentence above it."""
     path, lines, at = search(family, "specs", ".antt", DEFINITION.format(name=re.escape(name)), f"definition {name} of {family}")
     return module(path), dedented(lines[with_comment(lines, at, "--"):paragraph_end(lines, at)])
 
 
-def definition(family, *names):
+def definition(family: str, *names: str) -> List[str]:
     """Definitions, those of one file that stand together below its name."""
-    out = []
+    out: List[str] = []
     for where, its in itertools.groupby(all_found(one_definition, family, names), key=lambda it: it[0]):
         out += ["", f"-- {where}", *"\n\n".join("\n".join(text) for _where, text in its).splitlines()]
     return out[1:]
 
 
-def folded(statement):
+def folded(statement: str) -> List[str]:
     """An equation on one line, or its two sides in lines of their own."""
     sides = [statement] if len(statement) <= WIDTH else re.split(r" (?=≡ )", statement, maxsplit=1)
     return [line for at, side in enumerate(sides)
@@ -145,7 +155,7 @@ def folded(statement):
                                       break_long_words=False, break_on_hyphens=False)]
 
 
-def theorem(family, name):
+def theorem(family: str, name: str) -> List[str]:
     path, lines, at = search(family, "proofs", ".antt", THEOREM.format(name=re.escape(name)), f"theorem {name} of {family}")
     end = at + 1
     while end < len(lines) and not lines[end].startswith((name + " ", "unfolding ")):
@@ -154,7 +164,7 @@ def theorem(family, name):
     return [f"-- {module(path)}"] + comment + folded(" ".join(line.strip() for line in lines[at:end]))
 
 
-def owner(lines, at):
+def owner(lines: List[str], at: int) -> str:
     """The type of the `impl` that the line stands in, or nothing."""
     if not lines[at].startswith(" "):
         return ""
@@ -165,7 +175,7 @@ def owner(lines, at):
 
 
 @functools.lru_cache(maxsize=None)
-def find_function(family, name):
+def find_function(family: str, name: str) -> Line:
     """The one function of the name, which has its type before it if it is a method."""
     kind, _, last = name.rpartition("::")
     pattern = re.compile(FUNCTION.format(name=re.escape(last)))
@@ -174,11 +184,11 @@ def find_function(family, name):
     return only(found, f"function {name} of {family}")
 
 
-def indent_of(line):
+def indent_of(line: str) -> str:
     return " " * (len(line) - len(line.lstrip()))
 
 
-def body_start(lines, at):
+def body_start(lines: List[str], at: int) -> int:
     """The index of the line that opens the body: a brace alone, or at the end of a signature without clauses."""
     alone = (indent_of(lines[at]) + "{", indent_of(lines[at]) + "{}")
     while lines[at] not in alone and not (lines[at].endswith((" {", " {}")) and not CLAUSE.match(lines[at])):
@@ -186,7 +196,7 @@ def body_start(lines, at):
     return at
 
 
-def contract(family, name):
+def contract(family: str, name: str) -> List[str]:
     _path, lines, at = find_function(family, name)
     end = body_start(lines, at)
     comment = [line for line in lines[with_comment(lines, at, "///", "#["):at] if line.lstrip().startswith("///")]
@@ -195,11 +205,11 @@ def contract(family, name):
     return dedented([*comment, named, *head[1:]])
 
 
-def contracts(family, *names):
+def contracts(family: str, *names: str) -> List[str]:
     return "\n\n".join("\n".join(it) for it in all_found(contract, family, names)).splitlines()
 
 
-def function(family, name):
+def function(family: str, name: str) -> List[str]:
     _path, lines, at = find_function(family, name)
     end = body_start(lines, at)
     while not lines[end].startswith(indent_of(lines[at]) + "}") and not lines[end].endswith("{}"):
@@ -207,14 +217,14 @@ def function(family, name):
     return dedented(lines[with_comment(lines, at, "///", "#["):end + 1])
 
 
-def file(path):
+def file(path: str) -> List[str]:
     return (TOP / path).read_text().splitlines()
 
 
-def naming(pattern):
+def naming(pattern: str) -> List[str]:
     """The files that have a word of the pattern. Wrong bodies and cases are not among them."""
     word = re.compile(pattern, re.IGNORECASE)
-    out = []
+    out: List[str] = []
     for folder in sorted(it for glob in WITH_SOURCES for it in TOP.glob(glob)):
         found = [str(it.relative_to(folder)) for it in sorted(folder.rglob("*"))
                  if it.suffix in SOURCES and word.search(it.read_text())]
@@ -223,7 +233,7 @@ def naming(pattern):
     return out
 
 
-def place(crate, name):
+def place(crate: str, name: str) -> Place:
     """Where a crate of a family defines the name."""
     found = [it for one in crates(crate) for it in definitions.places_of(one, name)]
     if len(found) != 1:
@@ -231,50 +241,50 @@ def place(crate, name):
     return found[0]
 
 
-def markers(page):
+def markers(page: Path) -> List[Tuple[str, List[str]]]:
     """The words of the comments by which a page quotes, each with what it quotes."""
     return [(found[1], found[2].split()) for found in map(MARKER.match, page.read_text().splitlines()) if found]
 
 
-def shown_on(page):
+def shown_on(page: Path) -> Set[Place]:
     """The definitions that a page shows."""
     quoted = [its for quote, its in markers(page) if quote == "definition"]
     return {place(family, name) for family, *names in quoted for name in names}
 
 
-def cited_by(family, name):
+def cited_by(family: str, name: str) -> Set[Place]:
     """The definitions that a function's clauses cite."""
     _path, lines, at = find_function(family, name)
     clauses = "\n".join(it for it in lines[at:body_start(lines, at)] if CLAUSE.match(it) or it.startswith("        "))
     return {it for it in definitions.Scope.of(lines).cited(clauses) if it in definitions.all_definitions()}
 
 
-def is_law(family, name):
+def is_law(family: str, name: str) -> bool:
     """The function has no code: its contract states a theorem over the definitions."""
     _path, lines, at = find_function(family, name)
     return lines[body_start(lines, at)].endswith("{}")
 
 
-def told_by(family, name):
+def told_by(family: str, name: str) -> Set[Place]:
     """The definitions that say what a function's contract says: those that it cites, and of a law those that its statement is made of."""
     cited = cited_by(family, name)
     return cited.union(*(definitions.all_definitions()[it].cites for it in cited)) if is_law(family, name) else cited
 
 
-def told_on(page):
+def told_on(page: str) -> Set[Place]:
     """The same of all contracts that a page quotes."""
     quoted = [its for quote, its in markers(TOP / page) if quote == "contracts"]
     return {it for family, *names in quoted for name in names for it in told_by(family, name)}
 
 
-def reached_from(words):
+def reached_from(words: Sequence[str]) -> Set[Place]:
     """The definitions that those are made of which the words of a comment name."""
     if len(words) > 1:
         return definitions.reached({place(crate, name) for crate, name in zip(words[::2], words[1::2])})
     return definitions.reached(told_on(words[0]))
 
 
-def reached(*words):
+def reached(*words: str) -> List[str]:
     found = reached_from(words)
     (count, lines), (all_count, all_lines) = definitions.size(found), definitions.size(definitions.all_definitions())
     by_crate = collections.Counter(module.split(".")[0] for module, _name in found)
@@ -282,23 +292,23 @@ def reached(*words):
     return [f"{count} of {all_count} definitions, {lines} of {all_lines} lines:", *textwrap.wrap(told, WIDTH)]
 
 
-def refusals(*words):
-    told = {}
+def refusals(*words: str) -> List[str]:
+    told: Dict[str, List[int]] = {}
     for it in zip(words[::2], words[1::2]):
         told.update(meanings.refusals(place(*it)))
     return [f"{word:8} {' '.join(map(str, numbers))}" for word, numbers in told.items()]
 
 
-def not_reached(page):
+def not_reached(page: Path) -> List[str]:
     """The definitions that a page shows, and that are reached from none of those of which it says what they reach."""
     told = [its for quote, its in markers(page) if quote == "reached"]
     if not told:
         return []
-    known = set().union(*map(reached_from, told))
+    known: Set[Place] = set().union(*map(reached_from, told))
     return [f"{page.relative_to(TOP)}: {name} of {module} is shown, and not reached" for module, name in sorted(shown_on(page) - known)]
 
 
-def not_shown(page):
+def not_shown(page: Path) -> List[str]:
     """The definitions that a page lacks, though the contracts and laws of another page are told by them of which it says what they reach."""
     told = [its[0] for quote, its in markers(page) if quote == "reached" and len(its) == 1]
     shown = shown_on(page) if told else set()
@@ -306,7 +316,7 @@ def not_shown(page):
             for other in told for module, name in sorted(told_on(other) - shown)]
 
 
-def quoted_functions(page):
+def quoted_functions(page: Path) -> Iterator[Tuple[str, str, str]]:
     """The functions that a page quotes, each with the place of the comment by which it does."""
     for number, found in enumerate(map(MARKER.match, page.read_text().splitlines()), 1):
         if found and found[1] in ("contracts", "function"):
@@ -314,9 +324,10 @@ def quoted_functions(page):
             yield from ((family, name, f"{page.relative_to(TOP)}:{number}") for name in names)
 
 
-def quoted_twice():
+def quoted_twice() -> List[str]:
     """The functions that are quoted again, wherever they are quoted first. What is not found is told page by page."""
-    first, faults = {}, []
+    first: Dict[Tuple[Path, int], str] = {}
+    faults = []
     for family, name, at in (its for page in pages() for its in quoted_functions(page)):
         try:
             path, _lines, line = find_function(family, name)
@@ -328,7 +339,7 @@ def quoted_twice():
     return faults
 
 
-def section(page, heading):
+def section(page: Path, heading: str) -> List[str]:
     """The lines below a heading, up to the next one of its rank."""
     lines = page.read_text().splitlines()
     if heading not in lines:
@@ -338,7 +349,7 @@ def section(page, heading):
     return below[:next((at for at, line in enumerate(below) if line.startswith(rank)), len(below))]
 
 
-def not_carried():
+def not_carried() -> List[str]:
     """The functions and laws that promises name, and of which no contract is quoted where those of the promises are."""
     page, heading, other = PROMISES
     try:
@@ -349,21 +360,23 @@ def not_carried():
     return [f"{page}: {name} is named by a promise, and {other} quotes no contract of it" for name in named if name not in quoted]
 
 
-def not_judged():
+def not_judged() -> List[str]:
     """That no page says what the contracts of the promises reach, so that none has to show what they cite."""
     other = PROMISES[-1]
     told = [its for page in pages() for quote, its in markers(page) if quote == "reached"]
     return [] if [other] in told else [f"{other}: no page says what its contracts reach"]
 
 
-LANGUAGES = {definition: "antt", theorem: "antt", contracts: "rust", function: "rust", file: "text", naming: "text", reached: "text",
+LANGUAGES: Dict[Callable[..., List[str]], str] = {definition: "antt", theorem: "antt", contracts: "rust", function: "rust", file: "text", naming: "text", reached: "text",
              refusals: "text"}
 QUOTES = {quote.__name__: quote for quote in LANGUAGES}
 
 
-def refreshed(page):
+def refreshed(page: Path) -> Tuple[str, List[str]]:
     """The page's text with each quoted block as the sources have it, and what was not found."""
-    lines, out, faults, at = page.read_text().splitlines(), [], [], 0
+    lines, at = page.read_text().splitlines(), 0
+    out: List[str] = []
+    faults: List[str] = []
     while at < len(lines):
         out.append(lines[at])
         marker = MARKER.match(lines[at])
@@ -382,12 +395,13 @@ def refreshed(page):
     return "\n".join(out) + "\n", faults
 
 
-def pages():
+def pages() -> List[Path]:
     return [TOP / "README.md", *sorted((TOP / "docs").glob("*.md")), *sorted((TOP / "crates").glob("*/*.md"))]
 
 
-def main(words):
-    check, faults = words == ["--check"], []
+def main(words: List[str]) -> int:
+    check = words == ["--check"]
+    faults: List[str] = []
     if words and not check:
         print(__doc__.strip(), file=sys.stderr)
         return 2

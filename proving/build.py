@@ -90,14 +90,20 @@ class Lane:
         with open(f"{self.folder}/crates.txt", "a", encoding="utf-8") as it:
             it.write(f"{crate.line}\n")
 
-    def prove(self, name: str, words: List[str], is_first: bool) -> subprocess.Popen:
+    def prove(self, name: str, words: List[str], is_first: bool) -> subprocess.Popen[bytes]:
         """Begins to prove and build a crate, whose libraries are built, in a group of processes of its own."""
         for it in below(name).values():
             self.take(it)
         command = [*([] if is_first else ["nice", "-n", NICE]), "rt", *words]
         with open(f"{LOGS}/{name}.log", "w", encoding="utf-8") as log:
-            how = {"stdin": subprocess.DEVNULL, "stdout": log, "stderr": log, "preexec_fn": os.setpgrp}
-            return subprocess.Popen(command, cwd=f"{self.folder}/crates/{name}", **how)
+            return subprocess.Popen(
+                command,
+                cwd=f"{self.folder}/crates/{name}",
+                stdin=subprocess.DEVNULL,
+                stdout=log,
+                stderr=log,
+                preexec_fn=os.setpgrp,
+            )
 
     def give(self, crate: Crate) -> None:
         """Puts what was made into the repository, whole."""
@@ -108,7 +114,7 @@ class Lane:
         os.rename(new, to)
 
 
-def stop(checks: List[subprocess.Popen]) -> None:
+def stop(checks: List[subprocess.Popen[bytes]]) -> None:
     """Ends checks with all that they started."""
     for sign in (signal.SIGTERM, signal.SIGKILL):
         for it in checks:
@@ -119,13 +125,14 @@ def stop(checks: List[subprocess.Popen]) -> None:
                 it.wait(timeout=5)
 
 
-def seconds_of(process: subprocess.Popen) -> Optional[float]:
+def seconds_of(process: subprocess.Popen[bytes]) -> Optional[float]:
     """The processor seconds of a check that has ended, and of all that it started; None while it runs."""
     number, status, used = os.wait4(process.pid, os.WNOHANG)
     if not number:
         return None
     process.returncode = os.WEXITSTATUS(status) if os.WIFEXITED(status) else -os.WTERMSIG(status)
-    return used.ru_utime + used.ru_stime
+    seconds: float = used.ru_utime + used.ru_stime
+    return seconds
 
 
 @dataclass
@@ -133,7 +140,7 @@ class Check:
     """A check under way, and where it works."""
 
     lane: Lane
-    process: subprocess.Popen
+    process: subprocess.Popen[bytes]
 
 
 class Build:

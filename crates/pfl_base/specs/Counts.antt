@@ -26,7 +26,7 @@ pub record Counts (old new : Calls) (n : ℕ) : Type 0 where
   pub made : Grows old.made new.made n
   pub same : new.through ≡ old.through
 
--- at least so many calls more, and at most so many, of the same device
+-- from least to most calls more, of the same device
 pub record CountsWithin (least most : ℕ) (old new : Calls) : Type 0 where
   pub calls : ℕ
   pub enough : least ≤ calls

@@ -24,7 +24,6 @@ pub mod Inserted
 pub mod Kept
 pub mod Valued
 pub mod WalkEntries
-pub mod Written
 pub mod Views
 pub mod Made
 pub mod Places

@@ -1,6 +1,6 @@
 -- What contracts see of chains: their lists, each of links in order, and for how many links together there is room.
 -- This project's profile.
-use Rattle.std.specs.Prelude.{◌≡◌, ◌≢◌, ℕ, ◌+◌, ◌<◌, ◌≤◌, List, [], ◌∷◌, ◌++◌, length, map, get_or, set, Option, Some, None, cond, nat_eq}
+use Rattle.std.specs.Prelude.{◌≡◌, ◌≢◌, ℕ, ◌+◌, ◌<◌, ◌≤◌, List, [], ◌∷◌, ◌++◌, length, get_or, set, Option, Some, None}
 
 -- a link of a list: the number of its slot, and what stands there
 pub record Link (V : Type 0) : Type 0 where
@@ -27,14 +27,6 @@ links_of c list = get_or c.lists list []
 -- the same lists, but for one
 abbrev pub with_links : {V : Type 0} → Lists V → ℕ → List (Link V) → Lists V
 with_links c list links = record { lists = set c.lists list links; limit = c.limit }
-
--- a link, with this value if it has the slot
-abbrev pub with_value_at : {V : Type 0} → ℕ → V → Link V → Link V
-with_value_at slot v x = cond (nat_eq x.slot slot) (link slot v) x
-
--- the same lists, with this value at a slot
-abbrev pub with_value : {V : Type 0} → Lists V → ℕ → V → Lists V
-with_value c slot v = record { lists = map (map (with_value_at slot v)) c.lists; limit = c.limit }
 
 -- how many links the lists have together
 abbrev pub count_of : {V : Type 0} → List (List (Link V)) → ℕ

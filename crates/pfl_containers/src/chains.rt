@@ -4,9 +4,7 @@ mod rings;
 
 ghost use Rattle.std.specs.Prelude.{ℕ, ◌≡◌, ◌↔◌, ◌+◌, ◌<◌, ◌≤◌, ◌^◌, [], ◌∷◌, ◌++◌, IfOk, IfSome, IsNone, IsTrue, length, map, replicate, vec_capacity};
 ghost use Rattle.std.specs.Option.{option_copied};
-ghost use Rattle.std.specs.Borrow.{Lends, sem};
-ghost use Rattle.pfl_containers.specs.contracts.chains.Chains.{the_row};
-ghost use Rattle.pfl_containers.specs.Lists.{AreLists, Place, Gap, StandsIn, link, value_of, links_of, with_links, with_value, count_of, first_slot, last_slot};
+ghost use Rattle.pfl_containers.specs.Lists.{AreLists, Place, Gap, StandsIn, link, value_of, links_of, with_links, count_of, first_slot, last_slot};
 ghost use Rattle.pfl_containers.specs.inner.Rings.{HasRoom, Takes, Fits, node_of, slot_of};
 
 use crate::chains::rings::Rings;
@@ -221,17 +219,6 @@ impl<V: Copy, A: Allocator> Chains<V, A> {
         self.rings.insert(0, slot, free);
         self.len -= 1;
         self.values[slot]
-    }
-
-    /// The value at a slot that stands in a list, where it is kept, to be changed there.
-    #[inline]
-    pub fn value_mut(&mut self, slot: usize) -> &mut V
-        requires stands { Place self.old slot }
-        ensures* writes_back { sem 𝓛 (Lends (the_row V.row A.row A.Allocator) V.row self.entry result (with_value self.old slot)) }
-        ensures value { (at : Place self.old slot) → result.now ≡ at.value }
-        ensures changed { (at : Place self.old slot) (value : V) → with_value self.old slot value ≡ with_links self.old at.list (at.front ++ link slot value ∷ at.back) }
-    {
-        &mut self.values[slot]
     }
 
     /// Writes another value at a slot that stands in a list.

@@ -59,7 +59,7 @@ impl<A: Allocator> Reversible for Deferrals<A> {
 
 impl<A: Allocator> Deferrals<A> {
     ghost use Rattle.pfl_defer.specs.Deferring.{IsDeferrals, IsUpTo, no_deferrals, held_of, let_go, pushed_out, with_room, with_held, hold, due};
-    ghost use Rattle.pfl_defer.specs.Edits.{DefersBack, edits_of, held_by};
+    ghost use Rattle.pfl_defer.specs.Edits.{DefersBack, FindsFormer, edits_of, held_by, redone};
 
     /// Nothing is held, and there is room for `limit` packets.
     pub fn new(alloc: A, limit: usize) -> Result<Self, NoMemory>
@@ -156,6 +156,20 @@ impl<A: Allocator> Deferrals<A> {
         ensures leads_back { IfSome result (λ r. DefersBack (r.1 ∷ []) self.old self.new) }
     {
         self.take(name)
+    }
+
+    /// Puts the new value of an edit that was undone into its place again. It answers nothing, so it cannot want memory.
+    pub fn redo(&mut self, edit: DeferEdit)
+        requires found { FindsFormer edit self.old }
+        requires allowed { IsDeferrals (redone edit self.old) }
+        ensures redone { self.new ≡ redone edit self.old }
+    {
+        match edit {
+            DeferEdit::Added { place, held } => self.list.insert(place, held).unwrap(),
+            DeferEdit::Removed { place, .. } => {
+                self.list.remove(place);
+            }
+        }
     }
 
     /// Takes the packet of the name out of the list.

@@ -11,7 +11,7 @@ mod taking;
 
 ghost use Rattle.std.specs.Prelude.{◌≡◌, ◌≤◌, false, IfOk, []};
 ghost use Rattle.pfl_language.specs.Limits.{AreLimits};
-ghost use Rattle.pfl_desk.specs.Edits.{Finds, put_back};
+ghost use Rattle.pfl_desk.specs.Edits.{Finds, FindsFormer, put_back, redone};
 ghost use Rattle.pfl_desk.specs.inner.Drafting.{IsDraft, most_room};
 ghost use Rattle.pfl_desk.specs.Nodes.{AreParts, is_overcounted, new_node};
 
@@ -105,5 +105,17 @@ impl<A: Allocator> Desk<A> {
         ensures edits { self.new.edits ≡ self.old.edits }
     {
         self.parts.undo(edit);
+    }
+
+    /// Redoes an edit of an earlier event that was taken back, between events.
+    pub fn redo(&mut self, edit: NodeEdit)
+        requires between { self.old.edits.list ≡ [] }
+        requires found { FindsFormer edit self.old.node }
+        requires allowed { AreParts (redone edit self.old.node) }
+        requires counted { is_overcounted (redone edit self.old.node) ≡ false }
+        ensures node { self.new.node ≡ redone edit self.old.node }
+        ensures edits { self.new.edits ≡ self.old.edits }
+    {
+        self.parts.redo(edit);
     }
 }

@@ -1,6 +1,6 @@
 //! The parts of a node, which an event changes one by one and which answer what changed as an edit: each place by itself (places), what
 //! the peer is asked for or told beside the queues of names (lists), and what a frame takes out (taking). What an event is judged by
-//! stands in judge, what takes an edit back in undo, and what is read of the parts in readers.
+//! stands in judge, what takes an edit back or redoes it in undo, and what is read of the parts in readers.
 
 pub(crate) mod judge;
 mod lists;

@@ -1,6 +1,7 @@
 pub mod Setting
 pub mod Sorted
 pub mod Undone
+pub mod Redoing
 pub mod Taped
 pub mod Turns
 pub mod Levels

@@ -15,6 +15,6 @@ pub use in_order::{InOrder, Node};
 pub use keyed::Keyed;
 pub use no_memory::NoMemory;
 pub use packed::{Copied, Packed, Packing};
-pub use reversible::{Reversible, take_back, undo_all};
+pub use reversible::{Redoable, Reversible, take_back, undo_all};
 pub use rows::Rows;
-pub use tapes::{Tape, undo_copies_to, undo_to};
+pub use tapes::{Tape, redo_all, set_aside_to, undo_copies_to, undo_to};

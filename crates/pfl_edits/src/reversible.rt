@@ -1,6 +1,7 @@
 //! Values whose edits can be taken back.
 ghost use Rattle.std.specs.Prelude.{◌≡◌, ◌+◌, [], length};
 ghost use Rattle.pfl_edits.specs.Changes.{back, Fits, LeadsBothWays};
+ghost use Rattle.pfl_edits.specs.Redoing.{IsUndone};
 
 use crate::changes::Change;
 use std::alloc::Allocator;
@@ -36,6 +37,30 @@ pub trait Reversible {
     /// What an edit put back can be redone, and the other way round: it knows both values of its place, and nothing is
     /// lost on either way. That it leaves the rest alone is for `put_back` itself to say, which is read with each layer.
     ghost both_ways: { (e : Self.Edit) → LeadsBothWays (finds_former e) (finds e) (put_back e) (redone e) };
+}
+
+/// A value whose edits can be taken back for a while, and redone.
+///
+/// Neither way takes memory: what an edit owns moves into the value and back.
+pub trait Redoable: Reversible {
+    /// What is kept of an edit that is taken back.
+    type Undone;
+
+    /// What is kept of the edit.
+    ghost undone: { Self.Edit → Self.Undone };
+
+    /// Puts the edit's former value back, and keeps what it takes to redo the edit.
+    fn set_aside(&mut self, edit: Self::Edit) -> Self::Undone
+        requires found { Self.finds edit self.old }
+        requires allowed { Self.allows (Self.put_back edit self.old) }
+        ensures value { self.new ≡ Self.put_back edit self.old }
+        ensures kept { result ≡ undone edit };
+
+    /// Puts the new value of an edit that was taken back into its place again, and gives the edit.
+    fn redo(&mut self, kept: Self::Undone) -> Self::Edit
+        requires undone { IsUndone Self.finds_former Self.allows Self.redone undone kept self.old }
+        ensures value { (of : IsUndone Self.finds_former Self.allows Self.redone undone kept self.old) → self.new ≡ Self.redone of.edit self.old }
+        ensures edit { (of : IsUndone Self.finds_former Self.allows Self.redone undone kept self.old) → result ≡ of.edit };
 }
 
 /// Takes the edits of a change back, the newest first, without memory, and gives the change up.

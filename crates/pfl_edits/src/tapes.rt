@@ -4,12 +4,13 @@ mod front;
 
 ghost use Rattle.std.specs.Prelude.{◌≡◌, ◌+◌, ◌<◌, ◌≤◌, [], ◌∷◌, ◌++◌, length, IfOk, OnOk, OnErr, IsOk, MatchOption};
 ghost use Rattle.pfl_edits.specs.Changes.{back, Fits};
+ghost use Rattle.pfl_edits.specs.Redoing.{set_aside, AreUndone};
 ghost use Rattle.pfl_edits.specs.Tapes.{above, below, IsSomeWayBack};
 
 use crate::changes::Change;
 use crate::no_memory::NoMemory;
 use crate::packed::{Copied, Packed, Packing};
-use crate::reversible::Reversible;
+use crate::reversible::{Redoable, Reversible};
 use crate::tapes::front::Front;
 use std::alloc::Allocator;
 use std::marker::Model;
@@ -195,4 +196,44 @@ pub fn undo_copies_to<T: Reversible<Edit: Packed + Copied>, A: Allocator>(
         value.undo(front.pop_copied()?);
     }
     Ok(())
+}
+
+/// Takes the edits above the mark back for a while, the newest first, shortens the tape to the mark, and keeps what it takes to redo
+/// them, in room that was made. No room of the tape is lost.
+pub fn set_aside_to<T: Redoable<Edit: Packed>, A: Allocator>(
+    value: &mut T,
+    tape: &mut Tape<T::Edit, A>,
+    mark: usize,
+    undone: &mut Change<T::Undone, A>,
+)
+    requires within { mark ≤ length tape.old.list }
+    requires fits { Fits T.finds T.allows T.put_back (above mark tape.old.list) value.old }
+    requires room { length (above mark tape.old.list) ≤ undone.old.spare }
+    ensures value { value.new ≡ back T.put_back (above mark tape.old.list) value.old }
+    ensures list { tape.new.list ≡ below mark tape.old.list }
+    ensures tape_room { tape.new.spare ≡ tape.old.spare }
+    ensures kept { undone.new.list ≡ undone.old.list ++ set_aside T.undone (above mark tape.old.list) }
+{
+    while mark < tape.len() {
+        if let Some(edit) = tape.pop() {
+            undone.push(value.set_aside(edit));
+        }
+    }
+}
+
+/// Redoes the edits that were taken back for a while, the oldest first, and appends them to the tape, in room that was made.
+pub fn redo_all<T: Redoable<Edit: Packed>, A: Allocator>(
+    value: &mut T,
+    tape: &mut Tape<T::Edit, A>,
+    mut undone: Change<T::Undone, A>,
+)
+    requires room { length undone.list ≤ tape.old.spare }
+    requires undone { AreUndone T.finds T.allows T.put_back T.undone undone.list value.old }
+    ensures value { (of : AreUndone T.finds T.allows T.put_back T.undone undone.list value.old) → value.new ≡ of.led_to }
+    ensures list { (of : AreUndone T.finds T.allows T.put_back T.undone undone.list value.old) → tape.new.list ≡ tape.old.list ++ of.edits }
+{
+    while let Some(kept) = undone.pop() {
+        tape.push(value.redo(kept));
+    }
+    undone.destroy_empty();
 }

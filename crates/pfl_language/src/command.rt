@@ -35,6 +35,11 @@ pub enum Command {
     Show {
         branch: BranchWord,
     },
+    /// Asks for the world that the branch's first `place` events give, those after the cursor too.
+    Past {
+        branch: BranchWord,
+        place: u32,
+    },
     /// Asks for the names of the branches, in the order of their making.
     Names,
     /// Takes an event out of the branch, and with it each later one that is refused then. Places count from 1.

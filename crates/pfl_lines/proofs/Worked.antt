@@ -1,4 +1,4 @@
--- Worked cases of searches, computed.
+-- Worked cases of searches, and of commands that ask for an earlier pair, computed.
 use Rattle.std.specs.Prelude.{◌≡◌, ℕ, zero, suc, List, [], ◌∷◌, ◌++◌, replicate, Ok, Err, None, refl, codes}
 use Rattle.pfl_base.specs.declared.addr.Addr.TheVariants.{V4}
 use Rattle.pfl_base.specs.declared.direction.Dir.TheVariants.{Inbound}
@@ -22,14 +22,14 @@ use Rattle.pfl_lines.specs.declared.fault.LineFault.TheVariants.{Unknown, Missin
 use Rattle.pfl_lines.specs.declared.search.ScriptLine.{ScriptLine}
 use Rattle.pfl_lines.specs.declared.search.ScriptLine.TheVariants as script
 use Rattle.pfl_lines.specs.Addresses.{end_of, v4_end, v4_of}
-use Rattle.pfl_lines.specs.Commands.{event_at, flush_at, packet_at, bare_frame_event_at, command_of, command_at, step_at, whole_step}
+use Rattle.pfl_lines.specs.Commands.{event_at, flush_at, packet_at, bare_frame_event_at, command_of, command_at, past_at, step_at, whole_step, parsed}
 use Rattle.pfl_lines.specs.Numbers.{number_of}
 use Rattle.pfl_lines.specs.Packets.{fields_at, plain_at}
 use Rattle.pfl_lines.specs.Search.{parsed_script, script_of, search_of, choices_of, each_choice, choice_of, move_of, move_at, given_at, any_frame_at, any_cut_at, goal_of, goal_at, question_at, passed_at, unpassed_at, judged_at}
 
 -- what events and commands need to compute on literals
 unfoldable of_commands : ℕ
-unfolding number_of v4_of v4_end end_of plain_at fields_at packet_at flush_at bare_frame_event_at event_at step_at command_at whole_step command_of
+unfolding number_of v4_of v4_end end_of plain_at fields_at packet_at flush_at bare_frame_event_at event_at step_at past_at command_at whole_step command_of
 of_commands = 0
 
 -- what goals need
@@ -134,3 +134,41 @@ other_word = refl
 stepped : parsed_script (codes "step main flush a") ≡ Ok (script.Command (command.Step main_name (event.Flush A)))
 unfolding computing
 stepped = refl
+
+-- ---- an earlier pair
+
+past_script : parsed_script (codes "past main 3") ≡ Ok (script.Command (command.Past main_name 3))
+unfolding computing
+past_script = refl
+
+past_opening : parsed (codes "  past  main  000  ") ≡ Ok (command.Past main_name 0)
+unfolding computing parsed
+past_opening = refl
+
+past_greatest : parsed (codes "past main 4294967295") ≡ Ok (command.Past main_name 4294967295)
+unfolding computing parsed
+past_greatest = refl
+
+past_too_great : parsed (codes "past main 4294967296") ≡ Err Number
+unfolding computing parsed
+past_too_great = refl
+
+past_no_number : parsed (codes "past 3 main") ≡ Err Number
+unfolding computing parsed
+past_no_number = refl
+
+past_no_branch : parsed (codes "past") ≡ Err Missing
+unfolding computing parsed
+past_no_branch = refl
+
+past_no_place : parsed (codes "past main") ≡ Err Missing
+unfolding computing parsed
+past_no_place = refl
+
+past_left_over : parsed (codes "past main 3 2") ≡ Err Extra
+unfolding computing parsed
+past_left_over = refl
+
+past_other_word : parsed (codes "pasts main 3") ≡ Err Unknown
+unfolding computing parsed
+past_other_word = refl

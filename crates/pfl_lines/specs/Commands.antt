@@ -157,6 +157,13 @@ show_at ws = do
   Ok (draft.Whole (commands.Show branch.0), branch.1)
 
 -- BR K
+unfoldable pub past_at : List (List ℕ) → Reading CommandDraft
+past_at ws = do
+  branch ← branch_at ws
+  place ← number_at greatest branch.1
+  Ok (draft.Whole (commands.Past branch.0 place.0), place.1)
+
+-- BR K
 unfoldable pub excise_at : List (List ℕ) → Reading CommandDraft
 excise_at ws = do
   branch ← branch_at ws
@@ -188,6 +195,7 @@ command_by word ws =
     if bytes_eq word (codes "fork") then fork_at ws else
     if bytes_eq word (codes "drop") then drop_at ws else
     if bytes_eq word (codes "show") then show_at ws else
+    if bytes_eq word (codes "past") then past_at ws else
     if bytes_eq word (codes "names") then names_at ws else
     if bytes_eq word (codes "excise") then excise_at ws else
     if bytes_eq word (codes "restore") then restore_at ws else

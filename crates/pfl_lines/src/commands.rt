@@ -4,7 +4,7 @@ ghost use Rattle.std.specs.Prelude.{◌≡◌, false, bytes_eq, codes};
 ghost use Rattle.std.specs.List.{list_all};
 ghost use Rattle.pfl_lines.specs.Words.{words};
 ghost use Rattle.pfl_lines.specs.inner.Readings.{Gives};
-ghost use Rattle.pfl_lines.specs.Commands.{packet_at, tick_at, kill_at, bare_node_event_at, flush_at, restart_at, ticket_at, cut_event_at, bare_frame_event_at, node_event_by, frame_event_by, event_by, event_at, step_at, back_at, forward_at, fork_at, drop_at, show_at, excise_at, restore_at, log_at, names_at, command_by, command_at, finished, whole_event, whole_step, whole_command, command_of, is_text, checked, parsed};
+ghost use Rattle.pfl_lines.specs.Commands.{packet_at, tick_at, kill_at, bare_node_event_at, flush_at, restart_at, ticket_at, cut_event_at, bare_frame_event_at, node_event_by, frame_event_by, event_by, event_at, step_at, back_at, forward_at, fork_at, drop_at, show_at, past_at, excise_at, restore_at, log_at, names_at, command_by, command_at, finished, whole_event, whole_step, whole_command, command_of, is_text, checked, parsed};
 
 use crate::draft::{CommandDraft, EventDraft};
 use crate::event_words::{bare_frame_event, bare_node_event};
@@ -227,6 +227,17 @@ fn show_at(line: &[u8]) -> Result<(CommandDraft, &[u8]), LineFault>
 }
 
 /// `BR K`.
+#[tactic(auto, unfolding(crate::specs::Commands::past_at))]
+fn past_at(line: &[u8]) -> Result<(CommandDraft, &[u8]), LineFault>
+    ensures { Gives (λ x. (x.0, words x.1.now)) result (past_at (words line.now)) }
+{
+    let (branch, rest) = try_read!(branch_at(line));
+    let (place, rest) = number_at(rest, GREATEST_NUMBER)?;
+    let place = place as u32;
+    Ok((CommandDraft::Whole(Command::Past { branch, place }), rest))
+}
+
+/// `BR K`.
 #[tactic(auto, unfolding(crate::specs::Commands::excise_at))]
 fn excise_at(line: &[u8]) -> Result<(CommandDraft, &[u8]), LineFault>
     ensures { Gives (λ x. (x.0, words x.1.now)) result (excise_at (words line.now)) }
@@ -283,6 +294,9 @@ fn command_by<'a>(word: &[u8], line: &'a [u8]) -> Result<(CommandDraft, &'a [u8]
     }
     if is_word(word, "show") {
         return show_at(line);
+    }
+    if is_word(word, "past") {
+        return past_at(line);
     }
     if is_word(word, "names") {
         return names_at(line);
@@ -362,7 +376,7 @@ fn is_text(byte: u8) -> bool
     byte == b'\t' || (32..=126).contains(&byte)
 }
 
-/// Whether each byte is a tab, or printable. All are looked at, whatever the first ones are, so that many are at once.
+/// Whether each byte is a tab, or printable. Without an early end, so that many bytes are compared at once.
 fn is_all_text(line: &[u8]) -> bool
     ensures { result ≡ list_all is_text line.now }
 {

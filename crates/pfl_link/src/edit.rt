@@ -64,6 +64,20 @@ impl<A: Allocator> LinkEdit<A> {
         &self.frame
     }
 
+    /// The ticket, the frame and what was done with it.
+    pub(crate) fn into_parts(self) -> (u32, InFlight<A>, LinkChange)
+        ensures ticket { result.0 ≡ self.ticket }
+        ensures frame { result.1 ≡ self.frame }
+        ensures change { result.2 ≡ self.change }
+    {
+        let LinkEdit {
+            ticket,
+            frame,
+            change,
+        } = self;
+        (ticket, frame, change)
+    }
+
     /// What stood under the ticket before.
     pub(crate) fn into_former(self) -> Option<InFlight<A>>
         ensures former { result ≡ frame_before self.change self.frame }

@@ -202,7 +202,12 @@ impl<A: Allocator> Link<A> {
     }
 
     /// Sets what stands under a ticket together with the next ticket, in room that was made, and gives what stood there.
-    fn set(&mut self, ticket: u32, at: Option<InFlight<A>>, next: u32) -> Option<InFlight<A>>
+    pub(crate) fn set(
+        &mut self,
+        ticket: u32,
+        at: Option<InFlight<A>>,
+        next: u32,
+    ) -> Option<InFlight<A>>
         requires kept { IsLink (with_place ticket at next self.old) }
         ensures former { result ≡ maps.get self.old.frames ticket }
         ensures link { self.new ≡ with_place ticket at next self.old }

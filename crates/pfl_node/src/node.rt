@@ -5,6 +5,7 @@ mod readers;
 ghost use Rattle.std.specs.Prelude.{◌≡◌, IfOk};
 ghost use Rattle.pfl_language.specs.Limits.{AreLimits};
 ghost use Rattle.pfl_node.specs.inner.Room.{most_edits as most};
+ghost use Rattle.pfl_receive.specs.desk.Edits.{FindsFormer, redone};
 ghost use Rattle.pfl_receive.specs.desk.Nodes.{Node as Whole, IsNode, new_node};
 
 use pfl_edits::{NoMemory, Reversible};
@@ -86,6 +87,15 @@ impl<A: Allocator> Node<A> {
         ensures node { IsNode self.now }
     {
         let _desk = &self.desk;
+    }
+
+    /// Puts the new value of an edit that was undone into its place again. It answers nothing, so it cannot want memory.
+    pub fn redo(&mut self, edit: NodeEdit)
+        requires found { FindsFormer edit self.old }
+        requires allowed { IsNode (redone edit self.old) }
+        ensures redone { self.new ≡ redone edit self.old }
+    {
+        self.desk.redo(edit);
     }
 }
 

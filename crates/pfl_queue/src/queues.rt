@@ -402,6 +402,15 @@ impl<A: Allocator> Pending<A> {
         }
     }
 
+    /// Puts the new value of an edit that was undone into its place again. It answers nothing, so it cannot want memory.
+    pub fn redo(&mut self, edit: QueueEdit)
+        requires found { FindsFormer edit self.old }
+        requires allowed { IsQueue (redone edit self.old) }
+        ensures redone { self.new ≡ redone edit self.old }
+    {
+        self.set(edit);
+    }
+
     /// Makes an edit that leads back.
     fn make(&mut self, edit: QueueEdit)
         requires found { FindsFormer edit self.old }
@@ -409,7 +418,7 @@ impl<A: Allocator> Pending<A> {
         ensures made { self.new ≡ redone edit self.old }
         ensures leads_back { QueueLeadsBack (edit ∷ []) self.old self.new }
     {
-        self.set(edit);
+        self.set(edit)
     }
 
     /// Puts the edit's new value into its place.

@@ -6,13 +6,13 @@ ghost use Rattle.pfl_rules.specs.Scaling.{scaled as scaled_timeout};
 /// The numbers of states between which timeouts shrink (pf.conf(5), `adaptive.start` and `adaptive.end`).
 #[derive(Clone, Copy, Debug, PartialEq, Eq)]
 pub struct Adaptive {
-    /// Above so many states a timeout shrinks.
+    /// Above this number of states a timeout shrinks.
     pub start: u32,
-    /// From so many on it is 0. Where this is not above `start`, no timeout ever shrinks.
+    /// From this number of states on it is 0. Where it is not above `start`, no timeout ever shrinks.
     pub end: u32,
 }
 
-/// The seconds of a timeout where there are so many states, truncated (pf.conf(5)).
+/// The seconds of a timeout where there are this many states, truncated (pf.conf(5)).
 pub fn scaled(timeout: u32, adaptive: Adaptive, states: usize) -> u32
     ensures { result ≡ scaled_timeout timeout adaptive states }
 {

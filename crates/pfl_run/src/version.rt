@@ -2,4 +2,4 @@
 
 /// The release, the sum of its sources, and the logic that proves them.
 pub(crate) const VERSION: &str =
-    "release 8, sources 810631a966c69a4113df5b2c30379f01a00f8e688149a9ec3de8ee666ad01d75, logic dac8208d650f15bf";
+    "release 9, sources 5de7c137670a1c8918a3ce70ffd10d47a522bc15ee26be41af6e2e889a7bb410, logic dac8208d650f15bf";

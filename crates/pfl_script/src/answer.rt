@@ -15,6 +15,7 @@ ghost use Rattle.pfl_timeline.specs.Searches.{finding};
 use crate::fault::EngineFault;
 use crate::found::write_finding;
 use crate::output::{write_reply, write_shown, write_text};
+use crate::past::answer_past;
 use crate::replies::fault_line;
 use pfl_base::Output;
 use pfl_language::{BranchWord, Command};
@@ -47,7 +48,7 @@ fn answer_show<A: Allocator, B: Allocator + Copy, W: Output>(
 }
 
 /// Executes a command and writes its reply. Where memory is wanting, be it for the reply, nothing has changed.
-fn answer_command<A: Allocator, B: Allocator + Copy, W: Output>(
+fn answer_command<A: Allocator + Copy, B: Allocator + Copy, W: Output>(
     alloc: A,
     command: Command,
     writer: &mut W,
@@ -63,6 +64,9 @@ fn answer_command<A: Allocator, B: Allocator + Copy, W: Output>(
 {
     if let Command::Show { branch } = command {
         return answer_show(alloc, &branch, writer, timeline);
+    }
+    if let Command::Past { branch, place } = command {
+        return answer_past(alloc, &branch, place, writer, timeline);
     }
     let Ok(reply) = timeline.command(command) else {
         return Err(EngineFault::NoMemory);
@@ -99,7 +103,7 @@ fn answer_search<A: Allocator, B: Allocator + Copy, W: Output>(
 }
 
 /// Does what a line of a script says, and writes its answer. Where memory is wanting, nothing has changed.
-fn answer_said<A: Allocator, B: Allocator + Copy, W: Output>(
+fn answer_said<A: Allocator + Copy, B: Allocator + Copy, W: Output>(
     alloc: A,
     said: ScriptLine,
     writer: &mut W,
@@ -123,7 +127,7 @@ fn answer_said<A: Allocator, B: Allocator + Copy, W: Output>(
 /// inlined, so that no command pays for the room that a search has for its choices.
 #[inline(never)]
 #[tactic(auto, unfolding(crate::specs::Answers::kept_answer, crate::specs::Answers::kept_bad, crate::specs::Answers::kept_command))]
-fn answer_searching<A: Allocator, B: Allocator + Copy, W: Output>(
+fn answer_searching<A: Allocator + Copy, B: Allocator + Copy, W: Output>(
     alloc: A,
     line: &Line,
     writer: &mut W,
@@ -155,7 +159,7 @@ fn answer_searching<A: Allocator, B: Allocator + Copy, W: Output>(
 /// Executes a line, if it has a word and is no comment, writes its reply, and says whether it is faulty. Where memory is wanting,
 /// nothing has changed.
 #[tactic(auto, unfolding(crate::specs::Answers::kept_answer, crate::specs::Answers::kept_bad, crate::specs::Answers::kept_command))]
-pub fn answer_line<A: Allocator, B: Allocator + Copy, W: Output>(
+pub fn answer_line<A: Allocator + Copy, B: Allocator + Copy, W: Output>(
     alloc: A,
     line: &Line,
     writer: &mut W,

@@ -13,6 +13,7 @@ mod node_lines;
 mod optional;
 mod outcomes;
 mod output;
+mod past;
 mod places;
 mod refusals;
 mod replies;

@@ -1,5 +1,5 @@
 -- What a branch answers, and which command asks for it.
-use Rattle.std.specs.Prelude.{◌≡◌, ◌≢◌, ℕ, Bool, true, false, not, List, [], ◌∷◌, length, map, Option, Some, None, Result, Ok, Err, IfOk, IsSomeAnd, OnErr, refl, if◌then◌else◌}
+use Rattle.std.specs.Prelude.{◌≡◌, ◌≢◌, ℕ, Bool, true, false, not, nat_lt, take, List, [], ◌∷◌, length, map, Option, Some, None, Result, Ok, Err, IfOk, IfErr, IsSomeAnd, OnErr, refl, if◌then◌else◌}
 use Rattle.std.specs.Option.{option_map, option_map_or}
 use Rattle.std.proofs.Common.{sym, ◌∙◌, ap, subst}
 use Rattle.pfl_base.specs.declared.refusal.Refusal.{Refusal}
@@ -14,7 +14,7 @@ use Rattle.pfl_search.specs.world.desk.Nodes.{refused_by}
 use Rattle.pfl_search.specs.world.Events.{step, IsEventRefusal}
 use Rattle.pfl_search.specs.world.Runs.{run}
 use Rattle.pfl_search.specs.world.Worlds.{World}
-use Rattle.pfl_timeline.specs.Commands.{replied, reply_unless, with_branch, with_changed, extended, undone, at_cursor, step_answered, step_reply, back_reply, forward_reply, fork_reply, drop_reply, show_reply, step_command, back_command, forward_command, fork_command, drop_command, show_command, names_command, excise_reply, restore_reply, excise_command, restore_command, log_reply, log_command, command_step}
+use Rattle.pfl_timeline.specs.Commands.{replied, reply_unless, with_branch, with_changed, extended, undone, at_cursor, step_answered, step_reply, back_reply, forward_reply, fork_reply, drop_reply, show_reply, past_reply, step_command, back_command, forward_command, fork_command, drop_command, show_command, past_command, names_command, excise_reply, restore_reply, excise_command, restore_command, log_reply, log_command, command_step}
 use Rattle.pfl_timeline.specs.Excisions.{has_event, excised, fallen_places, restored}
 use Rattle.pfl_timeline.specs.Replies.{Reply, Replied, Stepped as StepReply, At, Shown, Names, Excised, Restored, Logged, Refused as Refusing}
 use Rattle.pfl_timeline.specs.inner.Replies.{moved, fell_out, brought_back}
@@ -163,6 +163,31 @@ told-shown r w here = record {
       ∙ same_branch r t (Shown r.branch.name (length r.branch.events) r.branch.cursor w) stands;
 }
 
+-- the branch is shown at another place
+pub told-past : (r : Rooted) (k : ℕ) (w : World) → nat_lt (length r.branch.events) k ≡ false → run r.opening (take k r.branch.events) ≡ Some w
+    → IsReplyOf (λ t b. past_reply t k b) r r (Shown r.branch.name (length r.branch.events) k w)
+told-past r k w near here = record {
+  opening = refl;
+  name = refl;
+  told = λ t stands.
+      let seen = λ (o : Option World). option_map_or (λ v. replied t (Shown r.branch.name (length r.branch.events) k v)) o (replied t (Refusing refused.NoBranch)) in
+      ap (λ far. reply_unless t (refused_by ((far, refused.NothingForward) ∷ [])) (seen (run t.opening (take k r.branch.events)))) near
+      ∙ ap (λ (o : World). seen (run o (take k r.branch.events))) stands.opening
+      ∙ ap seen here
+      ∙ same_branch r t (Shown r.branch.name (length r.branch.events) k w) stands;
+}
+
+-- there are fewer events
+pub told-no_past : (r : Rooted) (k : ℕ) → nat_lt (length r.branch.events) k ≡ true → IsReplyOf (λ t b. past_reply t k b) r r (Refusing refused.NothingForward)
+told-no_past r k far = record {
+  opening = refl;
+  name = refl;
+  told = λ t stands.
+      ap (λ b. reply_unless t (refused_by ((b, refused.NothingForward) ∷ []))
+      (option_map_or (λ v. replied t (Shown r.branch.name (length r.branch.events) k v)) (run t.opening (take k r.branch.events)) (replied t (Refusing refused.NoBranch)))) far
+      ∙ same_branch r t (Refusing refused.NothingForward) stands;
+}
+
 -- a world is shown, of which this is true
 pub some-shown : {o : Option World} (P : World → Type 0) (w : World) → o ≡ Some w → P w → IsSomeAnd o P
 some-shown P w here is = subst (λ (x : Option World). IsSomeAnd x P) (sym here) is
@@ -200,6 +225,16 @@ as_err r q P is p = subst (λ (x : Result _ _). OnErr x P) (sym is) p
 
 pub no_err : {X Y : Type 0} (r : Result X Y) (x : X) (P : Type 0) → r ≡ Ok x → OnErr r P
 no_err r x P is = subst (λ (q : Result _ _). OnErr q P) (sym is) tt
+
+-- what holds of the error, and of none where there is no error
+pub if_err : {X Y : Type 0} (r : Result X Y) (y : Y) (P : Y → Type 0) → r ≡ Err y → P y → IfErr r P
+if_err r y P is p = subst (λ (q : Result _ _). IfErr q P) (sym is) p
+
+pub not_err : {X Y : Type 0} (r : Result X Y) (x : X) (P : Y → Type 0) → r ≡ Ok x → IfErr r P
+not_err r x P is = subst (λ (q : Result _ _). IfErr q P) (sym is) tt
+
+pub not_ok : {X Y : Type 0} (r : Result X Y) (y : Y) (P : X → Type 0) → r ≡ Err y → IfOk r P
+not_ok r y P is = subst (λ (q : Result _ _). IfOk q P) (sym is) tt
 
 -- ---- which command asks
 
@@ -274,6 +309,14 @@ is-restore t c name is = ap (command_step t) is
 pub is-show : (t : Timeline) (c : Command) (name : List ℕ) → c ≡ command.Show name → command_step t c ≡ show_command t name
 unfolding command_step
 is-show t c name is = ap (command_step t) is
+
+pub past-asks : (t : Timeline) (name : List ℕ) (k : ℕ) → past_command t name k ≡ with_branch t name (λ b. past_reply t k b)
+unfolding past_command
+past-asks t name k = refl
+
+pub is-past : (t : Timeline) (c : Command) (name : List ℕ) (k : ℕ) → c ≡ command.Past name k → command_step t c ≡ past_command t name k
+unfolding command_step
+is-past t c name k is = ap (command_step t) is
 
 pub log-asks : (t : Timeline) (name : List ℕ) → log_command t name ≡ with_branch t name (λ b. log_reply t b)
 unfolding log_command

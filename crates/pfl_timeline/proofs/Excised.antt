@@ -46,7 +46,7 @@ find_changed name new (c ∷ cs) b same is =
           ]) refl
     ] refl is
 
-changed_there : (t : Timeline) (name : List ℕ) (b new : Branch) → branch_of t name ≡ Some b → new.name ≡ b.name → branch_of (with_changed t new) name ≡ Some new
+pub changed_there : (t : Timeline) (name : List ℕ) (b new : Branch) → branch_of t name ≡ Some b → new.name ≡ b.name → branch_of (with_changed t new) name ≡ Some new
 changed_there t name b new here same = find_changed name new t.branches b same here
 
 -- ---- what the commands give

@@ -11,9 +11,11 @@ pub mod Asked
 pub mod Wants
 pub mod Prefixes
 pub mod Copying
+pub mod Looking
 pub mod Sieving
 pub mod Parting
 pub mod Excised
+pub mod Pasts
 pub mod Keeping
 pub mod Forking
 pub mod Stepped

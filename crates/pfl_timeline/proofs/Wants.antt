@@ -1,8 +1,11 @@
 -- Where memory is wanted, what is asked is not refused.
-use Rattle.std.specs.Prelude.{◌≡◌, ℕ, ◌+◌, ◌-◌, Bool, true, false, not, nat_lt, nat_le, ◌==◌, List, [], ◌∷◌, ◌++◌, length, filter, if◌then◌else◌, Option, Some, None, is_some, is_none, Result, Ok, Err, refl}
+use Rattle.std.specs.Prelude.{◌≡◌, ℕ, ◌+◌, ◌-◌, Bool, true, false, not, nat_lt, nat_le, ◌==◌, List, [], ◌∷◌, ◌++◌, length, take, drop, filter, if◌then◌else◌, Option, Some, None, is_some, is_none, IsTrue, Result, Ok, Err, refl}
 use Rattle.std.specs.List.{AllByRecursion}
 use Rattle.std.specs.Option.{option_map_or, option_or}
 use Rattle.std.proofs.Common.{sym, ◌∙◌, ap, subst}
+use Rattle.std.proofs.lemmas.List.{take-append-drop}
+use Rattle.pfl_timeline.proofs.Prefixes.{run-front}
+use Rattle.pfl_timeline.proofs.Shows.{the_world}
 use Rattle.pfl_base.specs.declared.node_id.NodeId.{NodeId}
 use Rattle.pfl_base.specs.declared.refusal.Refusal.{Refusal}
 use Rattle.pfl_base.specs.declared.refusal.Refusal.TheVariants.{NoSuchFrame, NothingPending, NoSuchState, LinkFull, QueueFull, ClockFull, CountFull, NotSyncing, TooEarly, NoMemory}
@@ -35,6 +38,7 @@ use Rattle.pfl_search.specs.world.node.Retrying.{retried_client}
 use Rattle.pfl_search.specs.world.node.Turning.{turned}
 use Rattle.pfl_search.specs.world.bulk.Bulk.{is_serving, is_waiting, is_due}
 use Rattle.pfl_search.specs.world.Events.{step, IsRefusalOf, IsEventRefusal}
+use Rattle.pfl_search.specs.world.Runs.{run}
 use Rattle.pfl_search.specs.world.Meanings.{Stepped}
 use Rattle.pfl_search.specs.world.AtNodes.{from_node}
 use Rattle.pfl_search.specs.world.Tickets.{with_ticket, without_ticket, lose_step, repeat_step, cut_step}
@@ -42,15 +46,15 @@ use Rattle.pfl_search.specs.world.Delivering.{read_taken, deliver_step}
 use Rattle.pfl_search.specs.world.Flushing.{flush_step}
 use Rattle.pfl_search.specs.world.Restarting.{restart_step}
 use Rattle.pfl_search.specs.world.Worlds.{World, node_at}
-use Rattle.pfl_timeline.specs.Commands.{replied, reply_unless, with_branch, with_changed, undone, at_cursor, step_answered, step_reply, back_reply, forward_reply, first_events, fork_reply, drop_reply, show_reply, step_command, back_command, forward_command, fork_command, drop_command, show_command, names_command, excise_reply, restore_reply, excise_command, restore_command, log_reply, log_command, command_step}
+use Rattle.pfl_timeline.specs.Commands.{replied, reply_unless, with_branch, with_changed, undone, at_cursor, step_answered, step_reply, back_reply, forward_reply, first_events, fork_reply, drop_reply, show_reply, past_reply, step_command, back_command, forward_command, fork_command, drop_command, show_command, past_command, names_command, excise_reply, restore_reply, excise_command, restore_command, log_reply, log_command, command_step}
 use Rattle.pfl_timeline.specs.Excisions.{has_event, excised, fallen_places, restored}
 use Rattle.pfl_timeline.specs.Laws.{NoReplyTellsWantOfMemory}
 use Rattle.pfl_timeline.specs.Memory.{is_refusal, IsAccepted, makes_something, MayWantMemory}
 use Rattle.pfl_timeline.specs.Replies.{Reply, Replied, Forked, Removed, Shown, Excised, Restored, Refused as Refusing}
 use Rattle.pfl_timeline.specs.Rooted.{Rooted, shown}
 use Rattle.pfl_timeline.proofs.Rooted.{Accepts}
-use Rattle.pfl_timeline.specs.Timelines.{Branch, Timeline, branch_of, world_of}
-use Rattle.pfl_timeline.proofs.Asked.{asked_of, is-step, is-forward, is-fork, is-show, is-names, is-excise, is-log}
+use Rattle.pfl_timeline.specs.Timelines.{IsBranch, Branch, Timeline, branch_of, world_of}
+use Rattle.pfl_timeline.proofs.Asked.{asked_of, is-step, is-forward, is-fork, is-show, is-past, is-names, is-excise, is-log}
 
 -- ---- no event is refused for want of memory
 
@@ -146,6 +150,32 @@ pub show_accepts : (r : Rooted) (w : World) → shown r ≡ Some w → Accepts (
 show_accepts r w here = λ t stands.
     ap (λ (done : Replied). is_refusal done.reply) (asked_of (λ v. replied t (Shown r.branch.name (length r.branch.events) r.branch.cursor v)) r w t here stands)
 
+-- the world of a place that is there is seen
+pub past_accepts : (r : Rooted) (k : ℕ) → nat_lt (length r.branch.events) k ≡ false → IsBranch r.opening r.branch → Accepts (λ t b. past_reply t k b) r
+past_accepts r k near is = λ t stands.
+    let seen : Option World → Replied = λ o. option_map_or (λ v. replied t (Shown r.branch.name (length r.branch.events) k v)) o (replied t (Refusing refused.NoBranch)) in
+    let runs = run-front r.opening (take k r.branch.events) (drop k r.branch.events) (subst (λ (es : List Event). IsTrue (is_some (run r.opening es))) (sym (take-append-drop k r.branch.events)) is.runs) in
+    let here : (w : World) × (run r.opening (take k r.branch.events) ≡ Some w) = the_world _ runs in
+    ap (λ far. is_refusal (reply_unless t (refused_by ((far, refused.NothingForward) ∷ [])) (seen (run t.opening (take k r.branch.events)))).reply) near
+    ∙ ap (λ (o : World). is_refusal (seen (run o (take k r.branch.events))).reply) stands.opening
+    ∙ ap (λ (o : Option World). is_refusal (seen o).reply) here.1
+
+-- to see a place changes nothing
+pub past-still : (t : Timeline) (name : List ℕ) (k : ℕ) → (past_command t name k).timeline ≡ t
+unfolding past_command
+past-still t name k =
+    elim (branch_of t name) as (λ o. (option_map_or (past_reply t k) o (replied t (Refusing refused.NoBranch))).timeline ≡ t) [
+      | None ↦ refl
+      | Some b ↦ (elim (nat_lt (length b.events) k) as (λ far. (reply_unless t (refused_by ((far, refused.NothingForward) ∷ []))
+          (option_map_or (λ w. replied t (Shown b.name (length b.events) k w)) (run t.opening (take k b.events)) (replied t (Refusing refused.NoBranch)))).timeline ≡ t) [
+            | true ↦ refl
+            | false ↦ (elim (run t.opening (take k b.events)) as (λ o. (option_map_or (λ w. replied t (Shown b.name (length b.events) k w)) o (replied t (Refusing refused.NoBranch))).timeline ≡ t) [
+              | None ↦ refl
+              | Some w ↦ refl
+            ])
+          ])
+    ]
+
 -- a way forward that is not too far
 pub forward_accepts : (r : Rooted) (n : ℕ) → nat_lt (undone r.branch) n ≡ false → Accepts (λ t b. forward_reply t n b) r
 forward_accepts r n near = λ t stands.
@@ -176,6 +206,9 @@ names_wants t c is = record { makes = ap makes_something is; not_refused = subst
 
 pub show_wants : (t : Timeline) (c : Command) (name : List ℕ) → c ≡ command.Show name → IsAccepted (show_command t name) → MayWantMemory t c
 show_wants t c name is accepted = record { makes = ap makes_something is; not_refused = subst IsAccepted (sym (is-show t c name is)) accepted }
+
+pub past_wants : (t : Timeline) (c : Command) (name : List ℕ) (k : ℕ) → c ≡ command.Past name k → IsAccepted (past_command t name k) → MayWantMemory t c
+past_wants t c name k is accepted = record { makes = ap makes_something is; not_refused = subst IsAccepted (sym (is-past t c name k is)) accepted }
 
 pub log_wants : (t : Timeline) (c : Command) (name : List ℕ) → c ≡ command.Log name → IsAccepted (log_command t name) → MayWantMemory t c
 log_wants t c name is accepted = record { makes = ap makes_something is; not_refused = subst IsAccepted (sym (is-log t c name is)) accepted }
@@ -238,6 +271,17 @@ show_tells t b =
       | Some w ↦ λ is. cc
     ]
 
+past_tells : (t : Timeline) (k : ℕ) (b : Branch) → (past_reply t k b).reply ≡ wanted → ⊥
+past_tells t k b =
+    elim (nat_lt (length b.events) k) as (λ far. (reply_unless t (refused_by ((far, refused.NothingForward) ∷ []))
+    (option_map_or (λ w. replied t (Shown b.name (length b.events) k w)) (run t.opening (take k b.events)) (replied t (Refusing refused.NoBranch)))).reply ≡ wanted → ⊥) [
+      | true ↦ λ is. cc
+      | false ↦ (elim (run t.opening (take k b.events)) as (λ o. (option_map_or (λ w. replied t (Shown b.name (length b.events) k w)) o (replied t (Refusing refused.NoBranch))).reply ≡ wanted → ⊥) [
+        | None ↦ λ is. cc
+        | Some w ↦ λ is. cc
+      ])
+    ]
+
 excise_tells : (t : Timeline) (k : ℕ) (b : Branch) → (excise_reply t k b).reply ≡ wanted → ⊥
 excise_tells t k b =
     elim (not (has_event k b)) as (λ none. (reply_unless t (refused_by ((none, refused.NoEvent) ∷ [])) (replied (with_changed t (excised t.opening k b)) (Excised (fallen_places t.opening k b)))).reply ≡ wanted → ⊥) [
@@ -260,13 +304,14 @@ named_tells t name done tells =
     ]
 
 pub no_reply-tells : NoReplyTellsWantOfMemory
-unfolding command_step step_command back_command forward_command fork_command drop_command show_command names_command excise_command restore_command log_command
+unfolding command_step step_command back_command forward_command fork_command drop_command show_command past_command names_command excise_command restore_command log_command
 no_reply-tells t (command.Step name e) = named_tells t name (step_reply t e) (step_tells t e)
 no_reply-tells t (command.Back name n) = named_tells t name (back_reply t n) (back_tells t n)
 no_reply-tells t (command.Forward name n) = named_tells t name (forward_reply t n) (forward_tells t n)
 no_reply-tells t (command.Fork from k name) = named_tells t from (fork_reply t k name) (fork_tells t k name)
 no_reply-tells t (command.Drop name) = named_tells t name (drop_reply t) (drop_tells t)
 no_reply-tells t (command.Show name) = named_tells t name (show_reply t) (show_tells t)
+no_reply-tells t (command.Past name k) = named_tells t name (past_reply t k) (past_tells t k)
 no_reply-tells t command.Names = λ is. cc
 no_reply-tells t (command.Excise name k) = named_tells t name (excise_reply t k) (excise_tells t k)
 no_reply-tells t (command.Restore name) = named_tells t name (restore_reply t) (restore_tells t)

@@ -45,6 +45,9 @@ drop of = command.Drop of
 abbrev show : List ℕ → Command
 show of = command.Show of
 
+abbrev past : List ℕ → ℕ → Command
+past of k = command.Past of k
+
 abbrev names : Command
 names = command.Names
 
@@ -74,7 +77,7 @@ final t [] = t
 final t (c ∷ cs) = final (command_step t c).timeline cs
 
 unfoldable computing : ℕ
-unfolding of_worlds replies final commands.command_step timelines.world_of commands.step_command commands.back_command commands.forward_command commands.fork_command commands.drop_command commands.show_command commands.names_command commands.excise_command commands.restore_command commands.log_command excisions.sieve summary
+unfolding of_worlds replies final commands.command_step timelines.world_of commands.step_command commands.back_command commands.forward_command commands.fork_command commands.drop_command commands.show_command commands.past_command commands.names_command commands.excise_command commands.restore_command commands.log_command excisions.sieve summary
 computing = 0
 
 abbrev t : Timeline
@@ -155,6 +158,12 @@ told : asked_then (back 3 ∷ log main_name ∷ fork main_name 2 (codes "t") ∷
     ∷ reply.Logged (codes "t") (event.At A (own.Packet Outbound u1) ∷ event.Flush A ∷ []) 2 ∷ reply.Excised (2 ∷ 3 ∷ []) ∷ reply.Logged main_name (event.At A (own.Packet Outbound u2) ∷ []) 0 ∷ reply.Refused refused.NoBranch ∷ []
 unfolding computing
 told = refl
+
+-- what is seen of a place is what the branch shows when it stands there, be it before the cursor, at it, or after it; and nothing moves
+seen_there : asked_then (back 2 ∷ past main_name 0 ∷ past main_name 5 ∷ past (codes "x") 9 ∷ forward 2 ∷ [])
+    ≡ reply.At 2 ∷ reply.Shown main_name 4 0 (opening limits) ∷ reply.Refused refused.NothingForward ∷ reply.Refused refused.NoBranch ∷ reply.At 4 ∷ []
+unfolding computing
+seen_there = refl
 
 -- the former list and cursor are not counted
 counted_without : summary (final after_four (excise 1 ∷ [])) 5 ≡ 5 ∷ 1 ∷ 1 ∷ 1 ∷ 1 ∷ 0 ∷ 0 ∷ 1 ∷ []

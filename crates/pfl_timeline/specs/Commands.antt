@@ -12,6 +12,7 @@ use Rattle.pfl_language.specs.BranchWords.{same_name, is_branch_name}
 use Rattle.pfl_search.specs.world.desk.Nodes.{refused_by}
 use Rattle.pfl_search.specs.world.Meanings.{Stepped}
 use Rattle.pfl_search.specs.world.Events.{step}
+use Rattle.pfl_search.specs.world.Runs.{run}
 use Rattle.pfl_timeline.specs.Excisions.{has_event, excised, fallen_places, restored}
 use Rattle.pfl_timeline.specs.Replies.{Reply, Stepped as StepReply, At, Forked, Removed, Shown, Names, Excised, Restored, Logged, Refused as Refusing, Replied}
 use Rattle.pfl_timeline.specs.Timelines.{Branch, Timeline, branch_of, standing, world_of}
@@ -91,6 +92,12 @@ drop_reply t b =
 abbrev pub show_reply : Timeline → Branch → Replied
 show_reply t b = option_map_or (λ w. replied t (Shown b.name (length b.events) b.cursor w)) (world_of t b) (replied t (Refusing refused.NoBranch))
 
+-- the branch with the world that its first k events give, those after the cursor too
+abbrev pub past_reply : Timeline → ℕ → Branch → Replied
+past_reply t k b =
+    command_unless t ((nat_lt (length b.events) k, refused.NothingForward) ∷ [])
+    (option_map_or (λ w. replied t (Shown b.name (length b.events) k w)) (run t.opening (take k b.events)) (replied t (Refusing refused.NoBranch)))
+
 -- the k-th event taken out, and what is refused then left out
 abbrev pub excise_reply : Timeline → ℕ → Branch → Replied
 excise_reply t k b =
@@ -131,6 +138,10 @@ drop_command t name = with_branch t name (drop_reply t)
 unfoldable pub show_command : Timeline → List ℕ → Replied
 show_command t name = with_branch t name (show_reply t)
 
+-- the world of a branch at another place
+unfoldable pub past_command : Timeline → List ℕ → ℕ → Replied
+past_command t name k = with_branch t name (past_reply t k)
+
 -- an event taken out of the middle
 unfoldable pub excise_command : Timeline → List ℕ → ℕ → Replied
 excise_command t name k = with_branch t name (excise_reply t k)
@@ -155,6 +166,7 @@ command_step t (command.Forward name n) = forward_command t name n
 command_step t (command.Fork from k name) = fork_command t from k name
 command_step t (command.Drop name) = drop_command t name
 command_step t (command.Show name) = show_command t name
+command_step t (command.Past name k) = past_command t name k
 command_step t command.Names = names_command t
 command_step t (command.Excise name k) = excise_command t name k
 command_step t (command.Restore name) = restore_command t name

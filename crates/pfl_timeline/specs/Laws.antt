@@ -1,5 +1,5 @@
 -- Laws of timelines, in their own words (this project's profile).
-use Rattle.std.specs.Prelude.{◌≡◌, ◌≢◌, ℕ, ◌+◌, ◌-◌, Bool, false, List, [], ◌∷◌, length, map, take, drop, Option, Some, None, is_some, IsTrue, IsFalse, Result, Ok, Err}
+use Rattle.std.specs.Prelude.{◌≡◌, ◌≢◌, ℕ, ◌+◌, ◌-◌, ◌≤◌, Bool, false, List, [], ◌∷◌, length, map, take, drop, Option, Some, None, is_some, IsTrue, IsFalse, Result, Ok, Err}
 use Rattle.std.specs.List.{AllByRecursion}
 use Rattle.std.specs.Option.{option_map}
 use Rattle.pfl_base.specs.declared.refusal.Refusal.{Refusal}
@@ -13,7 +13,7 @@ use Rattle.pfl_search.specs.world.Events.{step}
 use Rattle.pfl_search.specs.world.Meanings.{Stepped}
 use Rattle.pfl_search.specs.world.Runs.{run}
 use Rattle.pfl_search.specs.world.Worlds.{World, IsWorld}
-use Rattle.pfl_timeline.specs.Commands.{show_command, log_command, command_step, replayed}
+use Rattle.pfl_timeline.specs.Commands.{replied, with_changed, show_command, past_command, log_command, command_step, replayed}
 use Rattle.pfl_timeline.specs.Excisions.{without, has_event}
 use Rattle.pfl_timeline.specs.Replies as reply
 use Rattle.pfl_timeline.specs.Timelines.{Branch, Timeline, IsTimeline, branch_of, new_timeline, standing, world_of}
@@ -59,6 +59,7 @@ touches (command.Forward of n) name = same_name of name
 touches (command.Fork from k new) name = same_name new name
 touches (command.Drop of) name = same_name of name
 touches (command.Show of) name = false
+touches (command.Past of k) name = false
 touches command.Names name = false
 touches (command.Excise of k) name = same_name of name
 touches (command.Restore of) name = same_name of name
@@ -80,6 +81,12 @@ abbrev pub BranchesShowTheirRuns : Type 0
 BranchesShowTheirRuns =
     (opening : World) (cs : List Command) → IsWorld opening
     → let t = replayed (new_timeline opening) cs in AllByRecursion (ShowsItsRun opening t) t.branches
+
+-- what is seen of a branch at a place is what it shows when it stands there
+abbrev pub PastsAreShown : Type 0
+PastsAreShown =
+    (t : Timeline) (name : List ℕ) (k : ℕ) (b : Branch) → branch_of t name ≡ Some b → k ≤ length b.events
+    → past_command t name k ≡ replied t (show_command (with_changed t (record b { cursor = k })) name).reply
 
 -- ---- an event taken out of the middle
 

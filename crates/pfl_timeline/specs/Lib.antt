@@ -4,6 +4,7 @@ pub mod Replies
 pub mod Searches
 pub mod Commands
 pub mod Memory
+pub mod Looks
 pub mod Histories
 pub mod Rooted
 pub mod Kept

@@ -9,11 +9,13 @@ ghost use Rattle.pfl_timeline.specs.Commands.{extended, undone, first_events};
 ghost use Rattle.pfl_timeline.specs.Excisions.{has_event, excised, fallen_places};
 ghost use Rattle.pfl_timeline.specs.Rooted.{shown};
 ghost use Rattle.pfl_timeline.specs.Searches.{IsAnswer, finding_from, finding_of, sought};
+ghost use Rattle.pfl_timeline.specs.inner.Looking.{SeesAt};
 ghost use Rattle.pfl_timeline.specs.inner.Rooted.{with_cursor, with_former};
 ghost use Rattle.pfl_timeline.specs.Timelines.{IsBranch};
 
 use crate::finding::{Finding, found, stopped};
 use crate::history::History;
+use crate::look::Look;
 use pfl_base::Refusal;
 use pfl_edits::NoMemory;
 use pfl_language::{BranchWord, Choice, Event, Goal, Outcome};
@@ -207,6 +209,27 @@ impl<A: Allocator + Copy> Branch<A> {
         let history = boxed(*Box::allocator(&self.history), rest)?;
         self.former = Some(mem::replace(&mut self.history, history));
         Ok(Some(fallen))
+    }
+
+    /// Looks at the world that the first `place` events give, those after the cursor too, where there are as many. Nothing changes,
+    /// whatever there is to be seen.
+    pub(crate) fn look_at<L: Look<A, W>, W>(
+        &mut self,
+        place: u32,
+        look: &L,
+        writer: &mut W,
+    ) -> Result<Option<L::Seen>, NoMemory>
+        ensures seen { IfOk result (SeesAt (L.sees look.now) self.old.branch.name self.old.opening self.old.branch.events place writer.old writer.new) }
+        ensures memory { OnErr result (nat_lt (length self.old.branch.events) place ≡ false) }
+        ensures untouched { OnErr result (writer.new ≡ writer.old) }
+        ensures unchanged { self.new ≡ self.old }
+    {
+        let place = place as usize;
+        if self.events().len() < place {
+            return Ok(None);
+        }
+        let seen = self.history.look_at(&self.name, place, look, writer)?;
+        Ok(Some(seen))
     }
 
     /// Searches for a shortest run of the choices from where it stands to the goal. Nothing changes, whatever the answer.

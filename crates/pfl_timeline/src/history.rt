@@ -9,11 +9,13 @@ ghost use Rattle.pfl_timeline.specs.Kept.{mark_at};
 ghost use Rattle.pfl_search.specs.Runs.{IsStop};
 ghost use Rattle.pfl_timeline.specs.Searches.{runs_to_try, sought};
 ghost use Rattle.pfl_timeline.specs.inner.Histories.{standing_at, first_of, Sifts, so_far};
+ghost use Rattle.pfl_timeline.specs.inner.Looking.{IsSeen};
 ghost use Rattle.pfl_timeline.specs.inner.Searching.{Gives};
 
+use crate::look::{Look, Sight};
 use pfl_base::Refusal;
-use pfl_edits::{NoMemory, Tape, undo_copies_to, undo_to};
-use pfl_language::{Choice, Event, Goal, Outcome};
+use pfl_edits::{Change, NoMemory, Tape, redo_all, set_aside_to, undo_copies_to, undo_to};
+use pfl_language::{BranchWord, Choice, Event, Goal, Outcome};
 use pfl_search::{Searched, Stopped, World, WorldTape, search_shortest};
 use std::alloc::Allocator;
 use std::marker::Model;
@@ -216,6 +218,68 @@ impl<A: Allocator + Copy> History<A> {
             }
         }
         Ok(())
+    }
+
+    /// Looks at the world that the first `place` of those that stand give: the later ones are taken back for a while. Where there is no
+    /// memory for that, nothing is seen.
+    fn look_back<L: Look<A, W>, W>(
+        &mut self,
+        name: &BranchWord,
+        place: usize,
+        look: &L,
+        writer: &mut W,
+    ) -> Result<L::Seen, NoMemory>
+        requires within { place ≤ self.old.cursor }
+        ensures unchanged { self.new ≡ self.old }
+        ensures seen { IfOk result (IsSeen (L.sees look.now) name.now self.old.opening self.old.events place writer.old writer.new) }
+        ensures untouched { OnErr result (writer.new ≡ writer.old) }
+    {
+        // What it ensures says that the world may be led to again.
+        self.world.known();
+        let mark = mark_of(&self.tape, &self.marks, place);
+        let count = self.tape.len() - mark;
+        // Room for all that is redone is made before anything is taken back.
+        let mut undone = Change::with_room(*self.events.allocator(), count)?;
+        self.tape.reserve(count)?;
+        set_aside_to(&mut self.world, &mut self.tape, mark, &mut undone);
+        let sight = Sight {
+            name,
+            events: self.events.len(),
+            cursor: place,
+            world: &self.world,
+        };
+        let seen = look.look(&sight, writer);
+        redo_all(&mut self.world, &mut self.tape, undone);
+        Ok(seen)
+    }
+
+    /// Looks at the world that the first `place` events give. Then it stands where it stood. Where there is no memory, nothing is seen.
+    pub fn look_at<L: Look<A, W>, W>(
+        &mut self,
+        name: &BranchWord,
+        place: usize,
+        look: &L,
+        writer: &mut W,
+    ) -> Result<L::Seen, NoMemory>
+        requires within { place ≤ length self.old.events }
+        ensures unchanged { self.new ≡ self.old }
+        ensures seen { IfOk result (IsSeen (L.sees look.now) name.now self.old.opening self.old.events place writer.old writer.new) }
+        ensures untouched { OnErr result (writer.new ≡ writer.old) }
+    {
+        let cursor = self.cursor();
+        if place <= cursor {
+            return self.look_back(name, place, look, writer);
+        }
+        self.redo(place - cursor)?;
+        let sight = Sight {
+            name,
+            events: self.events().len(),
+            cursor: place,
+            world: self.world(),
+        };
+        let seen = look.look(&sight, writer);
+        self.take_back_to(cursor);
+        Ok(seen)
     }
 
     /// Its first events, so many as `count`, of which the first `standing` stand, in memory of their own. It copies one world, and

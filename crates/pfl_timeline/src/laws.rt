@@ -1,6 +1,6 @@
 //! Laws of timelines. They have no code: each is a theorem over the definitions, which a function's contract names.
 
-ghost use Rattle.pfl_timeline.specs.Laws.{NewTimelinesAreTimelines, CommandsKeepTimelines, BranchesShowWorlds, BranchesShowTheirRuns, CommandsLeaveOthers, ExcisionsAreRunsWithout, ExcisionsLeaveStanding, ExcisionsTellTheRefused, NothingElseFallsOut, RestorationsTakeBack, NoReplyTellsWantOfMemory, StepsAreRuns};
+ghost use Rattle.pfl_timeline.specs.Laws.{NewTimelinesAreTimelines, CommandsKeepTimelines, BranchesShowWorlds, BranchesShowTheirRuns, CommandsLeaveOthers, PastsAreShown, ExcisionsAreRunsWithout, ExcisionsLeaveStanding, ExcisionsTellTheRefused, NothingElseFallsOut, RestorationsTakeBack, NoReplyTellsWantOfMemory, StepsAreRuns};
 
 /// The timeline that opens over a world keeps all that is true of each timeline.
 pub fn new_timelines_are_timelines()
@@ -16,6 +16,11 @@ pub fn commands_keep_timelines()
 /// Whatever commands came, each branch shows the world that the events before its cursor give from the opening.
 pub fn branches_show_their_runs()
     ensures { BranchesShowTheirRuns }
+{}
+
+/// What is seen of a branch at a place is what it shows when it stands there.
+pub fn pasts_are_shown()
+    ensures { PastsAreShown }
 {}
 
 /// A command leaves every branch but the one that it changes as it was.

@@ -5,6 +5,7 @@ mod branch;
 mod finding;
 mod history;
 mod laws;
+mod look;
 mod reply;
 mod timeline;
 
@@ -13,8 +14,9 @@ pub use finding::Finding;
 pub use laws::{
     branches_show_their_runs, commands_keep_timelines, commands_leave_others,
     excisions_are_runs_without_the_event, new_timelines_are_timelines,
-    no_reply_tells_want_of_memory, steps_are_runs,
+    no_reply_tells_want_of_memory, pasts_are_shown, steps_are_runs,
 };
+pub use look::{Look, NotSeen, Sight};
 pub use pfl_search::{Counters, Node, World, WorldFault};
 pub use reply::{Reply, boxed_copy};
 pub use timeline::Timeline;

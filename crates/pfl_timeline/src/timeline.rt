@@ -3,9 +3,10 @@
 ghost use Rattle.std.specs.Prelude.{◌≡◌, ◌≢◌, length, map, Some, is_some, IfOk, IfErr, IsSomeAnd, IsTrue, OnErr};
 ghost use Rattle.std.specs.List.{AllByRecursion};
 ghost use Rattle.std.specs.Option.{option_map};
-ghost use Rattle.pfl_timeline.specs.Commands.{replied, step_command, back_command, forward_command, fork_refusal, fork_command, drop_command, show_command, names_command, excise_command, restore_command, log_command, command_step};
+ghost use Rattle.pfl_timeline.specs.Commands.{replied, step_command, back_command, forward_command, fork_refusal, fork_command, drop_command, show_command, past_command, names_command, excise_command, restore_command, log_command, command_step};
 ghost use Rattle.pfl_timeline.specs.Memory.{IsAccepted, MayWantMemory};
-ghost use Rattle.pfl_timeline.specs.Replies.{reply_of, Refused as Refusing, Shown};
+ghost use Rattle.pfl_timeline.specs.Looks.{IsNotSeen};
+ghost use Rattle.pfl_timeline.specs.Replies.{reply_of, Reply as Replying, Refused as Refusing, Shown};
 ghost use Rattle.pfl_timeline.specs.Rooted.{shown};
 ghost use Rattle.pfl_timeline.specs.Searches.{IsAnswer, finding, finding_of, sought};
 ghost use Rattle.pfl_timeline.specs.inner.Replies.{moved, fell_out, brought_back};
@@ -14,6 +15,7 @@ ghost use Rattle.pfl_search.specs.world.Worlds.{World as Pair};
 
 use crate::branch::Branch;
 use crate::finding::Finding;
+use crate::look::{CopiedSight, Look, NotSeen};
 use crate::reply::{Reply, boxed_copy};
 use indexmap::IndexMap;
 use pfl_base::Refusal;
@@ -299,6 +301,48 @@ impl<A: Allocator + Copy> Timeline<A> {
         })
     }
 
+    /// Looks at the world that the branch's first `place` events give, those after the cursor too. No pair is copied, and the timeline
+    /// stays as it was, whatever there is to be seen.
+    pub fn past<L: Look<A, W>, W>(
+        &mut self,
+        name: &BranchWord,
+        place: u32,
+        look: &L,
+        writer: &mut W,
+    ) -> Result<L::Seen, NotSeen>
+        ensures seen { IfOk result (λ seen. (told : Replying) × (past_command self.old name.now place ≡ replied self.old told) × L.sees look.now told writer.old writer.new seen) }
+        ensures refused { IfErr result (IsNotSeen self.old (past_command self.old name.now place)) }
+        ensures still { (past_command self.old name.now place).timeline ≡ self.old }
+        ensures untouched { OnErr result (writer.new ≡ writer.old) }
+        ensures unchanged { self.new ≡ self.old }
+    {
+        let Some(branch) = self.branches.get_mut(name) else {
+            return Err(NotSeen::Refused(Refused::NoBranch));
+        };
+        let seen = branch.look_at(place, look, writer);
+        branch.known();
+        match seen? {
+            Some(seen) => Ok(seen),
+            None => Err(NotSeen::Refused(Refused::NothingForward)),
+        }
+    }
+
+    /// The branch at another place, with a copy of the world that it showed there.
+    fn past_copied(&mut self, name: &BranchWord, place: u32) -> Result<Reply<A>, NoMemory>
+        ensures step { IfOk result (λ reply. past_command self.old name.now place ≡ replied self.new (reply_of reply)) }
+        ensures memory { OnErr result (IsAccepted (past_command self.old name.now place)) }
+        ensures unchanged { self.new ≡ self.old }
+    {
+        let look = CopiedSight {
+            alloc: *self.branches.allocator(),
+        };
+        match self.past(name, place, &look, &mut ()) {
+            Ok(copied) => copied,
+            Err(NotSeen::Refused(why)) => Ok(Reply::Refused(why)),
+            Err(NotSeen::NoMemory) => Err(NoMemory),
+        }
+    }
+
     /// The branch's events, those behind the cursor too, in memory of their own, and its cursor. No pair is copied.
     fn log(&self, name: &BranchWord) -> Result<Reply<A>, NoMemory>
         ensures step { IfOk result (λ reply. log_command self.now name.now ≡ replied self.now (reply_of reply)) }
@@ -355,6 +399,7 @@ impl<A: Allocator + Copy> Timeline<A> {
             Command::Fork { from, place, name } => self.fork(&from, place, name),
             Command::Drop { branch } => Ok(self.remove(&branch)),
             Command::Show { branch } => self.show(&branch),
+            Command::Past { branch, place } => self.past_copied(&branch, place),
             Command::Names => self.names(),
             Command::Excise { branch, place } => self.excise(&branch, place),
             Command::Restore { branch } => Ok(self.restore(&branch)),

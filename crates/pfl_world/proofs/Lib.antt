@@ -11,6 +11,7 @@ pub mod Tickets
 pub mod Sending
 pub mod Delivered
 pub mod Restarted
+pub mod Redoing
 pub mod Ranges
 pub mod LimitFaults
 pub mod Little

@@ -7,8 +7,12 @@ use Rattle.pfl_node.specs.desk.Edits as nodes
 use Rattle.pfl_node.specs.desk.Nodes.{Node}
 use Rattle.pfl_node.specs.Events.{restarted}
 use Rattle.pfl_link.specs.LinkEdits as links
+use Rattle.pfl_link.specs.Undone as links_undone
 use Rattle.pfl_world.specs.declared.edit.WorldEdit.{WorldEdit}
 use Rattle.pfl_world.specs.declared.edit.WorldEdit.TheVariants.{OfNode, OfLink, OfRestart}
+use Rattle.pfl_world.specs.declared.undone.WorldUndone.{WorldUndone}
+use Rattle.pfl_world.specs.declared.undone.WorldUndone.TheVariants as kept
+use Rattle.pfl_world.specs.Restarts as restarts
 use Rattle.pfl_world.specs.Worlds.{World, IsWorld, node_at, with_node, with_link}
 
 -- the node of the name is this one, and the next boot has this number
@@ -43,6 +47,12 @@ abbrev pub redone : {M : Type 0} → WorldEdit M → World → World
 redone (OfNode id e) w = with_node w id (nodes.redone e (node_at w id))
 redone (OfLink e) w = with_link w (links.redone e w.link)
 redone (OfRestart e) w = with_boot w e.node (restarted e.former e.boot) (e.boot + 1)
+
+-- what is kept of an edit that is taken back for a while
+abbrev pub undone : {M : Type 0} → WorldEdit M → WorldUndone M
+undone (OfNode id e) = kept.OfNode id e
+undone (OfLink e) = kept.OfLink (links_undone.undone e)
+undone (OfRestart e) = kept.OfRestart (restarts.undone e)
 
 -- the edits, the oldest first, lead from one world to another and back
 abbrev pub WorldLeadsBack : {M : Type 0} → List (WorldEdit M) → World → World → Type 0

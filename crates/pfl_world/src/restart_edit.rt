@@ -61,6 +61,16 @@ impl<A: Allocator> RestartEdit<A> {
         self.boot
     }
 
+    /// The node that began anew, as it was before, and as which boot it began.
+    pub(crate) fn into_parts(self) -> (NodeId, Box<Node<A>, A>, u32)
+        ensures node { result.0 ≡ self.node }
+        ensures former { result.1.value ≡ self.former }
+        ensures boot { result.2 ≡ self.boot }
+    {
+        let RestartEdit { node, former, boot } = self;
+        (node, former, boot)
+    }
+
     /// The node as it was before.
     pub(crate) fn into_former(self) -> Node<A>
         ensures former { result ≡ self.former }

@@ -141,7 +141,11 @@ impl Dice {
                 Some(Command::Drop { branch })
             }
             95 => Some(Command::Show { branch }),
-            96..=97 => Some(Command::Log { branch }),
+            96 => {
+                let place = self.below(24);
+                Some(Command::Past { branch, place })
+            }
+            97 => Some(Command::Log { branch }),
             _ => Some(Command::Names),
         }
     }

@@ -90,6 +90,17 @@ fn once_answered(command: Command, wanted: Answer, spared: u64) -> Option<Trial>
     })
 }
 
+/// The call after state 1.1 was told to node B, whose delivery is undone.
+fn once_undone(command: Command, wanted: Answer) -> Option<Trial> {
+    let [query, flush, deliver, _] = answered_query()?;
+    let branch = BranchWord::main();
+    Some(Trial {
+        before: [query, flush, deliver, Command::Back { branch, n: 1 }],
+        row: Row { command, wanted },
+        spared: 0,
+    })
+}
+
 /// The call after the first event was taken out, and the two behind it fell out.
 fn once_excised(command: Command, wanted: Answer) -> Option<Trial> {
     Some(Trial {
@@ -97,6 +108,22 @@ fn once_excised(command: Command, wanted: Answer) -> Option<Trial> {
         row: Row { command, wanted },
         spared: 0,
     })
+}
+
+/// What is seen of `main` at the place.
+fn past(place: u32) -> Command {
+    let branch = BranchWord::main();
+    Command::Past { branch, place }
+}
+
+/// The branch is shown so, with state 1.1 at node A and no other.
+fn shown(events: usize, cursor: usize) -> Answer {
+    Answer::Shown {
+        events,
+        cursor,
+        states: 1,
+        port: Some(1000),
+    }
 }
 
 /// A branch of the first events of `main`.
@@ -109,15 +136,9 @@ fn fork(place: u32) -> Option<Command> {
 }
 
 /// The calls whose requests are refused.
-fn trials() -> Option<[Trial; 13]> {
+fn trials() -> Option<[Trial; 15]> {
     let branch = BranchWord::main();
     let node = NodeId::A;
-    let shown = Answer::Shown {
-        events: 4,
-        cursor: 4,
-        states: 1,
-        port: Some(1000),
-    };
     let logged = Answer::Logged {
         events: 4,
         cursor: 4,
@@ -129,7 +150,9 @@ fn trials() -> Option<[Trial; 13]> {
         once_answered(on_main(Event::Flush { node }), Answer::Stepped, 1)?,
         once_answered(Command::Back { branch, n: 1 }, Answer::At(3), 0)?,
         once_answered(fork(2)?, Answer::Forked, 0)?,
-        once_answered(Command::Show { branch }, shown, 0)?,
+        once_answered(Command::Show { branch }, shown(4, 4), 0)?,
+        once_answered(past(1), shown(4, 1), 0)?,
+        once_undone(past(3), shown(3, 3))?,
         once_answered(Command::Names, Answer::Names(1), 0)?,
         once_answered(Command::Log { branch }, logged, 0)?,
         once_answered(excise(1), Answer::Excised(Some([2, 3])), 0)?,

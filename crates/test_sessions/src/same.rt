@@ -129,6 +129,9 @@ pub(super) fn same_command(one: &Command, two: &Command) -> bool {
         Command::Show { branch } => {
             matches!(two, Command::Show { branch: b } if same_name(branch, b))
         }
+        Command::Past { branch, place } => {
+            matches!(two, Command::Past { branch: b, place: p } if same_name(branch, b) && place == p)
+        }
         Command::Names => matches!(two, Command::Names),
         Command::Excise { branch, place } => {
             matches!(two, Command::Excise { branch: b, place: p } if same_name(branch, b) && place == p)

@@ -1,9 +1,14 @@
 -- Answers that are written in part.
-use Rattle.std.specs.Prelude.{◌≡◌, ℕ, List, length, take, Option, ◌⊎◌}
+use Rattle.std.specs.Prelude.{◌≡◌, ℕ, Bool, List, length, take, Option, Result, OnOk, OnErr, IfErr, ◌⊎◌}
 use Rattle.std.specs.Io.KnownBytes.{Appends, Keeps as KeepsBytes}
 use Rattle.pfl_timeline.specs.Timelines.{Branch, Timeline}
 use Rattle.pfl_timeline.specs.world.Worlds.{World}
 use Rattle.pfl_script.specs.Shows.{show_text}
+use Rattle.pfl_script.specs.declared.fault.EngineFault.{EngineFault}
+use Rattle.pfl_script.specs.declared.fault.EngineFault.TheVariants.{NoMemory}
+use Rattle.pfl_script.specs.Readers.{IsWriteFault}
+use Rattle.pfl_script.specs.Replies.{reply_text}
+use Rattle.pfl_timeline.specs.Replies.{Reply}
 use Rattle.pfl_script.specs.Answers.{Answer}
 
 -- the answer stands and its text was written in part, or nothing was done
@@ -13,3 +18,12 @@ Breaks answer t u w v = ((u ≡ answer.timeline) × ((n : ℕ) × Appends w v (t
 -- the lines that show a branch with its world
 abbrev pub branch_text : Branch → World → List ℕ
 branch_text b world = show_text b.name (length b.events) b.cursor world
+
+-- The text of the reply was written, or a part of it, and why no more; without memory nothing was. W is the type of what is written to:
+-- `written` are its bytes, and `failed` says whether it failed.
+pub record WritesReply {W T : Type 0} (written : W → Option (List ℕ)) (failed : W → Bool) (reply : Reply) (old new : W) (result : Result T EngineFault) : Type 0 where
+  pub whole : OnOk result (Appends (written old) (written new) (reply_text reply))
+  pub stays : OnOk result (failed new ≡ failed old)
+  pub untouched : IfErr result (λ e. e ≡ NoMemory → new ≡ old)
+  pub part : OnErr result ((n : ℕ) × Appends (written old) (written new) (take n (reply_text reply)))
+  pub fault : IfErr result (λ e. IsWriteFault e (failed new))

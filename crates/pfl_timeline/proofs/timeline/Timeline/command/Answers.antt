@@ -1,7 +1,7 @@
 use Rattle.std.proofs.Common.{◌∙◌}
 use Rattle.std.proofs.lemmas.Result.{IfOk-weaker, on_err_weaker}
-use Rattle.pfl_timeline.proofs.Asked.{is-step, is-back, is-forward, is-fork, is-drop, is-show, is-names, is-excise, is-restore, is-log, anyway}
-use Rattle.pfl_timeline.proofs.Wants.{step_wants, forward_wants, fork_wants, show_wants, names_wants, excise_wants, log_wants}
+use Rattle.pfl_timeline.proofs.Asked.{is-step, is-back, is-forward, is-fork, is-drop, is-show, is-past, is-names, is-excise, is-restore, is-log, anyway}
+use Rattle.pfl_timeline.proofs.Wants.{step_wants, forward_wants, fork_wants, show_wants, past_wants, names_wants, excise_wants, log_wants}
 use Rattle.pfl_timeline.proofs.timeline.Timeline.command.Goals as goal
 
 pub returns-in-Step-clause-step : goal.returns-in-Step-clause-step
@@ -21,6 +21,9 @@ returns-in-Drop-clause-step g c = is-drop _ _ _ c.in-Drop.is ∙ c.remove.ensure
 
 pub returns-in-Show-clause-step : goal.returns-in-Show-clause-step
 returns-in-Show-clause-step g c = IfOk-weaker c.show.result _ _ (λ reply h. is-show _ _ _ c.in-Show.is ∙ h) c.show.ensures.step
+
+pub returns-in-Past-clause-step : goal.returns-in-Past-clause-step
+returns-in-Past-clause-step g c = IfOk-weaker c.past_copied.result _ _ (λ reply h. is-past _ _ _ _ c.in-Past.is ∙ h) c.past_copied.ensures.step
 
 pub returns-in-Names-clause-step : goal.returns-in-Names-clause-step
 returns-in-Names-clause-step g c = IfOk-weaker c.names.result _ _ (λ reply h. is-names _ _ c.in-Names.is ∙ h) c.names.ensures.step
@@ -45,6 +48,9 @@ returns-in-Fork-clause-memory g c = on_err_weaker c.fork.result (λ accepted. fo
 
 pub returns-in-Show-clause-memory : goal.returns-in-Show-clause-memory
 returns-in-Show-clause-memory g c = on_err_weaker c.show.result (λ accepted. show_wants _ _ _ c.in-Show.is accepted) c.show.ensures.memory
+
+pub returns-in-Past-clause-memory : goal.returns-in-Past-clause-memory
+returns-in-Past-clause-memory g c = on_err_weaker c.past_copied.result (λ accepted. past_wants _ _ _ _ c.in-Past.is accepted) c.past_copied.ensures.memory
 
 pub returns-in-Names-clause-memory : goal.returns-in-Names-clause-memory
 returns-in-Names-clause-memory g c = anyway c.names.result (names_wants _ _ c.in-Names.is)

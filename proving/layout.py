@@ -1,0 +1,33 @@
+"""The layout of the crates' files, which the gate wants as `rt fmt` writes it.
+
+    python3 -m proving.layout
+
+Puts each file of every crate into it, reports those that were not, and exits 1 where there were some.
+"""
+from __future__ import annotations
+
+import subprocess
+import sys
+from typing import Iterator
+
+from .crates import listed
+
+
+def formatted() -> Iterator[str]:
+    """What `rt fmt` reports of each crate: a line for each file that it wrote, or for what went wrong."""
+    for crate in listed().values():
+        ran = subprocess.run(("rt", "fmt"), cwd=crate.folder, stdout=subprocess.PIPE, stderr=subprocess.STDOUT, text=True)
+        yield from (f"{crate.name}: {line}" for line in ran.stdout.splitlines())
+        if ran.returncode:
+            yield f"{crate.name}: rt fmt ended with status {ran.returncode}"
+
+
+def main() -> int:
+    lines = list(formatted())
+    for line in lines:
+        print(f"layout: {line}", file=sys.stderr)
+    return int(bool(lines))
+
+
+if __name__ == "__main__":
+    sys.exit(main())
