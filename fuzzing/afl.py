@@ -48,12 +48,13 @@ def found_by_afl(top: str, room: str, minutes: float, jobs: int) -> Dict[str, Li
 
 
 def run_side_by_side(words: List[str], program: List[str], log: str, jobs: int, top: str) -> None:
-    """So many processes, which tell one another what they find."""
+    """This many processes, which tell one another what they find."""
     names = [["-M", "first"], *(["-S", f"other-{it}"] for it in range(1, jobs))]
     with open(log, "w", encoding="utf-8") as it:
-        how = {"env": {**os.environ, **ENVIRONMENT, "PYTHONPATH": top}, "stdout": it, "stderr": it, "stdin": subprocess.DEVNULL}
-        runs = [subprocess.Popen([*words, *name, "--", *program], **how) for name in names]
-        statuses = [it.wait() for it in runs]
+        env = {**os.environ, **ENVIRONMENT, "PYTHONPATH": top}
+        commands = ([*words, *name, "--", *program] for name in names)
+        runs = [subprocess.Popen(command, env=env, stdin=subprocess.DEVNULL, stdout=it, stderr=it) for command in commands]
+        statuses = [run.wait() for run in runs]
     if any(statuses):
         raise Missing(f"afl-fuzz stopped; what it said is in {log}")
 
@@ -70,11 +71,11 @@ def instrumented(top: str, room: str) -> str:
     write_toolchain(f"{kit}/toolchain", f"{room}/toolchain")
     words = [f"{kit}/bin/rattle", "build", *build_words(kit, f"{top}/crates"), "--toolchain", f"{room}/toolchain"]
     with open(f"{room}/build.log", "w", encoding="utf-8") as log:
-        how = {"cwd": f"{top}/crates/{NAME}", "stdout": log, "stderr": log}
-        ran = subprocess.run([*words, "-o", f"{program}.o"], **how)
         libraries = [f"{kit}/c/libos_c.a", f"{kit}/c/liblibc_c.a", RUNTIME, "-lm", "-lpthread", "-ldl"]
-        ran = ran.returncode and ran or subprocess.run(["cc", "-o", program, f"{program}.o", *libraries], **how)
-    if ran.returncode:
+        commands = ([*words, "-o", f"{program}.o"], ["cc", "-o", program, f"{program}.o", *libraries])
+        ran = (subprocess.run(it, cwd=f"{top}/crates/{NAME}", stdout=log, stderr=log) for it in commands)
+        is_built = not any(it.returncode for it in ran)
+    if not is_built:
         raise Missing(f"the program could not be built for AFL++; what the compilers said is in {room}/build.log")
     return program
 

@@ -4,6 +4,7 @@ from __future__ import annotations
 import glob
 from typing import List, NamedTuple, Sequence
 
+from shell.language.lines import opens
 from shell.scripts import read
 
 FOLDERS = ("examples", "crates/test_cases/data/cases")
@@ -11,7 +12,7 @@ MARKS = ("#>", "#!", "#?", "#=")
 
 
 class Script(NamedTuple):
-    """The lines up to `open`, and those behind it."""
+    """The lines up to `open`, and those after it."""
 
     setup: List[str]
     commands: List[str]
@@ -30,5 +31,5 @@ def without_marks(text: str) -> List[str]:
 
 
 def split(lines: Sequence[str]) -> Script:
-    end = next((at for at, line in enumerate(lines) if line.split() == ["open"]), len(lines) - 1) + 1
+    end = next((at for at, line in enumerate(lines) if opens(line)), len(lines) - 1) + 1
     return Script(list(lines[:end]), list(lines[end:]))

@@ -8,7 +8,9 @@ from typing import Callable, List, Sequence, Tuple
 from oracle.events import event
 from oracle.searches import line_of as search_line
 from oracle.setups import setup as small_setup
-from shell.names import NODES
+from shell.language.commands import BACK, COMMANDS, EXCISE, FORK, FORWARD, OPEN, RESTORE
+from shell.language.names import NODES
+from shell.language.setups import FRAMES, HELD, QUEUE, STATES
 
 from .corpora import Script
 from .lines import change_some, rule, spread, with_other_number, with_other_word
@@ -16,7 +18,9 @@ from .vocabulary import BRANCHES, SHOWN
 
 # So many commands are run in a moment.
 MOST_COMMANDS = 250
-GREATEST = ("set states 65536", "set queue 65536", "set frames 4096", "set held 128")
+GREATEST = tuple(f"set {it.word} {it.most}" for it in (STATES, QUEUE, FRAMES, HELD))
+# Those that move what a branch is.
+OFTEN = (BACK, FORWARD, FORK, EXCISE, RESTORE)
 
 
 class Draft:
@@ -40,7 +44,7 @@ class Draft:
         """Other limits, mostly small ones, and now and then other rules or a fault."""
         kind = self.chance.random()
         if kind < 0.3:
-            self.setup = [*small_setup(self.chance), "open"]
+            self.setup = [*small_setup(self.chance), OPEN.word]
         elif kind < 0.6:
             self.setup[:0] = self.chance.sample([*small_setup(self.chance)], 4)
         if self.chance.random() < 0.03:
@@ -117,12 +121,13 @@ class Draft:
 
     def add_command(self) -> None:
         """A command over a branch, mostly one that can be carried out."""
-        name, few = self.name(), self.chance.choice((0, 1, 1, 2, 3, 5, 8, self.chance.randint(0, 60)))
+        name = self.name() if self.chance.random() < 0.95 else self.chance.choice(BRANCHES)
+        few = self.chance.choice((0, 1, 1, 2, 3, 5, 8, self.chance.randint(0, 60)))
         new = f"n{len(self.names())}" if self.chance.random() < 0.7 else self.chance.choice(BRANCHES)
-        moves = (f"back {name} {few}", f"forward {name} {few}", f"excise {name} {few}", f"restore {name}")
-        often = (*moves, f"fork {name} {few} {new}")
-        rare = ("names", f"log {name}", f"show {name}", f"drop {name}", f"step {self.chance.choice(BRANCHES)} flush a")
-        self.commands.insert(self.place(), self.chance.choice((*often, *often, *rare)))
+        by_name = {"BRANCH": name, "NEW": new, "EVENT": "flush a"}
+        command = self.chance.choice((*OFTEN, *OFTEN, *COMMANDS.values()))
+        words = (by_name.get(it.name, str(few)) for it in command.values)
+        self.commands.insert(self.place(), " ".join([command.word, *words]))
 
     def add_search(self) -> None:
         """A search of few runs, mostly from a pair in which something is pending or in flight."""

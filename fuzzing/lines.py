@@ -6,10 +6,12 @@ import re
 from typing import Callable, List
 
 from oracle.searches import MOST_RUNS
-from shell.names import CLASSES, NODES, SEARCH
-from shell.reasons.word_forms import GREATEST
+from shell.language.commands import RULE
+from shell.language.forms import ACTION, GREATEST, NODE, RULE_DIRECTION
+from shell.language.searches import SEARCH
+from shell.language.setups import OPTIONS, Option
 
-from .vocabulary import ALIKE, EDGES, ENDS, LENGTHS, NETS, PROTOCOLS
+from .vocabulary import ALIKE, BY_NAME, EDGES, FEW, LENGTHS
 
 
 def change_some(chance: random.Random, lines: List[str], change: Callable[[random.Random, str], str]) -> None:
@@ -49,7 +51,7 @@ def with_other_number(chance: random.Random, line: str) -> str:
 
 
 def spread(chance: random.Random, line: str) -> str:
-    """Blanks between, before and behind the words, a CR at the end, or a line that is as long as one can be."""
+    """Blanks between, before and after the words, a CR at the end, or a line that is as long as one can be."""
     words = line.split()
     blanks = [chance.choice((" ", " ", "\t", "  ", " \t ")) for _ in words]
     wide = chance.choice(("", " ", "\t")) + "".join(it + blank for it, blank in zip(words, blanks))
@@ -69,14 +71,13 @@ def with_few_runs(text: str) -> str:
 
 def rule(chance: random.Random) -> str:
     """A rule with some of its options, mostly in their order."""
-    one, two, seconds = (chance.choice((0, 1, 2, 53, 80, 1000, 65535)) for _ in range(3))
-    options = [
-        *("quick", f"proto {chance.choice(PROTOCOLS)}", f"from {chance.choice(NETS)}", f"fport {one}"),
-        *(f"to {chance.choice(NETS)}", f"tport {two}", "flags any", "no-sync", f"max {chance.choice((1, 1, 2, 3, 0))}"),
-        *(f"nat {chance.choice(ENDS)}", f"timeout {chance.choice(CLASSES)[0]} {seconds}"),
-    ]
-    taken = [it for it in options if chance.random() < 0.15]
+    taken = [_option(chance, it) for it in OPTIONS.values() if chance.random() < 0.15]
     if chance.random() < 0.1:
         chance.shuffle(taken)
-    action, direction = chance.choice(("pass", "pass", "block")), chance.choice(("in", "out", "any"))
-    return " ".join(["rule", chance.choice(NODES), action, direction, *taken])
+    values = (chance.choice(it.words) for it in (NODE, ACTION, RULE_DIRECTION))
+    return " ".join([RULE.word, *values, *taken])
+
+
+def _option(chance: random.Random, option: Option) -> str:
+    values = (chance.choice(BY_NAME.get(it.name) or it.words or FEW) for it in option.values)
+    return " ".join([option.word, *map(str, values)])

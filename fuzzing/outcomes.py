@@ -1,186 +1,163 @@
-"""What becomes of an event: its outcomes and refusals, what the pair before it tells of them, and what is shown behind it."""
+"""What becomes of an event: its outcomes and refusals, what the pair before it tells of them, and what is shown after it."""
 from __future__ import annotations
 
 import re
-from typing import Callable, Dict, Optional, Sequence, Tuple
+from dataclasses import dataclass
+from typing import Callable, Dict, List, Optional, Sequence, Tuple
 
 from oracle.branches import left_by_purge
-from oracle.laboratory import Differs
-from shell.names import MOST_TRIES, Name
+from oracle.subject import Differs
+from shell.language import events
+from shell.language.events import BROKEN, DROPPED, EVENTS, HELD_BACK, LAST_MILLISECOND, MOST_TRIES, OF_FRAME, PASS, SERVED, Event
+from shell.language.faults import COMMAND_REFUSALS, numbered
+from shell.language.names import Name
+from shell.language.setups import BULK_MS, DEFER_MS, FRAMES
 from shell.pair import Node, Pair, read_shown
 from shell.setups import Setup
 
-LAST_MILLISECOND = 1000000000000
-REFUSALS = (
-    "NoSuchFrame",
-    "NothingPending",
-    "NoSuchState",
-    "LinkFull",
-    "QueueFull",
-    "ClockFull",
-    "CountFull",
-    "NotSyncing",
-    "TooEarly",
-)
-_N, _NAME = "[0-9]+", r"[0-9]+\.[0-9]+"
-# Of each event the form of its outcome, and the numbers of its refusals.
-FORMS: Dict[str, Tuple[str, Sequence[int]]] = {
-    "packet": (f"pass (?:-|{_NAME})|held {_NAME}|drop (?:block|max|full|key|window)", (5, 7)),
-    "tick": (f"clock {_N}", (6,)),
-    "purge": (f"purged {_N}", (5, 7)),
-    "release": (f"released {_N}", (2, 9, 7)),
-    "kill": ("killed", (3, 5, 7)),
-    "clear": (f"cleared {_N}", (5, 7)),
-    "turn": (f"queued {_N}", (8, 5, 7)),
-    "retry": (f"asked {_N}|served", (8, 9, 5)),
-    "flush": (f"sent {_N} {_N}", (2, 4, 7)),
-    "restart": (f"boot {_N}", (7,)),
-    "deliver": (f"taken {_N}|broken [1-6]", (1, 5, 7)),
-    "lose": ("lost", (1,)),
-    "repeat": (f"sent {_N} {_N}", (1, 4, 7)),
-    "cut": (f"cut {_N}", (1,)),
-}
+_N = "[0-9]+"
 
 
-def outcome_of(event: str, reply: str) -> str:
-    """The outcome in a reply, or the name of the refusal, which have to be of the event's forms."""
-    form, refusals = FORMS[event.split()[0]]
-    accepted = re.fullmatch(f"step ({form}) dropped {_N}", reply)
-    refused = re.fullmatch(f"refused 8 Event ({_N}) ([A-Za-z]+)", reply)
-    if accepted:
+def outcome_in(event: str, reply: str) -> str:
+    """The outcome in a reply, or the name of the refusal, which have to be of the event's row."""
+    row = EVENTS[event.split()[0]]
+    accepted = re.fullmatch(f"step (.+) dropped {_N}", reply)
+    if accepted and any(re.fullmatch(it.pattern, accepted[1]) for it in row.outcomes):
         return accepted[1]
-    if not refused or int(refused[1]) not in refusals or REFUSALS[int(refused[1]) - 1] != refused[2]:
+    refusals = {f"refused {numbered('Event', COMMAND_REFUSALS)} {told}": name for told, name in zip(row.refused, row.refusals)}
+    if reply not in refusals:
         raise Differs(f"{event}: {reply}, which is none of its replies")
-    return refused[2]
+    return refusals[reply]
 
 
 def kind_of(outcome: str) -> str:
     """An outcome without its numbers, but for the fault of a frame."""
     first, _, rest = outcome.partition(" ")
-    return outcome if first in ("drop", "broken") or rest == "-" else first
+    return outcome if first in (DROPPED.word, BROKEN.word) or rest == "-" else first
 
 
-def compare_outcome(setup: Setup, shown: Sequence[str], event: str, outcome: str) -> None:
-    """An outcome has to be the one that the pair before the event tells, where that does."""
-    wanted = _WANTED[event.split()[0]](setup, _pair(shown), event.split())
+@dataclass(frozen=True)
+class Case:
+    """An event with what became of it, and the pair before and after it."""
+
+    setup: Setup
+    words: List[str]
+    outcome: List[str]
+    before: Pair
+    after: Pair
+
+    @property
+    def event(self) -> Event:
+        return EVENTS[self.words[0]]
+
+    @property
+    def node(self) -> Node:
+        """The node before the event."""
+        return self.before.nodes[self.words[1]]
+
+    @property
+    def now(self) -> Node:
+        """The node after the event."""
+        return self.after.nodes[self.words[1]]
+
+    @property
+    def ticket(self) -> int:
+        return int(self.words[1])
+
+    @property
+    def length(self) -> int:
+        """How many bytes the frame has before the event."""
+        return len(self.before.frames[self.ticket].data)
+
+    @property
+    def number(self) -> int:
+        """The number that the outcome tells."""
+        return int(self.outcome[1])
+
+    def told(self, *values: object) -> str:
+        """What the event answers where nothing keeps it from happening, with these values."""
+        return " ".join([self.event.outcomes[0].word, *map(str, values)])
+
+    def sent(self, length: object) -> str:
+        """What an event answers that sends a frame, where there is room for it."""
+        is_full = len(self.before.frames) == self.setup.limits[FRAMES]
+        return "LinkFull" if is_full else self.told(self.before.next_ticket, length)
+
+
+def compare_event(setup: Setup, before: Sequence[str], after: Sequence[str], event: str, outcome: str) -> None:
+    """An outcome has to be the one that the pair before the event tells, where that does, and what it says has to be shown after
+    the event. One that was refused has no other pair after it."""
+    was, now = (read_shown(["branch main events 0 cursor 0", *it]) for it in (before, after))
+    it = Case(setup, event.split(), outcome.split(), was, now)
+    foretold, is_shown = _CHECKS[it.event]
+    wanted = "NoSuchFrame" if it.words[0] in OF_FRAME and it.ticket not in it.before.frames else foretold(it)
     # (a queue or a counter that would overflow takes more to foresee)
     if wanted is not None and not re.fullmatch(wanted, outcome) and outcome not in ("QueueFull", "CountFull"):
         raise Differs(f"{event}: {outcome}, and not {wanted}")
-
-
-def compare_effect(before: Sequence[str], after: Sequence[str], event: str, outcome: str) -> None:
-    """What an outcome says has to be shown behind the event."""
-    is_shown = _EFFECTS[event.split()[0]]
-    if not is_shown(_pair(before), _pair(after), event.split(), outcome.split()):
+    if after is not before and not is_shown(it):
         raise Differs("\n".join([f"{event}: {outcome}, which is not shown", "before:", *before, "after:", *after]))
 
 
-def _pair(shown: Sequence[str]) -> Pair:
-    return read_shown(["branch main events 0 cursor 0", *shown])
+def _tick(it: Case) -> str:
+    clock = it.node.clock + int(it.words[2])
+    return it.told(clock) if clock <= LAST_MILLISECOND else "ClockFull"
 
 
-Wanted = Callable[[Setup, Pair, Sequence[str]], Optional[str]]
+def _kill(it: Case) -> str:
+    return it.told() if Name.read(it.words[2]) in it.node.states else "NoSuchState"
 
 
-def _of_node(wanted: Callable[[Setup, Node], Optional[str]]) -> Wanted:
-    return lambda setup, pair, words: wanted(setup, pair.nodes[words[1]])
+def _release(it: Case) -> str:
+    due = sum(held.since + it.setup.limits[DEFER_MS] <= it.node.clock for held in it.node.held)
+    return it.told(due) if due else "TooEarly" if it.node.held else "NothingPending"
 
 
-def _of_frame(wanted: Callable[[Setup, Pair, bytes, Sequence[str]], Optional[str]]) -> Wanted:
-    def of(setup: Setup, pair: Pair, words: Sequence[str]) -> Optional[str]:
-        frame = pair.frames.get(int(words[1]))
-        return wanted(setup, pair, frame.data, words) if frame else "NoSuchFrame"
-
-    return of
-
-
-def _tick(setup: Setup, pair: Pair, words: Sequence[str]) -> str:
-    clock = pair.nodes[words[1]].clock + int(words[2])
-    return f"clock {clock}" if clock <= LAST_MILLISECOND else "ClockFull"
-
-
-def _flush(setup: Setup, pair: Pair, words: Sequence[str]) -> str:
-    if not pair.nodes[words[1]].pending:
-        return "NothingPending"
-    return "LinkFull" if len(pair.frames) == setup.limits["frames"] else f"sent {pair.next_ticket} {_N}"
-
-
-def _repeat(setup: Setup, pair: Pair, data: bytes, words: Sequence[str]) -> str:
-    return "LinkFull" if len(pair.frames) == setup.limits["frames"] else f"sent {pair.next_ticket} {len(data)}"
-
-
-def _kill(setup: Setup, pair: Pair, words: Sequence[str]) -> str:
-    return "killed" if Name.read(words[2]) in pair.nodes[words[1]].states else "NoSuchState"
-
-
-def _release(setup: Setup, node: Node) -> str:
-    due = sum(it.since + setup.limits["defer_ms"] <= node.clock for it in node.held)
-    return f"released {due}" if due else "TooEarly" if node.held else "NothingPending"
-
-
-def _retry(setup: Setup, node: Node) -> str:
-    if node.sync == "-":
+def _retry(it: Case) -> str:
+    if it.node.sync == "-":
         return "NotSyncing"
-    tries, asked = map(int, node.sync.split("/"))
-    if node.clock < asked + setup.limits["bulk_ms"]:
+    tries, asked = map(int, it.node.sync.split("/"))
+    if it.node.clock < asked + it.setup.limits[BULK_MS]:
         return "TooEarly"
-    return f"asked {tries + 1}" if tries < MOST_TRIES else "served"
+    return it.told(tries + 1) if tries < MOST_TRIES else SERVED.word
 
 
-def _purge(setup: Setup, node: Node) -> str:
-    return f"purged {len(node.states) - len(left_by_purge(setup, node))}"
+def _purge(it: Case) -> str:
+    return it.told(len(it.node.states) - len(left_by_purge(it.setup, it.node)))
 
 
-_WANTED: Dict[str, Wanted] = {
-    "packet": lambda setup, pair, words: None,
-    "tick": _tick,
-    "purge": _of_node(_purge),
-    "release": _of_node(_release),
-    "kill": _kill,
-    "clear": _of_node(lambda setup, node: f"cleared {len(node.states)}"),
-    "turn": _of_node(lambda setup, node: "NotSyncing" if node.serve == "-" else f"queued {_N}"),
-    "retry": _of_node(_retry),
-    "flush": _flush,
-    "restart": lambda setup, pair, words: f"boot {pair.next_boot}",
-    "deliver": _of_frame(lambda setup, pair, data, words: f"taken {_N}|broken {_N}"),
-    "lose": _of_frame(lambda setup, pair, data, words: "lost"),
-    "repeat": _of_frame(_repeat),
-    "cut": _of_frame(lambda setup, pair, data, words: f"cut {min(len(data), int(words[2]))}"),
-}
+def _packet_is_counted(it: Case) -> bool:
+    more = tuple(it.now.counters[name] - it.node.counters[name] for name in ("passed", "blocked"))
+    is_known = it.outcome[0] == DROPPED.word or it.outcome[1] == "-" or Name.read(it.outcome[1]) in it.now.states
+    return is_known and more == {PASS.word: (1, 0), DROPPED.word: (0, 1), HELD_BACK.word: (0, 0)}[it.outcome[0]]
 
 
-def _packet_is_counted(before: Pair, after: Pair, words: Sequence[str], outcome: Sequence[str]) -> bool:
-    was, now = (it.nodes[words[1]].counters for it in (before, after))
-    more = tuple(now[it] - was[it] for it in ("passed", "blocked"))
-    is_known = outcome[0] == "drop" or outcome[1] == "-" or Name.read(outcome[1]) in after.nodes[words[1]].states
-    return is_known and more == {"pass": (1, 0), "drop": (0, 1), "held": (0, 0)}[outcome[0]]
+def _is_in_flight(it: Case) -> bool:
+    frame = it.after.frames.get(it.number)
+    return frame is not None and len(frame.data) == int(it.outcome[2]) and it.after.next_ticket == it.before.next_ticket + 1
 
 
-def _is_in_flight(before: Pair, after: Pair, words: Sequence[str], outcome: Sequence[str]) -> bool:
-    frame = after.frames.get(int(outcome[1]))
-    return frame is not None and len(frame.data) == int(outcome[2]) and after.next_ticket == before.next_ticket + 1
+def _is_gone(it: Case) -> bool:
+    return it.ticket not in it.after.frames and len(it.after.frames) == len(it.before.frames) - 1
 
 
-def _is_gone(before: Pair, after: Pair, words: Sequence[str], outcome: Sequence[str]) -> bool:
-    return int(words[1]) not in after.frames and len(after.frames) == len(before.frames) - 1
-
-
-Shown = Callable[[Pair, Pair, Sequence[str], Sequence[str]], bool]
-_EFFECTS: Dict[str, Shown] = {
-    "packet": _packet_is_counted,
-    "tick": lambda before, after, words, outcome: after.nodes[words[1]].clock == int(outcome[1]),
+# Of each event the outcome that the pair before it tells, if it does, and whether what its outcome says is shown after it.
+_CHECKS: Dict[Event, Tuple[Callable[[Case], Optional[str]], Callable[[Case], bool]]] = {
+    events.PACKET: (lambda it: None, _packet_is_counted),
+    events.TICK: (_tick, lambda it: it.now.clock == it.number),
     # (what a purge leaves is compared state by state)
-    "purge": lambda before, after, words, outcome: True,
-    "release": lambda before, after, words, outcome: len(after.nodes[words[1]].held)
-    == len(before.nodes[words[1]].held) - int(outcome[1]),
-    "kill": lambda before, after, words, outcome: Name.read(words[2]) not in after.nodes[words[1]].states,
-    "clear": lambda before, after, words, outcome: not after.nodes[words[1]].states,
-    "turn": lambda before, after, words, outcome: True,
-    "retry": lambda before, after, words, outcome: (after.nodes[words[1]].sync == "-") == (outcome[0] == "served"),
-    "flush": _is_in_flight,
-    "restart": lambda before, after, words, outcome: after.nodes[words[1]].boot == int(outcome[1]),
-    "deliver": _is_gone,
-    "lose": _is_gone,
-    "repeat": _is_in_flight,
-    "cut": lambda before, after, words, outcome: len(after.frames[int(words[1])].data) == int(outcome[1]),
+    events.PURGE: (_purge, lambda it: True),
+    events.RELEASE: (_release, lambda it: len(it.now.held) == len(it.node.held) - it.number),
+    events.KILL: (_kill, lambda it: Name.read(it.words[2]) not in it.now.states),
+    events.CLEAR: (lambda it: it.told(len(it.node.states)), lambda it: not it.now.states),
+    events.TURN: (lambda it: "NotSyncing" if it.node.serve == "-" else it.told(_N), lambda it: True),
+    events.RETRY: (_retry, lambda it: (it.now.sync == "-") == (it.outcome[0] == SERVED.word)),
+    events.FLUSH: (lambda it: it.sent(_N) if it.node.pending else "NothingPending", _is_in_flight),
+    events.RESTART: (lambda it: it.told(it.before.next_boot), lambda it: it.now.boot == it.number),
+    events.DELIVER: (lambda it: "|".join(outcome.pattern for outcome in it.event.outcomes), _is_gone),
+    events.LOSE: (lambda it: it.told(), _is_gone),
+    events.REPEAT: (lambda it: it.sent(it.length), _is_in_flight),
+    events.CUT: (
+        lambda it: it.told(min(it.length, int(it.words[2]))),
+        lambda it: len(it.after.frames[it.ticket].data) == it.number,
+    ),
 }

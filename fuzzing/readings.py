@@ -5,25 +5,11 @@ import functools
 from dataclasses import dataclass
 from typing import List, Optional, Sequence, Tuple
 
-from shell.programs import LIMIT_FAULTS, LINE_FAULTS, RULE_FAULTS
-from shell.reasons.faults import RANGES
-from shell.reasons.line_forms import check_line
-from shell.reasons.readers import LineFault
+from shell.language.faults import LIMIT_FAULTS, LINE_FAULTS, RULE_FAULTS, numbered
+from shell.language.lines import check_line, has_word, lines_of, opens
+from shell.language.readers import LineFault
+from shell.language.setups import MOST_RULES, NAT
 from shell.setups import Rule, Setup
-
-MOST_RULES = 256
-
-
-def lines_of(script: str) -> List[str]:
-    """The lines of a script: a line feed ends each, with one CR in front of it, and what stands behind the last counts."""
-    *whole, last = script.split("\n")
-    return [it[:-1] if it.endswith("\r") else it for it in whole] + [last] * bool(last)
-
-
-def has_word(line: str) -> bool:
-    """Whether the line has a word, and is no comment."""
-    text = line.strip(" \t")
-    return bool(text) and not text.startswith("#")
 
 
 @functools.lru_cache(maxsize=4096)
@@ -32,13 +18,13 @@ def fault_of(line: str, of_setup: bool) -> str:
     try:
         check_line(line, of_setup)
     except LineFault as fault:
-        return f"{LINE_FAULTS.index(fault.name) + 1} {fault.name}"
+        return numbered(fault.name, LINE_FAULTS)
     return ""
 
 
 @dataclass
 class Reading:
-    """A script's setup, up to its line `open` or its fault, which is empty where there is none, and the lines behind it."""
+    """A script's setup, up to its line `open` or its fault, which is empty where there is none, and the lines after it."""
 
     setup: Setup
     fault: str
@@ -55,7 +41,7 @@ class Reading:
         return int(bool(self.fault) or any(bad for _, bad in self.faults()))
 
     def faults(self) -> List[Tuple[int, str]]:
-        """The number of each line behind the setup that has a word, and the fault of the line, or an empty text."""
+        """The number of each line after the setup that has a word, and the fault of the line, or an empty text."""
         numbered = enumerate(self.commands, self.first + 1)
         return [(number, fault_of(line, False)) for number, line in numbered if has_word(line)]
 
@@ -70,14 +56,15 @@ class Reading:
 
 def read(script: str) -> Reading:
     """Reads a script as far as no event has to happen."""
-    setup, lines = Setup(), lines_of(script)
+    # (a CR at the end of a script is no part of a line's end; where there is another one it counts)
+    setup, lines = Setup(), lines_of(script + "\r" * script.endswith("\r"))
     for number, line in enumerate(lines, 1):
         if not has_word(line):
             continue
         fault = fault_of(line, True)
         if fault:
             return Reading(setup, f"line {fault.split()[0]}", number, [])
-        if line.split() == ["open"]:
+        if opens(line):
             return Reading(setup, fault_of_rules(setup) or fault_of_limits(setup), number, lines[number:])
         setup.add(line)
     return Reading(setup, "no open", len(lines), [])
@@ -92,14 +79,14 @@ def fault_of_rules(setup: Setup) -> str:
 def _fault_of(rules: Sequence[Rule]) -> Optional[str]:
     if len(rules) > MOST_RULES:
         return "TooMany"
-    if any(it.after("nat") and it.words[1] != "out" for it in rules):
+    if any(it.has(NAT) and it.words[1] != "out" for it in rules):
         return "NatNotOut"
     return "ZeroMax" if any(it.most_states == 0 for it in rules) else None
 
 
 def fault_of_limits(setup: Setup) -> str:
     """The first fault of the limits: one below its range comes before any above it."""
-    ranged = [(value, *RANGES[limit]) for limit, value in setup.limits.items()]
-    if any(value < least for value, least, _ in ranged):
+    if any(value < limit.least for limit, value in setup.limits.items()):
         return f"world {LIMIT_FAULTS.index('TooSmall') + 1}"
-    return f"world {LIMIT_FAULTS.index('TooLarge') + 1}" if any(value > most for value, _, most in ranged) else ""
+    is_large = any(value > limit.most for limit, value in setup.limits.items())
+    return f"world {LIMIT_FAULTS.index('TooLarge') + 1}" if is_large else ""

@@ -4,28 +4,30 @@ from __future__ import annotations
 import contextlib
 import random
 import re
-from typing import ContextManager, Dict, Iterator, List, Sequence
+from typing import Callable, ContextManager, Dict, Iterator, List, Sequence
 
-from oracle.branches import Branch, Room, compare, fork_for
-from oracle.laboratory import Differs, Laboratory
-from oracle.lines import event_of
+from oracle.branches import Room, WantedBranch, compare, fork_for
 from oracle.searches import Search, compare_search
+from oracle.subject import Differs, Subject
 from oracle.tallies import Seen
-from shell.names import SEARCH
+from shell.language.commands import MOST_BRANCHES, STEP
+from shell.language.events import plain_event
+from shell.language.faults import COMMAND_REFUSALS, numbered
+from shell.language.lines import has_word
+from shell.language.searches import SEARCH
 
-from .outcomes import compare_effect, compare_outcome, kind_of, outcome_of
-from .readings import Reading, fault_of, has_word
+from .outcomes import compare_event, kind_of, outcome_in
+from .readings import Reading, fault_of
 
-MOST_BRANCHES = 16
 BRANCH_NAME = "[a-z][a-z0-9-]{0,15}"
 
 
 class Timeline:
-    """The branches behind a setup that the laboratory was told."""
+    """The branches after a setup that the laboratory was told."""
 
-    def __init__(self, lab: Laboratory, seen: Seen):
+    def __init__(self, lab: Subject, seen: Seen):
         self.lab, self.seen, self.chance = lab, seen, random.Random(0)
-        self.branches: Dict[str, Branch] = {"main": Branch([], [lab.shown("main", 0, 0)], 0)}
+        self.branches: Dict[str, WantedBranch] = {"main": WantedBranch([], [lab.shown("main", 0, 0)], 0)}
 
     def take(self, line: str) -> List[str]:
         """A line that has a word: its reply, which is the one that is wanted."""
@@ -34,8 +36,8 @@ class Timeline:
         if fault:
             self.seen["faulty lines", fault] += 1
             return self.need(line, [f"bad {fault}"])
-        if words[0] == "step" and words[1] in self.branches:
-            return self.step(line, words[1], event_of(words[2:]))
+        if words[0] == STEP.word and words[1] in self.branches:
+            return self.step(line, words[1], plain_event(words[2:]))
         if words[0] == SEARCH and words[1] in self.branches:
             return self.search(line, words[1])
         reply = self.need(line, self.wanted(words[0], words[1:]))
@@ -46,8 +48,7 @@ class Timeline:
         return reply
 
     def need(self, line: str, wanted: List[str]) -> List[str]:
-        # (the program drops one CR at the end of a line)
-        reply = self.lab.answer(f"{line}\r" if line.endswith("\r") else line)
+        reply = self.lab.answer(line)
         compare(line, wanted, reply, "came")
         return reply
 
@@ -55,18 +56,16 @@ class Timeline:
         reply = self.lab.answer(line)
         if len(reply) > 1:
             raise Differs("\n".join([f"{line}: {len(reply)} lines", *reply]))
-        branch, outcome = self.branches[name], outcome_of(event, reply[0])
+        branch, outcome = self.branches[name], outcome_in(event, reply[0])
         self.seen[event.split()[0], kind_of(outcome)] += 1
         before = branch.now()
-        compare_outcome(self.lab.setup, before, event, outcome)
         branch.take(self.lab, name, event, reply[0])
-        if branch.now() is not before:
-            compare_effect(before, branch.now(), event, outcome)
+        compare_event(self.lab.setup, before, branch.now(), event, outcome)
         return reply
 
     def search(self, line: str, name: str) -> List[str]:
         """A search from a branch: its reply, which is right as far as steps can tell. It has changed nothing."""
-        reply, branch = self.lab.answer(f"{line}\r" if line.endswith("\r") else line), self.branches[name]
+        reply, branch = self.lab.answer(line), self.branches[name]
         self.seen[SEARCH, reply[0].split(" ")[0]] += 1
         branch.compare(self.lab, name, line)
         branch.compare_log(self.lab, name, line)
@@ -75,60 +74,66 @@ class Timeline:
         return reply
 
     def wanted(self, command: str, words: Sequence[str]) -> List[str]:
-        """The reply that a command has to get, but for a step on a branch; the branches are then as they have to be."""
-        if command == "names":
-            return [" ".join(["names", *self.branches])]
-        if words[0] not in self.branches:
-            return ["refused 1 NoBranch"]
-        if command in ("show", "log"):
-            return self.told(command, words[0])
-        by_word = {"back": self.back, "forward": self.forward, "fork": self.fork, "drop": self.drop, "excise": self.excise}
-        return [by_word[command](*words) if command in by_word else self.branches[words[0]].restore()]
+        """The reply that a command has to get, but for a step on a branch; the branches are then as they have to be. Each other
+        command has a method of its name."""
+        if words and words[0] not in self.branches:
+            return [refused("NoBranch")]
+        reply: Callable[..., List[str]] = getattr(self, command)
+        return reply(*words)
 
-    def told(self, command: str, name: str) -> List[str]:
-        branch = self.branches[name]
-        if command == "log":
-            return branch.log(name)
-        return [f"branch {name} events {len(branch.events)} cursor {branch.cursor}", *branch.now()]
+    def names(self) -> List[str]:
+        return [" ".join(["names", *self.branches])]
 
-    def back(self, name: str, n: str) -> str:
+    def show(self, name: str) -> List[str]:
+        return self.branches[name].seen_at(name, self.branches[name].cursor)
+
+    def past(self, name: str, at: str) -> List[str]:
+        return self.branches[name].seen_at(name, int(at))
+
+    def log(self, name: str) -> List[str]:
+        return self.branches[name].log(name)
+
+    def back(self, name: str, n: str) -> List[str]:
         branch = self.branches[name]
         if int(n) > branch.cursor:
-            return "refused 4 TooFarBack"
+            return [refused("TooFarBack")]
         branch.cursor -= int(n)
-        return f"at {branch.cursor}"
+        return [f"at {branch.cursor}"]
 
-    def forward(self, name: str, n: str) -> str:
+    def forward(self, name: str, n: str) -> List[str]:
         branch = self.branches[name]
         if int(n) > len(branch.events) - branch.cursor:
-            return "refused 5 NothingForward"
+            return [refused("NothingForward")]
         branch.cursor += int(n)
-        return f"at {branch.cursor}"
+        return [f"at {branch.cursor}"]
 
-    def fork(self, name: str, at: str, new: str) -> str:
+    def fork(self, name: str, at: str, new: str) -> List[str]:
         origin, place = self.branches[name], int(at)
         if new in self.branches:
-            return "refused 2 NameTaken"
+            return [refused("NameTaken")]
         if not re.fullmatch(BRANCH_NAME, new):
-            return "refused 3 BadName"
+            return [refused("BadName")]
         if place > len(origin.events):
-            return "refused 5 NothingForward"
+            return [refused("NothingForward")]
         if len(self.branches) == MOST_BRANCHES:
-            return "refused 7 BranchesFull"
-        self.branches[new] = Branch(origin.events[:place], origin.shown[: place + 1], place)
-        return "forked"
+            return [refused("BranchesFull")]
+        self.branches[new] = WantedBranch(origin.events[:place], origin.shown[: place + 1], place)
+        return ["forked"]
 
-    def drop(self, name: str) -> str:
+    def drop(self, name: str) -> List[str]:
         if len(self.branches) == 1:
-            return "refused 6 LastBranch"
+            return [refused("LastBranch")]
         del self.branches[name]
-        return "removed"
+        return ["removed"]
 
-    def excise(self, name: str, at: str) -> str:
+    def excise(self, name: str, at: str) -> List[str]:
         branch, place = self.branches[name], int(at)
         if not 1 <= place <= len(branch.events):
-            return "refused 9 NoEvent"
-        return branch.excise(self.room_for(name, place - 1), place)
+            return [refused("NoEvent")]
+        return [branch.excise(self.room_for(name, place - 1), place)]
+
+    def restore(self, name: str) -> List[str]:
+        return [self.branches[name].restore()]
 
     def room_for(self, name: str, events: int) -> ContextManager[Room]:
         """Where what an excision leaves can be tried: on a fork, or in another run where there is room for none."""
@@ -144,7 +149,7 @@ class Timeline:
             if branch.former:
                 branch.order(self.lab, name, f"restore {name}", branch.restore())
                 branch.end(self.lab, name)
-        self.lab.need("names", " ".join(["names", *self.branches]))
+        self.lab.need("names", *self.names())
 
 
 def how(reply: str) -> str:
@@ -153,10 +158,14 @@ def how(reply: str) -> str:
     return words[2] if words[0] == "refused" else words[0]
 
 
+def refused(name: str) -> str:
+    return f"refused {numbered(name, COMMAND_REFUSALS)}"
+
+
 @contextlib.contextmanager
-def beside(lab: Laboratory, events: Sequence[str]) -> Iterator[Room]:
+def beside(lab: Subject, events: Sequence[str]) -> Iterator[Room]:
     """A run of its own over the same setup, in which these events have happened."""
-    other = Laboratory(lab.program, lab.seconds)
+    other = Subject(lab.program, lab.seconds)
     try:
         other.open(lab.setup)
         for event in events:
@@ -167,7 +176,7 @@ def beside(lab: Laboratory, events: Sequence[str]) -> Iterator[Room]:
         other.close()
 
 
-def replies_to(lab: Laboratory, reading: Reading, seen: Seen) -> List[str]:
+def replies_to(lab: Subject, reading: Reading, seen: Seen) -> List[str]:
     """Gives a laboratory a script's setup, and then its lines one by one: the lines of all replies, as they have to be."""
     lab.open(reading.setup)
     timeline = Timeline(lab, seen)

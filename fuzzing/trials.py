@@ -8,7 +8,7 @@ import time
 import traceback
 from typing import Callable, List, NamedTuple
 
-from oracle.laboratory import Differs, Laboratory
+from oracle.subject import Differs, Subject
 from oracle.tallies import Seen
 
 from .readings import Reading, read
@@ -41,7 +41,7 @@ class Trial(NamedTuple):
         compare_runs(f"{word}, in pieces", wanted, ran_in_pieces(self.program, word, script, SECONDS, chance))
 
     def replies(self, reading: Reading, seen: Seen) -> List[str]:
-        with contextlib.closing(Laboratory(self.program, SECONDS)) as lab:
+        with contextlib.closing(Subject(self.program, SECONDS)) as lab:
             replies = replies_to(lab, reading, seen)
         if lab.run.returncode != reading.status:
             raise Differs(f"run, line by line: status {lab.run.returncode}, and not {reading.status}")

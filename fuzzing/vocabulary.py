@@ -3,8 +3,13 @@ from __future__ import annotations
 
 from typing import Sequence, Tuple
 
-from shell.names import CLASSES, COMMANDS, EVENTS, GOALS, LIMITS, NODES, SCOPES, SEARCH, SETUP
-from shell.reasons.line_forms import OPTION_WORDS
+from shell.language.commands import SETUP
+from shell.language.events import EVENTS
+from shell.language.forms import ACTION, RULE_DIRECTION
+from shell.language.lines import KNOWN
+from shell.language.names import NODES
+from shell.language.searches import ANY, GOALS, SCOPES
+from shell.language.setups import CLASS, LIMITS, OPTIONS
 
 # The numbers at which something begins or ends, each with its neighbours.
 EDGES = (
@@ -34,16 +39,16 @@ STATES = (
 )
 # Words that can stand in each other's places.
 ALIKE: Tuple[Sequence[str], ...] = (
-    EVENTS,
-    (*COMMANDS, "log", "view", SEARCH),
-    (*GOALS, *SCOPES, "any"),
-    SETUP,
+    tuple(EVENTS),
+    (*KNOWN, "view"),
+    (*GOALS, *SCOPES, ANY),
+    tuple(SETUP),
     (*NODES, "A", "ab"),
-    ("in", "out", "any"),
-    ("pass", "block"),
-    LIMITS,
-    tuple(name for name, _ in CLASSES),
-    (*OPTION_WORDS, "port", "keep"),
+    RULE_DIRECTION.words,
+    ACTION.words,
+    tuple(LIMITS),
+    CLASS.words,
+    (*OPTIONS, "port", "keep"),
     FLAGS,
     PROTOCOLS,
     ENDS,
@@ -51,6 +56,9 @@ ALIKE: Tuple[Sequence[str], ...] = (
     BRANCHES,
     STATES,
 )
+# Words of a form by its name, right ones and others, and numbers where there are none.
+BY_NAME = {"P": PROTOCOLS, "NET": NETS, "END": ENDS}
+FEW = (0, 1, 1, 2, 2, 3, 53, 80, 1000, 65535)
 # What many pairs show, in the lines that events are made from.
 SHOWN = (
     *(f"frame {it}" for it in range(1, 9)),

@@ -7,11 +7,11 @@ import subprocess
 import tempfile
 from typing import Iterator, NamedTuple
 
-from oracle.laboratory import Differs
+from oracle.subject import Differs
 
-# A piece is read whole: the program takes so many bytes at a time.
+# A piece is read whole: the program takes this many bytes at a time.
 LONGEST_PIECE = 65536
-# So many pieces take no more time than the run itself.
+# This many pieces take no more time than the run itself.
 MOST_PIECES = 2000
 
 
@@ -37,7 +37,7 @@ def ran_in_pieces(program: str, word: str, script: str, seconds: float, chance: 
     ours, its = socket.socketpair(socket.AF_UNIX, socket.SOCK_SEQPACKET)
     with ours, tempfile.TemporaryFile() as out, tempfile.TemporaryFile() as told:
         with its:
-            run = subprocess.Popen([program, word], stdin=its, stdout=out, stderr=told)
+            run = subprocess.Popen([program, word], stdin=its.fileno(), stdout=out, stderr=told)
         ours.settimeout(seconds)
         try:
             _send(ours, pieces(script.encode("latin-1"), chance))

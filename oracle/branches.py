@@ -8,21 +8,21 @@ from shell.pair import Node, read_shown
 from shell.setups import Setup
 from shell.words import expires_at
 
-from .laboratory import Differs, Laboratory
+from .subject import Differs, Subject
 
 WITHOUT = "without"
 # Where an event can be tried: a run, and a branch of it that is for nothing else.
-Room = Tuple[Laboratory, str]
+Room = Tuple[Subject, str]
 
 
-class Branch:
-    """The events of a branch, and what it has to show: one text behind each that stands or was undone, the opening's first."""
+class WantedBranch:
+    """The events of a branch, and what it has to show: one text after each that stands or was undone, the opening's first."""
 
     def __init__(self, events: List[str], shown: List[List[str]], cursor: int):
         self.events, self.shown, self.cursor = events, shown, cursor
         self.former: Optional[Tuple[List[str], List[List[str]], int]] = None
 
-    def take(self, lab: Laboratory, name: str, event: str, reply: str) -> None:
+    def take(self, lab: Subject, name: str, event: str, reply: str) -> None:
         """An event was answered so: it stands now, or has changed nothing."""
         if not reply.startswith("step "):
             self.compare(lab, name, f"{event}: {reply}")
@@ -37,16 +37,18 @@ class Branch:
         if event.startswith("purge "):
             compare_purge(lab.setup, event.split()[1], self.shown[self.cursor - 1], self.now())
 
-    def go(self, lab: Laboratory, name: str, n: int) -> None:
-        """The cursor moves by so many events."""
+    def go(self, lab: Subject, name: str, n: int) -> None:
+        """The cursor moves by `n` events."""
         self.cursor += n
         self.order(lab, name, f"{'back' if n < 0 else 'forward'} {name} {abs(n)}", f"at {self.cursor}")
 
-    def end(self, lab: Laboratory, name: str) -> None:
-        """All events happen again, then all are taken back, and then they happen once more."""
+    def end(self, lab: Subject, name: str) -> None:
+        """All events happen again, then all are taken back, and then they happen once more; both ends are seen from each other."""
         self.go(lab, name, len(self.events) - self.cursor)
         self.go(lab, name, -self.cursor)
+        self.past(lab, name, len(self.events))
         self.go(lab, name, len(self.events))
+        self.past(lab, name, 0)
 
     def excise(self, room: ContextManager[Room], place: int) -> str:
         """An event is taken out: the reply that is wanted. The room has the events in front of it."""
@@ -56,7 +58,7 @@ class Branch:
         self.former = former
         return " ".join(["excised", *map(str, fallen)])
 
-    def leave_out(self, lab: Laboratory, name: str, place: int) -> List[int]:
+    def leave_out(self, lab: Subject, name: str, place: int) -> List[int]:
         """Becomes what it has to be without the event at the place, and gives the places of those that fall out."""
         events, fallen, standing = self.events, [], min(self.cursor, place - 1)
         self.events, self.shown = events[: place - 1], self.shown[:place]
@@ -78,7 +80,7 @@ class Branch:
         self.former = None
         return f"restored {self.cursor}"
 
-    def order(self, lab: Laboratory, name: str, line: str, wanted: str) -> None:
+    def order(self, lab: Subject, name: str, line: str, wanted: str) -> None:
         """A command that has to be answered so, and then the branch has to show what it has to show."""
         lab.need(line, wanted)
         self.compare(lab, name, line)
@@ -89,13 +91,27 @@ class Branch:
         first = f"log {name} events {len(self.events)} cursor {self.cursor}"
         return [first, *(f"event {at} step {name} {line}" for at, line in enumerate(self.events, 1)), "end"]
 
-    def compare_log(self, lab: Laboratory, name: str, after: str) -> None:
+    def compare_log(self, lab: Subject, name: str, after: str) -> None:
         compare(f"after {after}", self.log(name), lab.answer(f"log {name}"), "came")
+
+    def seen_at(self, name: str, place: int) -> List[str]:
+        """The reply that `past` has to get: what the branch showed when it stood there, or that it has no such place."""
+        if place > len(self.events):
+            return ["refused 5 NothingForward"]
+        return [f"branch {name} events {len(self.events)} cursor {place}", *self.shown[place]]
+
+    def past(self, lab: Subject, name: str, place: int) -> str:
+        """The branch is seen at a place, and stays as it is: the first line of the reply."""
+        line, wanted = f"past {name} {place}", self.seen_at(name, place)
+        compare(line, wanted, lab.answer(line), "came")
+        self.compare(lab, name, line)
+        self.compare_log(lab, name, line)
+        return wanted[0]
 
     def now(self) -> List[str]:
         return self.shown[self.cursor]
 
-    def compare(self, lab: Laboratory, name: str, after: str) -> None:
+    def compare(self, lab: Subject, name: str, after: str) -> None:
         compare(f"after {after}", self.now(), lab.shown(name, len(self.events), self.cursor), "shown")
 
 
@@ -105,7 +121,7 @@ def compare(where: str, wanted: Sequence[str], came: Sequence[str], how: str) ->
 
 
 @contextlib.contextmanager
-def fork_for(lab: Laboratory, name: str, events: int, spare: str = WITHOUT) -> Iterator[Room]:
+def fork_for(lab: Subject, name: str, events: int, spare: str = WITHOUT) -> Iterator[Room]:
     """A fork that has the first events of a branch, for a while."""
     lab.need(f"fork {name} {events} {spare}", "forked")
     yield lab, spare
@@ -118,7 +134,7 @@ def left_by_purge(setup: Setup, node: Node) -> List[str]:
 
 
 def compare_purge(setup: Setup, name: str, before: Sequence[str], after: Sequence[str]) -> None:
-    """A node has to have those states behind a purge that had time left before it."""
+    """A node has to have those states after a purge that had time left before it."""
     was, now = (read_shown(["branch main events 0 cursor 0", *it]).nodes[name] for it in (before, after))
     wanted, left = left_by_purge(setup, was), [str(it) for it in sorted(now.states)]
     if left != wanted:

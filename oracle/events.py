@@ -2,7 +2,18 @@
 from __future__ import annotations
 
 import random
-from typing import Iterator, Sequence, Tuple
+from typing import Dict, Iterator, Sequence, Tuple
+
+from shell.language import events
+from shell.language.events import EVENTS, LAST_MILLISECOND, PACKET, Event
+from shell.language.names import NODES
+
+# Those without which nothing else happens come more often.
+WEIGHTS: Dict[Event, float] = {
+    **{PACKET: 30, events.FLUSH: 17, events.DELIVER: 18, events.REPEAT: 4, events.CUT: 1, events.TICK: 9},
+    **{events.PURGE: 3, events.KILL: 3, events.CLEAR: 1, events.TURN: 5, events.RETRY: 3},
+}
+LONG = (LAST_MILLISECOND - 1,)
 
 
 def flow(chance: random.Random) -> Tuple[str, str, str]:
@@ -33,32 +44,27 @@ def packet(chance: random.Random, node: str) -> str:
 
 
 def some(chance: random.Random, shown: Sequence[str], other: str, *words: str) -> str:
-    """What stands behind the words in one of the shown lines that begin with them, or something else."""
+    """What follows the words in one of the shown lines that begin with them, or something else."""
     found = [line[len(words)] for line in map(str.split, shown) if tuple(line[: len(words)]) == words]
     return chance.choice(found) if found and chance.random() < 0.95 else other
 
 
 def kinds(chance: random.Random, shown: Sequence[str]) -> Iterator[Tuple[float, str]]:
-    """The kinds of events, each with its weight; those without which nothing else happens come more often."""
-    node, ticket = chance.choice("ab"), some(chance, shown, "9", "frame")
-    yield 30, packet(chance, node)
-    yield 17, f"flush {node}"
-    yield 18, f"deliver {ticket}"
-    yield 2, f"lose {ticket}"
-    yield 4, f"repeat {ticket}"
-    yield 1, f"cut {ticket} {chance.randint(0, 160)}"
-    yield 9, f"tick {node} {chance.choice((1, 20, 1000, 1999, 2000, 10000, 30000, 60000))}"
-    yield 0.2, f"tick {node} 999999999999"
-    yield 3, f"purge {node}"
-    yield 2, f"release {node}"
-    yield 3, f"kill {node} {some(chance, shown, '1.99', 'state', node)}"
-    yield 1, f"clear {node}"
-    yield 2, f"restart {node}"
-    yield 5, f"turn {node}"
-    yield 3, f"retry {node}"
+    """The kinds of events, each with its weight."""
+    node = chance.choice(NODES)
+    words = {
+        "NODE": node,
+        "TICKET": some(chance, shown, "9", "frame"),
+        "LEN": str(chance.randint(0, 160)),
+        "MS": str(chance.choice(LONG if chance.random() < 0.02 else (1, 20, 1000, 1999, 2000, 10000, 30000, 60000))),
+        "NAME": some(chance, shown, "1.99", "state", node),
+    }
+    for it in EVENTS.values():
+        line = packet(chance, node) if it is PACKET else " ".join([it.word, *(words[value.name] for value in it.values)])
+        yield WEIGHTS.get(it, 2), line
 
 
 def event(chance: random.Random, shown: Sequence[str]) -> str:
     """An event of any kind, mostly about what is shown."""
-    weights, events = zip(*kinds(chance, shown))
-    return chance.choices(events, weights)[0]
+    weighted = [*kinds(chance, shown)]
+    return chance.choices([line for _, line in weighted], [weight for weight, _ in weighted])[0]

@@ -3,17 +3,17 @@ leads to the goal, and no shorter part of it does; where none is found, or none 
 from __future__ import annotations
 
 import random
-import re
 from typing import Dict, Iterator, List, NamedTuple, Sequence, Tuple
 
-from shell.names import NODES, OF_TICKET, SCOPES, SEARCH
+from shell.language.events import CUT, DELIVER, OF_FRAME, plain_event
+from shell.language.lines import LONGEST_LINE
+from shell.language.names import NODES
+from shell.language.searches import ANY, APART, FOUND, GAVE_UP, NONE, PASSED, SCOPES, SEARCH, SETTLED, UNPASSED, words_of
 from shell.pair import Node, Pair, read_shown
-from shell.reasons.search_forms import words_of
 
 from .branches import Room
 from .events import event, packet
-from .laboratory import Differs
-from .lines import event_of
+from .subject import Differs
 
 # How many random runs are tried beside a search, and of how many events at most.
 WALKS, LONGEST_WALK = 4, 8
@@ -39,21 +39,21 @@ class Search(NamedTuple):
         goal = words[4 : ends[0]]
         scope = goal.pop(0) if goal[0] in SCOPES else ""
         choices = [words[at + 1 : end] for at, end in zip(ends, ends[1:])]
-        asked = event_of(goal[1:]) if goal[1:] else ""
+        asked = plain_event(goal[1:]) if goal[1:] else ""
         uses = tuple((_what(it), int(it[0])) for it in choices)
         return cls(words[1], int(words[2]), int(words[3]), scope, goal[0], asked, uses)
 
     def is_met(self, room: Room, pair: Pair) -> bool:
         """Whether a pair meets the goal, where the room's branch shows it."""
-        if self.scope and pair.frames or self.scope == "settled" and not (_is_idle(pair.a) and _is_idle(pair.b)):
+        if self.scope and pair.frames or self.scope == SETTLED and not (_is_idle(pair.a) and _is_idle(pair.b)):
             return False
-        if self.question == "apart":
+        if self.question == APART:
             return pair.a.states.keys() != pair.b.states.keys()
         lab, name = room
         reply = lab.ask(f"step {name} {self.event}")
         if reply.startswith("step "):
             lab.ask(f"back {name} 1")
-        return reply.startswith("step pass ") == (self.question == "passed")
+        return reply.startswith("step pass ") == (self.question == PASSED)
 
 
 def _is_idle(node: Node) -> bool:
@@ -63,13 +63,13 @@ def _is_idle(node: Node) -> bool:
 
 def _what(choice: Sequence[str]) -> str:
     _, first, *rest = choice
-    return " ".join([rest[0], "any", *(str(int(it)) for it in rest[1:])]) if first == "any" else event_of(choice[1:])
+    return " ".join([rest[0], ANY, *(str(int(it)) for it in rest[1:])]) if first == ANY else plain_event(choice[1:])
 
 
 def _fits(what: str, event_line: str) -> bool:
     """Whether an event is one that a choice allows."""
     words, its = what.split(), event_line.split()
-    return what == event_line or words[1:2] == ["any"] and (words[0], words[2:]) == (its[0], its[2:])
+    return what == event_line or words[1:2] == [ANY] and (words[0], words[2:]) == (its[0], its[2:])
 
 
 def _pair(room: Room) -> Pair:
@@ -86,11 +86,11 @@ def compare_answer(search: Search, reply: Sequence[str]) -> List[str]:
     events = [it.partition(f" step {search.branch} ")[2] for it in reply[1:-1]]
     lines = [f"event {at} step {search.branch} {it}" for at, it in enumerate(events, 1)]
     wanted = {
-        "found": [f"found {search.branch} events {len(events)} runs {runs}", *lines, "end"],
-        "none": [f"none {search.depth} {runs}"],
-        "gave": [f"gave up {search.runs}"],
+        FOUND: [f"found {search.branch} events {len(events)} runs {runs}", *lines, "end"],
+        NONE: [f"none {search.depth} {runs}"],
+        GAVE_UP: [f"gave up {search.runs}"],
     }
-    tried = how == "gave" or runs.isdecimal() and 1 <= int(runs) <= search.runs
+    tried = how == GAVE_UP or runs.isdecimal() and 1 <= int(runs) <= search.runs
     if list(reply) != wanted.get(how) or not tried or len(events) > search.depth:
         raise Differs("\n".join(["a search cannot be answered so:", *reply]))
     return events
@@ -171,11 +171,11 @@ def _one_more(search: Search, pair: Pair, uses: List[int], chance: random.Random
 
 
 def _instances(what: str, pair: Pair) -> Iterator[str]:
-    if what.split()[1] != "any":
+    if what.split()[1] != ANY:
         yield what
         return
     for ticket in sorted(pair.frames):
-        yield what.replace("any", str(ticket), 1)
+        yield what.replace(ANY, str(ticket), 1)
 
 
 # ---- lines by chance
@@ -185,11 +185,11 @@ def line_of(chance: random.Random, name: str, shown: Sequence[str]) -> str:
     """A search from a branch that shows this, with few runs."""
     runs = chance.choice((0, 1, 5, 50, MOST_RUNS, MOST_RUNS, MOST_RUNS))
     asked = packet(chance, chance.choice(NODES)) if chance.random() < 0.9 else event(chance, shown)
-    goal = chance.choice(("apart", f"passed {asked}", f"unpassed {asked}"))
+    goal = chance.choice((APART, f"{PASSED} {asked}", f"{UNPASSED} {asked}"))
     scope = chance.choice(("", *(f"{it} " for it in SCOPES)))
     choices = [f"{chance.choice((0, 1, 2, 3, 9))} {_choice(chance, shown)}" for _ in range(chance.choice((0, 1, 2, 3, 4, 5, 16)))]
     line = "; ".join([f"{SEARCH} {name} {chance.choice((0, 1, 2, 3, 4, 64))} {runs} {scope}{goal}", *choices])
-    while len(line) > 512:
+    while len(line) > LONGEST_LINE:
         line = line.rpartition(";")[0]
     return line
 
@@ -200,5 +200,5 @@ def _choice(chance: random.Random, shown: Sequence[str]) -> str:
         return f"flush {chance.choice(NODES)}"
     if kind < 0.6:
         return event(chance, shown)
-    what = chance.choice(("deliver", *OF_TICKET))
-    return f"any {what} {chance.randint(0, 160)}" if what == "cut" else f"any {what}"
+    what = chance.choice((DELIVER.word, *OF_FRAME))
+    return f"{ANY} {what} {chance.randint(0, 160)}" if what == CUT.word else f"{ANY} {what}"

@@ -2,15 +2,20 @@
 from __future__ import annotations
 
 import glob
-from typing import Callable, Dict, Iterable, List, Sequence
+import re
+from typing import Callable, Dict, Iterable, List, Sequence, Tuple
 
-from .helps import WORDS
+from .helps import SHELL, WORDS
 from .laboratory import Laboratory
-from .names import CLASSES, EVENTS, LIMITS, NODES, SEARCH
+from .language.commands import RULE, SETUP, STEP, TYPED
+from .language.events import EVENTS
+from .language.forms import ACTION, NODE, RULE_DIRECTION
+from .language.searches import SEARCH
+from .language.setups import LIMITS, OPTIONS
 from .pair import Pair
 from .searches.offers import offers
 
-Choice = Callable[[Laboratory, Sequence[str]], Sequence[str]]
+Choice = Callable[[Laboratory, Sequence[str]], Iterable[str]]
 
 
 def _branches(lab: Laboratory, _: Sequence[str]) -> Sequence[str]:
@@ -18,11 +23,11 @@ def _branches(lab: Laboratory, _: Sequence[str]) -> Sequence[str]:
 
 
 def _pair(lab: Laboratory, words: Sequence[str]) -> Pair:
-    return lab.show(words[1] if words[0] == "step" else lab.in_use)
+    return lab.show(words[1] if words[0] in TYPED else lab.in_use)
 
 
 def _tickets(lab: Laboratory, words: Sequence[str]) -> Sequence[str]:
-    return [*map(str, _pair(lab, words).frames), *["all"] * (words[-1] == "deliver")]
+    return [*map(str, _pair(lab, words).frames)]
 
 
 def _state_names(lab: Laboratory, words: Sequence[str]) -> Sequence[str]:
@@ -30,64 +35,65 @@ def _state_names(lab: Laboratory, words: Sequence[str]) -> Sequence[str]:
     return [str(it) for it in node.states] if node else ()
 
 
-def _fixed(*words: str) -> Choice:
-    return lambda lab, before: words
-
-
-# By the word of an event, what may stand at each place behind it.
-EVENT_WORDS: Dict[str, List[Choice]] = {
-    "packet": [_fixed(*NODES), _fixed("in", "out"), _fixed("tcp", "udp", "icmp")],
-    "tick": [_fixed(*NODES, "both")],
-    "kill": [_fixed(*NODES), _state_names],
-    **{word: [_fixed(*NODES)] for word in ("flush", "purge", "release", "clear", "restart", "turn", "retry")},
-    **{word: [_tickets] for word in ("deliver", "lose", "repeat", "cut")},
+# What can stand where a form has a name, if that is not the same everywhere.
+CHOICES: Dict[str, Choice] = {
+    "BRANCH": _branches,
+    "TICKET": _tickets,
+    "NAME": _state_names,
+    "EVENT": lambda lab, words: EVENTS,
+    "LIMIT": lambda lab, words: LIMITS,
+    "WORD": lambda lab, words: WORDS,
 }
-
-OTHER_WORDS: Dict[str, List[Choice]] = {
-    "set": [_fixed(*LIMITS)],
-    "rule": [_fixed(*NODES), _fixed("pass", "block"), _fixed("in", "out", "any")],
-    "help": [_fixed(*WORDS)],
-    "diff": [_branches, _branches],
-    **{word: [_branches] for word in ("back", "forward", "fork", "drop", "show", "excise", "restore")},
-    **{word: [_branches] for word in ("view", "log", "changes", "why", "quiet", "chart", "use")},
-}
-
-RULE_WORDS = ("quick", "proto", "from", "fport", "to", "tport", "flags", "no-sync", "max", "nat", "timeout")
 
 
 def candidates(lab: Laboratory, before: Sequence[str], begun: str) -> List[str]:
-    """What the word that has begun can be, behind the words before it."""
-    if not before:
-        return _matching(WORDS, begun)
-    if before[0] in ("read", "save", "verify", "annotate"):
-        return glob.glob(glob.escape(begun) + "*")
+    """What the word that has begun can be, after the words before it."""
     words = list(before)
+    if not words:
+        return _matching(WORDS, begun)
     if words[0] == SEARCH:
         return _search(lab, words, begun)
-    if words[0] == "step" and len(words) == 1:
-        return _matching(_branches(lab, words), begun)
-    if words[0] == "step" and len(words) == 2:
-        return _matching(EVENTS, begun)
-    if words[0] == "rule" and len(words) > 3:
-        return _matching([it for it, _ in CLASSES] if words[-1] == "timeout" else RULE_WORDS, begun)
-    return _behind(lab, words, words[2:] if words[0] == "step" else words, begun)
+    part = words[2:] if words[0] == STEP.word and words[2:] else words
+    return _matching(_following(lab, words, part, begun), begun)
 
 
-def _behind(lab: Laboratory, words: Sequence[str], part: Sequence[str], begun: str) -> List[str]:
-    """What can stand behind the words of a part of a line, by the first of them."""
-    word, *behind = part
-    choices = EVENT_WORDS.get(word, OTHER_WORDS.get(word, []))
-    return _matching(choices[len(behind)](lab, words), begun) if len(behind) < len(choices) else []
+def _following(lab: Laboratory, words: Sequence[str], part: Sequence[str], begun: str) -> Iterable[str]:
+    """What can follow the words of a part of a line, by the first of them."""
+    word, at = part[0], len(part) - 1
+    values = _values(word)
+    if at >= len(values):
+        return _options(part[-1]) if word == RULE.word else ()
+    name, fixed = values[at]
+    if name == "FILE":
+        return glob.glob(glob.escape(begun) + "*")
+    every = EVENTS[word].every if word in EVENTS and at == 0 else ""
+    return [*(CHOICES[name](lab, words) if name in CHOICES else fixed), *filter(None, [every])]
+
+
+def _values(word: str) -> List[Tuple[str, Sequence[str]]]:
+    """The names of what can follow a word, each with the words that it can be where these are always the same."""
+    if word in SHELL:
+        return [(it, ()) for it in re.findall("[A-Z]+", SHELL[word].form.split("\n")[-1])]
+    row = EVENTS.get(word) or TYPED.get(word) or SETUP.get(word)
+    values = (NODE, ACTION, RULE_DIRECTION) if row is RULE else row.values if row else ()
+    return [(it.name, it.words) for it in values]
+
+
+def _options(word: str) -> Iterable[str]:
+    """What can follow an option of a rule, or what is before the options."""
+    values = OPTIONS[word].values if word in OPTIONS else ()
+    return values[0].words if values else OPTIONS
 
 
 def _search(lab: Laboratory, words: Sequence[str], begun: str) -> List[str]:
     """What can stand in a search, in people's words and in the program's."""
     found = offers(words)
-    if found.event:
-        branch = lab.in_use if found.is_for_people else words[1]
-        offered = _behind(lab, ("step", branch, *found.event), found.event, begun)
-        return offered if found.is_for_people else [it for it in offered if it not in ("all", "both")]
-    return _matching((*found.words, *(_branches(lab, words) if len(words) == 1 else ())), begun)
+    if not found.event:
+        return _matching((*found.words, *(_branches(lab, words) if len(words) == 1 else ())), begun)
+    branch = lab.in_use if found.is_for_people else words[1]
+    offered = _following(lab, (STEP.word, branch, *found.event), found.event, begun)
+    every = () if found.is_for_people else [it.every for it in EVENTS.values()]
+    return _matching((it for it in offered if it not in every), begun)
 
 
 def _matching(words: Iterable[str], begun: str) -> List[str]:

@@ -6,7 +6,8 @@ from difflib import SequenceMatcher
 from typing import Dict, List, Sequence, Tuple
 
 from .frames import Broken, checksum, decode, summary
-from .names import COUNTERS, NODES, QUEUES, Name
+from .language.names import COUNTERS, NODES, Name
+from .language.records import BULK_STATUS, CLEAR, QUEUES
 from .pair import Frame, Node, Pair, State
 from .records import record_lines
 from .words import (
@@ -143,9 +144,9 @@ def _of_node(where: str, before: Node, after: Node) -> List[Difference]:
     found += _changed(where, "queue", _queue(before), _queue(after))
     found += _moved(where, "request", [_request(it) for it in before.asks], [_request(it) for it in after.asks])
     statuses, later_statuses = ([("", bulk_status(it)) for it in node.statuses] for node in (before, after))
-    found += _moved(where, "bulk status", statuses, later_statuses)
+    found += _moved(where, BULK_STATUS.name, statuses, later_statuses)
     clears, later_clears = ([("", cleared(it)) for it in node.clears] for node in (before, after))
-    found += _moved(where, "clear", clears, later_clears)
+    found += _moved(where, CLEAR.name, clears, later_clears)
     return found + _moved(where, "held packet", _held(before), _held(after))
 
 

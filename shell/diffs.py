@@ -10,7 +10,7 @@ from .checksums import rules_checksum
 from .colours import Paint
 from .differences import Difference, differences
 from .laboratory import Laboratory
-from .names import NODES, Name
+from .language.names import NODES, Name
 from .pair import Node, Pair, State, other
 from .setups import Setup
 from .words import (

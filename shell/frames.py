@@ -6,23 +6,14 @@ from collections import Counter
 from dataclasses import dataclass
 from typing import Callable, Dict, List, Optional, Union
 
-from .names import CLASSES, Name
-from .pair import End, Key
+from .language.forms import GREATEST, PROTOCOLS
+from .language.names import Name
+from .language.packets import Key
+from .language.records import BULK_STATUS, CLEAR, DELETE, INSERT, KINDS, SHORT_UPDATE, UPDATE, RecordKind
+from .language.setups import CLASSES
+from .pair import End
 
 HEADER = 20
-PROTOCOLS = {1: "icmp", 6: "tcp", 17: "udp"}
-
-ACTIONS = {
-    0: ("clear", 12),
-    1: ("insert", 124),
-    2: ("insert acknowledgement", 12),
-    3: ("update", 124),
-    4: ("short update", 44),
-    5: ("update request", 12),
-    6: ("delete", 124),
-    7: ("short delete", 12),
-    10: ("bulk status", 8),
-}
 
 
 class Broken(ValueError):
@@ -89,7 +80,7 @@ Record = Union[StateRecord, ShortUpdate, Named, ClearRecord, StatusRecord]
 
 
 class _Bytes:
-    """Numbers that are read one behind the other, big endian."""
+    """Numbers that are read one after the other, big endian."""
 
     def __init__(self, data: bytes):
         self.data, self.at = data, 0
@@ -114,7 +105,7 @@ class _Bytes:
         number = self.number(1)
         if number >= len(CLASSES):
             raise Broken(f"there is no class {number}")
-        return CLASSES[number][0]
+        return CLASSES[number].word
 
     def end(self, family: int) -> str:
         address = self.take(16)
@@ -145,7 +136,7 @@ def _state(action: str, data: _Bytes) -> StateRecord:
         destination,
         timeout_class,
         remaining,
-        None if rule == 0xFFFFFFFF else rule,
+        None if rule == GREATEST else rule,
     )
 
 
@@ -168,13 +159,13 @@ def _named(action: str, data: _Bytes) -> Named:
     return Named(action, data.name())
 
 
-_READERS: Dict[str, Callable[[str, _Bytes], Record]] = {
-    "clear": _clear,
-    "insert": _state,
-    "update": _state,
-    "delete": _state,
-    "short update": _short_update,
-    "bulk status": _status,
+_READERS: Dict[RecordKind, Callable[[str, _Bytes], Record]] = {
+    CLEAR: _clear,
+    INSERT: _state,
+    UPDATE: _state,
+    DELETE: _state,
+    SHORT_UPDATE: _short_update,
+    BULK_STATUS: _status,
 }
 
 
@@ -190,16 +181,16 @@ def decode(frame: bytes) -> List[Record]:
     records: List[Record] = []
     at = HEADER
     while at < len(frame):
-        if len(frame) - at < 4 or frame[at] not in ACTIONS:
+        if len(frame) - at < 4 or frame[at] not in KINDS:
             raise Broken(f"no group begins at byte {at}")
-        name, size = ACTIONS[frame[at]]
+        kind = KINDS[frame[at]]
         count = int.from_bytes(frame[at + 2 : at + 4], "big")
         at += 4
-        if not count or count * size > len(frame) - at:
-            raise Broken(f"{count} records of {name} at byte {at}")
+        if not count or count * kind.size > len(frame) - at:
+            raise Broken(f"{count} records of {kind.name} at byte {at}")
         for _ in range(count):
-            records.append(_READERS.get(name, _named)(name, _Bytes(frame[at : at + size])))
-            at += size
+            records.append(_READERS.get(kind, _named)(kind.name, _Bytes(frame[at : at + kind.size])))
+            at += kind.size
     return records
 
 

@@ -4,7 +4,8 @@ from __future__ import annotations
 from dataclasses import replace
 from typing import Dict, Sequence
 
-from .names import Name
+from .language.events import HELD_BACK
+from .language.names import Name
 from .pair import Pair
 
 
@@ -12,7 +13,7 @@ def held_packets(events: Sequence[str], outcomes: Sequence[str]) -> Dict[Name, s
     """The packets of events that were held, each by the state that it made, as `PROTO SRC DST ..`. No name is given twice in a
     run from the opening on."""
     found = ((event.split(" ", 3)[-1], outcome.split()) for event, outcome in zip(events, outcomes))
-    return {Name.read(words[1]): packet for packet, words in found if words[0] == "held"}
+    return {Name.read(words[1]): packet for packet, words in found if words[0] == HELD_BACK.word}
 
 
 def tell_packets(pair: Pair, packets: Dict[Name, str]) -> Pair:

@@ -1,8 +1,15 @@
 """What `help` says of each word: its form, what it does, and what it answers."""
 from __future__ import annotations
 
+import re
 import textwrap
 from typing import Dict, List, NamedTuple
+
+from .language import commands, events
+from .language.commands import Line
+from .language.events import Event
+from .language.lines import FOR_PEOPLE
+from .language.searches import SEARCH
 
 
 class Help(NamedTuple):
@@ -13,122 +20,29 @@ class Help(NamedTuple):
     more: str = ""
 
 
-SETUP: Dict[str, Help] = {
-    "set": Help(
-        "set LIMIT N",
-        "sets a limit of the pair",
-        "Limits: states, queue, frames, mtu, held, defer (0 or 1), defer_ms, maxupd, batch, bulk_ms, astart, aend. The last value "
-        "of each counts. Where a node has more states than `astart` (three fifths of `states` where it is not set), timeouts are "
-        "scaled by (aend - its states) / (aend - astart), and from `aend` (six fifths of `states`) on they are 0. Where `aend` is "
-        "not above `astart`, as with both 0, they are whole.",
-    ),
-    "rule": Help(
-        "rule NODE pass|block in|out|any [quick] [proto P] [from NET] [fport N] [to NET] [tport N] [flags any] [no-sync] [max N] "
-        "[nat END] [timeout CLASS SECONDS]..",
-        "adds a rule to node a's or b's set; the last rule that matches decides, or the first that is quick",
-        "The words stand in this order. NET is ADDRESS/LENGTH, END is ADDRESS:PORT. Where no rule matches, the packet passes without a state.",
-    ),
-    "open": Help("open", "ends the setup; events and commands follow", "The branch main is there, with no events."),
-}
+# The names in forms that the help writes out.
+_WRITTEN_OUT = {"SRC": "SOURCE", "DST": "DESTINATION", "LEN": "LENGTH"}
 
-COMMANDS: Dict[str, Help] = {
-    "step": Help(
-        "step BRANCH EVENT",
-        "lets an event happen on a branch; events that were undone are discarded",
-        "Answers the outcome: see help EVENT.",
-    ),
-    "back": Help(
-        "back BRANCH N", "undoes the last N events, which stay behind the cursor", "Answers `at CURSOR`, or refused TooFarBack."
-    ),
-    "forward": Help(
-        "forward BRANCH N",
-        "lets the next N events behind the cursor happen again",
-        "Answers `at CURSOR`, or refused NothingForward.",
-    ),
-    "fork": Help(
-        "fork BRANCH K NEW",
-        "makes a branch NEW of the first K events of BRANCH",
-        "K is at most the number of its events. There are at most 16 branches.",
-    ),
-    "drop": Help("drop BRANCH", "removes a branch, unless it is the last", "Answers `removed`."),
-    "show": Help(
-        "show BRANCH",
-        "shows a branch for machines, in columns that docs/FORMATS.md and pfl_lab(1) name",
-        "`view` shows the same for people.",
-    ),
-    "names": Help("names", "tells the names of the branches"),
-    "excise": Help(
-        "excise BRANCH K",
-        "takes the K-th event out; the others happen again without it",
-        "Answers `excised` and the places of those that fell out with it, since they could not happen any more.",
-    ),
-    "restore": Help("restore BRANCH", "brings back what the newest excision took out, unless an event was accepted since"),
-}
 
-EVENTS: Dict[str, Help] = {
-    "packet": Help(
-        "packet NODE in|out PROTO SOURCE DESTINATION LENGTH\npacket NODE in|out tcp SOURCE DESTINATION FLAGS SEQ ACK WINDOW LENGTH [SCALE]",
-        "a packet comes to a node, on its way in or out; source and destination are ADDRESS:PORT, IPv6 in brackets",
-        "FLAGS are - or letters of FSRPAU in this order. Answers `pass NAME` (by the state NAME), `pass -` (without a state), `held NAME` "
-        "(until the peer knows the state), or `drop block|max|full|key|window`. Refused: 5 QueueFull, 7 CountFull.",
-    ),
-    "flush": Help(
-        "flush NODE",
-        "a node sends one frame to the other",
-        "Answers `sent TICKET LENGTH`. Refused: 2 NothingPending, 4 LinkFull, 7 CountFull.",
-    ),
-    "deliver": Help(
-        "deliver TICKET",
-        "a frame in flight comes to its receiver",
-        "Answers `taken N`, the records of the frame, those that were bad or stale among them (`why` tells which), or `broken K`. "
-        "Refused: 1 NoSuchFrame, 5 QueueFull, 7 CountFull. `deliver all` delivers every frame in flight, by ticket.",
-    ),
-    "lose": Help("lose TICKET", "a frame in flight is lost", "Refused: 1 NoSuchFrame."),
-    "repeat": Help(
-        "repeat TICKET", "a frame in flight is doubled under the next ticket", "Refused: 1 NoSuchFrame, 4 LinkFull, 7 CountFull."
-    ),
-    "cut": Help("cut TICKET LENGTH", "a frame in flight keeps its first LENGTH bytes", "Refused: 1 NoSuchFrame."),
-    "tick": Help(
-        "tick NODE MS",
-        "a node's clock goes on by MS milliseconds",
-        "Answers `clock MS`. Refused: 6 ClockFull. `tick both MS` ticks both nodes.",
-    ),
-    "purge": Help(
-        "purge NODE",
-        "a node deletes the states that have expired",
-        "Answers `purged N`. Timeouts are those of as many states as it finds (`help set`). Refused: 5 QueueFull, 7 CountFull.",
-    ),
-    "release": Help(
-        "release NODE",
-        "a node lets held packets go that are due",
-        "Answers `released N`. Refused: 2 NothingPending, 9 TooEarly, 7 CountFull.",
-    ),
-    "kill": Help(
-        "kill NODE NAME",
-        "a node deletes the state NAME, which is CREATOR.ID",
-        "Refused: 3 NoSuchState, 5 QueueFull, 7 CountFull.",
-    ),
-    "clear": Help(
-        "clear NODE",
-        "a node gives up all its states, and tells the peer so",
-        "Answers `cleared N`. Refused: 5 QueueFull, 7 CountFull.",
-    ),
-    "restart": Help(
-        "restart NODE",
-        "a node begins anew without states, and asks the peer for all of them",
-        "Answers `boot N`. Refused: 7 CountFull.",
-    ),
-    "turn": Help(
-        "turn NODE",
-        "a node queues the next states of the bulk update that it serves",
-        "Answers `queued N`. Refused: 8 NotSyncing, 5 QueueFull, 7 CountFull.",
-    ),
-    "retry": Help(
-        "retry NODE",
-        "a node asks for all states again, or gives up after the twelfth try",
-        "Answers `asked TRIES` or `served`. Refused: 8 NotSyncing, 9 TooEarly, 5 QueueFull.",
-    ),
-}
+def _written_out(text: str) -> str:
+    return re.sub(rf"\b({'|'.join(_WRITTEN_OUT)})\b", lambda it: _WRITTEN_OUT[it[0]], text)
+
+
+def _of_line(it: Line) -> Help:
+    return Help(it.form, it.what, it.more)
+
+
+def _of_event(it: Event) -> Help:
+    """The help of an event: what it answers and refuses is put into words here."""
+    *others, last = (f"`{outcome.form}`{outcome.help}" for outcome in it.outcomes)
+    answers = f"{', '.join(others)}{',' * (len(others) > 1)} or {last}" if others else last
+    more = f"Answers {answers}. Refused: {', '.join(it.refused)}. {it.more}".strip()
+    return Help(*(_written_out(part) for part in ("\n".join(it.forms), it.what, more)))
+
+
+SETUP = {word: _of_line(it) for word, it in commands.SETUP.items()}
+COMMANDS = {word: _of_line(it) for word, it in commands.TYPED.items()}
+EVENTS = {word: _of_event(it) for word, it in events.EVENTS.items()}
 
 SEARCH_PARTS = "\n".join(
     (
@@ -150,7 +64,11 @@ SEARCH_PARTS = "\n".join(
 )
 
 SHELL: Dict[str, Help] = {
-    "view": Help("view [BRANCH]", "shows the pair in the words of pfctl: states, counters, queues, held packets, frames"),
+    "view": Help(
+        "view [BRANCH] [K]",
+        "shows the pair in the words of pfctl: states, counters, queues, held packets, frames",
+        "With K it shows the pair as it was after the first K events, those after the cursor too; the branch stays as it is.",
+    ),
     "diff": Help(
         "diff [BRANCH]\ndiff BRANCH BRANCH",
         "says whether nodes a and b agree and where they do not; or how two branches differ, and from which event on",
@@ -163,9 +81,8 @@ SHELL: Dict[str, Help] = {
     "quiet": Help(
         "quiet [BRANCH]", "flushes and delivers, bulk turns too, until nothing is pending or in flight, telling each step"
     ),
-    "search": Help(
-        "search drops packet .. [, PART]..\nsearch passes packet .. [, PART]..\nsearch apart [, PART]..\n"
-        "search BRANCH DEPTH RUNS GOAL [; CHOICE]..",
+    SEARCH: Help(
+        "\n".join((*FOR_PEOPLE, f"{SEARCH} BRANCH DEPTH RUNS GOAL [; CHOICE]..")),
         "finds a shortest run of events after which a packet would be dropped, or would pass, or the nodes have not the same "
         "states; or proves that there is none",
         SEARCH_PARTS,

@@ -3,14 +3,18 @@ from __future__ import annotations
 
 import contextlib
 from dataclasses import dataclass
-from typing import Iterator, List, Optional, Sequence, Tuple
+from typing import Container, Dict, Iterator, List, Optional, Sequence, Tuple
 
 from .branches import Branch, read_log
 from .held import held_packets, tell_packets
-from .names import NODES, SEARCH
+from .language.commands import NAMES, OPEN, STEP
+from .language.lines import has_word, opens
+from .language.names import NODES
+from .language.searches import SEARCH
 from .pair import Pair, read_shown
-from .programs import Client, Ended, Run, Session, check_setup, has_reply, run_lines
+from .programs import Client, Ended, Run, Session, check_setup, run_lines
 from .setups import Setup
+from .words import counted
 
 
 # What the numbers of a server's summary count, behind the number of commands.
@@ -60,7 +64,7 @@ class Laboratory:
 
     def tell_setup(self, line: str) -> None:
         """Takes a line of the setup, or says what is wrong with it."""
-        if line.split() == ["open"]:
+        if opens(line):
             self.open()
             return
         fault = check_setup(self.program, [*self.setup.lines, line])
@@ -76,7 +80,7 @@ class Laboratory:
 
     def ask(self, line: str) -> List[str]:
         """The reply to a line behind the setup; none where it is passed over."""
-        if not has_reply(line):
+        if not has_word(line):
             return []
         if self.session is None:
             raise Unknown("the pair is not set up: say `rule NODE ..` for its rules, and then `open`")
@@ -90,6 +94,15 @@ class Laboratory:
     def show(self, branch: str) -> Pair:
         """The pair that a branch shows."""
         reply = self._quietly(f"show {branch}")
+        if not reply[0].startswith("branch "):
+            raise Unknown(no_branch(branch))
+        return read_shown(reply)
+
+    def past(self, branch: str, place: int) -> Pair:
+        """The pair as it was after the first events of a branch, those after its cursor too."""
+        reply = self._quietly(f"past {branch} {place}")
+        if reply[0].split()[-1] == "NothingForward":
+            raise Unknown(f"{branch} has no first {counted(place, 'event')}; `log {branch}` lists its events")
         if not reply[0].startswith("branch "):
             raise Unknown(no_branch(branch))
         return read_shown(reply)
@@ -113,7 +126,7 @@ class Laboratory:
 
     def names(self) -> List[str]:
         """The names of the branches, in the order of their making."""
-        return self._quietly("names")[0].split()[1:]
+        return self._quietly(NAMES.word)[0].split()[1:]
 
     def _quietly(self, line: str) -> List[str]:
         """A reply that changes nothing, and that no one asks the reason of."""
@@ -147,19 +160,22 @@ class Laboratory:
             tell_packets(pair, held_packets(stood, self.outcomes(stood)))
         return pair
 
-    def steps(self, events: Sequence[str], first: int = 1) -> List[Step]:
-        """The events from a place on, each with the pair before and after it."""
-        lines = [f"step main {it}" for it in events[: first - 1]]
-        lines.append("show main")
-        for event in events[first - 1 :]:
-            lines += [f"step main {event}", "show main"]
+    def shown_at(self, events: Sequence[str], places: Container[int]) -> Tuple[List[str], Dict[int, List[str]]]:
+        """The outcomes of events, and what the branch shows after those at some places; at place 0 is the opening."""
+        lines = ["show main"] * (0 in places)
+        for place, event in enumerate(events, 1):
+            lines += [f"step main {event}"] + ["show main"] * (place in places)
         replies = self.run(lines)
-        before, behind = replies[: first - 1], replies[first - 1 :]
-        told = [outcome_of(it[0]) for it in (*before, *behind[1::2])]
+        told = [outcome_of(it[0]) for it in replies if not it[0].startswith("branch ")]
+        shown = (it for it in replies if it[0].startswith("branch "))
+        return told, dict(zip((it for it in range(len(events) + 1) if it in places), shown))
+
+    def steps(self, events: Sequence[str], numbers: Sequence[int]) -> List[Step]:
+        """The events of these numbers, each with the pair before and after it, all shown in one run."""
+        told, shown = self.shown_at(events, {place for it in numbers for place in (it - 1, it)})
         packets = held_packets(events, told)
-        shown = [tell_packets(read_shown(it), packets) for it in behind[::2]]
-        pairs = zip(range(first, len(events) + 1), shown, shown[1:])
-        return [Step(number, events[number - 1], told[number - 1], was, now) for number, was, now in pairs]
+        pairs = {place: tell_packets(read_shown(it), packets) for place, it in shown.items()}
+        return [Step(it, events[it - 1], told[it - 1], pairs[it - 1], pairs[it]) for it in numbers]
 
     @contextlib.contextmanager
     def aside(self, branch: Branch) -> Iterator[Run]:
@@ -182,7 +198,7 @@ class Laboratory:
             raise Unknown(
                 "the setup of the server is not known here: start the shell with --setup FILE, the file that the server read"
             )
-        ran = run_lines(self.program, (*(self.setup.lines if setup is None else setup), "open", *lines))
+        ran = run_lines(self.program, (*(self.setup.lines if setup is None else setup), OPEN.word, *lines))
         if len(ran.replies) != len(lines):
             raise Ended("; ".join(ran.faults) or f"the program ended with status {ran.status}")
         return ran.replies
@@ -198,4 +214,4 @@ def no_branch(name: str) -> str:
 def outcome_of(reply: str) -> str:
     """The outcome of an accepted event, out of its reply; another reply as it is."""
     words = reply.split()
-    return " ".join(words[1:-2]) if words[0] == "step" else reply
+    return " ".join(words[1:-2]) if words[0] == STEP.word else reply

@@ -6,6 +6,7 @@ from typing import List
 from .branches import Branch
 from .colours import Paint
 from .laboratory import Laboratory
+from .language.events import BROKEN, DROPPED, HELD_BACK, LOST, PASS
 
 
 def log(lab: Laboratory, branch: Branch, paint: Paint) -> List[str]:
@@ -45,6 +46,6 @@ def _cursor(branch: Branch, width: int) -> str:
 
 def _painted(outcome: str, paint: Paint) -> str:
     first = outcome.partition(" ")[0]
-    if first in ("drop", "broken", "refused", "bad", "lost"):
+    if first in (DROPPED.word, BROKEN.word, LOST.word, "refused", "bad"):
         return paint.bad(outcome)
-    return paint.good(outcome) if first in ("pass", "held") else outcome
+    return paint.good(outcome) if first in (PASS.word, HELD_BACK.word) else outcome

@@ -3,7 +3,8 @@ from __future__ import annotations
 
 from typing import Callable, Iterator, List
 
-from .names import NODES
+from .language.events import DELIVER, FLUSH, TICK, TURN
+from .language.names import NODES
 from .pair import Pair
 
 # A pair that is not quiet after so many steps answers itself without end.
@@ -21,12 +22,12 @@ class NotQuiet(Exception):
 
 def deliveries(pair: Pair) -> List[str]:
     """The delivery of each frame in flight, by ticket."""
-    return [f"deliver {ticket}" for ticket in sorted(pair.frames)]
+    return [f"{DELIVER.word} {ticket}" for ticket in sorted(pair.frames)]
 
 
 def ticks(milliseconds: str) -> List[str]:
     """A tick of each node."""
-    return [f"tick {node} {milliseconds}" for node in NODES]
+    return [f"{TICK.word} {node} {milliseconds}" for node in NODES]
 
 
 def next_steps(pair: Pair) -> List[str]:
@@ -34,8 +35,8 @@ def next_steps(pair: Pair) -> List[str]:
     arriving = deliveries(pair)
     if arriving:
         return arriving
-    telling = [f"flush {node}" for node in NODES if pair.nodes[node].pending]
-    return telling or [f"turn {node}" for node in NODES if pair.nodes[node].serve != "-"]
+    telling = [f"{FLUSH.word} {node}" for node in NODES if pair.nodes[node].pending]
+    return telling or [f"{TURN.word} {node}" for node in NODES if pair.nodes[node].serve != "-"]
 
 
 def steps_to_quiet(step: Step, look: Look) -> Iterator[str]:

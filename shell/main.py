@@ -5,7 +5,7 @@ import argparse
 import io
 import os
 import sys
-from typing import Iterator, List, Sequence
+from typing import Iterator, List, Optional, Sequence
 
 from . import scripts
 from .charts.chart import Chart, chart as chart_of
@@ -13,7 +13,8 @@ from .charts.picture import draw
 from .charts.text import text as chart_text
 from .colours import PLAIN, Paint
 from .laboratory import Laboratory, Unknown
-from .programs import Client, Ended, SetupFault, check_setup, has_reply, lines_of, run_lines, setup_fault
+from .language.lines import has_word, lines_of, opens
+from .programs import Client, Ended, SetupFault, check_setup, run_lines, setup_fault
 from .setups import Setup
 from .shell import STRICT_STATUS, Shell, Stopped
 
@@ -21,8 +22,24 @@ HISTORY = "~/.pfl_lab_history"
 INTERRUPTED_STATUS = 130
 
 
+class Words(argparse.Namespace):
+    """What the words of the command say; those of another word than its own are not there."""
+
+    name: str
+    program: str
+    word: str
+    files: List[str]
+    port: Optional[int]
+    setup: Optional[str]
+    echo: bool
+    strict: bool
+    file: str
+    picture: Optional[str]
+    branch: str
+
+
 def parser(name: str = "./lab") -> argparse.ArgumentParser:
-    """What may stand behind the command's name, which is also what it calls itself in messages, without a folder."""
+    """What may follow the command's name, which is also what it calls itself in messages, without a folder."""
     words = argparse.ArgumentParser(prog=name, description="What stands around the laboratory's program.")
     words.set_defaults(name=os.path.basename(name))
     words.add_argument("--program", required=True, help=argparse.SUPPRESS)
@@ -65,9 +82,9 @@ def picture(word: str) -> str:
 
 
 def main(arguments: Sequence[str], name: str = "./lab") -> int:
-    """Carries out the words behind the command's name: the status."""
+    """Carries out the words after the command's name: the status."""
     kinds = parser(name)
-    words = kinds.parse_args(arguments)
+    words = kinds.parse_args(arguments, Words())
     if words.word == "shell" and words.setup and not words.port:
         kinds.error("--setup tells what a server read, and goes with --port; a pair of your own has its setup from lines")
     for stream in (sys.stdin, sys.stdout):
@@ -91,24 +108,24 @@ def main(arguments: Sequence[str], name: str = "./lab") -> int:
     return 1
 
 
-def say(words: argparse.Namespace, what: object) -> None:
+def say(words: Words, what: object) -> None:
     """A line on standard error, with the command's name before it."""
     print(f"{words.name}: {what}", file=sys.stderr)
 
 
-def verify(words: argparse.Namespace) -> int:
+def verify(words: Words) -> int:
     found = scripts.verified(words.program, words.files)
     print("\n".join(found.lines))
     return int(found.differing > 0)
 
 
-def annotate(words: argparse.Namespace) -> int:
+def annotate(words: Words) -> int:
     for line in scripts.annotated_all(words.program, words.files):
         print(line)
     return 0
 
 
-def chart(words: argparse.Namespace) -> int:
+def chart(words: Words) -> int:
     script = lines_of(scripts.read(words.file))
     faulty = list(faulty_lines(words.program, script))
     for line in faulty:
@@ -142,7 +159,7 @@ def drawn_from(program: str, script: Sequence[str], branch: str) -> Chart:
     for line in script:
         if lab.is_open:
             lab.ask(line)
-        elif has_reply(line):
+        elif has_word(line):
             lab.tell_setup(line)
     drawn = chart_of(lab, lab.branch(branch))
     lab.close()
@@ -160,7 +177,7 @@ def paint(is_terminal: bool) -> Paint:
     return Paint(on=True) if is_terminal and not os.environ.get("NO_COLOR") else PLAIN
 
 
-def shell(words: argparse.Namespace) -> int:
+def shell(words: Words) -> int:
     is_typed = sys.stdin.isatty()
     setup = setup_from(words.program, words.setup) if words.setup else None
     lab = Laboratory(words.program, words.port, setup)
@@ -195,9 +212,9 @@ def setup_from(program: str, path: str) -> Setup:
     """The setup that a file has, up to `open` if it is there, where the program finds no fault in it."""
     lines: List[str] = []
     for line in lines_of(scripts.read(path)):
-        if line.split() == ["open"]:
+        if opens(line):
             break
-        if has_reply(line):
+        if has_word(line):
             lines.append(line)
     fault = check_setup(program, lines)
     if fault:

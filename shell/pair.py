@@ -4,7 +4,8 @@ from __future__ import annotations
 from dataclasses import dataclass, field
 from typing import Callable, Dict, List, Optional, Sequence
 
-from .names import COUNTERS, Name, number_or_none
+from .language.names import COUNTERS, Name, number_or_none
+from .language.packets import Key
 
 
 class NotShown(ValueError):
@@ -25,14 +26,6 @@ class End:
     def read(cls, words: Sequence[str]) -> "End":
         level, scale, window, lo, hi = words
         return cls(int(level), number_or_none(scale), int(window), int(lo), int(hi))
-
-
-@dataclass(frozen=True)
-class Key:
-    """The two ends of a flow, each `ADDRESS:PORT`, as the packet's receiver is far or near."""
-
-    far: str
-    near: str
 
 
 @dataclass(frozen=True)

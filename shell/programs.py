@@ -8,8 +8,13 @@ import socket
 import subprocess
 from typing import IO, Iterable, Iterator, List, Optional, Sequence
 
+from .language.commands import COMMANDS, OPEN
+from .language.faults import LIMIT_FAULTS, LINE_FAULTS, RULE_FAULTS
+from .language.lines import lines_of
+from .language.searches import FOUND
+
 # The first words of replies that end with a line `end`.
-MANY_LINES = ("branch", "log", "found")
+MANY_LINES = (*(it.replies[0].split()[0] for it in COMMANDS.values() if it.is_long), FOUND)
 
 
 class Ended(Exception):
@@ -30,18 +35,8 @@ class SetupFault(Exception):
         return f"{_LISTS[kind]} {rest}" if kind in _LISTS else self.fault
 
 
-LINE_FAULTS = ("Long", "NotAscii", "Unknown", "Missing", "Number", "Extra", "Packet")
-RULE_FAULTS = ("TooMany", "NatNotOut", "ZeroMax", "NoMemory")
-LIMIT_FAULTS = ("TooSmall", "TooLarge", "NoMemory")
 _FAULTS = {"line": LINE_FAULTS, "rule": RULE_FAULTS, "world": LIMIT_FAULTS}
 _LISTS = {"line": "bad", "rule": "rules", "world": "limits"}
-
-
-def has_reply(line: str) -> bool:
-    """Whether a line behind the setup is answered: it has a word, and that does not begin a comment."""
-    if line.endswith("\r"):
-        line = line[:-1]
-    return not line.strip(" \t").startswith("#") and bool(line.strip(" \t"))
 
 
 def read_reply(lines: Iterator[str]) -> List[str]:
@@ -101,7 +96,7 @@ class Session:
 
 
 class Run(Session):
-    """A run of the program over a pipe, behind its setup."""
+    """A run of the program over a pipe, after its setup."""
 
     def __init__(self, program: str, setup: Sequence[str]):
         self.process = subprocess.Popen(
@@ -115,7 +110,7 @@ class Run(Session):
         )
         assert self.process.stdin and self.process.stdout
         super().__init__(self.process.stdin, iter(self.process.stdout))
-        for line in (*setup, "open"):
+        for line in (*setup, OPEN.word):
             self.process.stdin.write(f"{line}\n")
 
     def kill(self) -> None:
@@ -173,12 +168,6 @@ def run_lines(program: str, lines: Iterable[str], mode: str = "run") -> Result:
     return Result(list(replies), lines_of(ran.stderr), ran.returncode)
 
 
-def lines_of(text: str) -> List[str]:
-    """The lines of a text, which only a line feed ends."""
-    lines = text.split("\n")
-    return lines if lines[-1] else lines[:-1]
-
-
 def setup_fault(faults: Sequence[str]) -> Optional[SetupFault]:
     """The fault of a setup that the program told on standard error."""
     for line in faults:
@@ -194,4 +183,4 @@ def setup_fault(faults: Sequence[str]) -> Optional[SetupFault]:
 
 def check_setup(program: str, lines: Sequence[str]) -> Optional[SetupFault]:
     """The first fault of a setup, if it has one; nothing is made."""
-    return setup_fault(run_lines(program, (*lines, "open"), "check").faults)
+    return setup_fault(run_lines(program, (*lines, OPEN.word), "check").faults)

@@ -4,7 +4,7 @@ from __future__ import annotations
 from typing import List
 
 from .frames import Broken, ClearRecord, Record, ShortUpdate, StateRecord, StatusRecord, decode
-from .names import level_name
+from .language.names import level_name
 from .pair import Cleared, End
 from .words import bulk_status, cleared, near_and_far, request, rule_number, sequence, state_line
 

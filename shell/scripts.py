@@ -7,7 +7,8 @@ import tempfile
 from dataclasses import dataclass, field
 from typing import Dict, Iterator, List, Sequence, Tuple
 
-from .programs import has_reply, lines_of, run_lines
+from .language.lines import content_of, has_word, lines_of, opens
+from .programs import run_lines
 
 REPLY, FAULT, CHECKED, STATUS = "#> ", "#! ", "#? ", "#= "
 # A line that somebody wrote as one of these, and that is a comment.
@@ -53,17 +54,17 @@ class Script:
     def of(cls, text: str) -> "Script":
         script, is_open = cls(lines_of(text)), False
         for number, line in enumerate(script.lines, 1):
-            line = line[:-1] if line.endswith("\r") else line
+            line = content_of(line)
             if line.startswith(REPLY):
                 script._expect(number, line[len(REPLY) :])
             elif line[:3] in script.marked:
                 script.marked[line[:3]].append((number, line[3:]))
             elif LIKE_A_MARK.match(line):
                 script.unread.append((number, line))
-            elif has_reply(line) and is_open:
+            elif has_word(line) and is_open:
                 script.commands.append(Command(number))
-            elif has_reply(line):
-                is_open = line.split() == ["open"]
+            elif has_word(line):
+                is_open = opens(line)
         return script
 
     def _expect(self, number: int, text: str) -> None:

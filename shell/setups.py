@@ -4,7 +4,11 @@ from __future__ import annotations
 from dataclasses import dataclass, field
 from typing import Dict, List, NamedTuple, Optional, Sequence
 
-from .names import DEFAULT_LIMITS, DEFAULT_SECONDS, FIFTHS_OF_STATES, NODES
+from .language.commands import SET
+from .language.names import NODES
+from .language.setups import AEND, ASTART, CLASSES, LIMITS, MAX, STATES, TIMEOUT, Limit, Option
+
+DEFAULT_SECONDS = {it.word: it.seconds for it in CLASSES}
 
 
 @dataclass(frozen=True)
@@ -21,20 +25,17 @@ class Rule:
     def action(self) -> str:
         return self.words[0]
 
-    def after(self, word: str) -> Optional[str]:
-        """The word behind the given one, where the rule has it."""
-        words = list(self.words)
-        return words[words.index(word) + 1] if word in words[:-1] else None
+    def has(self, option: Option) -> bool:
+        return option.word in self.words
 
     @property
     def most_states(self) -> Optional[int]:
-        most = self.after("max")
-        return None if most is None else int(most)
+        return int(self.words[self.words.index(MAX.word) + 1]) if self.has(MAX) else None
 
     def seconds(self, timeout_class: str) -> Optional[int]:
         """The seconds that the rule sets for a class, if it does."""
         for at, word in enumerate(self.words[:-2]):
-            if word == "timeout" and self.words[at + 1] == timeout_class:
+            if word == TIMEOUT.word and self.words[at + 1] == timeout_class:
                 return int(self.words[at + 2])
         return None
 
@@ -47,11 +48,11 @@ class Adaptive(NamedTuple):
     end: int
 
     def shortens(self, states: int) -> bool:
-        """Whether a node that has so many states goes by shorter timeouts."""
+        """Whether a node with this number of states goes by shorter timeouts."""
         return self.start < states and self.start < self.end
 
     def scaled(self, seconds: int, states: int) -> int:
-        """The seconds of a timeout where a node has so many states."""
+        """The seconds of a timeout where a node has this number of states."""
         if not self.shortens(states):
             return seconds
         return seconds * max(0, self.end - states) // (self.end - self.start)
@@ -62,7 +63,7 @@ class Setup:
     """The lines of a setup without `open`, and what they say. Its limits have `astart` and `aend` only where these are set."""
 
     lines: List[str] = field(default_factory=list)
-    limits: Dict[str, int] = field(default_factory=lambda: dict(DEFAULT_LIMITS))
+    limits: Dict[Limit, int] = field(default_factory=lambda: {it: it.default for it in LIMITS.values() if not it.fifths})
     rules: Dict[str, List[Rule]] = field(default_factory=lambda: {node: [] for node in NODES})
 
     @classmethod
@@ -75,8 +76,8 @@ class Setup:
     def add(self, line: str) -> None:
         """Takes a line that the program has found right."""
         words = line.split()
-        if words[0] == "set":
-            self.limits[words[1]] = int(words[2])
+        if words[0] == SET.word:
+            self.limits[LIMITS[words[1]]] = int(words[2])
         else:
             self.rules[words[1]].append(Rule(tuple(words[2:])))
         self.lines.append(line)
@@ -89,8 +90,7 @@ class Setup:
     @property
     def adaptive(self) -> Adaptive:
         """Between which numbers of states timeouts shrink."""
-        start, end = (self.limits.get(it, self.limits["states"] * fifths // 5) for it, fifths in FIFTHS_OF_STATES.items())
-        return Adaptive(start, end)
+        return Adaptive(*(self.limits.get(it, self.limits[STATES] * it.fifths // 5) for it in (ASTART, AEND)))
 
     def seconds(self, node: str, number: Optional[int], timeout_class: str) -> int:
         """The timeout of a state's class under its rule, in seconds, where no number of states shortens it."""

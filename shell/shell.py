@@ -14,8 +14,12 @@ from .charts.text import text as chart_text
 from .colours import Paint
 from .completion import candidates
 from .laboratory import Laboratory, Unknown
-from .names import EVENTS, NODES, SEARCH, SETUP
-from .programs import Ended, SetupFault, has_reply, lines_of
+from .language.commands import SETUP, STEP
+from .language.events import BROKEN, DELIVER, DROPPED, EVENTS, TICK
+from .language.lines import has_word, lines_of, opens
+from .language.names import NODES
+from .language.searches import GAVE_UP, SEARCH
+from .programs import Ended, SetupFault
 from .reasons.faults import explain_fault
 from .reasons.why import why_event, why_last
 from .searches.finder import Finder
@@ -23,7 +27,7 @@ from .searches.finder import Finder
 STRICT_STATUS = 4
 BAD_WORDS = ("bad", "refused")
 # Outcomes of an event that a person wants to look at.
-BAD_OUTCOMES = ("drop", "broken")
+BAD_OUTCOMES = (DROPPED.word, BROKEN.word)
 
 
 class Stopped(Exception):
@@ -109,7 +113,7 @@ class Shell(cmd.Cmd):
     def default(self, line: str) -> None:
         """A line of the laboratory's own language, or an event alone, which is meant of the branch in use."""
         words = line.split()
-        if not has_reply(line):
+        if not has_word(line):
             self.lines.append((line, ()))
         elif not self.lab.is_open and words[0] not in helps.WORDS:
             raise Unknown(unknown_word(words[0]))
@@ -119,7 +123,7 @@ class Shell(cmd.Cmd):
             self.finder.search(line)
         elif words[0] in EVENTS:
             self.events(self.lab.in_use, " ".join(words))
-        elif words[0] == "step" and len(words) > 2:
+        elif words[0] == STEP.word and len(words) > 2:
             self.events(words[1], " ".join(words[2:]), line)
         else:
             self.ask(line)
@@ -130,15 +134,15 @@ class Shell(cmd.Cmd):
             return
         self.lab.tell_setup(line)
         self.lines.append((line, ()))
-        if self.lab.is_open and self.is_typed:
+        if opens(line) and self.is_typed:
             self.tell([self.paint.dim("the pair is set up; its branch is main. `help` lists the words.")])
 
     def events(self, branch: str, event: str, line: str = "") -> None:
         """Lets an event happen, or those that `tick both` and `deliver all` stand for."""
         words = event.split()
-        if words[:2] == ["tick", "both"] and len(words) == 3:
+        if words[:2] == [TICK.word, TICK.every] and len(words) == 3:
             self.steps(branch, macros.ticks(words[2]))
-        elif words == ["deliver", "all"]:
+        elif words == [DELIVER.word, DELIVER.every]:
             deliveries = macros.deliveries(self.lab.show(branch))
             if not deliveries:
                 self.fault("no frame is in flight")
@@ -178,9 +182,9 @@ class Shell(cmd.Cmd):
 
     def painted(self, line: str) -> str:
         words = line.split()
-        if words[0] in BAD_WORDS or (words[0] == "step" and words[1] in BAD_OUTCOMES):
+        if words[0] in BAD_WORDS or (words[0] == STEP.word and words[1] in BAD_OUTCOMES):
             return self.paint.bad(line)
-        return self.paint.note(line) if words[:2] == ["gave", "up"] else line
+        return self.paint.note(line) if words[0] == GAVE_UP else line
 
     # ---- questions
 
@@ -203,8 +207,13 @@ class Shell(cmd.Cmd):
 
     def do_view(self, words: str) -> None:
         setup = self.lab.setup if self.lab.knows_setup else None
-        pair = self.lab.with_packets(self.lab.show(words.strip() or self.lab.in_use))
-        self.tell(views.view(pair, setup, self.paint))
+        names = words.split()
+        place = int(names.pop()) if names and names[-1].isdecimal() else None
+        if len(names) > 1:
+            raise Unknown(f"usage: {helps.SHELL['view'].form}")
+        name = names[0] if names else self.lab.in_use
+        pair = self.lab.show(name) if place is None else self.lab.past(name, place)
+        self.tell(views.view(self.lab.with_packets(pair), setup, self.paint))
 
     def do_diff(self, words: str) -> None:
         names = words.split()
@@ -256,7 +265,7 @@ class Shell(cmd.Cmd):
     # ---- the shell itself
 
     def needed(self, words: str, what: str) -> str:
-        """The words behind one that needs some."""
+        """The words after one that needs some."""
         if not words.strip():
             raise Unknown(f"usage: {helps.SHELL[what].form}")
         return words.strip()
@@ -326,6 +335,7 @@ class Shell(cmd.Cmd):
     def completenames(self, text: str, *ignored: object) -> List[str]:
         return spaced(candidates(self.lab, (), text))
 
+    # (Any, since cmd.Cmd has it)
     def completedefault(self, *words: Any) -> List[str]:
         text, line, begun, _ = words
         try:

@@ -7,7 +7,10 @@ from typing import Dict, List, Optional
 from .checksums import rules_checksum
 from .colours import Paint
 from .frames import HEADER, Broken, checksum, decode, summary
-from .names import COUNTERS, MOST_TRIES, NODES, QUEUES
+from .language.events import MOST_TRIES
+from .language.names import COUNTERS, NODES
+from .language.records import BULK_STATUS, CLEAR, QUEUES, UPDATE_REQUEST
+from .language.setups import BULK_MS, DEFER_MS
 from .pair import Frame, Held, Node, Pair, State, other
 from .records import record_line
 from .setups import Setup
@@ -101,11 +104,11 @@ def _to_be_told(node: Node, paint: Paint) -> List[str]:
     for it in node.queue:
         kinds.setdefault(QUEUES[it.kind], []).append(str(it.name))
     if node.asks:
-        kinds["update request"] = [request(it) for it in node.asks]
+        kinds[UPDATE_REQUEST.name] = [request(it) for it in node.asks]
     if node.statuses:
-        kinds["bulk status"] = [bulk_status(it) for it in node.statuses]
+        kinds[BULK_STATUS.name] = [bulk_status(it) for it in node.statuses]
     if node.clears:
-        kinds["clear"] = [cleared(it) for it in node.clears]
+        kinds[CLEAR.name] = [cleared(it) for it in node.clears]
     push = ", push asked" if node.push else ""
     if not kinds:
         return [paint.note("  nothing to be told to the peer, push asked")] if push else []
@@ -115,7 +118,7 @@ def _to_be_told(node: Node, paint: Paint) -> List[str]:
 
 
 def _held(it: Held, node: Node, setup: Optional[Setup], paint: Paint) -> str:
-    due = it.since + (setup or Setup()).limits["defer_ms"]
+    due = it.since + (setup or Setup()).limits[DEFER_MS]
     when = f"due since {seconds(due)}" if due <= node.clock else f"due at {seconds(due)}"
     packet = f" ({it.packet})" if it.packet else ""
     return paint.note(f"  held packet of {it.name}{packet}: since {seconds(it.since)}, {when}")
@@ -127,7 +130,7 @@ def _bulk_update(node: Node, setup: Optional[Setup], paint: Paint) -> List[str]:
         lines.append(f"  serves a bulk update, {bulk_server(node.serve)}")
     if node.sync != "-":
         tries, _, asked = node.sync.partition("/")
-        again = seconds(int(asked) + (setup or Setup()).limits["bulk_ms"])
+        again = seconds(int(asked) + (setup or Setup()).limits[BULK_MS])
         then = f"asks again at {again} at the earliest" if int(tries) < MOST_TRIES else f"gives up at {again} at the earliest"
         lines.append(f"  {bulk_client(node.sync)}; {then}")
     return [paint.note(it) for it in lines]

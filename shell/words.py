@@ -4,14 +4,15 @@ from __future__ import annotations
 from typing import Dict, Optional, Tuple, Union
 
 from .frames import StateRecord
-from .names import BULK_STATUS, Name, level_name
+from .language.names import BULK_STATUSES, Name, level_name
+from .language.setups import NO_SYNC
 from .pair import Cleared, End, Node, State
 from .setups import Setup
 
 Flow = Union[State, StateRecord]
 ALL_STATES = Name(0, 0)
 UNKNOWN_SETUP = "the setup is not known here: times of expiry are those of the default timeouts and limits"
-FLAGS = {"-": "none", "n": "no-sync", "k": "waits for an acknowledgement"}
+FLAGS = {"-": "none", "n": NO_SYNC.word, "k": "waits for an acknowledgement"}
 
 
 def counted(number: int, noun: str, many: Optional[str] = None) -> str:
@@ -159,7 +160,7 @@ def cleared(it: Cleared) -> str:
 
 
 def bulk_status(status: int) -> str:
-    return BULK_STATUS.get(status, str(status))
+    return BULK_STATUSES.get(status, str(status))
 
 
 # ---- bulk updates

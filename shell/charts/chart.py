@@ -12,9 +12,10 @@ from typing import Callable, Dict, Iterable, List, Optional, Sequence, Tuple
 
 from ..branches import Branch
 from .frames import LOOKS, asides, frames_sent, record_words
+from ..flights import Flight, Happened, flights_of, happened
 from ..laboratory import Laboratory, Unknown
-from ..names import FRAME_FAULTS, OF_TICKET
-from ..pair import other
+from ..language.events import BROKEN, CUT, DELIVER, FLUSH, HELD_BACK, LOSE, PACKET, PASS, REPEAT, RESTART, TICK
+from ..language.faults import FRAME_FAULTS
 from ..words import counted, seconds
 
 
@@ -42,33 +43,6 @@ class Row:
 
 
 @dataclass
-class Flight:
-    """A frame on its way: the rows where it was sent, cut and ended, counted from 0, and how it ended."""
-
-    ticket: int
-    source: str
-    to: str
-    sent: int
-    records: Tuple[str, ...]
-    origin: Optional[int] = None
-    cuts: List[Tuple[int, int]] = field(default_factory=list)
-    ended: Optional[int] = None
-    how: str = "in flight"
-
-
-def frame_words(row: Row, place: int, flight: Flight) -> Tuple[str, Tuple[str, ...]]:
-    """What the link tells of a frame in a row: which frame it is, and what it has or what happens to it."""
-    frame = f"#{flight.ticket}"
-    if row.kind == "flush":
-        return f"{frame}:", tuple(f"{it}{',' * (it != flight.records[-1])}" for it in flight.records)
-    if row.kind == "repeat":
-        return f"{frame}:", (f"copy of #{flight.origin}",)
-    if row.kind == "cut":
-        return f"{frame}:", (f"cut to {next(length for at, length in flight.cuts if at == place)} bytes",)
-    return frame, ()
-
-
-@dataclass
 class Chart:
     """A branch to be drawn."""
 
@@ -78,13 +52,37 @@ class Chart:
     # Whether deliveries tell what a node did not take of a frame.
     looked: bool
     rows: List[Row] = field(default_factory=list)
+    # Of each event the place of its row, from 0 on.
+    places: Dict[int, int] = field(default_factory=dict)
     flights: Dict[int, Flight] = field(default_factory=dict)
+    # Of each frame that a node sent, by its ticket, the records in words.
+    records: Dict[int, Tuple[str, ...]] = field(default_factory=dict)
     boots: Dict[str, int] = field(default_factory=lambda: {"a": 1, "b": 2})
+
+    def sent(self, flight: Flight) -> int:
+        """The place of the row where a frame is sent."""
+        return self.places[flight.sent.number]
+
+    def ended(self, flight: Flight) -> Optional[int]:
+        """The place of the row where a frame's way ends, if it does."""
+        return self.places[flight.ended.number] if flight.ended else None
 
     @property
     def in_flight(self) -> List[Flight]:
         """The frames that have not ended."""
         return [it for it in self.flights.values() if it.ended is None]
+
+    def frame_words(self, row: Row, flight: Flight) -> Tuple[str, Tuple[str, ...]]:
+        """What the link tells of a frame in a row: which frame it is, and what it has or what happens to it."""
+        frame = f"#{flight.ticket}"
+        if row.kind == FLUSH.word:
+            records = self.records[flight.ticket]
+            return f"{frame}:", tuple(f"{it}{',' * (it != records[-1])}" for it in records)
+        if row.kind == REPEAT.word:
+            return f"{frame}:", (f"copy of #{flight.origin}",)
+        if row.kind == CUT.word:
+            return f"{frame}:", (f"cut to {next(it.now for it in flight.cuts if it.by.number == row.first)} bytes",)
+        return frame, ()
 
     @property
     def heading(self) -> str:
@@ -100,7 +98,7 @@ class Chart:
 
 
 def broken(text: str, fits: Callable[[str], bool]) -> List[str]:
-    """A text in parts that fit, broken at spaces and behind colons."""
+    """A text in parts that fit, broken at spaces and after colons."""
     parts: List[str] = [""]
     for word in re.findall(r"[^ :]*[ :]|[^ :]+", text):
         if parts[-1] and not fits((parts[-1] + word).rstrip()):
@@ -117,22 +115,21 @@ def duration(milliseconds: int) -> str:
 def chart(lab: Laboratory, branch: Branch) -> Chart:
     """The chart of the events of a branch that stand."""
     events = branch.events[: branch.cursor]
-    looked = sum(it.startswith("deliver ") for it in events) <= LOOKS
+    looked = sum(it.startswith(f"{DELIVER.word} ") for it in events) <= LOOKS
     # Three runs at the same time: the outcomes are those of just these events.
     with ThreadPoolExecutor() as pool:
         told, sent = pool.submit(lab.outcomes, events), pool.submit(frames_sent, lab, events)
         beside = pool.submit(asides, lab, events) if looked else None
-        drawing = _Drawing(
-            Chart(branch.name, len(events), len(branch.events) - len(events), looked),
-            sent.result(),
-            beside.result() if beside else {},
-        )
-        outcomes = told.result()
-    for number, (event, outcome) in enumerate(zip(events, outcomes), 1):
-        if outcome.split()[0] in ("refused", "bad"):
-            raise Unknown(f"event {number} of {branch.name}, {event}, is not taken again: {outcome}")
-        drawing.event(number, event.split(), outcome.split())
-    return drawing.chart
+        drawn = Chart(branch.name, len(events), len(branch.events) - len(events), looked)
+        drawn.records = {ticket: record_words(data) for ticket, data in sent.result().items()}
+        drawing, stood = _Drawing(drawn, beside.result() if beside else {}), happened(events, told.result())
+    for it in stood:
+        if it.outcome[0] in ("refused", "bad"):
+            raise Unknown(f"event {it.number} of {branch.name}, {it.line}, is not taken again: {' '.join(it.outcome)}")
+    drawn.flights = flights_of(stood)
+    for it in stood:
+        drawing.event(it)
+    return drawn
 
 
 # ---- marks at a lane
@@ -149,90 +146,65 @@ def end_words(end: str) -> str:
 def _packet(words: Sequence[str], outcome: Sequence[str]) -> Mark:
     node, direction, protocol, source, target = words[1:6]
     what = [f"{protocol} [{words[6]}]" if protocol == "tcp" else protocol, f"{end_words(source)} ->", end_words(target)]
-    if outcome == ["drop", "window"]:
+    if outcome[-1] == "window":
         what += [f"seq {words[7]},", f"ack {words[8]},", f"length {words[10]}"]
-    tone = {"pass": "good", "held": "note"}.get(outcome[0], "bad")
-    fate = "pass, no state" if outcome == ["pass", "-"] else " ".join(outcome)
+    tone = {PASS.word: "good", HELD_BACK.word: "note"}.get(outcome[0], "bad")
+    fate = "pass, no state" if outcome[-1] == "-" else " ".join(outcome)
     return Mark(node, direction, tuple(what), fate, tone)
 
 
-def _of_node(words: Sequence[str], outcome: Sequence[str]) -> Mark:
+def _of_node(it: Happened) -> Mark:
     """The mark of an event at one node that is no packet."""
-    kind, node = words[:2]
-    number = int(outcome[1]) if len(outcome) > 1 else 0
-    told: Dict[str, Tuple[str, str]] = {
-        "tick": (f"+{duration(int(words[2]))}," if kind == "tick" else "", f"clock {duration(number)}"),
-        "purge": ("purge:", f"{counted(number, 'state')} deleted"),
-        "release": ("release:", f"{counted(number, 'held packet')} let go"),
-        "kill": (f"kill {words[-1]}", ""),
-        "clear": ("clear:", f"{counted(number, 'state')} given up"),
-        "restart": ("restart:", f"boot {number}"),
-        "turn": ("bulk turn:", f"{counted(number, 'state')} queued"),
-        "retry": ("bulk retry:", f"asks for all, try {number}" if outcome[0] == "asked" else "gives up (served)"),
-    }
-    what, fate = told[kind]
-    return Mark(node, kind, (what,), fate, "note" if kind == "restart" else "")
+    number = int(it.outcome[1]) if len(it.outcome) > 1 else 0
+    counts = {"states": counted(number, "state"), "packets": counted(number, "held packet"), "clock": duration(number)}
+    fate = it.event.outcome_of(it.outcome).drawn.format(n=number, **counts)
+    what = it.event.drawn.format(duration(int(it.words[2])) if it.event is TICK else it.words[-1])
+    return Mark(it.words[1], it.event.word, (what,), fate, "note" if it.event is RESTART else "")
 
 
 class _Drawing:
     """A chart that grows event by event."""
 
-    def __init__(self, drawn: Chart, sent: Dict[int, bytes], beside: Dict[int, str]):
-        self.chart, self.sent, self.beside = drawn, sent, beside
+    def __init__(self, drawn: Chart, beside: Dict[int, str]):
+        self.chart, self.beside = drawn, beside
 
-    def event(self, number: int, words: Sequence[str], outcome: Sequence[str]) -> None:
-        kind = words[0]
-        if kind == "flush":
-            self._flush(number, words[1], int(outcome[1]))
-        elif kind == "repeat":
-            self._repeat(number, int(words[1]), int(outcome[1]))
-        elif kind == "cut":
-            flight = self.chart.flights[int(words[1])]
-            flight.cuts.append((self._row(number, kind, (), flight.ticket), int(outcome[1])))
-        elif kind in OF_TICKET:
-            self._end(number, self.chart.flights[int(words[1])], outcome)
-        elif kind == "packet":
-            self._row(number, kind, (_packet(words, outcome),))
+    def event(self, it: Happened) -> None:
+        if it.event in (DELIVER, LOSE):
+            self._end(it, self.chart.flights[int(it.words[1])])
+        elif it.event is PACKET:
+            self._row(it, (_packet(it.words, it.outcome),))
+        elif it.event in (FLUSH, REPEAT):
+            self._row(it, (), int(it.outcome[1]))
+        elif it.event is CUT:
+            self._row(it, (), int(it.words[1]))
         else:
-            self._at_node(number, _of_node(words, outcome))
+            self._at_node(it, _of_node(it))
 
-    def _row(self, number: int, kind: str, marks: Iterable[Mark], ticket: Optional[int] = None) -> int:
-        """Adds a row, and gives its place."""
-        self.chart.rows.append(Row(number, number, kind, tuple(marks), ticket))
-        return len(self.chart.rows) - 1
+    def _row(self, it: Happened, marks: Iterable[Mark], ticket: Optional[int] = None) -> None:
+        self.chart.places[it.number] = len(self.chart.rows)
+        self.chart.rows.append(Row(it.number, it.number, it.event.word, tuple(marks), ticket))
 
-    def _at_node(self, number: int, mark: Mark) -> None:
+    def _at_node(self, it: Happened, mark: Mark) -> None:
         """An event of one node; the same tick of both is one row."""
         last = self.chart.rows[-1] if self.chart.rows else None
-        if mark.kind == "tick" and last and last.kind == "tick" and len(last.marks) == 1:
+        if it.event is TICK and last and last.kind == TICK.word and len(last.marks) == 1:
             if last.marks[0].node != mark.node and last.marks[0].words == mark.words:
-                self.chart.rows[-1] = replace(last, last=number, marks=(*last.marks, mark))
+                self.chart.rows[-1] = replace(last, last=it.number, marks=(*last.marks, mark))
                 return
-        self._row(number, mark.kind, (mark,))
+        self._row(it, (mark,))
 
-    def _flush(self, number: int, node: str, ticket: int) -> None:
-        row = self._row(number, "flush", (), ticket)
-        self.chart.flights[ticket] = Flight(ticket, node, other(node), row, record_words(self.sent[ticket]))
-
-    def _repeat(self, number: int, origin: int, ticket: int) -> None:
-        first = self.chart.flights[origin]
-        row = self._row(number, "repeat", (), ticket)
-        self.chart.flights[ticket] = Flight(ticket, first.source, first.to, row, first.records, origin)
-
-    def _end(self, number: int, flight: Flight, outcome: Sequence[str]) -> None:
+    def _end(self, it: Happened, flight: Flight) -> None:
         """A frame is delivered or lost: in the row where it was sent, if nothing lies between."""
-        flight.how = "lost" if outcome[0] == "lost" else "delivered"
-        marks = () if flight.how == "lost" else (self._delivery(number, flight, outcome),)
-        if flight.sent == len(self.chart.rows) - 1:
-            sent = self.chart.rows[-1]
-            self.chart.rows[-1] = replace(sent, last=number, marks=marks)
-            flight.ended = flight.sent
+        marks = () if flight.is_lost else (self._delivery(it, flight),)
+        if self.chart.sent(flight) == len(self.chart.rows) - 1:
+            self.chart.places[it.number] = self.chart.sent(flight)
+            self.chart.rows[-1] = replace(self.chart.rows[-1], last=it.number, marks=marks)
         else:
-            flight.ended = self._row(number, "deliver" if marks else "lose", marks, flight.ticket)
+            self._row(it, marks, flight.ticket)
 
-    def _delivery(self, number: int, flight: Flight, outcome: Sequence[str]) -> Mark:
-        if outcome[0] == "broken":
-            return Mark(flight.to, "deliver", (), f"broken: {FRAME_FAULTS[int(outcome[1]) - 1]}", "bad")
-        also = self.beside.get(number, "")
-        words = (f"taken {outcome[1]}:", also) if also else (f"taken {outcome[1]}",)
-        return Mark(flight.to, "deliver", words, "", "note" if also else "")
+    def _delivery(self, it: Happened, flight: Flight) -> Mark:
+        if it.outcome[0] == BROKEN.word:
+            return Mark(flight.to, DELIVER.word, (), f"broken: {FRAME_FAULTS[int(it.outcome[1]) - 1]}", "bad")
+        also = self.beside.get(it.number, "")
+        words = (f"taken {it.outcome[1]}:", also) if also else (f"taken {it.outcome[1]}",)
+        return Mark(flight.to, DELIVER.word, words, "", "note" if also else "")

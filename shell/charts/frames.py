@@ -5,19 +5,21 @@ from typing import Dict, List, NamedTuple, Sequence, Tuple
 
 from ..frames import Broken, ClearRecord, Record, StateRecord, StatusRecord, decode
 from ..laboratory import Laboratory, Unknown
-from ..names import COUNTERS, NODES, OF_TICKET
+from ..language.events import DELIVER, FLUSH, LOSE, OF_FRAME, REPEAT
+from ..language.names import COUNTERS, NODES
+from ..language.records import INSERT_ACK
+from ..language.setups import FRAMES
 from ..pair import other
 from ..words import ALL_STATES, bulk_status, counted
 
 # So many copies of frames are in flight before they are shown. A show tells the whole pair, so one for many frames is quick.
 COPIES = 256
-MOST_FRAMES = 4096
 # So many deliveries at most are looked into, since each takes a show or two.
 LOOKS = 60
 # What a node did with a frame beside taking it, by the counter that tells it.
 _BESIDE = {"bad": "bad", "stale": "stale", "freed": "held let go", "lost": "held lost"}
 # A word of tcpdump(8) that is shorter than the message's name.
-_SHORTER = {"insert acknowledgement": "insert ack"}
+_SHORTER = {INSERT_ACK.name: "insert ack"}
 
 
 class _Sight(NamedTuple):
@@ -28,7 +30,7 @@ class _Sight(NamedTuple):
 
 
 def frames_sent(lab: Laboratory, events: Sequence[str]) -> Dict[int, bytes]:
-    """The bytes of each flushed frame, by ticket. A run of its own copies each frame behind its flush, and shows the copies
+    """The bytes of each flushed frame, by ticket. A run of its own copies each frame after its flush, and shows the copies
     together: a show for each frame would take longer than all the events. Copies take tickets, so frames have others there."""
     lines: List[str] = []
     tickets: Dict[int, int] = {}
@@ -36,21 +38,21 @@ def frames_sent(lab: Laboratory, events: Sequence[str]) -> Dict[int, bytes]:
     following, waiting = 1, 0
     for event in events:
         words = event.split()
-        if words[0] in OF_TICKET:
+        if words[0] in OF_FRAME:
             words[1] = str(tickets[int(words[1])])
         lines.append(f"step main {' '.join(words)}")
-        if words[0] in ("flush", "repeat"):
+        if words[0] in (FLUSH.word, REPEAT.word):
             ticket = len(tickets) + 1
             tickets[ticket], following = following, following + 1
-            if words[0] == "flush":
-                lines.append(f"step main repeat {tickets[ticket]}")
+            if words[0] == FLUSH.word:
+                lines.append(f"step main {REPEAT.word} {tickets[ticket]}")
                 copies[following], following = ticket, following + 1
                 waiting += 1
         if waiting == COPIES:
-            lines += ["show main", *(f"step main lose {it}" for it in list(copies)[-COPIES:])]
+            lines += ["show main", *(f"step main {LOSE.word} {it}" for it in list(copies)[-COPIES:])]
             waiting = 0
-    frames = min(MOST_FRAMES, lab.setup.limits["frames"] + COPIES)
-    replies = lab.run([*lines, "show main"], [*lab.setup.lines, f"set frames {frames}"])
+    frames = min(FRAMES.most, lab.setup.limits[FRAMES] + COPIES)
+    replies = lab.run([*lines, "show main"], [*lab.setup.lines, f"set {FRAMES.word} {frames}"])
     if any(it[0].startswith("refused") for it in replies):
         raise Unknown(f"the frames cannot be read: the link has no room for {COPIES} copies beside what is in flight")
     found: Dict[int, bytes] = {}
@@ -61,15 +63,11 @@ def frames_sent(lab: Laboratory, events: Sequence[str]) -> Dict[int, bytes]:
 
 
 def asides(lab: Laboratory, events: Sequence[str]) -> Dict[int, str]:
-    """What deliveries did beside what their outcomes say, by the number of the event. A node is shown behind each delivery to
-    it; before it, it is what it was behind the last event that changed it."""
+    """What deliveries did beside what their outcomes say, by the number of the event. A node is shown after each delivery to
+    it; before it, it is what it was after the last event that changed it."""
     looks = _looks(events)
-    places = {place for number, (_, before) in looks.items() for place in (before, number)}
-    lines = ["show main"] * (0 in places)
-    for number, event in enumerate(events, 1):
-        lines += [f"step main {event}"] + ["show main"] * (number in places)
-    shown = [_sight(it) for it in lab.run(lines) if it[0].startswith("branch ")]
-    seen = dict(zip(sorted(places), shown))
+    _, shown = lab.shown_at(events, {place for number, (_, before) in looks.items() for place in (before, number)})
+    seen = {place: _sight(it) for place, it in shown.items()}
     return {number: _beside(seen[before][node], seen[number][node]) for number, (node, before) in looks.items()}
 
 
@@ -80,9 +78,9 @@ def _looks(events: Sequence[str]) -> Dict[int, Tuple[str, int]]:
     looks: Dict[int, Tuple[str, int]] = {}
     for number, words in enumerate((it.split() for it in events), 1):
         node = words[1]
-        if words[0] in ("flush", "repeat"):
-            receivers.append(other(node) if words[0] == "flush" else receivers[int(node) - 1])
-        if words[0] == "deliver":
+        if words[0] in (FLUSH.word, REPEAT.word):
+            receivers.append(other(node) if words[0] == FLUSH.word else receivers[int(node) - 1])
+        if words[0] == DELIVER.word:
             node = receivers[int(node) - 1]
             looks[number] = node, changed[node]
         if node in NODES:

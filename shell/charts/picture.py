@@ -4,7 +4,9 @@ from __future__ import annotations
 from typing import Dict, List, Sequence, Tuple
 from xml.sax.saxutils import escape
 
-from .chart import Chart, Flight, Mark, Row, frame_words
+from .chart import Chart, Mark, Row
+from ..flights import Flight
+from ..language.events import CUT, DELIVER, LOSE, REPEAT, RESTART
 from .svg import BOLDER, Piece, Point, Sheet, in_lines, number, text_width
 
 WIDTH = 1280
@@ -23,7 +25,7 @@ HEAD = 118
 INK, FAINT, BAND = "#1c2733", "#66727f", "#f4f6f8"
 FRAME, GOOD, BAD, NOTE = "#1f5fa8", "#1b6e3a", "#c41e1e", "#8a5200"
 # What happens to a frame on its way.
-FRAME_TONES = {"repeat": NOTE, "cut": BAD}
+FRAME_TONES = {REPEAT.word: NOTE, CUT.word: BAD}
 TONES = {"good": GOOD, "bad": BAD, "note": NOTE, "": INK}
 
 
@@ -67,9 +69,9 @@ class _Picture:
 
     def _label(self, place: int, row: Row, flight: Flight) -> List[List[Piece]]:
         """The words within the link: of the frame where it is sent, and of what happens to it on its way."""
-        if row.kind == "lose":
+        if row.kind == LOSE.word:
             return [[]]
-        frame, words = frame_words(row, place, flight)
+        frame, words = self.chart.frame_words(row, flight)
         colour = FRAME_TONES.get(row.kind, FRAME)
         room = (ZONE - 16 if self._is_crossed(place) else 400) - text_width(f"{frame} ") * BOLDER
         lines = in_lines([(it, colour, False) for it in words], room) or [[]]
@@ -78,7 +80,8 @@ class _Picture:
     def _is_crossed(self, place: int) -> bool:
         """Whether a row has a sloped line, or is crossed by one."""
         after = len(self.chart.rows)
-        ways = [(it.sent, after if it.ended is None else it.ended) for it in self.chart.flights.values()]
+        ends = [(self.chart.sent(it), self.chart.ended(it)) for it in self.chart.flights.values()]
+        ways = ((sent, after if ended is None else ended) for sent, ended in ends)
         return any(sent <= place <= ended and sent != ended for sent, ended in ways)
 
     def _inner(self, node: str) -> float:
@@ -87,19 +90,20 @@ class _Picture:
 
     def _way(self, flight: Flight) -> List[Point]:
         """The line of a frame: sloped only in the middle, so that it meets no words."""
-        start, way = self.middles[flight.sent], -OUTWARDS[flight.source]
+        sent, ended, way = self.chart.sent(flight), self.chart.ended(flight), -OUTWARDS[flight.source]
+        start = self.middles[sent]
         points = [(LANES[flight.source], start), (self._inner(flight.source), start)]
         if flight.origin is not None:
-            points = [self._at(self.chart.flights[flight.origin], flight.sent)]
-        if flight.ended == flight.sent:
-            end = LANES[flight.to] if flight.how == "delivered" else self._inner(flight.to) - way * 16
+            points = [self._at(self.chart.flights[flight.origin], sent)]
+        if ended == sent:
+            end = LANES[flight.to] if flight.is_delivered else self._inner(flight.to) - way * 16
             return [points[0], (end, start)]
-        if flight.ended is None:
+        if ended is None:
             waiting = self._waiting()
             share = (waiting.index(flight) + 1) / (len(waiting) + 1)
             return [*points, (self._inner("a") + share * (self._inner("b") - self._inner("a")), self.end)]
-        end_y = self.middles[flight.ended]
-        if flight.how == "lost":
+        end_y = self.middles[ended]
+        if flight.is_lost:
             return [*points, (self._inner(flight.to) - way * 16, end_y)]
         return [*points, (self._inner(flight.to), end_y), (LANES[flight.to], end_y)]
 
@@ -147,7 +151,7 @@ class _Picture:
                 self.middles[place]
                 for place, row in enumerate(self.chart.rows)
                 for mark in row.marks
-                if mark.kind == "restart" and mark.node == node
+                if mark.kind == RESTART.word and mark.node == node
             ]
             top = HEAD - 12.0
             for y in breaks:
@@ -164,18 +168,17 @@ class _Picture:
 
     def _flight(self, flight: Flight) -> None:
         points, way = self._way(flight), -OUTWARDS[flight.source]
-        lost = flight.how == "lost"
-        dash = {"lost": "9 5", "in flight": "2 5"}.get(flight.how, "")
-        self.sheet.line(points, BAD if lost else FRAME, 2, dash)
+        dash = "9 5" if flight.is_lost else "" if flight.is_delivered else "2 5"
+        self.sheet.line(points, BAD if flight.is_lost else FRAME, 2, dash)
         if flight.origin is not None:
             self._leader(flight.source, points[0], NOTE)
-        for place, _ in flight.cuts:
-            at = self._at(flight, place)
+        for cut in flight.cuts:
+            at = self._at(flight, self.chart.places[cut.by.number])
             self._leader(flight.source, at, BAD)
             self.sheet.line([(at[0] - 7, at[1] + 6), (at[0] + 7, at[1] - 6)], BAD, 3)
-        if lost:
+        if flight.is_lost:
             self.sheet.cross(points[-1], BAD)
-        elif flight.how == "delivered":
+        elif flight.is_delivered:
             self.sheet.head((points[-1][0] - 2 * way, points[-1][1]), way, FRAME)
         else:
             self.sheet.add("circle", cx=points[-1][0], cy=points[-1][1], r=5, fill="#ffffff", stroke=FRAME, stroke_width=2)
@@ -194,11 +197,11 @@ class _Picture:
         if row.ticket is None:
             return
         flight = self.chart.flights[row.ticket]
-        if flight.how == "lost" and flight.ended == place:
-            pieces: List[Piece] = [(f"#{flight.ticket}", FRAME, True)] if row.kind == "lose" else []
+        if flight.is_lost and self.chart.ended(flight) == place:
+            pieces: List[Piece] = [(f"#{flight.ticket}", FRAME, True)] if row.kind == LOSE.word else []
             x, anchor = self._inner(flight.to) - OUTWARDS[flight.source] * 2, "start" if flight.source == "a" else "end"
             self.sheet.text((x, y + 5), [*pieces, ("lost", BAD, True)], anchor)
-        node = flight.to if row.kind == "deliver" else flight.source
+        node = flight.to if row.kind == DELIVER.word else flight.source
         x, anchor = LANES[node] - OUTWARDS[node] * 12, "start" if node == "a" else "end"
         for line, words in enumerate(reversed(self.labels[place])):
             if words:
@@ -208,7 +211,7 @@ class _Picture:
         lane, way = LANES[mark.node], OUTWARDS[mark.node]
         if mark.kind in ("in", "out"):
             self._packet(mark, y)
-        elif mark.kind not in ("deliver", "restart"):
+        elif mark.kind not in (DELIVER.word, RESTART.word):
             self.sheet.add("circle", cx=lane, cy=y, r=5, fill="#ffffff", stroke=INK, stroke_width=2)
         x, anchor = lane + way * GUTTER, "end" if mark.node == "a" else "start"
         if mark.kind not in ("in", "out"):
@@ -248,7 +251,7 @@ class _Picture:
 
 def _mark_pieces(mark: Mark) -> List[Piece]:
     pieces: List[Piece] = [(_arrow_words(it), INK, False) for it in mark.words]
-    if mark.kind == "deliver" and len(pieces) > 1:
+    if mark.kind == DELIVER.word and len(pieces) > 1:
         pieces[-1] = (pieces[-1][0], TONES[mark.tone], False)
     return [*pieces, (mark.fate, TONES[mark.tone], True)] if mark.fate else pieces
 

@@ -4,8 +4,10 @@ from __future__ import annotations
 import sys
 from typing import Dict, List, NamedTuple, Optional, Sequence, Tuple
 
-from .chart import Chart, Flight, Mark, Row, broken, frame_words
+from .chart import Chart, Mark, Row, broken
 from ..colours import Paint
+from ..flights import Flight
+from ..language.events import CUT, DELIVER, REPEAT, RESTART
 
 
 class Glyphs(NamedTuple):
@@ -35,7 +37,7 @@ Piece = Tuple[str, str]
 NUMBERS = 6
 NARROWEST = 72
 # What happens to a frame on its way.
-FRAME_STYLES = {"repeat": "note", "cut": "bad"}
+FRAME_STYLES = {REPEAT.word: "note", CUT.word: "bad"}
 # Between a lane and the words at its side: an arrow and a space.
 GUTTER = 4
 
@@ -149,7 +151,7 @@ class _Drawing:
 
     def _mark_pieces(self, mark: Mark) -> List[Piece]:
         pieces = [(it.replace("->", self.glyphs.to), "") for it in mark.words]
-        if mark.kind == "deliver" and len(pieces) > 1:
+        if mark.kind == DELIVER.word and len(pieces) > 1:
             pieces[-1] = (pieces[-1][0], mark.tone)
         return [*pieces, (mark.fate, mark.tone)] if mark.fate else pieces
 
@@ -161,12 +163,12 @@ class _Drawing:
         line = self.lines[first]
         if mark.kind in ("in", "out"):
             self._packet(line, mark)
-        elif mark.kind == "restart":
+        elif mark.kind == RESTART.word:
             line.put(at, self.glyphs.stop, mark.tone)
             if len(words) == 1:
                 self._new_line()
             self.lines[first + 1].put(at, self.glyphs.begin, mark.tone)
-        elif mark.kind != "deliver":
+        elif mark.kind != DELIVER.word:
             line.put(at, self.glyphs.point)
 
     def _packet(self, line: _Line, mark: Mark) -> None:
@@ -181,32 +183,31 @@ class _Drawing:
 
     def _labels(self, place: int, row: Row, flight: Flight) -> List[List[Piece]]:
         """The words of a frame: within its line, or above it where they are too long."""
-        told = self._label(place, row, flight)
+        told = self._label(row, flight)
         tail, tip = self._ends(place, flight)
         if len(tail) + _length(told) + 3 + len(tip[0]) <= self.link:
             return [told]
         return [*wrapped(told, self.link - 3), []]
 
-    def _label(self, place: int, row: Row, flight: Flight) -> List[Piece]:
-        frame, words = frame_words(row, place, flight)
+    def _label(self, row: Row, flight: Flight) -> List[Piece]:
+        frame, words = self.chart.frame_words(row, flight)
         return [(frame, "head"), *((it, FRAME_STYLES.get(row.kind, "")) for it in words)]
 
     def _ends(self, place: int, flight: Flight) -> Tuple[str, Piece]:
         """How a frame's line begins and ends in a row: at a lane, with its loss, or farther on its way."""
         shapes, to_right = self.glyphs, flight.to == "b"
         tail = shapes.line if self._leaves(place, flight) else shapes.dots * 2
-        if flight.ended != place:
+        if self.chart.ended(flight) != place:
             # A space keeps what was just sent from the other lane, where it has not come.
             space = " " * self._leaves(place, flight)
             return tail, (shapes.dots * 2 + space if to_right else space + shapes.dots * 2, "")
-        if flight.how == "delivered":
+        if flight.is_delivered:
             return tail, (shapes.right if to_right else shapes.left, "")
         return tail, (f"{shapes.lost} lost" if to_right else f"lost {shapes.lost}", "bad")
 
-    @staticmethod
-    def _leaves(place: int, flight: Flight) -> bool:
+    def _leaves(self, place: int, flight: Flight) -> bool:
         """Whether a row is the one where a node sends the frame."""
-        return flight.sent == place and flight.origin is None
+        return self.chart.sent(flight) == place and flight.origin is None
 
     def _link(self, place: int, last: int, labels: Sequence[Sequence[Piece]], flight: Flight) -> None:
         """Draws a frame: its words, and its line in the last line of them."""
@@ -214,9 +215,9 @@ class _Drawing:
         tail, tip = self._ends(place, flight)
         words = [(" ", ""), *_spaced(labels[-1]), (" ", "")] if labels[-1] else []
         spare = self.link - len(tail) - sum(len(it) for it, _ in words) - len(tip[0])
-        arrives = flight.ended == place and flight.how == "delivered"
-        line = self.glyphs.line * (spare if leaves and arrives else min(spare, 3 if words else self.link // 2))
-        shift = 0 if leaves else spare - len(line) if flight.ended == place else (spare - len(line)) // 2
+        ends = self.chart.ended(flight) == place
+        line = self.glyphs.line * (spare if leaves and ends and flight.is_delivered else min(spare, 3 if words else self.link // 2))
+        shift = 0 if leaves else spare - len(line) if ends else (spare - len(line)) // 2
         parts: List[Piece] = [(tail, ""), *words, (line, ""), tip]
         at = self.lanes["a"] + 1 + shift
         if not to_right:

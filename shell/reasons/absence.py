@@ -5,12 +5,14 @@ from dataclasses import replace
 from typing import Container, Dict, List, Optional, Sequence, Tuple, Union
 
 from ..frames import Record, ShortUpdate, StateRecord
-from .histories import Flight
+from ..flights import Flight
 from ..laboratory import Step
-from ..names import QUEUES, Name
-from .packets import PacketEvent, found
+from ..language.events import BROKEN
+from ..language.names import Name
+from ..language.packets import PacketEvent
+from ..language.records import DELETE, INSERT, QUEUES, UPDATE
 from ..pair import Node, State, other
-from .questions import Question, peer_of, told_state
+from .questions import Question, found, peer_of, told_state
 from .records import what_became
 from ..words import counted
 
@@ -83,7 +85,7 @@ def _why_absent(question: Question, name: Name, node: str) -> List[str]:
         return told or [_untold(question, peer_of(question, node), name)]
     there = f"it was there until event {gone.number}, `{gone.event}` ({gone.outcome})"
     # A short update would not bring it.
-    queued = _queued(peer_of(question, node), name, ("ins", "upd"))
+    queued = _queued(peer_of(question, node), name, (INSERT.queue, UPDATE.queue))
     parts = [*([queued] if queued else []), *told]
     return [*parts[:-1], f"{parts[-1]}; before that {there}"] if parts else [there]
 
@@ -91,7 +93,7 @@ def _why_absent(question: Question, name: Name, node: str) -> List[str]:
 def _fates(question: Question, carriers: Sequence[Flight], name: Name) -> List[str]:
     """What became of frames with the state, the newest first; of many only the newest."""
     newest = list(reversed(carriers))[:MOST_FATES]
-    landed = [it.ended.number for it in newest if it.ended and it.ended.outcome[0] == "taken"]
+    landed = [it.ended.number for it in newest if it.ended and it.is_taken]
     steps = question.history.steps_at(landed) if landed else {}
     lines = [f"{'before that, ' * bool(at)}{_fate(question, it, steps, name)}" for at, it in enumerate(newest)]
     more = len(carriers) - len(newest)
@@ -118,7 +120,7 @@ def _carriers(question: Question, name: Name, node: str, kinds: Kinds) -> List[F
 def _carried(records: Sequence[Record], name: Name, kinds: Kinds) -> Optional[str]:
     """The first action by which records tell of the state, if they do."""
     told = [it for it in records if isinstance(it, (StateRecord, ShortUpdate)) and isinstance(it, kinds)]
-    actions = [it.action for it in told if it.name == name and it.action != "delete"]
+    actions = [it.action for it in told if it.name == name and it.action != DELETE.name]
     return actions[0] if actions else None
 
 
@@ -126,14 +128,14 @@ def _fate(question: Question, flight: Flight, steps: Dict[int, Step], name: Name
     """What became of a frame that told of the state."""
     frame, sent, ended = f"frame {flight.ticket}", f"(event {flight.sent.number})", flight.ended
     if ended is None:
-        if flight.cuts:
+        if flight.shortenings:
             return f"{frame}, which brought it {sent}, is in flight, but was cut short"
         return f"{frame}, which brings it {sent}, is still in flight"
     action = _carried(question.history.sent_records(flight), name, (StateRecord, ShortUpdate))
-    what = "insertion" if action == "insert" else action
-    if ended.words[0] == "lose":
+    what = "insertion" if action == INSERT.name else action
+    if flight.is_lost:
         return f"its {what} was lost in {frame} (event {ended.number})"
-    if ended.outcome[0] == "broken":
+    if ended.outcome[0] == BROKEN.word:
         return f"{frame}, which brought it, could not be read (event {ended.number}: {' '.join(ended.outcome)})"
     became = what_became(steps[ended.number], question.lab.setup.limits, name)
     return f"its {what} in {frame} was delivered (event {ended.number}): {became}"

@@ -4,8 +4,8 @@ from __future__ import annotations
 from typing import List, Sequence
 
 from ..frames import Record, StatusRecord
-from .histories import Flight
-from ..names import BULK_END, BULK_START
+from ..flights import Flight
+from ..language.names import BULK_END, BULK_START
 from ..pair import Node
 from .questions import Question
 
@@ -18,9 +18,9 @@ def without_start(question: Question, records: Sequence[Record], node: Node) -> 
         return []
     asked = question.history.bulk_request(node.id)
     starts = question.history.starts(node.id, asked) if asked else []
-    if asked is None or not starts or any(it.ended and it.ended.outcome[0] == "taken" for it in starts):
+    if asked is None or not starts or any(it.is_taken for it in starts):
         return []
-    since = f"since it asked for all states (event {asked.number}, `{asked.event}`)"
+    since = f"since it asked for all states (event {asked.number}, `{asked.line}`)"
     return [f"{node.id} has not heard the start {since}: {_fate(starts[-1])}"]
 
 
@@ -28,5 +28,5 @@ def _fate(start: Flight) -> str:
     """What became of the frame with the start."""
     if start.ended is None:
         return f"frame {start.ticket}, which has it, is still in flight"
-    how = "was lost" if start.ended.words[0] == "lose" else "could not be read"
+    how = "was lost" if start.is_lost else "could not be read"
     return f"frame {start.ticket}, which had it, {how} (event {start.ended.number})"

@@ -5,12 +5,12 @@ from difflib import get_close_matches
 from typing import Callable, Dict, List, Sequence
 
 from ..laboratory import Laboratory
-from ..names import SEARCH
+from ..language.commands import EXCISE, FORK, MOST_BRANCHES, PAST
+from ..language.forms import BRANCH
+from ..language.searches import FOUND, GAVE_UP, NONE, SEARCH
 from ..pair import Pair
-from .word_forms import BRANCH
 from ..words import counted
 
-MOST_BRANCHES = 16
 NOT_SHOWN = "the branches as they are now do not show it: the shell cannot tell more"
 NAME_FORM = f"a branch's name is {BRANCH.what}"
 
@@ -53,7 +53,7 @@ def _too_far_back(lab: Laboratory, words: Sequence[str]) -> List[str]:
 
 def _nothing_forward(lab: Laboratory, words: Sequence[str]) -> List[str]:
     pair, number = _branch(lab, words), int(words[2])
-    if words[0] == "fork":
+    if words[0] in (FORK.word, PAST.word):
         if number <= pair.events:
             return [NOT_SHOWN]
         return [f"{words[1]} has {counted(pair.events, 'event')}, so there are no first {number} of them"]
@@ -102,9 +102,9 @@ _REFUSALS: Dict[str, Callable[[Laboratory, Sequence[str]], List[str]]] = {
 
 # What the first word of a reply to a search says.
 _SEARCHED = {
-    "found": "no run of these choices with fewer events leads to the goal: that is proved; `take` steps this one on a new branch",
-    "none": "no run of at most so many events of these choices leads to the goal: that is proved",
-    "gave": "more runs were to be tried, and nothing is known: allow more runs, or fewer events or choices",
+    FOUND: "no run of these choices with fewer events leads to the goal: that is proved; `take` steps this one on a new branch",
+    NONE: "no run of at most so many events of these choices leads to the goal: that is proved",
+    GAVE_UP: "more runs were to be tried, and nothing is known: allow more runs, or fewer events or choices",
 }
 
 
@@ -118,7 +118,7 @@ def explain_done(words: Sequence[str], reply: str) -> List[str]:
     places = reply.split()[1:]
     if words[0] == SEARCH:
         return [_SEARCHED[reply.split()[0]]]
-    if words[0] != "excise":
+    if words[0] != EXCISE.word:
         return ["it was done: `why` has reasons of events, refusals and faulty lines"]
     if not places:
         return [f"every other event of {words[1]} was accepted without event {words[2]} too: none fell out with it"]

@@ -4,7 +4,11 @@ from __future__ import annotations
 from typing import Callable, Dict, List
 
 from ..frames import HEADER, summary
-from ..names import MOST_TRIES, Name
+from ..language import events
+from ..language.events import MOST_TRIES, SERVED, Event
+from ..language.names import Name
+from ..language.records import SHORT_DELETE
+from ..language.setups import BATCH, BULK_MS, DEFER_MS, MTU
 from ..pair import Node, State, other
 from .questions import Question, name_list, told_state
 from ..words import counted, expires_at, scaling
@@ -38,7 +42,7 @@ def _expired(question: Question, node: Node, state: State) -> str:
 
 
 def _left(question: Question, node: Node, after: Node) -> List[str]:
-    """What is left behind a purge, and when the next of it expires; where the purge had shorter timeouts, by which ones."""
+    """What is left after a purge, and when the next of it expires; where the purge had shorter timeouts, by which ones."""
     if not after.states:
         return ["no state is left"]
     setup = question.lab.setup
@@ -50,7 +54,7 @@ def _left(question: Question, node: Node, after: Node) -> List[str]:
 
 
 def _released(question: Question) -> List[str]:
-    node, wait = _node(question), question.lab.setup.limits["defer_ms"]
+    node, wait = _node(question), question.lab.setup.limits[DEFER_MS]
     left = [it.name for it in question.after.nodes[node.id].held]
     gone = [it for it in node.held if it.name not in left]
     lines = [f"the clock of {node.id} stands at {node.clock} ms, and a packet is due {wait} ms after it was held"]
@@ -62,9 +66,9 @@ def _sent(question: Question) -> List[str]:
     ticket = int(question.outcome.split()[1])
     frame = question.after.frames[ticket]
     lines = [f"frame {ticket} goes to {frame.to}, and carries {summary(frame.data)}"]
-    if question.words[0] == "flush":
+    if question.kind is events.FLUSH:
         left = question.after.nodes[question.words[1]].pending
-        mtu = question.lab.setup.limits["mtu"]
+        mtu = question.lab.setup.limits[MTU]
         rest = f"{left} pending are left for the next frame: a frame has {mtu} bytes at most (`mtu`)"
         return [*lines, rest] if left else lines
     return [*lines, f"it is a copy of frame {question.words[1]}"]
@@ -76,7 +80,7 @@ def _lost(question: Question) -> List[str]:
 
 
 def _queued(question: Question) -> List[str]:
-    node, batch = _node(question), question.lab.setup.limits["batch"]
+    node, batch = _node(question), question.lab.setup.limits[BATCH]
     after = question.after.nodes[node.id]
     ended = f"these were the last: {node.id} lists the end of the bulk update"
     return [
@@ -95,7 +99,7 @@ def _clock(question: Question) -> List[str]:
 
 def _killed(question: Question) -> List[str]:
     node, name = _node(question), Name.read(question.words[2])
-    told = any(it.name == name and it.kind == "del" for it in question.after.nodes[node.id].queue)
+    told = any(it.name == name and it.kind == SHORT_DELETE.queue for it in question.after.nodes[node.id].queue)
     peer = other(node.id)
     return [
         f"{told_state(node.states[name])} of {node.id} is deleted",
@@ -132,28 +136,28 @@ def _boot(question: Question) -> List[str]:
 def _retried(question: Question) -> List[str]:
     node = _node(question)
     tries, asked = node.sync.split("/")
-    waited = f"{node.id} has waited since {asked} ms, and `bulk_ms` is {question.lab.setup.limits['bulk_ms']} ms"
-    if question.outcome == "served":
+    waited = f"{node.id} has waited since {asked} ms, and `bulk_ms` is {question.lab.setup.limits[BULK_MS]} ms"
+    if question.outcome == SERVED.word:
         return [waited, f"it had asked {tries} times, and goes on as if it had been served: {MOST_TRIES} tries are the most"]
     return [waited, f"this is try {int(tries) + 1} of {MOST_TRIES} at most"]
 
 
-_OTHERS: Dict[str, Callable[[Question], List[str]]] = {
-    "sent": _sent,
-    "lost": _lost,
-    "cut": _cut,
-    "clock": _clock,
-    "purged": _purged,
-    "released": _released,
-    "killed": _killed,
-    "cleared": _cleared,
-    "boot": _boot,
-    "queued": _queued,
-    "asked": _retried,
-    "served": _retried,
+_OTHERS: Dict[Event, Callable[[Question], List[str]]] = {
+    events.FLUSH: _sent,
+    events.LOSE: _lost,
+    events.REPEAT: _sent,
+    events.CUT: _cut,
+    events.TICK: _clock,
+    events.PURGE: _purged,
+    events.RELEASE: _released,
+    events.KILL: _killed,
+    events.CLEAR: _cleared,
+    events.RESTART: _boot,
+    events.TURN: _queued,
+    events.RETRY: _retried,
 }
 
 
 def explain_other(question: Question) -> List[str]:
     """What an event without a packet found to do."""
-    return _OTHERS[question.outcome.split()[0]](question)
+    return _OTHERS[question.kind](question)

@@ -4,9 +4,10 @@ from __future__ import annotations
 
 from typing import List, Optional, Sequence
 
-from .line_forms import check_line, wanted_form
-from .readers import LineFault
-from .search_forms import words_of
+from ..language.lines import check_line, wanted_form
+from ..language.readers import LineFault
+from ..language.searches import words_of
+from ..language.setups import LIMITS, MOST_RULES
 
 _WORDS = {
     "Long": "the line is too long",
@@ -19,24 +20,10 @@ _WORDS = {
 }
 _OF_SETUPS = {
     "open": "the setup ends without a line `open`",
-    "TooMany": "a node has 256 rules at most",
+    "TooMany": f"a node has {MOST_RULES} rules at most",
     "NatNotOut": "a rule with `nat` has to be for the way `out`",
     "ZeroMax": "a rule has to allow one state at least, and says `max 0`",
     "NoMemory": "the program had no memory for the setup",
-}
-RANGES = {
-    "states": (1, 65536),
-    "queue": (1, 65536),
-    "frames": (1, 4096),
-    "mtu": (148, 9000),
-    "held": (1, 128),
-    "defer": (0, 1),
-    "defer_ms": (1, 10000),
-    "maxupd": (1, 255),
-    "batch": (1, 256),
-    "bulk_ms": (1, 60000),
-    "astart": (0, 131072),
-    "aend": (0, 131072),
 }
 
 
@@ -78,7 +65,7 @@ def _of_content(words: Sequence[str], name: str) -> List[str]:
     if name not in ("TooSmall", "TooLarge"):
         return [_OF_SETUPS[name]]
     what = f"a limit is {'below' if name == 'TooSmall' else 'above'} its range"
-    if len(words) == 3 and words[1] in RANGES:
-        low, high = RANGES[words[1]]
-        return [f"{what}: `{words[1]}` is from {low} to {high}, and not {int(words[2])}"]
-    return [what, *(f"`{it}` is from {low} to {high}" for it, (low, high) in RANGES.items())]
+    ranges = {word: f"`{word}` is from {it.least} to {it.most}" for word, it in LIMITS.items()}
+    if len(words) == 3 and words[1] in ranges:
+        return [f"{what}: {ranges[words[1]]}, and not {int(words[2])}"]
+    return [what, *ranges.values()]

@@ -4,7 +4,7 @@ from __future__ import annotations
 from typing import List
 
 from ..frames import HEADER
-from ..names import FRAME_FAULTS
+from ..language.faults import FRAME_FAULTS
 from .questions import Question
 
 _FAULTS = {
@@ -41,9 +41,9 @@ def _cuts(question: Question, ticket: int) -> List[str]:
     copied = len(question.before) + 1
     while True:
         flight = flights[ticket]
-        for cut, was, now in reversed(flight.cuts):
-            if cut.number < copied:
-                lines.append(f"event {cut.number} cut frame {ticket} from {was} bytes to {now}")
+        for it in reversed(flight.shortenings):
+            if it.by.number < copied:
+                lines.append(f"event {it.by.number} cut frame {ticket} from {it.was} bytes to {it.now}")
         if flight.origin is None:
             return lines
         copied = flight.sent.number

@@ -2,44 +2,24 @@
 every event would take long, so pairs are shown only around the few events that a reason is about."""
 from __future__ import annotations
 
-from dataclasses import dataclass, field
 from functools import cached_property
-from typing import Callable, Dict, List, Optional, Sequence, Tuple
+from typing import Callable, Dict, List, Optional, Sequence
 
 from ..charts.frames import frames_sent
+from ..flights import Flight, Happened, flights_of, happened
 from ..frames import ClearRecord, Named, Record, StateRecord, StatusRecord, decode
-from ..laboratory import Laboratory, Step, outcome_of
-from ..names import BULK_START, Name
-from ..pair import Node, other, read_shown
-from .packets import PacketEvent, read_packet
+from ..laboratory import Laboratory, Step
+from ..language.events import ASKED, CLEAR, DELIVER, HELD_BACK, KILL, PACKET, PASS, PURGE, RESTART, RETRY, TAKEN, read_packet
+from ..language.names import BULK_START, Name
+from ..language.packets import PacketEvent
+from ..language.records import DELETE, SHORT_DELETE
+from ..language.setups import NAT
+from ..pair import Node
 
 # Whether a node lost a state, by what it was before and after an event.
 IsLoss = Callable[[Node, Node], bool]
 # So many events at first, and then twice as many each time, are shown where the newest of many is looked for.
 FIRST_SHOWN = 8
-
-
-@dataclass(frozen=True)
-class Happened:
-    """An event that stood: its place from 1 on, and the words of its line and of its outcome."""
-
-    number: int
-    event: str
-    words: Tuple[str, ...]
-    outcome: Tuple[str, ...]
-
-
-@dataclass
-class Flight:
-    """A frame on its way: the event that sent it, the frame that it is a copy of, what cut it to which lengths, and its end."""
-
-    ticket: int
-    to: str
-    sent: Happened
-    length: int
-    origin: Optional[int] = None
-    cuts: List[Tuple[Happened, int, int]] = field(default_factory=list)
-    ended: Optional[Happened] = None
 
 
 class History:
@@ -51,27 +31,12 @@ class History:
     @cached_property
     def events(self) -> List[Happened]:
         """All events, each with its outcome; asked of the program once."""
-        told = zip(self.lines, self.lab.outcomes(self.lines))
-        return [Happened(at, it, tuple(it.split()), tuple(outcome.split())) for at, (it, outcome) in enumerate(told, 1)]
+        return happened(self.lines, self.lab.outcomes(self.lines))
 
     @cached_property
     def flights(self) -> Dict[int, Flight]:
         """All frames that were sent, by ticket."""
-        flights: Dict[int, Flight] = {}
-        for it in self.events:
-            kind = it.words[0]
-            if kind in ("flush", "repeat"):
-                origin = int(it.words[1]) if kind == "repeat" else None
-                to = flights[origin].to if origin is not None else other(it.words[1])
-                flights[int(it.outcome[1])] = Flight(int(it.outcome[1]), to, it, int(it.outcome[2]), origin)
-            elif kind == "cut":
-                flight, length = flights[int(it.words[1])], int(it.outcome[1])
-                if length < flight.length:
-                    flight.cuts.append((it, flight.length, length))
-                    flight.length = length
-            elif kind in ("deliver", "lose"):
-                flights[int(it.words[1])].ended = it
-        return flights
+        return flights_of(self.events)
 
     @cached_property
     def _flushed(self) -> Dict[int, bytes]:
@@ -87,18 +52,11 @@ class History:
 
     def came_records(self, delivered: Happened) -> List[Record]:
         """The records that a delivery brought; none where the frame could not be read."""
-        return self.sent_records(self.flights[int(delivered.words[1])]) if delivered.outcome[0] == "taken" else []
+        return self.sent_records(self.flights[int(delivered.words[1])]) if delivered.outcome[0] == TAKEN.word else []
 
     def steps_at(self, numbers: Sequence[int]) -> Dict[int, Step]:
         """Some events, each with the pair before and after it, all shown in one run."""
-        places = sorted({place for it in numbers for place in (it - 1, it)})
-        lines = ["show main"] * (0 in places)
-        for number, event in enumerate(self.lines[: max(numbers, default=0)], 1):
-            lines += [f"step main {event}"] + ["show main"] * (number in places)
-        replies = self.lab.run(lines)
-        shown = dict(zip(places, (read_shown(it) for it in replies if it[0].startswith("branch "))))
-        told = [outcome_of(it[0]) for it in replies if not it[0].startswith("branch ")]
-        return {it: Step(it, self.lines[it - 1], told[it - 1], shown[it - 1], shown[it]) for it in numbers}
+        return {it.number: it for it in self.lab.steps(self.lines[: max(numbers, default=0)], numbers)}
 
     # ---- states that were there
 
@@ -116,35 +74,34 @@ class History:
 
     def _may_take(self, it: Happened, node: str, packet: PacketEvent, names: Sequence[Name]) -> bool:
         """Whether an event can have taken one of the states of the packet's flow from the node."""
-        kind = it.words[0]
-        if kind == "deliver":
+        if it.event is DELIVER:
             is_here = self.flights[int(it.words[1])].to == node
             return is_here and any(_takes(record, name) for record in self.came_records(it) for name in names)
         if it.words[1] != node:
             return False
-        if kind == "kill":
+        if it.event is KILL:
             return Name.read(it.words[2]) in names
-        if kind == "packet":
+        if it.event is PACKET:
             # A new connection ends a closed one of the same ends.
-            return read_packet(it.event).is_request and _meets(read_packet(it.event), packet)
-        return kind == "restart" or kind in ("purge", "clear") and it.outcome[1] != "0"
+            return read_packet(it.line).is_request and _meets(read_packet(it.line), packet)
+        return it.event is RESTART or it.event in (PURGE, CLEAR) and it.outcome[1] != "0"
 
     def names_of(self, packet: PacketEvent) -> List[Name]:
         """The states that a node can have had for the packet's flow: those of the packets of both nodes with the same ends, or
         the same far end where rules translate the near one. A state that a frame brought was made by a packet too."""
-        translate = any("nat" in rule.words for rules in self.lab.setup.rules.values() for rule in rules)
-        packets = [(at, read_packet(line)) for at, line in enumerate(self.lines) if line.startswith("packet ")]
+        translate = any(rule.has(NAT) for rules in self.lab.setup.rules.values() for rule in rules)
+        packets = [(at, read_packet(line)) for at, line in enumerate(self.lines) if line.startswith(f"{PACKET.word} ")]
         places = [at for at, it in packets if _meets(it, packet) and (translate or it.key == packet.key)]
         # Without such a packet the program is not asked.
         outcomes = [self.events[at].outcome for at in places]
-        return list({Name.read(it[1]): None for it in outcomes if it[0] in ("pass", "held") and it[1] != "-"})
+        return list({Name.read(it[1]): None for it in outcomes if it[0] in (PASS.word, HELD_BACK.word) and it[1] != "-"})
 
     # ---- bulk updates
 
     def bulk_request(self, node: str) -> Optional[Happened]:
         """The last event by which a node asked for all states."""
         for it in reversed(self.events):
-            if it.words[:2] == ("restart", node) or it.words[:2] == ("retry", node) and it.outcome[0] == "asked":
+            if it.words[1] == node and (it.event is RESTART or it.event is RETRY and it.outcome[0] == ASKED.word):
                 return it
         return None
 
@@ -162,7 +119,7 @@ def _takes(record: Record, name: Name) -> bool:
     """Whether a record takes a state from the node that it comes to."""
     if isinstance(record, ClearRecord):
         return name.creator == record.creator and name.id <= record.bound
-    return isinstance(record, (Named, StateRecord)) and record.action in ("delete", "short delete") and record.name == name
+    return isinstance(record, (Named, StateRecord)) and record.action in (DELETE.name, SHORT_DELETE.name) and record.name == name
 
 
 def _is_start(record: Record) -> bool:

@@ -4,9 +4,9 @@ from __future__ import annotations
 from typing import List
 
 from .absence import explain_absence
-from ..names import Name
-from .packets import found
-from .questions import Question, name_list, told_state
+from ..language.names import Name
+from ..language.setups import DEFER_MS, HELD
+from .questions import Question, found, name_list, told_state
 from .rules import explain_without_state
 
 
@@ -29,7 +29,7 @@ def explain_pass(question: Question) -> List[str]:
 def explain_held(question: Question) -> List[str]:
     """Why a packet waits, and how long."""
     name, node = Name.read(question.outcome.split()[1]), question.packet.node
-    due = question.table(node).clock + question.lab.setup.limits["defer_ms"]
+    due = question.table(node).clock + question.lab.setup.limits[DEFER_MS]
     held_before = [it.name for it in question.table(node).held]
     held_after = [it.name for it in question.after.nodes[node].held]
     out = [it for it in held_before if it not in held_after]
@@ -39,7 +39,7 @@ def explain_held(question: Question) -> List[str]:
         f"or it goes out with the next packet of the state, or once it is due: `release {node}` from {due} ms on {node}'s clock",
     ]
     if out:
-        limit = question.lab.setup.limits["held"]
+        limit = question.lab.setup.limits[HELD]
         held = f"{node} held {len(held_before)}, and the limit `held` is {limit}"
         lines.append(f"the packet of {name_list(out)} went out at once: {held}")
     return lines

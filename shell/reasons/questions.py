@@ -8,8 +8,9 @@ from typing import List, Optional, Sequence, Tuple
 from ..colours import Paint
 from .histories import History
 from ..laboratory import Laboratory, Step, outcome_of
-from ..names import Name
-from .packets import PacketEvent, read_packet
+from ..language.events import EVENTS, Event, read_packet
+from ..language.names import Name
+from ..language.packets import PacketEvent
 from ..pair import Node, Pair, State, other
 from ..setups import Rule
 from ..words import flow
@@ -17,7 +18,7 @@ from ..words import flow
 
 @dataclass(eq=False)
 class Question:
-    """An event with its reply, behind the events that stood. The pair around it comes from a run of its own."""
+    """An event with its reply, after the events that stood. The pair around it comes from a run of its own."""
 
     lab: Laboratory
     before: Tuple[str, ...]
@@ -29,6 +30,10 @@ class Question:
     @property
     def words(self) -> List[str]:
         return self.event.split()
+
+    @property
+    def kind(self) -> Event:
+        return EVENTS[self.words[0]]
 
     @property
     def outcome(self) -> str:
@@ -70,7 +75,14 @@ class Question:
 
 def ask(lab: Laboratory, before: Tuple[str, ...], event: str, reply: str, paint: Paint) -> Question:
     """The question, with the pair before and after the event as the program shows them."""
-    return Question(lab, before, event, reply, paint, lab.steps([*before, event], len(before) + 1)[0])
+    return Question(lab, before, event, reply, paint, lab.steps([*before, event], [len(before) + 1])[0])
+
+
+def found(node: Node, packet: PacketEvent) -> Optional[State]:
+    """The node's state for the packet: by the wire key on the way in, by the stack key on the way out."""
+    is_in = packet.direction == "in"
+    by_key = {(it.protocol, it.wire if is_in else it.stack): it for it in node.states.values()}
+    return by_key.get((packet.protocol, packet.key))
 
 
 def told_state(state: State) -> str:

@@ -8,8 +8,10 @@ from typing import Dict, List, NamedTuple, Optional, Set, Tuple, Union
 from .bulk_updates import without_start
 from ..frames import ClearRecord, Named, Record, ShortUpdate, StateRecord, StatusRecord, decode
 from ..laboratory import Step
-from ..names import BULK_END, SYN_SENT, Name, level_name
-from .packets import CIRCLE
+from ..language.names import BULK_END, SYN_SENT, Name, level_name
+from ..language.packets import CIRCLE
+from ..language.records import DELETE, INSERT, INSERT_ACK, SHORT_DELETE, SHORT_UPDATE, UPDATE, UPDATE_REQUEST
+from ..language.setups import STATES, Limit
 from ..pair import End, Frame, Node, Pair, State
 from .questions import Question, name_list
 from ..words import ALL_STATES, bulk_status, counted
@@ -69,19 +71,19 @@ class Receiver:
 
 
 def _state_taken(to: Receiver, record: StateRecord) -> str:
-    if record.action == "delete":
+    if record.action == DELETE.name:
         return _deleted(to, record.name)
     known = to.states.get(record.name)
-    if record.action == "update" and known is not None:
+    if record.action == UPDATE.name and known is not None:
         return _merged(to, known, record)
     why = _cannot_import(to, record)
     if why is not None:
         return to.refuse(why)
     to.states[record.name] = _imported(to.node, record)
-    if record.action == "insert" and record.asks_for_acknowledgement:
-        to.kinds[record.name] = "iack"
+    if record.action == INSERT.name and record.asks_for_acknowledgement:
+        to.kinds[record.name] = INSERT_ACK.queue
         return "new: inserted; it asks for an acknowledgement, which is queued"
-    return "new: inserted" if record.action == "insert" else f"new: inserted, since {to.node.id} did not know the state"
+    return "new: inserted" if record.action == INSERT.name else f"new: inserted, since {to.node.id} did not know the state"
 
 
 def _cannot_import(to: Receiver, record: StateRecord) -> Optional[str]:
@@ -92,7 +94,7 @@ def _cannot_import(to: Receiver, record: StateRecord) -> Optional[str]:
         return f"{node.id} has a state {name} already ({known.protocol} {known.wire.near}, {known.wire.far})"
     if name.creator == node.boot and name.id >= node.next_id:
         return f"{node.id} is boot {node.boot} itself and has not given the id {name.id} yet (its next id is {node.next_id})"
-    if to.kinds.get(name) == "del":
+    if to.kinds.get(name) == SHORT_DELETE.queue:
         return f"{node.id} has deleted the state, and has still to tell so"
     for state in to.states.values():
         if state.protocol == record.protocol and (state.wire == record.wire or state.stack == record.stack):
@@ -153,9 +155,9 @@ def _short_taken(to: Receiver, record: ShortUpdate) -> str:
 
 
 def _named_taken(to: Receiver, record: Named) -> str:
-    if record.action == "short delete":
+    if record.action == SHORT_DELETE.name:
         return _deleted(to, record.name)
-    if record.action == "update request":
+    if record.action == UPDATE_REQUEST.name:
         return _requested(to, record.name)
     known = to.states.get(record.name)
     if known is None:
@@ -181,8 +183,8 @@ def _requested(to: Receiver, name: Name) -> str:
         return to.refuse(f"{to.node.id} has no such state to send")
     if "n" in known.flags:
         return "asked for, but its rule says `no-sync`: it is not sent"
-    if to.kinds.get(name) in (None, "updc", "iack"):
-        to.kinds[name] = "upd"
+    if to.kinds.get(name) in (None, SHORT_UPDATE.queue, INSERT_ACK.queue):
+        to.kinds[name] = UPDATE.queue
         return "asked for: the whole state is queued as an update"
     return "asked for: it is queued already"
 
@@ -221,10 +223,10 @@ class Delivery(NamedTuple):
     to: Receiver
 
 
-def delivery(step: Step, limits: Dict[str, int]) -> Delivery:
+def delivery(step: Step, limits: Dict[Limit, int]) -> Delivery:
     """What the records of a delivery did, one after another."""
     frame = step.before.frames[int(step.event.split()[1])]
-    to = Receiver.of(step.before.nodes[frame.to], limits["states"])
+    to = Receiver.of(step.before.nodes[frame.to], limits[STATES])
     return Delivery(frame, [(it, to.take(it)) for it in decode(frame.data)], to)
 
 
@@ -242,7 +244,7 @@ def explain_taken(question: Question) -> List[str]:
     ]
 
 
-def what_became(step: Step, limits: Dict[str, int], name: Name) -> str:
+def what_became(step: Step, limits: Dict[Limit, int], name: Name) -> str:
     """What the first record of a state did in a delivery, unless the program counted otherwise."""
     _, records, to = delivery(step, limits)
     if _disagreements(to, step.after):

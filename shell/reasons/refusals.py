@@ -4,25 +4,26 @@ from __future__ import annotations
 from difflib import get_close_matches
 from typing import Callable, Dict, List
 
-from ..names import DEFAULT_LIMITS, OF_TICKET, Name
+from ..language.events import DELIVER, LAST_MILLISECOND, LOSE, OF_FRAME, RELEASE, TURN
+from ..language.forms import GREATEST
+from ..language.names import Name
+from ..language.setups import BULK_MS, DEFER_MS, FRAMES, QUEUE, Limit
 from ..pair import Node, other
 from .questions import Question, name_list
 from ..words import counted
 
-LAST_MILLISECOND = 1000000000000
-GREATEST = 4294967295
 NOT_SHOWN = "the pair before the event does not show it: the shell cannot tell more"
 
 
-def _unknown(limit: str) -> str:
+def _unknown(limit: Limit) -> str:
     """That a limit of a server is not known."""
-    return f"the server's `{limit}` is not known here ({DEFAULT_LIMITS[limit]} unless its setup says otherwise; see --setup)"
+    return f"the server's `{limit.word}` is not known here ({limit.default} unless its setup says otherwise; see --setup)"
 
 
 def _node(question: Question) -> Node:
     """The node that the event is about: that of its line, or the receiver of its frame."""
     words = question.words
-    return question.table(question.pair.frames[int(words[1])].to if words[0] in OF_TICKET else words[1])
+    return question.table(question.pair.frames[int(words[1])].to if words[0] in OF_FRAME else words[1])
 
 
 def _no_such_frame(question: Question) -> List[str]:
@@ -33,8 +34,8 @@ def _no_such_frame(question: Question) -> List[str]:
     lines = [f"no frame in flight has the ticket {ticket}; in flight: {flying}"]
     for number, event in reversed(list(enumerate(question.before, 1))):
         words = event.split()
-        if words[0] in ("deliver", "lose") and int(words[1]) == ticket:
-            return [*lines, f"frame {ticket} was {'delivered' if words[0] == 'deliver' else 'lost'} by event {number}"]
+        if words[0] in (DELIVER.word, LOSE.word) and int(words[1]) == ticket:
+            return [*lines, f"frame {ticket} was {'delivered' if words[0] == DELIVER.word else 'lost'} by event {number}"]
     if ticket >= question.pair.next_ticket:
         lines.append(f"frame {ticket} was not sent yet: the next frame gets the ticket {question.pair.next_ticket}")
     return lines
@@ -42,7 +43,7 @@ def _no_such_frame(question: Question) -> List[str]:
 
 def _nothing_pending(question: Question) -> List[str]:
     node = _node(question)
-    if question.words[0] == "release":
+    if question.words[0] == RELEASE.word:
         return [NOT_SHOWN] if node.held else [f"node {node.id} holds no packet, so there is none to release"]
     if node.pending:
         return [NOT_SHOWN]
@@ -66,20 +67,20 @@ def _no_such_state(question: Question) -> List[str]:
 
 
 def _link_full(question: Question) -> List[str]:
-    limit, flying = question.lab.setup.limits["frames"], len(question.pair.frames)
+    limit, flying = question.lab.setup.limits[FRAMES], len(question.pair.frames)
     known = question.lab.knows_setup
     if known and flying < limit:
         return [NOT_SHOWN]
     return [
         f"the link carries {counted(flying, 'frame')}, and "
-        + (f"the limit `frames` is {limit}" if known else _unknown("frames")),
+        + (f"the limit `frames` is {limit}" if known else _unknown(FRAMES)),
         f"deliver or lose one first: {', '.join(str(it) for it in list(question.pair.frames)[:8])}",
     ]
 
 
 def _queue_full(question: Question) -> List[str]:
-    node, limit = _node(question), question.lab.setup.limits["queue"]
-    allowed = f", {limit}" if question.lab.knows_setup else f": {_unknown('queue')}"
+    node, limit = _node(question), question.lab.setup.limits[QUEUE]
+    allowed = f", {limit}" if question.lab.knows_setup else f": {_unknown(QUEUE)}"
     lines = [
         f"at some point of the event more would be pending at {node.id} than the limit `queue` allows{allowed}",
         f"pending before it: {node.pending} ({_pending_parts(node)})",
@@ -119,7 +120,7 @@ def _count_full(question: Question) -> List[str]:
 
 def _not_syncing(question: Question) -> List[str]:
     node = _node(question)
-    if question.words[0] == "turn":
+    if question.words[0] == TURN.word:
         if node.serve != "-":
             return [NOT_SHOWN]
         return [
@@ -133,16 +134,16 @@ def _not_syncing(question: Question) -> List[str]:
 
 def _too_early(question: Question) -> List[str]:
     node, limits = _node(question), question.lab.setup.limits
-    if question.words[0] == "release":
+    if question.words[0] == RELEASE.word:
         if not node.held:
             return [NOT_SHOWN]
-        since, limit = node.held[0].since, "defer_ms"
+        since, limit = node.held[0].since, DEFER_MS
         who = f"the oldest packet that {node.id} holds (of state {node.held[0].name})"
         what = f"{who} is due at"
     else:
         if node.sync == "-":
             return [NOT_SHOWN]
-        since, limit = int(node.sync.split("/")[1]), "bulk_ms"
+        since, limit = int(node.sync.split("/")[1]), BULK_MS
         who, what = node.id, f"{node.id} can ask for all states again at"
     if not question.lab.knows_setup:
         waited = f"{who} has waited since {since} ms, and the clock of {node.id} stands at {node.clock} ms"
@@ -151,7 +152,7 @@ def _too_early(question: Question) -> List[str]:
     if node.clock >= due:
         return [NOT_SHOWN]
     return [
-        f"{what} {due} ms: it has waited since {since} ms, and `{limit}` is {limits[limit]} ms",
+        f"{what} {due} ms: it has waited since {since} ms, and `{limit.word}` is {limits[limit]} ms",
         f"the clock of {node.id} stands at {node.clock} ms: `tick {node.id} {due - node.clock}` first",
     ]
 
@@ -177,6 +178,6 @@ _REFUSALS: Dict[str, Callable[[Question], List[str]]] = {
 def explain_refusal(question: Question) -> List[str]:
     """Why the event was refused, by the name at the end of the reply."""
     refusal, words = question.reply.split()[-1], question.words
-    if words[0] in OF_TICKET and refusal != "NoSuchFrame" and int(words[1]) not in question.pair.frames:
+    if words[0] in OF_FRAME and refusal != "NoSuchFrame" and int(words[1]) not in question.pair.frames:
         return [NOT_SHOWN]
     return _REFUSALS[refusal](question)

@@ -7,13 +7,14 @@ from typing import Callable, List, NamedTuple, Optional
 
 from ..laboratory import Laboratory, outcome_of
 from ..pair import State, read_shown
-from .packets import PacketEvent, found
-from .questions import Question, name_list, told_state
+from ..language.commands import RULE
+from ..language.packets import PacketEvent
+from ..language.setups import FLAGS_ANY, OPTIONS, QUICK, STATES
+from .questions import Question, found, name_list, told_state
 from ..setups import Rule
 from ..words import counted
 
-# The words of a rule behind which everything has no effect on a block rule (docs/FORMATS.md).
-_WITHOUT_EFFECT = ("flags", "no-sync", "max", "nat", "timeout")
+_ANY_FLAGS = (FLAGS_ANY.word, *FLAGS_ANY.values[0].words)
 
 
 class Judged(NamedTuple):
@@ -34,25 +35,26 @@ def _with_rule(lab: Laboratory, node: str, number: int, change: Callable[[Rule],
     """The setup's lines with one rule of a node in other words."""
     lines, at = [], -1
     for line in lab.setup.lines:
-        at += line.split()[:2] == ["rule", node]
-        is_changed = at == number and line.split()[:2] == ["rule", node]
+        at += line.split()[:2] == [RULE.word, node]
+        is_changed = at == number and line.split()[:2] == [RULE.word, node]
         lines.append(f"rule {node} {change(lab.setup.rules[node][number])}" if is_changed else line)
     return lines
 
 
 def _as_pass(rule: Rule) -> str:
     """A block rule as a pass rule that matches the same packets."""
-    words = list(rule.words)
-    ends = [at for at, word in enumerate(words) if word in _WITHOUT_EFFECT]
-    return " ".join(["pass", *words[1 : min(ends, default=len(words))], "flags", "any"])
+    return " ".join(["pass", *rule.words[1 : _end(rule)], *_ANY_FLAGS])
 
 
 def _with_any_flags(rule: Rule) -> str:
     """A pass rule that matches every packet of TCP too."""
-    words = list(rule.words)
-    ends = [at for at, word in enumerate(words) if word in _WITHOUT_EFFECT]
-    at = min(ends, default=len(words))
-    return " ".join([*words[:at], "flags", "any", *words[at:]])
+    return " ".join([*rule.words[: _end(rule)], *_ANY_FLAGS, *rule.words[_end(rule) :]])
+
+
+def _end(rule: Rule) -> int:
+    """Where the words end that say what a rule matches."""
+    ends = (at for at, word in enumerate(rule.words) if word in OPTIONS and OPTIONS[word].is_of_pass)
+    return min(ends, default=len(rule.words))
 
 
 def blocking_rule(question: Question) -> Optional[int]:
@@ -72,7 +74,7 @@ def rule_but_for_flags(question: Question) -> Optional[int]:
     if not packet.is_tcp or packet.is_request:
         return None
     for number, rule in reversed(list(enumerate(lab.setup.rules[packet.node]))):
-        if rule.action == "pass" and "flags" not in rule.words:
+        if rule.action == "pass" and not rule.has(FLAGS_ANY):
             judged = judge(lab, packet, question.event, _with_rule(lab, packet.node, number, _with_any_flags))
             if judged.state is not None and judged.state.rule == number:
                 return number
@@ -86,7 +88,7 @@ def explain_block(question: Question) -> List[str]:
     if judge(question.lab, question.packet, question.event).outcome != "drop block" or number is None:
         return ["a rule of the node blocked it; which one the program did not show when it was asked again"]
     rule = question.lab.setup.rules[node][number]
-    place = "the first `quick` rule that matches" if "quick" in rule.words else "the last rule that matches"
+    place = "the first `quick` rule that matches" if rule.has(QUICK) else "the last rule that matches"
     lines = [f"{question.rule_words(node, number)} decided: it is {place}"]
     return lines + _but_for_flags(question)
 
@@ -118,7 +120,7 @@ def explain_max(question: Question) -> List[str]:
 
 def explain_full(question: Question) -> List[str]:
     """The limit behind `drop full`."""
-    node, limit = question.packet.node, question.lab.setup.limits["states"]
+    node, limit = question.packet.node, question.lab.setup.limits[STATES]
     state = judge(question.lab, question.packet, question.event).state
     count = len(_standing(question))
     lines = [f"the state table of {node} has {counted(count, 'entry', 'entries')}, and the limit `states` is {limit}"]

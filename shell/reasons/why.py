@@ -12,6 +12,8 @@ from .events import explain_other
 from .faults import explain_fault
 from .frames import explain_broken
 from ..laboratory import Laboratory, Step, Unknown, outcome_of
+from ..language.commands import STEP
+from ..language.events import BROKEN, DROPPED, HELD_BACK, PASS, TAKEN
 from .outcomes import explain_held, explain_pass, replaced
 from .questions import Question, ask
 from .records import explain_taken
@@ -33,10 +35,10 @@ _OF_DROPS: Dict[str, Callable[[Question], List[str]]] = {
     "window": explain_window,
 }
 _OF_OUTCOMES: Dict[str, Callable[[Question], List[str]]] = {
-    "pass": explain_pass,
-    "held": explain_held,
-    "taken": explain_taken,
-    "broken": explain_broken,
+    PASS.word: explain_pass,
+    HELD_BACK.word: explain_held,
+    TAKEN.word: explain_taken,
+    BROKEN.word: explain_broken,
     "refused": explain_refusal,
 }
 
@@ -55,7 +57,7 @@ def why(lab: Laboratory, before: Sequence[str], event: str, reply: str, paint: P
 
 def _explain(question: Question) -> List[str]:
     words = question.outcome.split()
-    explain = _OF_DROPS[words[1]] if words[0] == "drop" else _OF_OUTCOMES.get(words[0], explain_other)
+    explain = _OF_DROPS[words[1]] if words[0] == DROPPED.word else _OF_OUTCOMES.get(words[0], explain_other)
     return explain(question)
 
 
@@ -79,13 +81,13 @@ def why_last(lab: Laboratory, paint: Paint) -> List[str]:
         return [paint.head(f"{line}: {reply}"), *_indented(explain_fault(line, reply))]
     if kind == "refused" and "Event" not in reply.split():
         return [paint.head(f"{line}: {reply}"), *_indented(explain_command(lab, line, reply))]
-    if words[0] != "step":
+    if words[0] != STEP.word:
         return [paint.head(f"{line}: {reply}"), *_indented(explain_done(words, reply))]
     branch = lab.branch(words[1])
     stood = branch.events[: branch.cursor]
     if kind == "refused" and not lab.knows_setup:
         return _refused_as_shown(lab, branch, " ".join(words[2:]), reply, paint)
-    return why(lab, stood[:-1] if kind == "step" else stood, " ".join(words[2:]), reply, paint)
+    return why(lab, stood[:-1] if kind == STEP.word else stood, " ".join(words[2:]), reply, paint)
 
 
 def _refused_as_shown(lab: Laboratory, branch: Branch, event: str, reply: str, paint: Paint) -> List[str]:

@@ -4,10 +4,10 @@ from __future__ import annotations
 from typing import List, NamedTuple, Tuple
 
 from .absence import explain_lag
-from ..names import SYN_SENT, level_name
-from .packets import CIRCLE, PacketEvent, found
+from ..language.names import SYN_SENT, level_name
+from ..language.packets import CIRCLE, PacketEvent
 from ..pair import End, State
-from .questions import Question, peer_of, told_state
+from .questions import Question, found, peer_of, told_state
 
 # How far an acknowledged number may be from what the other end sent: pf's MAXACKWINDOW, 65535 + 1500.
 MOST_ACK_WINDOW = 67035

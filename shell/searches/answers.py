@@ -4,6 +4,8 @@ from __future__ import annotations
 from dataclasses import dataclass
 from typing import Optional, Sequence, Tuple, Union
 
+from ..language.searches import FOUND, GAVE_UP, NONE
+
 
 @dataclass(frozen=True)
 class Found:
@@ -35,8 +37,8 @@ Answer = Union[Found, NoRun, GaveUp]
 def read_answer(reply: Sequence[str]) -> Optional[Answer]:
     """What a reply answers; nothing where it is a refusal or a fault."""
     words = reply[0].split()
-    if words[0] == "found":
+    if words[0] == FOUND:
         return Found(words[1], tuple(line.split(" ", 4)[4] for line in reply[1:-1]), int(words[5]))
-    if words[0] == "none":
+    if words[0] == NONE:
         return NoRun(int(words[1]), int(words[2]))
-    return GaveUp(int(words[2])) if words[:2] == ["gave", "up"] else None
+    return GaveUp(int(words[2])) if words[0] == GAVE_UP else None

@@ -3,9 +3,9 @@ from __future__ import annotations
 
 from typing import List, NamedTuple, Sequence, Tuple
 
-from ..names import EVENTS, NODES, OF_TICKET, SEARCH, SCOPES
-from ..names import GOALS as GOALS_OF_LINES
-from ..reasons.search_forms import words_of
+from ..language.events import CUT, EVENTS, OF_FRAME, PACKET
+from ..language.searches import ANY, APART, SCOPES, SEARCH, words_of
+from ..language.searches import GOALS as GOALS_OF_LINES
 from .reading import OF_ANY, PARTS, is_for_people
 from .sought import GOALS
 
@@ -35,10 +35,10 @@ def _of_people(words: Sequence[str]) -> Offers:
     if not part:
         return Offers(PARTS)
     if part[0] == SEARCH:
-        return Offers(("packet",) if part[2:] == [] and part[1] != "apart" else (), tuple(part[2:]))
+        return Offers((PACKET.word,) if part[2:] == [] and part[1] != APART else (), tuple(part[2:]))
     if part == ["at"]:
         return Offers(("most",))
-    if part[0] in OF_ANY or part[0] == "cut":
+    if part[0] in OF_ANY or part[0] == CUT.word:
         return Offers()
     return Offers((), tuple(part)) if part[0] in EVENTS else Offers()
 
@@ -52,11 +52,11 @@ def _of_line(words: Sequence[str]) -> Offers:
     if not ends and not part:
         return Offers((*(SCOPES if len(words) == 4 else ()), *GOALS_OF_LINES))
     if not ends:
-        return _event(part[1:]) if part[0] != "apart" else Offers()
-    if part[:1] == ["any"]:
-        return Offers(OF_TICKET if len(part) == 1 else ())
-    return _event(part) if part else Offers(("any", *EVENTS))
+        return _event(part[1:]) if part[0] != APART else Offers()
+    if part[:1] == [ANY]:
+        return Offers(tuple(OF_FRAME) if len(part) == 1 else ())
+    return _event(part) if part else Offers((ANY, *EVENTS))
 
 
 def _event(part: Sequence[str]) -> Offers:
-    return Offers((), tuple(part)) if part else Offers(EVENTS)
+    return Offers((), tuple(part)) if part else Offers(tuple(EVENTS))

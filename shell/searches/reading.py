@@ -6,17 +6,17 @@ from typing import Dict, List, Optional, Sequence, Tuple
 
 from .. import macros
 from ..laboratory import Unknown
-from ..names import EVENTS, NODES
-from ..reasons.line_forms import LONGEST_LINE, check_line
-from ..reasons.readers import LineFault
-from ..reasons.search_forms import DEEPEST, MOST_CHOICES
-from ..reasons.word_forms import GREATEST, nearest
-from .sought import ALWAYS, ANYWHERE, DELIVER, GOALS, RUNS, SCOPE, WHERE, Choice, Sought
+from ..language.events import CUT, DELIVER, EVENTS, FLUSH, LOSE, PACKET, REPEAT, TICK
+from ..language.forms import GREATEST, nearest
+from ..language.lines import LONGEST_LINE, check_line
+from ..language.readers import LineFault
+from ..language.searches import ANY, APART, DEEPEST, MOST_CHOICES
+from .sought import ALWAYS, ANY_DELIVERY, GOALS, RUNS, SCOPE, WHERE, Choice, Sought
 from .sought import EVENTS as EVENTS_AT_MOST
 
 PARTS = (*WHERE, "within", "at", *EVENTS)
 # What happens to any frame: the number after it says how often, and is no ticket.
-OF_ANY = ("deliver", "lose", "repeat")
+OF_ANY = (DELIVER.word, LOSE.word, REPEAT.word)
 
 
 def is_for_people(line: str) -> bool:
@@ -44,11 +44,11 @@ def read(line: str, branch: str) -> Sought:
 def _packet(words: Sequence[str]) -> str:
     """The packet that is to drop or to pass; empty where nodes are to be apart."""
     kind, *event = words
-    if kind == "apart":
+    if kind == APART:
         if event:
             raise Unknown(f"a comma is missing: `search apart, {' '.join(event)}`")
         return ""
-    if event[:1] != ["packet"]:
+    if event[:1] != [PACKET.word]:
         raise Unknown(f"what {kind} is a packet: `search {kind} packet NODE in|out ..`; `help packet` has its form")
     return _event(event)
 
@@ -100,19 +100,19 @@ def _choices(words: Sequence[str]) -> List[Tuple[str, Optional[int]]]:
     if words[0] not in EVENTS:
         meant = nearest(words[0], PARTS) or "; `help search` lists them"
         raise Unknown(f"`{words[0]}` begins no part of a search{meant}")
-    if list(words) == ["deliver", "all"]:
-        return [(DELIVER, None)]
+    if list(words) == [DELIVER.word, DELIVER.every]:
+        return [(ANY_DELIVERY, None)]
     what, uses = _times(words)
-    if what[:2] == ["tick", "both"] and len(what) == 3:
+    if what[:2] == [TICK.word, TICK.every] and len(what) == 3:
         return [(_event(it.split()), uses) for it in macros.ticks(what[2])]
     return [(_any(what) or _event(what), uses)]
 
 
 def _any(words: Sequence[str]) -> str:
     """What happens to any frame; empty where a ticket says to which."""
-    if words[0] == "cut" and len(words) == 2:
-        return f"any cut {_number(words[1], GREATEST, 'cut LENGTH N')}"
-    return f"any {words[0]}" if words[0] in OF_ANY and len(words) == 1 else ""
+    if words[0] == CUT.word and len(words) == 2:
+        return f"{ANY} {CUT.word} {_number(words[1], GREATEST, 'cut LENGTH N')}"
+    return f"{ANY} {words[0]}" if words[0] in OF_ANY and len(words) == 1 else ""
 
 
 def _times(words: Sequence[str]) -> Tuple[List[str], int]:
@@ -121,7 +121,7 @@ def _times(words: Sequence[str]) -> Tuple[List[str], int]:
         return list(words[:-2]), _number(words[-2], GREATEST, f"{' '.join(words[:-2])} N times")
     if words[-1] == "once" and len(words) > 1:
         return list(words[:-1]), 1
-    with_number = {"cut": 3, "flush": 3, **dict.fromkeys(OF_ANY, 2)}
+    with_number = {CUT.word: 3, FLUSH.word: 3, **dict.fromkeys(OF_ANY, 2)}
     if with_number.get(words[0]) == len(words):
         return list(words[:-1]), _number(words[-1], GREATEST, f"{' '.join(words[:-1])} N")
     return list(words), 1

@@ -5,23 +5,25 @@ from dataclasses import dataclass
 from itertools import groupby
 from typing import Dict, List, Tuple
 
-from ..names import NODES, SEARCH
+from ..language.events import DELIVER, FLUSH
+from ..language.names import NODES
+from ..language.searches import ANY, APART, LANDED, PASSED, SEARCH, SETTLED, UNPASSED
 from ..words import counted
 
 # What people say, and the goal of the line.
-GOALS: Dict[str, str] = {"drops": "unpassed", "passes": "passed", "apart": "apart"}
+GOALS: Dict[str, str] = {"drops": UNPASSED, "passes": PASSED, APART: APART}
 # Where the question is asked, unless people say something else: of a pair at rest.
-SCOPE = "settled"
+SCOPE = SETTLED
 ANYWHERE = "anywhere"
 WHERE: Dict[str, str] = {
-    "landed": "where no frame is in flight",
-    "settled": "where nothing is in flight or pending",
+    LANDED: "where no frame is in flight",
+    SETTLED: "where nothing is in flight or pending",
     ANYWHERE: "after each event",
 }
 EVENTS, RUNS = 8, 1_000_000
-DELIVER = "any deliver"
+ANY_DELIVERY = f"{ANY} {DELIVER.word}"
 # What happens as often as there are events, unless people say something else.
-ALWAYS = (DELIVER, *(f"flush {node}" for node in NODES))
+ALWAYS = (ANY_DELIVERY, *(f"{FLUSH.word} {node}" for node in NODES))
 
 
 @dataclass(frozen=True)
@@ -35,7 +37,7 @@ class Choice:
     def words(self) -> str:
         """What it is, in people's words."""
         first, *rest = self.what.split()
-        if first != "any":
+        if first != ANY:
             return self.what
         return f"{rest[0]} any frame" + (f" to {counted(int(rest[1]), 'byte')}" if rest[1:] else "")
 

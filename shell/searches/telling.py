@@ -6,7 +6,7 @@ from typing import List, Sequence
 from ..colours import Paint
 from ..frames import summary
 from ..laboratory import Step
-from ..names import OF_TICKET
+from ..language.events import CUT, FLUSH, OF_FRAME
 from ..pair import Frame, Pair
 from ..words import counted
 from .answers import Found, GaveUp, NoRun
@@ -50,11 +50,11 @@ def _steps(steps: Sequence[Step]) -> List[str]:
 def _frame(step: Step) -> str:
     """The frame that an event is about: where it goes, and what it carries."""
     kind, *rest = step.event.split()
-    if kind == "flush":
+    if kind == FLUSH.word:
         return _carries(step.after.frames[int(step.outcome.split()[1])])
-    if kind not in OF_TICKET:
+    if kind not in OF_FRAME:
         return ""
-    return _carries((step.after if kind == "cut" else step.before).frames[int(rest[0])])
+    return _carries((step.after if kind == CUT.word else step.before).frames[int(rest[0])])
 
 
 def _carries(frame: Frame) -> str:

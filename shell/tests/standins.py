@@ -25,7 +25,8 @@ TEXT = """#!{python}
 import os, subprocess, sys, time
 
 sys.path.insert(0, {top!r})
-from shell.programs import has_reply, read_reply
+from shell.language.lines import has_word
+from shell.programs import read_reply
 
 PROGRAM, ANSWERS = {program!r}, {answers!r}
 if sys.argv[1:] != ["run"]:
@@ -43,7 +44,7 @@ for line in sys.stdin:
         continue
     run.stdin.write(line)
     run.stdin.flush()
-    if is_open and has_reply(line):
+    if is_open and has_word(line):
         print(*read_reply(replies), sep="\\n", flush=True)
     is_open = is_open or words == ["open"]
 run.stdin.close()

@@ -62,11 +62,10 @@ class Models(unittest.TestCase):
         kinds = [(row.first, row.last, row.kind) for row in it.rows]
         self.assertEqual(kinds[:4], [(1, 1, "packet"), (2, 3, "flush"), (4, 4, "packet"), (5, 6, "flush")])
         self.assertEqual(kinds[4:], [(7, 7, "packet"), (8, 9, "flush"), (10, 11, "flush")])
-        ways = [(way.source, way.to, way.sent, way.ended, way.how, way.records) for way in it.flights.values()]
-        self.assertEqual(ways[0], ("a", "b", 1, 1, "lost", ("insert 1.1",)))
-        self.assertEqual(ways[1], ("a", "b", 3, 3, "delivered", ("short update 1.1",)))
-        self.assertEqual(ways[2], ("b", "a", 5, 5, "delivered", ("update request 1.1",)))
-        self.assertEqual(ways[3], ("a", "b", 6, 6, "delivered", ("update 1.1",)))
+        ways = [(way.source, way.to, it.sent(way), it.ended(way), way.is_lost) for way in it.flights.values()]
+        self.assertEqual(ways, [("a", "b", 1, 1, True), ("a", "b", 3, 3, False), ("b", "a", 5, 5, False), ("a", "b", 6, 6, False)])
+        records = [("insert 1.1",), ("short update 1.1",), ("update request 1.1",), ("update 1.1",)]
+        self.assertEqual(list(it.records.values()), records)
         self.assertEqual([mark.words for mark in it.rows[3].marks], [("taken 1:", "asks for 1.1")])
         blocked = it.rows[4].marks[0]
         self.assertEqual((blocked.node, blocked.kind, blocked.fate, blocked.tone), ("b", "in", "drop block", "bad"))
@@ -74,9 +73,9 @@ class Models(unittest.TestCase):
 
     def test_out_of_order(self) -> None:
         it = drawn(CROSSING)
-        ways = [(way.ticket, way.sent, way.ended, way.origin) for way in it.flights.values()]
+        ways = [(way.ticket, it.sent(way), it.ended(way), way.origin) for way in it.flights.values()]
         self.assertEqual(ways, [(1, 1, 6, None), (2, 3, 5, None), (3, 4, 7, 1), (4, 10, 12, None)])
-        self.assertEqual(it.flights[4].cuts, [(11, 30)])
+        self.assertEqual([(it.places[cut.by.number], cut.now) for cut in it.flights[4].cuts], [(11, 30)])
         # The copy brings a state that b has from the first: the record is bad.
         self.assertEqual(it.rows[7].marks[0].words, ("taken 1:", "1 bad"))
         self.assertEqual(it.rows[12].marks[0].fate, "broken: Length")
@@ -99,7 +98,7 @@ class Models(unittest.TestCase):
         frames = "step main flush a\nstep main deliver 1\nstep main flush b\nstep main deliver 2\n"
         it = drawn(f"set defer 1\n{RULES}{QUERY}{frames}")
         self.assertEqual((it.rows[0].marks[0].fate, it.rows[0].marks[0].tone), ("held 1.1", "note"))
-        self.assertEqual([way.records for way in it.flights.values()], [("insert 1.1 (wants ack)",), ("insert ack 1.1",)])
+        self.assertEqual(list(it.records.values()), [("insert 1.1 (wants ack)",), ("insert ack 1.1",)])
         self.assertEqual(it.rows[2].marks[0].words, ("taken 1:", "1 held let go"))
 
     def test_packets_outside_the_window_have_their_numbers(self) -> None:
@@ -135,7 +134,7 @@ class Frames(unittest.TestCase):
         with mock.patch("shell.charts.frames.COPIES", 2):
             found = chart_frames.frames_sent(lab, [*events, "repeat 2", "lose 6", "lose 1"])
         lab.close()
-        sent = lab.steps(events, len(events))[0].after.frames
+        sent = lab.steps(events, [len(events)])[0].after.frames
         self.assertEqual(found, {ticket: frame.data for ticket, frame in sent.items()})
 
 

@@ -27,6 +27,7 @@ class Offered(unittest.TestCase):
     def test_words_branches_events_nodes_and_tickets(self) -> None:
         self.offers("exc", "excise")
         self.offers("back ", "main", "other")
+        self.offers("past ", "main", "other")
         self.offers("step o", "other")
         self.offers("step main rel", "release")
         self.offers("packet a ", "in", "out")

@@ -7,8 +7,9 @@ from dataclasses import replace
 from typing import Callable, List
 
 from ..differences import differences
-from ..names import Name
-from ..pair import Cleared, End, Frame, Held, Key, Pair, Queued, read_shown
+from ..language.names import Name
+from ..language.packets import Key
+from ..pair import Cleared, End, Frame, Held, Pair, Queued, read_shown
 from .test_frames import NAME, UDP, frame
 
 SHOWN = [

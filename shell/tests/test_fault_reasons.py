@@ -6,9 +6,10 @@ import unittest
 from typing import List, Optional
 
 from . import program
-from ..names import LIMITS
-from ..reasons.faults import RANGES, explain_fault
-from ..reasons.line_forms import LineFault, check_line
+from ..language.lines import check_line
+from ..language.readers import LineFault
+from ..language.setups import LIMITS
+from ..reasons.faults import explain_fault
 from ..programs import check_setup, run_lines
 
 PACKET = "step main packet a in udp 1.2.3.4:1 2.3.4.5:2 3"
@@ -25,6 +26,9 @@ COMMANDS = [
     ("step main packet a", "bad 4 Missing", "", "in|out is missing: in or out"),
     ("show " + "x" * 33, "bad 5 Number", "x" * 33, "has 33 characters; BRANCH is a letter from a to z and at most 15 more of"),
     ("fork main 3", "bad 4 Missing", "", "NEW is missing"),
+    ("past main", "bad 4 Missing", "", "K is missing"),
+    ("past main 4294967296", "bad 5 Number", "4294967296", "is above 4294967295"),
+    ("past main 3 2", "bad 6 Extra", "2", "the line was complete before `2`"),
     (PACKET.replace("udp", "UDP"), "bad 5 Number", "UDP", "is no protocol (did you mean `udp`?)"),
     (PACKET.replace("udp", "256"), "bad 5 Number", "256", "is above 255"),
     (PACKET.replace("1.2.3.4:1", "[::1]:1"), "bad 5 Number", "[::1]:1", "no `::`"),
@@ -135,9 +139,9 @@ class FaultReasons(unittest.TestCase):
                 self.assertEqual(explain_fault(line, reply), [why])
 
     def test_each_limit_has_the_range_of_the_program(self) -> None:
-        self.assertEqual(sorted(RANGES), sorted(LIMITS))
-        for name, (low, high) in RANGES.items():
-            for number, wanted in ((low - 1, "world 1 TooSmall"), (low, None), (high, None), (high + 1, "world 2 TooLarge")):
+        for name, it in LIMITS.items():
+            outside = ((it.least - 1, "world 1 TooSmall"), (it.most + 1, "world 2 TooLarge"))
+            for number, wanted in (*outside, (it.least, None), (it.most, None)):
                 with self.subTest(name, number=number):
                     line = f"set {name} {number}"
                     fault = check_setup(program(), [line])

@@ -4,8 +4,9 @@ from __future__ import annotations
 import unittest
 
 from ..frames import Broken, ClearRecord, Named, ShortUpdate, StateRecord, StatusRecord, checksum, decode, summary
-from ..names import Name
-from ..pair import End, Key
+from ..language.names import Name
+from ..language.packets import Key
+from ..pair import End
 from ..records import record_lines
 
 NO_RULES = "d41d8cd98f00b204e9800998ecf8427e"

@@ -17,7 +17,7 @@ from fuzzing.readings import fault_of, read
 from fuzzing.timelines import replies_to
 from fuzzing.trials import Trial, minimised
 from fuzzing.wholes import pieces
-from oracle.laboratory import Differs, Laboratory
+from oracle.subject import Differs, Subject
 from oracle.searches import Search, compare_search, is_allowed, line_of
 from oracle.tallies import Seen
 from shell.setups import Setup
@@ -83,7 +83,7 @@ LIES = (
 )
 
 
-class Lying(Laboratory):
+class Lying(Subject):
     """A run in whose replies one text is changed, the first or a later one."""
 
     def __init__(self, old: str, new: str, times: int):
@@ -167,7 +167,7 @@ RIGHT = (
 class Searches(unittest.TestCase):
     def compare(self, line: str, reply: str) -> None:
         """What steps tell of a reply."""
-        with contextlib.closing(Laboratory(program(), 20)) as lab:
+        with contextlib.closing(Subject(program(), 20)) as lab:
             lab.open(Setup.of(["rule a pass out", "rule b pass out"]))
             lab.need("fork main 0 spare", "forked")
             compare_search((lab, "spare"), Search.read(f"search main {line}"), reply.split("|"), random.Random(1))

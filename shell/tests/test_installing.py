@@ -99,7 +99,8 @@ class Installing(Room):
         self.install()
         found = {name for name in tree(self.prefix) if (self.prefix / name).is_file()}
         lines = (self.prefix / LIST).read_text().splitlines()
-        listed = dict(reversed(line.split("  ", 1)) for line in lines if not line.startswith("#"))
+        pairs = (line.split("  ", 1) for line in lines if not line.startswith("#"))
+        listed = {name: digest for digest, name in pairs}
         self.assertEqual({*listed, LIST}, found)
         for name, digest in listed.items():
             self.assertEqual(hashlib.sha256((self.prefix / name).read_bytes()).hexdigest(), digest)

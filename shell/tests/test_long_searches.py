@@ -10,6 +10,7 @@ import subprocess
 import sys
 import time
 import unittest
+from typing import Optional
 
 from . import TOP
 from .standins import NONE, SETUP, Dialogue, once_it_waits, standin
@@ -40,9 +41,10 @@ class Interrupts(Dialogue):
 class Command(unittest.TestCase):
     """`./lab shell` as a program."""
 
-    def start(self, path: str, **files: int) -> "subprocess.Popen[bytes]":
+    def start(self, path: str, stdin: int, stdout: int, stderr: Optional[int] = None) -> "subprocess.Popen[bytes]":
         env = {**os.environ, "PFL_LAB": path, "PFL_LAB_HISTORY": "", "TERM": "dumb", "NO_COLOR": "1"}
-        return subprocess.Popen((sys.executable, f"{TOP}/lab", "shell"), env=env, start_new_session=True, **files)
+        command = (sys.executable, f"{TOP}/lab", "shell")
+        return subprocess.Popen(command, env=env, start_new_session=True, stdin=stdin, stdout=stdout, stderr=stderr)
 
     def test_on_a_pipe_the_result_alone_is_told(self) -> None:
         given = "\n".join([*SETUP, "search apart", "names"])

@@ -11,8 +11,8 @@ from typing import List
 from .. import helps, scripts
 from ..installed import NO_PROGRAM_STATUS
 from ..main import INTERRUPTED_STATUS
-from ..names import CLASSES, DEFAULT_LIMITS, LIMITS
-from ..programs import LIMIT_FAULTS, LINE_FAULTS, RULE_FAULTS
+from ..language.faults import LIMIT_FAULTS, LINE_FAULTS, RULE_FAULTS
+from ..language.setups import CLASSES, LIMITS
 from ..shell import STRICT_STATUS
 from . import TOP, program
 from .dialogues import printed, typed
@@ -83,10 +83,11 @@ class Named(unittest.TestCase):
 
     def test_each_limit_and_class(self) -> None:
         text = section("pfl_lab", "SETUP")
-        for limit in LIMITS:
-            self.assertRegex(text, rf"(?m)^\.It Cm {limit} Ta \d+ (to|or) \d+ Ta {DEFAULT_LIMITS.get(limit, 'states')}\b")
-        for name, seconds in CLASSES:
-            self.assertRegex(text, rf"(It|Ta) {re.escape(name)} Ta {seconds}\b")
+        for word, limit in LIMITS.items():
+            default = "states" if limit.fifths else limit.default
+            self.assertRegex(text, rf"(?m)^\.It Cm {word} Ta {limit.least} (to|or) {limit.most} Ta {default}\b")
+        for it in CLASSES:
+            self.assertRegex(text, rf"(It|Ta) {re.escape(it.word)} Ta {it.seconds}\b")
         for it in re.findall(r"\[([a-z-]+)", helps.SETUP["rule"].form):
             self.assertRegex(text, rf"(?m)^\.Op Cm {it}\b")
 

@@ -7,7 +7,7 @@ from glob import glob
 from .. import helps, scripts
 from ..charts.picture import draw
 from ..main import drawn_from, title_of
-from ..programs import lines_of
+from ..language.lines import lines_of
 from . import TOP, program
 from .dialogues import dialogues, printed, typed
 

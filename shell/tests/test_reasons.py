@@ -9,6 +9,7 @@ from . import laboratory, reasons
 from ..colours import PLAIN
 from ..laboratory import Unknown
 from ..reasons.events import explain_other
+from ..reasons.histories import History
 from ..reasons.questions import ask
 from ..reasons.why import why, why_event, why_last
 
@@ -311,6 +312,7 @@ COMMANDS: Cases = {
         ["2 events cannot happen again: 1 undone event of main is behind the cursor"],
     ),
     "a fork of too many": (WALLS + QUERY + "fork main 2 x", ["main has 1 event, so there are no first 2 of them"]),
+    "a place after all events": (WALLS + QUERY + "past main 2", ["main has 1 event, so there are no first 2 of them"]),
     "last branch": (WALLS + "drop main", ["main is the only branch, and one has to be left: fork another one first"]),
     "branches full": (
         WALLS + "".join(f"fork main 0 b{it}\n" for it in range(16)),
@@ -490,7 +492,7 @@ class Reasons(unittest.TestCase):
     def test_a_new_flow_after_many_events_is_not_looked_for_in_shows(self) -> None:
         lab = laboratory(WALLS + (QUERY + SECOND) * 20 + ANSWER_AT_B.replace("192.0.2.9", "192.0.2.77"))
         self.addCleanup(lab.close)
-        with mock.patch("shell.reasons.histories.read_shown") as shown:
+        with mock.patch.object(History, "steps_at") as shown:
             self.assertEqual(why_last(lab, PLAIN)[1:], ["  rule 0 of b (block any) decided: it is the last rule that matches"])
         shown.assert_not_called()
 

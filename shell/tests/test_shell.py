@@ -15,6 +15,7 @@ from unittest import mock
 
 from ..colours import PLAIN
 from ..laboratory import Laboratory
+from ..language.setups import STATES
 from ..programs import Ended
 from ..setups import Setup
 from ..shell import Shell, Stopped
@@ -123,11 +124,23 @@ class Questions(Dialogue):
             self.said(shell, "view")
         asked.assert_not_called()
 
+    def test_view_shows_the_pair_at_another_place(self) -> None:
+        shell = self.shell()
+        self.said(shell, *SETUP, QUERY, "flush a", "tick a 5", "back main 1")
+        seen = [self.said(shell, f"view {place}") for place in (0, 1, 2, 3)]
+        for place, told in enumerate(seen):
+            self.said(shell, f"fork main {place} at{place}", f"use at{place}")
+            # All but the first line, which names the branch and counts its events.
+            self.assertEqual(self.said(shell, "view")[1:], told[1:])
+        self.assertEqual(self.said(shell, "use main", "view main 2"), seen[2])
+        self.assertEqual(self.said(shell, "view 4"), ["main has no first 4 events; `log main` lists its events"])
+        self.assertEqual(self.said(shell, "view none 1"), ["there is no branch none; `names` tells them"])
+
     def test_questions_change_nothing(self) -> None:
         shell = self.shell()
         self.said(shell, *SETUP, QUERY, "flush a", "fork main 1 other")
         before = [shell.lab.show(it) for it in ("main", "other")]
-        self.said(shell, "view", "diff", "diff main other", "log", "changes 2", "why", "why 1", "chart", "names", "show main")
+        self.said(shell, "view", "view 1", "past main 0", "diff", "diff main other", "log", "changes 2", "why", "why 1", "chart", "names", "show main")
         self.assertEqual(before, [shell.lab.show(it) for it in ("main", "other")])
 
 
@@ -341,6 +354,16 @@ class Server(Dialogue):
         self.said(two, "quiet")
         self.assertEqual(self.said(one, "diff")[0], "a and b agree in 1 state")
 
+    def test_another_place_is_seen_without_the_setup(self) -> None:
+        one, two = self.shells
+        self.said(one, QUERY, "flush a")
+        self.assertTrue(any("frame 1 to b" in line for line in self.said(two, "view")))
+        self.assertFalse(any("frame" in line for line in self.said(two, "view 1")))
+        self.assertEqual(self.said(two, "past main 1")[0], "branch main events 2 cursor 1")
+        said = self.said(two, "changes 2")
+        self.assertEqual(said[0], "event 2: flush a")
+        self.assertIn("  link: frame 1 new: to b, 148 bytes: 1 insert", said)
+
     def test_a_summary_is_no_command(self) -> None:
         one, two = self.shells
         self.said(one, QUERY)
@@ -389,7 +412,7 @@ class KnownSetup(unittest.TestCase):
     def test_a_setup_gives_the_timeouts_of_its_rules(self) -> None:
         setup = Setup.of(["set states 9", "rule a pass out timeout udp.first 5"])
         self.assertEqual(
-            (setup.limits["states"], setup.seconds("a", 0, "udp.first"), setup.seconds("b", None, "udp.first")), (9, 5, 60)
+            (setup.limits[STATES], setup.seconds("a", 0, "udp.first"), setup.seconds("b", None, "udp.first")), (9, 5, 60)
         )
 
 

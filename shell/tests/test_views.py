@@ -9,7 +9,7 @@ from ..checksums import canonical_text, rules_checksum
 from ..colours import PLAIN, Paint
 from ..frames import checksum
 from ..held import tell_packets
-from ..names import Name
+from ..language.names import Name
 from ..pair import NotShown, Pair, read_shown
 from ..setups import Rule, Setup
 from ..views import view

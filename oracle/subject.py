@@ -5,6 +5,7 @@ import subprocess
 import threading
 from typing import List, Optional
 
+from shell.language.commands import OPEN
 from shell.programs import read_reply
 from shell.setups import Setup
 
@@ -13,8 +14,9 @@ class Differs(Exception):
     """What is shown is not what it has to be."""
 
 
-class Laboratory:
-    """A run of the program, which is ended where it takes longer than so many seconds. A line has a character for each byte."""
+class Subject:
+    """A run of the program that is held against a model, and ended where it takes longer than these seconds. A line has a
+    character for each byte."""
 
     def __init__(self, program: str, seconds: Optional[float] = None):
         self.run = subprocess.Popen([program, "run"], stdin=subprocess.PIPE, stdout=subprocess.PIPE)
@@ -38,7 +40,7 @@ class Laboratory:
 
     def open(self, setup: Setup) -> None:
         """Tells the lines of a setup, and ends it."""
-        for line in (*setup.lines, "open"):
+        for line in (*setup.lines, OPEN.word):
             self.tell(line)
         self.setup = setup
 
@@ -63,7 +65,7 @@ class Laboratory:
             raise Differs(f"{line}: {reply}, and not {wanted}")
 
     def shown(self, branch: str, events: int, cursor: int) -> List[str]:
-        """The pair as a branch shows it, which has so many events, of which so many stand."""
+        """The pair as a branch shows it that has these numbers of events and of those that stand."""
         first, *shown = self.answer(f"show {branch}")
         if first != f"branch {branch} events {events} cursor {cursor}":
             raise Differs(f"show {branch}: {first}, and not {events} events and {cursor}")

@@ -1,13 +1,13 @@
 """Words that are read from the left, and the first fault that is met."""
 from __future__ import annotations
 
-from typing import Optional, Sequence
+from typing import Collection, Optional, Sequence
 
-from .word_forms import Form, nearest, one_of
+from .forms import Form, nearest, one_of
 
 
 class LineFault(Exception):
-    """The first fault of a line: its name, the place of its word, from 0 on (behind the last where one is missing), and why."""
+    """The first fault of a line: its name, the place of its word, from 0 on (after the last where one is missing), and why."""
 
     def __init__(self, name: str, place: Optional[int], why: str):
         super().__init__(why)
@@ -32,7 +32,7 @@ class Reader:
             raise LineFault("Number", self.at - 1, f"`{word}` {wrong}; {wanted.name} is {wanted.what}")
         return word
 
-    def known(self, what: str, words: Sequence[str], hint: str = "") -> str:
+    def known(self, what: str, words: Collection[str], hint: str = "") -> str:
         """A word out of a list, by which the rest is read."""
         word = self._one(f"the {what}", one_of(words))
         if word not in words:

@@ -1,37 +1,53 @@
-"""The forms of single words in the laboratory's lines (docs/FORMATS.md): what a word may be, and what is wrong with another."""
+"""The forms of single words in lines: what a word may be, what is wrong with another, and how the program prints it."""
 from __future__ import annotations
 
 import re
-from dataclasses import dataclass
+from dataclasses import dataclass, replace
 from difflib import get_close_matches
-from typing import Callable, Optional, Sequence
+from typing import Callable, Dict, Iterable, Optional, Tuple
 
-from ..frames import PROTOCOLS
-from ..names import CLASSES, NODES
+from .names import NODES
 
 GREATEST = 4294967295
 GREATEST_LONG = 18446744073709551615
 FLAG_LETTERS = "FSRPAU"
+PROTOCOLS: Dict[int, str] = {1: "icmp", 6: "tcp", 17: "udp"}
 
 
 @dataclass(frozen=True)
 class Form:
-    """A form: its name, what has it, and what is wrong with a word that has not."""
+    """A form: its name, what has it, what is wrong with a word that has not, and how one that has is printed. Where the words of
+    a form can be listed they are."""
 
     name: str
     what: str
     wrong: Callable[[str], Optional[str]]
+    plain: Callable[[str], str] = str
+    words: Tuple[str, ...] = ()
+    is_optional: bool = False
+
+    def __str__(self) -> str:
+        return f"[{self.name}]" if self.is_optional else self.name
+
+    def named(self, name: str) -> "Form":
+        """The same form under another name."""
+        return replace(self, name=name)
 
 
-def nearest(word: str, words: Sequence[str]) -> str:
-    """The word that was probably meant, as a question behind a sentence."""
-    near = get_close_matches(word.lower(), words, n=1, cutoff=0.6)
+def nearest(word: str, words: Iterable[str]) -> str:
+    """The word that was probably meant, as a question that ends a sentence."""
+    near = get_close_matches(word.lower(), list(words), n=1, cutoff=0.6)
     return f" (did you mean `{near[0]}`?)" if near else ""
 
 
-def one_of(words: Sequence[str]) -> str:
+def one_of(words: Iterable[str]) -> str:
     """Words of which one is wanted: `a`, `a or b`, `a, b or c`."""
-    return " or ".join([", ".join(words[:-1]), words[-1]] if len(words) > 1 else words)
+    *others, last = words
+    return f"{', '.join(others)} or {last}" if others else last
+
+
+def plain_number(word: str) -> str:
+    return str(int(word))
 
 
 def number(name: str, most: int) -> Form:
@@ -42,16 +58,16 @@ def number(name: str, most: int) -> Form:
             return "is no number of decimal digits"
         return f"is above {most}" if int(word) > most else None
 
-    return Form(name, f"a number from 0 to {most}", wrong)
+    return Form(name, f"a number from 0 to {most}", wrong, plain_number)
 
 
-def choice(name: str, words: Sequence[str]) -> Form:
+def choice(name: str, words: Tuple[str, ...]) -> Form:
     """One of some words."""
 
     def wrong(word: str) -> Optional[str]:
         return None if word in words else f"is no {name}{nearest(word, words)}"
 
-    return Form(name, one_of(words), wrong)
+    return Form(name, one_of(words), wrong, words=words)
 
 
 def _v4_wrong(word: str) -> Optional[str]:
@@ -134,18 +150,45 @@ def _branch_wrong(word: str) -> Optional[str]:
     return f"has {len(word)} characters" if len(word) > 32 else None
 
 
+def _protocol_plain(word: str) -> str:
+    return PROTOCOLS.get(int(word), plain_number(word)) if word.isdigit() else word
+
+
+def _dotted_plain(word: str) -> str:
+    """An IPv4 address or the name of a state; an IPv6 address is read in the form alone in which it is printed."""
+    return word if ":" in word else ".".join(map(plain_number, word.split(".")))
+
+
+def _plain_around(mark: str) -> Callable[[str], str]:
+    """How an address is printed, a mark, and the number after it."""
+
+    def plain(word: str) -> str:
+        address, _, number_there = word.rpartition(mark)
+        return f"{_dotted_plain(address)}{mark}{plain_number(number_there)}"
+
+    return plain
+
+
+_END = "ADDRESS:PORT or for IPv6 [ADDRESS]:PORT"
 BRANCH = Form("BRANCH", "a letter from a to z and at most 15 more of a to z, 0 to 9 and `-`", _branch_wrong)
 NODE = choice("NODE", NODES)
 DIRECTION = choice("in|out", ("in", "out"))
 RULE_DIRECTION = choice("in|out|any", ("in", "out", "any"))
 ACTION = choice("pass|block", ("pass", "block"))
 ANY = choice("any", ("any",))
-CLASS = choice("CLASS", [name for name, _ in CLASSES])
-PROTOCOL = Form("PROTO", "tcp, udp, icmp or a number from 0 to 255", _protocol_wrong)
-SOURCE = Form("SRC", "the source, ADDRESS:PORT or for IPv6 [ADDRESS]:PORT", _end_wrong)
-DESTINATION = Form("DST", "the destination, ADDRESS:PORT or for IPv6 [ADDRESS]:PORT", _end_wrong)
-END = Form("END", "ADDRESS:PORT or for IPv6 [ADDRESS]:PORT", _end_wrong)
-NET = Form("NET", "ADDRESS/LENGTH", _net_wrong)
+PROTOCOL = Form(
+    "PROTO", "tcp, udp, icmp or a number from 0 to 255", _protocol_wrong, _protocol_plain, ("tcp", "udp", "icmp")
+)
+END = Form("END", _END, _end_wrong, _plain_around(":"))
+SOURCE = replace(END, name="SRC", what=f"the source, {_END}")
+DESTINATION = replace(END, name="DST", what=f"the destination, {_END}")
+NET = Form("NET", "ADDRESS/LENGTH", _net_wrong, _plain_around("/"))
 FLAGS = Form("FLAGS", f"`-` for no flag, or letters of {FLAG_LETTERS} in that order", _flags_wrong)
-NAME = Form("NAME", "a state's name, CREATOR.ID", _name_wrong)
-TICKET = number("TICKET", GREATEST)
+NAME = Form("NAME", "a state's name, CREATOR.ID", _name_wrong, _dotted_plain)
+N, K, TICKET = (number(it, GREATEST) for it in ("N", "K", "TICKET"))
+MS = number("MS", GREATEST_LONG)
+
+
+def is_tcp(word: str) -> bool:
+    """Whether the word of a protocol is TCP's."""
+    return _protocol_plain(word) == "tcp"

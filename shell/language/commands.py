@@ -1,0 +1,108 @@
+"""The lines of a setup and the commands that follow it, each as a row: its form, what it answers, and why it may be refused."""
+from __future__ import annotations
+
+from dataclasses import dataclass
+from typing import Tuple
+
+from . import forms as form
+from .forms import Form
+from .setups import LIMITS, RULE_FORM
+
+MOST_BRANCHES = 16
+
+
+def _read_apart(name: str) -> Form:
+    """What is read by a table of its own."""
+    return Form(name, "", lambda word: None)
+
+
+LIMIT, EVENT = _read_apart("LIMIT"), _read_apart("EVENT")
+
+
+@dataclass(frozen=True)
+class Line:
+    """A line: its word and the forms of those that follow, what it does, the forms of its replies, and its refusals."""
+
+    word: str
+    values: Tuple[Form, ...]
+    what: str
+    more: str = ""
+    replies: Tuple[str, ...] = ()
+    refusals: Tuple[str, ...] = ()
+    # Whether its reply goes on up to a line `end`.
+    is_long: bool = False
+    # Whether the shell has a word of its own in its place.
+    is_hidden: bool = False
+
+    @property
+    def form(self) -> str:
+        return " ".join([self.word, *(it.name for it in self.values)])
+
+
+SET = Line(
+    "set",
+    (LIMIT, form.N),
+    "sets a limit of the pair",
+    f"Limits: {', '.join(it.word + ' (0 or 1)' * it.is_switch for it in LIMITS.values())}. The last value "
+    "of each counts. Where a node has more states than `astart` (three fifths of `states` where it is not set), timeouts are "
+    "scaled by (aend - its states) / (aend - astart), and from `aend` (six fifths of `states`) on they are 0. Where `aend` is "
+    "not above `astart`, as with both 0, they are whole.",
+)
+RULE = Line(
+    "rule",
+    (form.NODE, _read_apart(RULE_FORM)),
+    "adds a rule to node a's or b's set; the last rule that matches decides, or the first that is quick",
+    "The words stand in this order. NET is ADDRESS/LENGTH, END is ADDRESS:PORT. Where no rule matches, the packet passes without a "
+    "state.",
+)
+OPEN = Line("open", (), "ends the setup; events and commands follow", "The branch main is there, with no events.")
+SETUP = {it.word: it for it in (SET, RULE, OPEN)}
+
+_BRANCH, _BRANCH_N, _BRANCH_K = (form.BRANCH,), (form.BRANCH, form.N), (form.BRANCH, form.K)
+STEP = Line(
+    "step", (form.BRANCH, EVENT), "lets an event happen on a branch; events that were undone are discarded",
+    "Answers the outcome: see help EVENT.", ("step OUTCOME dropped N",), ("NoBranch", "Event"),
+)
+BACK = Line(
+    "back", _BRANCH_N, "undoes the last N events, which stay behind the cursor",
+    "Answers `at CURSOR`, or refused TooFarBack.", ("at CURSOR",), ("NoBranch", "TooFarBack"),
+)
+FORWARD = Line(
+    "forward", _BRANCH_N, "lets the next N events behind the cursor happen again",
+    "Answers `at CURSOR`, or refused NothingForward.", ("at CURSOR",), ("NoBranch", "NothingForward"),
+)
+FORK = Line(
+    "fork", (*_BRANCH_K, form.BRANCH.named("NEW")), "makes a branch NEW of the first K events of BRANCH",
+    f"K is at most the number of its events. There are at most {MOST_BRANCHES} branches.",
+    ("forked",), ("NoBranch", "NameTaken", "BadName", "NothingForward", "BranchesFull"),
+)
+DROP = Line(
+    "drop", _BRANCH, "removes a branch, unless it is the last",
+    "Answers `removed`.", ("removed",), ("NoBranch", "LastBranch"),
+)
+SHOW = Line(
+    "show", _BRANCH, "shows a branch for machines, in columns that docs/FORMATS.md and pfl_lab(1) name",
+    "`view` shows the same for people.", ("branch NAME events E cursor C",), ("NoBranch",), is_long=True,
+)
+PAST = Line(
+    "past", _BRANCH_K, "shows a branch, as `show` does, as it was after its first K events, those after the cursor too",
+    "K is at most the number of its events, and 0 is the pair of the opening. The branch stays as it is.",
+    ("branch NAME events E cursor C",), ("NoBranch", "NothingForward"), is_long=True,
+)
+NAMES = Line("names", (), "tells the names of the branches", "", ("names NAME NAME ..",))
+EXCISE = Line(
+    "excise", _BRANCH_K, "takes the K-th event out; the others happen again without it",
+    "Answers `excised` and the places of those that fell out with it, since they could not happen any more.",
+    ("excised PLACE PLACE ..",), ("NoBranch", "NoEvent"),
+)
+RESTORE = Line(
+    "restore", _BRANCH, "brings back what the newest excision took out, unless an event was accepted since",
+    "", ("restored CURSOR",), ("NoBranch", "NothingExcised"),
+)
+LOG = Line(
+    "log", _BRANCH, "tells all events of the branch in order, each as the line that steps it, and the cursor",
+    "", ("log NAME events E cursor C",), ("NoBranch",), is_long=True, is_hidden=True,
+)
+COMMANDS = {it.word: it for it in (STEP, BACK, FORWARD, FORK, DROP, SHOW, PAST, NAMES, EXCISE, RESTORE, LOG)}
+# Those that the shell takes as they are.
+TYPED = {word: it for word, it in COMMANDS.items() if not it.is_hidden}

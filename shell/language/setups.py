@@ -1,0 +1,100 @@
+"""What a setup can say: the limits, the classes of timeouts and the options of rules, each as a row."""
+from __future__ import annotations
+
+from dataclasses import dataclass
+from typing import Tuple
+
+from . import forms as form
+from .forms import Form, choice, number
+
+
+@dataclass(frozen=True)
+class Limit:
+    """A limit of the pair: its range, and what it is where it is not set, a number or this many fifths of `states`."""
+
+    word: str
+    least: int
+    most: int
+    default: int = 0
+    fifths: int = 0
+
+    @property
+    def is_switch(self) -> bool:
+        """Whether a line can set it to 0 or 1 alone."""
+        return self.most == 1
+
+
+STATES = Limit("states", 1, 65536, 64)
+QUEUE = Limit("queue", 1, 65536, 256)
+FRAMES = Limit("frames", 1, 4096, 64)
+MTU = Limit("mtu", 148, 9000, 1500)
+HELD = Limit("held", 1, 128, 128)
+DEFER = Limit("defer", 0, 1, 0)
+DEFER_MS = Limit("defer_ms", 1, 10000, 20)
+MAXUPD = Limit("maxupd", 1, 255, 128)
+BATCH = Limit("batch", 1, 256, 16)
+BULK_MS = Limit("bulk_ms", 1, 60000, 10000)
+# Between these two timeouts shrink.
+ASTART = Limit("astart", 0, 131072, fifths=3)
+AEND = Limit("aend", 0, 131072, fifths=6)
+_LIMITS = (STATES, QUEUE, FRAMES, MTU, HELD, DEFER, DEFER_MS, MAXUPD, BATCH, BULK_MS, ASTART, AEND)
+LIMITS = {it.word: it for it in _LIMITS}
+
+
+@dataclass(frozen=True)
+class TimeoutClass:
+    """A class of timeouts, with its seconds where no rule sets others."""
+
+    word: str
+    seconds: int
+
+
+# By their numbers in frames.
+CLASSES = (
+    TimeoutClass("tcp.first", 120),
+    TimeoutClass("tcp.opening", 30),
+    TimeoutClass("tcp.established", 86400),
+    TimeoutClass("tcp.closing", 900),
+    TimeoutClass("tcp.finwait", 45),
+    TimeoutClass("tcp.closed", 90),
+    TimeoutClass("udp.first", 60),
+    TimeoutClass("udp.single", 30),
+    TimeoutClass("udp.multiple", 60),
+    TimeoutClass("icmp.first", 20),
+    TimeoutClass("icmp.error", 10),
+    TimeoutClass("other.first", 60),
+    TimeoutClass("other.single", 30),
+    TimeoutClass("other.multiple", 60),
+)
+CLASS = choice("CLASS", tuple(it.word for it in CLASSES))
+
+
+@dataclass(frozen=True)
+class Option:
+    """An option of a rule, and the words that follow it. Some have no effect on a block rule."""
+
+    word: str
+    values: Tuple[Form, ...] = ()
+    is_of_pass: bool = False
+
+    @property
+    def form(self) -> str:
+        return f"[{' '.join([self.word, *(it.name for it in self.values)])}]"
+
+
+_PORT = number("N", 65535)
+QUICK = Option("quick")
+FLAGS_ANY = Option("flags", (form.ANY,), True)
+NO_SYNC = Option("no-sync", (), True)
+MAX = Option("max", (form.N,), True)
+NAT = Option("nat", (form.END,), True)
+# May come for each class, in the order of their numbers.
+TIMEOUT = Option("timeout", (CLASS, number("SECONDS", form.GREATEST)), True)
+# In the order in which a rule has them.
+_OPTIONS = (
+    *(QUICK, Option("proto", (form.PROTOCOL.named("P"),)), Option("from", (form.NET,)), Option("fport", (_PORT,))),
+    *(Option("to", (form.NET,)), Option("tport", (_PORT,)), FLAGS_ANY, NO_SYNC, MAX, NAT, TIMEOUT),
+)
+OPTIONS = {it.word: it for it in _OPTIONS}
+RULE_FORM = f"pass|block in|out|any {' '.join(it.form for it in OPTIONS.values())}..."
+MOST_RULES = 256

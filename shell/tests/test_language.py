@@ -1,0 +1,167 @@
+"""The tables of the language are those of docs/FORMATS.md, and who has something of his own for each row has it for all."""
+from __future__ import annotations
+
+import re
+import unittest
+from typing import List
+
+from fuzzing.outcomes import _CHECKS
+from fuzzing.timelines import Timeline
+
+from .. import frames
+from ..language import faults
+from ..language.commands import COMMANDS, MOST_BRANCHES, SETUP, STEP
+from ..language.events import DELIVER, EVENTS, LAST_MILLISECOND, OF_FRAME, PACKET
+from ..language.forms import GREATEST, GREATEST_LONG, NODE, TICKET
+from ..language.lines import LONGEST_LINE
+from ..language.records import KINDS, QUEUES
+from ..language.searches import ANY, DEEPEST, GOALS, MOST_CHOICES, SCOPES, SEARCH
+from ..language.setups import CLASSES, LIMITS, MOST_RULES, RULE_FORM, STATES
+from ..reasons import commands, events, refusals
+from . import TOP
+
+Table = List[List[str]]
+
+
+def section(title: str) -> str:
+    """A part of the page, up to the next one of its rank."""
+    with open(f"{TOP}/docs/FORMATS.md", encoding="utf-8") as it:
+        rank, text = re.fullmatch(r"(#+) .*", title), it.read()
+    assert rank and f"\n{title}\n" in text
+    return re.split(rf"\n#{{1,{len(rank[1])}}} ", text.partition(f"\n{title}\n")[2])[0]
+
+
+def table(title: str, first: str) -> Table:
+    """The table of a part of the page whose first column has this head, row by row."""
+    lines = section(title).split("\n")
+    begin = next(at for at, line in enumerate(lines) if line.startswith(f"| {first} |"))
+    rows: Table = []
+    for line in lines[begin + 2 :]:
+        if not line.startswith("|"):
+            break
+        rows.append([it.strip().replace(r"\|", "|") for it in re.split(r"(?<!\\)\|", line)[1:-1]])
+    return rows
+
+
+def halves(rows: Table) -> Table:
+    """The rows of a table that is two columns of rows side by side."""
+    width = len(rows[0]) // 2
+    return [it for row in rows for it in (row[:width], row[-width:])]
+
+
+def codes(cell: str) -> List[str]:
+    return re.findall("`([^`]+)`", cell)
+
+
+class Page(unittest.TestCase):
+    def test_classes(self) -> None:
+        rows = halves(table("## Classes and default timeouts", "No"))
+        page = {int(number): (word, int(seconds)) for number, word, seconds in rows}
+        self.assertEqual(page, {number: (it.word, it.seconds) for number, it in enumerate(CLASSES)})
+
+    def test_limits(self) -> None:
+        rows = table("## Limits", "Name")
+        page = {}
+        for name, its_range, default in (it for row in rows for it in (row[:3], row[-3:])):
+            page[name] = tuple(map(int, re.split(" to | or ", its_range))), default
+        for it in LIMITS.values():
+            default = f"`{STATES.word}` * {it.fifths} / 5" if it.fifths else str(it.default)
+            self.assertEqual(page.pop(it.word), ((it.least, it.most), default))
+        self.assertEqual(page, {})
+
+    def test_rules(self) -> None:
+        text = section("## Rules")
+        self.assertIn(f"\n```text\n{RULE_FORM}\n```\n", text)
+        self.assertIn(f"TooMany (above {MOST_RULES})", section("## Other faults"))
+
+    def test_records(self) -> None:
+        page = [(int(number), name, int(size)) for name, number, size, _ in table("## Frames", "Message")]
+        self.assertEqual(page, [(it.number, it.name, it.size) for it in KINDS.values()])
+        self.assertIn(f"`queue N {'|'.join(QUEUES)} NUMBER NAME`", section("### Replies"))
+
+    def test_lines_of_a_setup_and_commands(self) -> None:
+        setup = [codes(row[0])[0] for row in table("### Setup", "Line")]
+        self.assertEqual(setup, [it.form.replace(RULE_FORM, "RULE") for it in SETUP.values()])
+        self.assertEqual([codes(row[0])[0] for row in table("### Commands", "Line")], [it.form for it in COMMANDS.values()])
+        self.assertIn(f"There are at most {MOST_BRANCHES} branches", section("### Commands"))
+        self.assertIn(f"of more than {LONGEST_LINE} bytes", section("## Lines and replies"))
+
+    def test_replies_of_commands(self) -> None:
+        rows = table("### Replies", "Reply")
+        page = {code for what, cell in rows for code in codes(cell) if "refused" not in what and "faulty" not in what}
+        shown = codes(section("### Replies").partition("A shown branch is many lines")[2].partition("\n1. ")[2])[0]
+        others = {"excised", "event K step NAME EVENT", "end"}
+        self.assertEqual(page - others | {shown}, {reply for it in COMMANDS.values() for reply in it.replies})
+
+    def test_events(self) -> None:
+        page = [codes(row[0])[0] for row in table("### Commands", "Event")]
+        self.assertEqual(page, [form for it in EVENTS.values() for form in it.forms])
+        for it in EVENTS.values():
+            self.assertIs(it.values[0], TICKET if it.word in OF_FRAME else NODE)
+        for number in (GREATEST, GREATEST_LONG):
+            self.assertIn(f"{number} for ", section("### Commands"))
+        self.assertIn(f"from 0 to {LAST_MILLISECOND}.", section("## Times, names and numbers"))
+
+    def test_outcomes(self) -> None:
+        page = {}
+        for words, cell in table("### Replies", "Event"):
+            of, forms = words.split(", "), codes(cell)
+            page.update({of[0]: forms} if len(of) == 1 else {word: [form] for word, form in zip(of, forms)})
+        self.assertEqual(page, {it.word: [outcome.form for outcome in it.outcomes] for it in EVENTS.values()})
+
+    def test_refusals(self) -> None:
+        names = [name for _, name, _ in table("## Refusals", "No")]
+        self.assertEqual(names, list(faults.EVENT_REFUSALS))
+        lines = section("## Refusals").partition("```text\n")[2].partition("```")[0].splitlines()
+        page = {word: [int(it) for it in numbers] for word, *numbers in map(str.split, lines)}
+        self.assertEqual(page, {it.word: [names.index(name) + 1 for name in it.refusals] for it in EVENTS.values()})
+
+    def test_faults(self) -> None:
+        page = {of: re.sub(r"\([^)]*\)|; NoMemory.*", "", names).strip() for of, names in table("## Other faults", "Of")}
+        for of, names in (
+            ("a line", faults.LINE_FAULTS),
+            ("rules", faults.RULE_FAULTS),
+            ("a frame's bytes", faults.FRAME_FAULTS),
+            ("limits", faults.LIMIT_FAULTS),
+            ("a command", faults.COMMAND_REFUSALS),
+        ):
+            self.assertEqual(tuple(it.strip() for it in page[of].split(",")), names, of)
+        self.assertEqual({name for it in COMMANDS.values() for name in it.refusals}, {*faults.COMMAND_REFUSALS})
+
+    def test_searches(self) -> None:
+        text = section("### Searches")
+        self.assertIn(f"\n```text\n{SEARCH} BRANCH DEPTH RUNS GOAL; CHOICE; CHOICE ..\n```\n", text)
+        self.assertIn(f"from 0 to {DEEPEST} |", text)
+        self.assertIn(f"There are at most {MOST_CHOICES} choices", text)
+        said = [code for row in table("### Searches", "Word") for code in codes(row[1])]
+        choices = [it for it in said if it.startswith("N ")]
+        self.assertEqual({it.split()[0] for it in said if it not in choices}, {*GOALS, *SCOPES})
+        anything = [it.removeprefix(f"N {ANY} ") for it in choices if it != "N EVENT"]
+        wanted = [" ".join([it.word, *(value.name for value in it.values[1:])]) for it in OF_FRAME.values()]
+        self.assertEqual(anything, wanted)
+
+
+class Complete(unittest.TestCase):
+    """Who has something of his own for each row."""
+
+    def test_events(self) -> None:
+        rows = {*EVENTS.values()}
+        self.assertEqual({*_CHECKS}, rows)
+        self.assertEqual({*events._OTHERS}, rows - {PACKET, DELIVER})
+
+    def test_commands(self) -> None:
+        for word in COMMANDS:
+            self.assertTrue(word == STEP.word or callable(getattr(Timeline, word)), word)
+
+    def test_refusals(self) -> None:
+        self.assertEqual({*refusals._REFUSALS}, {*faults.EVENT_REFUSALS})
+        self.assertEqual({*commands._REFUSALS, "Event"}, {*faults.COMMAND_REFUSALS})
+
+    def test_records(self) -> None:
+        for kind in KINDS.values():
+            record = frames._READERS.get(kind, frames._named)(kind.name, frames._Bytes(bytes(kind.size)))
+            self.assertEqual(record.action, kind.name)
+
+
+if __name__ == "__main__":
+    unittest.main()
