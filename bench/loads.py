@@ -22,6 +22,7 @@ SHORT_STATES, SHORT_EVENTS, SHORT_FORKS = 4096, 10_000, 5
 RESTARTS, LIMIT_FORKS = 20, 15
 MOST_FRAMES, MOST_MTU = 4096, 9000
 TIMEOUTS = 200
+WHYS = 1000
 FIRST_PORT = 1000
 # The near and the far end of a flow.
 Ends = Tuple[str, str]
@@ -357,6 +358,17 @@ def pasts(pair: TrackedPair) -> Iterator[Part]:
         yield part
 
 
+def whys(pair: TrackedPair) -> Iterator[Part]:
+    """Explanations of the newest event, over and over, and of one half the way back."""
+    yield pair.fill()
+    for what, place, times in (("a reason of the newest event", pair.cursor, WHYS), ("a reason half the way back", pair.cursor // 2, ROUNDS)):
+        part, (near, far) = Part(what), pair.flows[place - 1]
+        event = f"event {place} step main packet a out udp {near} {far} 40"
+        for _ in range(times):
+            part.ask(f"why main {place}", f"why main {place}", event, f"outcome pass 1.{place}", "rule 0 pass", f"new 1.{place}", "end")
+        yield part
+
+
 def forks(pair: TrackedPair) -> Iterator[Part]:
     """Branches of all events so far, which are dropped again."""
     yield pair.fill()
@@ -394,7 +406,7 @@ LOADS: Dict[str, Callable[[TrackedPair], Iterator[Part]]] = {
     it.__name__: it
     for it in (
         *(replies, flows, rooms, hits, ticks, undo, connections, frames),
-        *(purges, scattered, timeouts, shows, pasts, forks, short_forks, limits),
+        *(purges, scattered, timeouts, shows, pasts, whys, forks, short_forks, limits),
     )
 }
 # The number of states of the loads that are measured at one number alone.

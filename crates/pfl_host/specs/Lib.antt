@@ -2,7 +2,7 @@ pub mod Servers
 pub mod Obeys
 pub use Rattle.pfl_base.specs as base
 pub use Rattle.pfl_run.specs.timeline as timeline
-pub use Rattle.pfl_session.specs as session
+pub use Rattle.pfl_serve.specs.session as session
 pub use Rattle.pfl_run.specs.reader as reader
 pub use Rattle.pfl_run.specs.script as script
 pub use Rattle.pfl_serve.specs as serve

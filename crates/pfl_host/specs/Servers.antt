@@ -14,10 +14,10 @@ use Rattle.pfl_base.specs.declared.std_device.Std.{Std}
 use Rattle.pfl_run.specs.timeline.Timelines.{Timeline}
 use Rattle.pfl_run.specs.script.declared.engine.Ended.{Ended}
 use Rattle.pfl_run.specs.script.declared.fault.EngineFault.{EngineFault}
-use Rattle.pfl_session.specs.declared.entry.Entry.{Entry}
-use Rattle.pfl_session.specs.declared.which.Which as Which
-use Rattle.pfl_session.specs.Journals.{revisions_of}
-use Rattle.pfl_session.specs.Labs.{AreNewPasses}
+use Rattle.pfl_serve.specs.session.declared.entry.Entry.{Entry}
+use Rattle.pfl_serve.specs.session.declared.which.Which as Which
+use Rattle.pfl_serve.specs.session.Journals.{revisions_of}
+use Rattle.pfl_serve.specs.session.Labs.{AreNewPasses}
 use Rattle.pfl_serve.specs.Services.{IsService}
 use Rattle.pfl_serve.specs.declared.closing.EndedSeat.{EndedSeat}
 use Rattle.pfl_serve.specs.declared.seat.Seat.{Seat}

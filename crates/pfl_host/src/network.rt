@@ -10,8 +10,7 @@ ghost use Rattle.pfl_host.specs.Servers.{stream_of, IsUnused};
 
 use pfl_base::Std;
 use pfl_run::{LabFault, LineReader};
-use pfl_serve::Seat;
-use pfl_session::Pass;
+use pfl_serve::{Pass, Seat};
 use std::alloc::{Allocator, Global};
 use std::io::{Read, Write};
 use std::net::{Ipv4Addr, Net, SocketAddr, TcpListener, TcpStream};

@@ -4,7 +4,7 @@ ghost use Rattle.std.specs.Prelude.{◌≡◌, ◌≤◌, ◌++◌, ◌⊎◌, �
 ghost use Rattle.std.specs.Fmt.{decimal};
 ghost use Rattle.std.specs.Io.KnownBytes.{Appends};
 ghost use Rattle.pfl_base.specs.Counts.{Counts, CountsWithin};
-ghost use Rattle.pfl_session.specs.Totals.{HasFewEvents};
+ghost use Rattle.pfl_serve.specs.session.Totals.{HasFewEvents};
 ghost use Rattle.pfl_run.specs.Runs.{HasFailed, IsDeviceFault, Stops};
 ghost use Rattle.pfl_run.specs.declared.fault.LabFault.TheVariants as fault;
 ghost use Rattle.pfl_host.specs.Servers.{closed_text, listening_text, ClosesTold, IsAwaitStop, IsCloseStop, IsLabStop, IsServeStop, HostServes, ServesFromDevice, ServesToEnd, HostServesWhole, TellsFirst};
@@ -16,8 +16,7 @@ use pfl_run::{
     EngineFault, LabFault, LineReader, ShortLine, Timeline, plain_line, push_number, set_up, tell,
     write_text,
 };
-use pfl_serve::Gate;
-use pfl_session::Opened;
+use pfl_serve::{Gate, Opened};
 use std::alloc::Global;
 use std::marker::Brand;
 use std::net::{Net, TcpListener, TcpStream};

@@ -40,6 +40,11 @@ pub enum Command {
         branch: BranchWord,
         place: u32,
     },
+    /// Asks what came of the branch's event at the place, counted from 1, and why.
+    Why {
+        branch: BranchWord,
+        place: u32,
+    },
     /// Asks for the names of the branches, in the order of their making.
     Names,
     /// Takes an event out of the branch, and with it each later one that is refused then. Places count from 1.

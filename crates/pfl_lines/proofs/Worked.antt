@@ -22,14 +22,14 @@ use Rattle.pfl_lines.specs.declared.fault.LineFault.TheVariants.{Unknown, Missin
 use Rattle.pfl_lines.specs.declared.search.ScriptLine.{ScriptLine}
 use Rattle.pfl_lines.specs.declared.search.ScriptLine.TheVariants as script
 use Rattle.pfl_lines.specs.Addresses.{end_of, v4_end, v4_of}
-use Rattle.pfl_lines.specs.Commands.{event_at, flush_at, packet_at, bare_frame_event_at, command_of, command_at, past_at, step_at, whole_step, parsed}
+use Rattle.pfl_lines.specs.Commands.{event_at, flush_at, packet_at, bare_frame_event_at, command_of, command_at, past_at, why_at, step_at, whole_step, parsed}
 use Rattle.pfl_lines.specs.Numbers.{number_of}
 use Rattle.pfl_lines.specs.Packets.{fields_at, plain_at}
 use Rattle.pfl_lines.specs.Search.{parsed_script, script_of, search_of, choices_of, each_choice, choice_of, move_of, move_at, given_at, any_frame_at, any_cut_at, goal_of, goal_at, question_at, passed_at, unpassed_at, judged_at}
 
 -- what events and commands need to compute on literals
 unfoldable of_commands : ℕ
-unfolding number_of v4_of v4_end end_of plain_at fields_at packet_at flush_at bare_frame_event_at event_at step_at past_at command_at whole_step command_of
+unfolding number_of v4_of v4_end end_of plain_at fields_at packet_at flush_at bare_frame_event_at event_at step_at past_at why_at command_at whole_step command_of
 of_commands = 0
 
 -- what goals need
@@ -172,3 +172,19 @@ past_left_over = refl
 past_other_word : parsed (codes "pasts main 3") ≡ Err Unknown
 unfolding computing parsed
 past_other_word = refl
+
+why_script : parsed_script (codes "why main 3") ≡ Ok (script.Command (command.Why main_name 3))
+unfolding computing
+why_script = refl
+
+why_too_great : parsed (codes "why main 4294967296") ≡ Err Number
+unfolding computing parsed
+why_too_great = refl
+
+why_no_place : parsed (codes "why main") ≡ Err Missing
+unfolding computing parsed
+why_no_place = refl
+
+why_left_over : parsed (codes "why main 3 2") ≡ Err Extra
+unfolding computing parsed
+why_left_over = refl

@@ -164,6 +164,13 @@ past_at ws = do
   Ok (draft.Whole (commands.Past branch.0 place.0), place.1)
 
 -- BR K
+unfoldable pub why_at : List (List ℕ) → Reading CommandDraft
+why_at ws = do
+  branch ← branch_at ws
+  place ← number_at greatest branch.1
+  Ok (draft.Whole (commands.Why branch.0 place.0), place.1)
+
+-- BR K
 unfoldable pub excise_at : List (List ℕ) → Reading CommandDraft
 excise_at ws = do
   branch ← branch_at ws
@@ -196,6 +203,7 @@ command_by word ws =
     if bytes_eq word (codes "drop") then drop_at ws else
     if bytes_eq word (codes "show") then show_at ws else
     if bytes_eq word (codes "past") then past_at ws else
+    if bytes_eq word (codes "why") then why_at ws else
     if bytes_eq word (codes "names") then names_at ws else
     if bytes_eq word (codes "excise") then excise_at ws else
     if bytes_eq word (codes "restore") then restore_at ws else

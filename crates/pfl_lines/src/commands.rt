@@ -4,7 +4,7 @@ ghost use Rattle.std.specs.Prelude.{◌≡◌, false, bytes_eq, codes};
 ghost use Rattle.std.specs.List.{list_all};
 ghost use Rattle.pfl_lines.specs.Words.{words};
 ghost use Rattle.pfl_lines.specs.inner.Readings.{Gives};
-ghost use Rattle.pfl_lines.specs.Commands.{packet_at, tick_at, kill_at, bare_node_event_at, flush_at, restart_at, ticket_at, cut_event_at, bare_frame_event_at, node_event_by, frame_event_by, event_by, event_at, step_at, back_at, forward_at, fork_at, drop_at, show_at, past_at, excise_at, restore_at, log_at, names_at, command_by, command_at, finished, whole_event, whole_step, whole_command, command_of, is_text, checked, parsed};
+ghost use Rattle.pfl_lines.specs.Commands.{packet_at, tick_at, kill_at, bare_node_event_at, flush_at, restart_at, ticket_at, cut_event_at, bare_frame_event_at, node_event_by, frame_event_by, event_by, event_at, step_at, back_at, forward_at, fork_at, drop_at, show_at, past_at, why_at, excise_at, restore_at, log_at, names_at, command_by, command_at, finished, whole_event, whole_step, whole_command, command_of, is_text, checked, parsed};
 
 use crate::draft::{CommandDraft, EventDraft};
 use crate::event_words::{bare_frame_event, bare_node_event};
@@ -238,6 +238,17 @@ fn past_at(line: &[u8]) -> Result<(CommandDraft, &[u8]), LineFault>
 }
 
 /// `BR K`.
+#[tactic(auto, unfolding(crate::specs::Commands::why_at))]
+fn why_at(line: &[u8]) -> Result<(CommandDraft, &[u8]), LineFault>
+    ensures { Gives (λ x. (x.0, words x.1.now)) result (why_at (words line.now)) }
+{
+    let (branch, rest) = try_read!(branch_at(line));
+    let (place, rest) = number_at(rest, GREATEST_NUMBER)?;
+    let place = place as u32;
+    Ok((CommandDraft::Whole(Command::Why { branch, place }), rest))
+}
+
+/// `BR K`.
 #[tactic(auto, unfolding(crate::specs::Commands::excise_at))]
 fn excise_at(line: &[u8]) -> Result<(CommandDraft, &[u8]), LineFault>
     ensures { Gives (λ x. (x.0, words x.1.now)) result (excise_at (words line.now)) }
@@ -297,6 +308,9 @@ fn command_by<'a>(word: &[u8], line: &'a [u8]) -> Result<(CommandDraft, &'a [u8]
     }
     if is_word(word, "past") {
         return past_at(line);
+    }
+    if is_word(word, "why") {
+        return why_at(line);
     }
     if is_word(word, "names") {
         return names_at(line);

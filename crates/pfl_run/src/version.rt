@@ -2,4 +2,4 @@
 
 /// The release, the sum of its sources, and the logic that proves them.
 pub(crate) const VERSION: &str =
-    "release 9, sources 5de7c137670a1c8918a3ce70ffd10d47a522bc15ee26be41af6e2e889a7bb410, logic dac8208d650f15bf";
+    "release 10, sources 8838587fd3f51ac19968e6c09090ac0777440620637dd4089fbecf9ca0e3efb7, logic dac8208d650f15bf";

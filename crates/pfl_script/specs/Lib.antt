@@ -2,6 +2,7 @@ pub mod Readers
 pub mod Texts
 pub mod Shows
 pub mod Logs
+pub mod Reasons
 pub mod Searches
 pub mod Replies
 pub mod Answers
@@ -21,6 +22,7 @@ pub use Rattle.pfl_language.specs as language
 pub use Rattle.pfl_timeline.specs.desk as desk
 pub use Rattle.pfl_link.specs as link
 pub use Rattle.pfl_timeline.specs.world as world
+pub use Rattle.pfl_timeline.specs.reasons as reasons
 pub use Rattle.pfl_timeline.specs as timeline
 pub use Rattle.pfl_lines.specs as lines
 pub use Rattle.pfl_reader.specs as reader

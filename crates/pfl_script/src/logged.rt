@@ -39,7 +39,7 @@ fn push_step<A: Allocator>(
 }
 
 /// Puts the line of an event behind a text.
-fn push_event<A: Allocator>(
+pub(crate) fn push_event<A: Allocator>(
     text: &mut Vec<u8, A>,
     name: &[u8],
     place: usize,

@@ -24,6 +24,13 @@ impl OptionalNumber {
     {
         OptionalNumber(n.map(u64::from))
     }
+
+    /// A number of 32 bits, if there is one.
+    pub fn of_u32(n: Option<u32>) -> OptionalNumber
+        ensures { result.0 ≡ n }
+    {
+        OptionalNumber(n.map(u64::from))
+    }
 }
 
 impl fmt::Display for OptionalNumber {

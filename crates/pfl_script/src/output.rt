@@ -53,7 +53,7 @@ fn write_stepped<W: Output>(
 }
 
 /// Writes the lines of a reply, or the first part of them. Without memory for them nothing is written; none is wanted but
-/// where the reply lists branches or events, or shows a branch.
+/// where the reply lists branches or events, shows a branch, or explains an event.
 pub fn write_reply<A: Allocator, B: Allocator + Copy, W: Output>(
     alloc: A,
     reply: &Reply<B>,

@@ -11,7 +11,7 @@ use crate::output::{write_reply, write_text};
 use crate::shown::shown_text;
 use pfl_base::Output;
 use pfl_language::BranchWord;
-use pfl_timeline::{Look, NotSeen, Reply, Sight, Timeline};
+use pfl_timeline::{Look, NotSeen, Reply, Sight, Timeline, World};
 use std::alloc::Allocator;
 
 /// Writes what it sees as `show` would.
@@ -27,9 +27,14 @@ impl<A: Allocator + Copy, B: Allocator + Copy, W: Output> Look<B, W> for Writing
 
     ghost sees = { λ self told old new written. WritesReply W.written W.has_failed told old new written };
 
-    fn look(&self, sight: &Sight<'_, B>, writer: &mut W) -> Result<(), EngineFault> {
+    fn look(
+        &self,
+        sight: &Sight<'_>,
+        world: &mut World<B>,
+        writer: &mut W,
+    ) -> Result<(), EngineFault> {
         let name = sight.name.bytes();
-        let text = shown_text(self.alloc, name, sight.events, sight.cursor, sight.world);
+        let text = shown_text(self.alloc, name, sight.events, sight.cursor, world);
         let Ok(text) = text else {
             return Err(EngineFault::NoMemory);
         };

@@ -9,6 +9,7 @@ ghost use Rattle.pfl_script.specs.Texts.{bad_text};
 ghost use Rattle.pfl_script.specs.Replies.{named, reply_text, takes_memory};
 ghost use Rattle.pfl_script.specs.inner.Texts.{bytes_of};
 
+use crate::explained::explained_text;
 use crate::logged::logged_text;
 use crate::outcomes::push_outcome;
 use crate::refusals::push_refused;
@@ -109,8 +110,8 @@ fn names_line<A: Allocator>(alloc: A, names: &[BranchWord]) -> Result<Vec<u8, A>
     Ok(text)
 }
 
-/// The text of a reply. Memory is taken only for one that lists branches or events, or shows a branch: no such reply is that of
-/// a command which changes something.
+/// The text of a reply. Memory is taken only for one that lists branches or events, shows a branch, or explains an event: no such
+/// reply is that of a command which changes something.
 pub fn reply_text<'a, A: Allocator, B: Allocator + Copy>(
     alloc: A,
     reply: &'a Reply<B>,
@@ -137,6 +138,7 @@ pub fn reply_text<'a, A: Allocator, B: Allocator + Copy>(
             events,
             cursor,
         } => ReplyText::Long(logged_text(alloc, name.bytes(), events.as_slice(), *cursor)?),
+        Reply::Explained(explanation) => ReplyText::Long(explained_text(alloc, explanation)?),
         Reply::Refused(why) => ReplyText::Short(refused_line(*why)),
     })
 }

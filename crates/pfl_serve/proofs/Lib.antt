@@ -3,3 +3,4 @@ pub mod EndedSeats
 pub mod ServedLines
 pub mod Told
 pub mod ServedSeats
+pub mod ForCallers

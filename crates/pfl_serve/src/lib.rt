@@ -16,6 +16,7 @@ mod threads;
 pub use closing::{EndedSeat, Service, serve_and_close};
 pub use gate::{Gate, Open};
 pub use laws::sessions_are_told_their_calls;
+pub use pfl_session::{Closed, Entry, Lab, LabFault, Opened, Pass, Which};
 pub use seat::{Seat, ServeFault, Served};
 pub use session::serve_session;
 pub use threads::serve_all;

@@ -13,7 +13,7 @@ use Rattle.pfl_timeline.specs.desk.Nodes.{refused_by}
 use Rattle.pfl_timeline.specs.world.Events.{step}
 use Rattle.pfl_timeline.specs.world.Runs.{run}
 use Rattle.pfl_timeline.specs.world.Worlds.{World}
-use Rattle.pfl_timeline.specs.Commands.{replied, reply_unless, with_branch, with_changed, undone, at_cursor, step_answered, step_reply, back_reply, forward_reply, first_events, fork_refusal, fork_reply, drop_reply, show_reply, past_reply, excise_reply, restore_reply, step_command, back_command, forward_command, fork_command, drop_command, show_command, past_command, excise_command, restore_command, log_reply, log_command, names_command, command_step}
+use Rattle.pfl_timeline.specs.Commands.{replied, reply_unless, with_branch, with_changed, undone, at_cursor, step_answered, step_reply, back_reply, forward_reply, first_events, fork_refusal, fork_reply, drop_reply, show_reply, past_reply, why_reply, excise_reply, restore_reply, step_command, back_command, forward_command, fork_command, drop_command, show_command, past_command, why_command, excise_command, restore_command, log_reply, log_command, names_command, command_step}
 use Rattle.pfl_timeline.specs.Excisions.{has_event, excised, fallen_places, restored}
 use Rattle.pfl_timeline.specs.Replies.{Reply, Replied, Forked, Removed, Shown, Excised, Restored, Refused as Refusing}
 use Rattle.pfl_timeline.specs.Timelines.{Branch, Timeline, branch_of, world_of}
@@ -70,7 +70,7 @@ restore_keeps t b =
     ]
 
 keeps : (t : Timeline) (c : Command) → Keeps t (command_step t c)
-unfolding command_step step_command back_command forward_command fork_command drop_command show_command past_command excise_command restore_command names_command log_command
+unfolding command_step step_command back_command forward_command fork_command drop_command show_command past_command why_command excise_command restore_command names_command log_command
 keeps t (command.Step name e) = named_keeps t name (step_reply t e) (step_keeps t e)
 keeps t (command.Back name n) = named_keeps t name (back_reply t n) (λ b. answered_keeps t (refused_by ((nat_lt b.cursor n, refused.TooFarBack) ∷ [])) (at_cursor t b (b.cursor - n)) (λ is. absurd (both_ways false refl is)))
 keeps t (command.Forward name n) = named_keeps t name (forward_reply t n) (λ b. answered_keeps t (refused_by ((nat_lt (undone b) n, refused.NothingForward) ∷ [])) (at_cursor t b (b.cursor + n)) (λ is. absurd (both_ways false refl is)))
@@ -78,6 +78,7 @@ keeps t (command.Fork from k name) = named_keeps t from (fork_reply t k name) (�
 keeps t (command.Drop name) = named_keeps t name (drop_reply t) (λ b. answered_keeps t (refused_by ((nat_le (length t.branches) 1, refused.LastBranch) ∷ [])) (replied (record t { branches = filter (λ c. not (same_name c.name b.name)) t.branches }) Removed) (λ is. absurd (both_ways false refl is)))
 keeps t (command.Show name) = named_keeps t name (show_reply t) (show_keeps t)
 keeps t (command.Past name k) = named_keeps t name (past_reply t k) (past_keeps t k)
+keeps t (command.Why name k) = named_keeps t name (why_reply t k) (λ b _. refl)
 keeps t command.Names = λ _. refl
 keeps t (command.Excise name k) = named_keeps t name (excise_reply t k) (λ b. answered_keeps t (refused_by ((not (has_event k b), refused.NoEvent) ∷ [])) (replied (with_changed t (excised t.opening k b)) (Excised (fallen_places t.opening k b))) (λ is. absurd (both_ways false refl is)))
 keeps t (command.Restore name) = named_keeps t name (restore_reply t) (restore_keeps t)

@@ -12,8 +12,8 @@ use pfl_language::Command;
 use pfl_timeline::{Reply, Timeline, boxed_copy};
 use std::alloc::Allocator;
 
-/// An equal reply, whose places are in the room that was made for them. It wants memory only for what shows a branch or tells its
-/// events, or names the branches.
+/// An equal reply, whose places are in the room that was made for them. It wants memory only for what shows a branch, tells its
+/// events or explains one of them, or names the branches.
 fn copy_reply<A: Allocator + Copy>(
     reply: &Reply<A>,
     room: Vec<usize, A>,
@@ -54,6 +54,10 @@ fn copy_reply<A: Allocator + Copy>(
             events: Vec::from_slice(*events.allocator(), events)?,
             cursor: *cursor,
         },
+        Reply::Explained(explanation) => {
+            let alloc = *room.allocator();
+            explanation.copy(alloc)?.reply(alloc)?
+        }
         Reply::Refused(why) => Reply::Refused(*why),
     })
 }

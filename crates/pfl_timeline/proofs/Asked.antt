@@ -1,5 +1,5 @@
 -- What a branch answers, and which command asks for it.
-use Rattle.std.specs.Prelude.{◌≡◌, ◌≢◌, ℕ, Bool, true, false, not, nat_lt, take, List, [], ◌∷◌, length, map, Option, Some, None, Result, Ok, Err, IfOk, IfErr, IsSomeAnd, OnErr, refl, if◌then◌else◌}
+use Rattle.std.specs.Prelude.{◌≡◌, ◌≢◌, ℕ, Bool, true, false, not, nat_lt, take, List, [], ◌∷◌, length, map, Option, Some, None, Result, Ok, Err, IfOk, IfErr, IsSomeAnd, OnErr, OnOk, refl, if◌then◌else◌}
 use Rattle.std.specs.Option.{option_map, option_map_or}
 use Rattle.std.proofs.Common.{sym, ◌∙◌, ap, subst}
 use Rattle.pfl_base.specs.declared.refusal.Refusal.{Refusal}
@@ -14,7 +14,7 @@ use Rattle.pfl_search.specs.world.desk.Nodes.{refused_by}
 use Rattle.pfl_search.specs.world.Events.{step, IsEventRefusal}
 use Rattle.pfl_search.specs.world.Runs.{run}
 use Rattle.pfl_search.specs.world.Worlds.{World}
-use Rattle.pfl_timeline.specs.Commands.{replied, reply_unless, with_branch, with_changed, extended, undone, at_cursor, step_answered, step_reply, back_reply, forward_reply, fork_reply, drop_reply, show_reply, past_reply, step_command, back_command, forward_command, fork_command, drop_command, show_command, past_command, names_command, excise_reply, restore_reply, excise_command, restore_command, log_reply, log_command, command_step}
+use Rattle.pfl_timeline.specs.Commands.{replied, reply_unless, with_branch, with_changed, extended, undone, at_cursor, step_answered, step_reply, back_reply, forward_reply, fork_reply, drop_reply, show_reply, past_reply, why_answer, why_reply, step_command, back_command, forward_command, fork_command, drop_command, show_command, past_command, why_command, names_command, excise_reply, restore_reply, excise_command, restore_command, log_reply, log_command, command_step}
 use Rattle.pfl_timeline.specs.Excisions.{has_event, excised, fallen_places, restored}
 use Rattle.pfl_timeline.specs.Replies.{Reply, Replied, Stepped as StepReply, At, Shown, Names, Excised, Restored, Logged, Refused as Refusing}
 use Rattle.pfl_timeline.specs.inner.Replies.{moved, fell_out, brought_back}
@@ -188,6 +188,17 @@ told-no_past r k far = record {
       ∙ same_branch r t (Refusing refused.NothingForward) stands;
 }
 
+-- the explanation of an event
+pub told-why : (r : Rooted) (k : ℕ) (reply : Reply) → reply ≡ why_answer r.opening k r.branch → IsReplyOf (λ t b. why_reply t k b) r r reply
+told-why r k reply is = record {
+  opening = refl;
+  name = refl;
+  told = λ t stands.
+      ap (λ (o : World). replied t (why_answer o k r.branch)) stands.opening
+      ∙ ap (replied t) (sym is)
+      ∙ same_branch r t reply stands;
+}
+
 -- a world is shown, of which this is true
 pub some-shown : {o : Option World} (P : World → Type 0) (w : World) → o ≡ Some w → P w → IsSomeAnd o P
 some-shown P w here is = subst (λ (x : Option World). IsSomeAnd x P) (sym here) is
@@ -225,6 +236,14 @@ as_err r q P is p = subst (λ (x : Result _ _). OnErr x P) (sym is) p
 
 pub no_err : {X Y : Type 0} (r : Result X Y) (x : X) (P : Type 0) → r ≡ Ok x → OnErr r P
 no_err r x P is = subst (λ (q : Result _ _). OnErr q P) (sym is) tt
+
+-- what holds anyway holds of each value, and where there is none
+pub ok_anyway : {X Y P : Type 0} (r : Result X Y) → P → OnOk r P
+ok_anyway (Ok x) p = p
+ok_anyway (Err y) p = tt
+
+pub no_ok : {X Y : Type 0} (r : Result X Y) (y : Y) (P : Type 0) → r ≡ Err y → OnOk r P
+no_ok r y P is = subst (λ (q : Result _ _). OnOk q P) (sym is) tt
 
 -- what holds of the error, and of none where there is no error
 pub if_err : {X Y : Type 0} (r : Result X Y) (y : Y) (P : Y → Type 0) → r ≡ Err y → P y → IfErr r P
@@ -317,6 +336,14 @@ past-asks t name k = refl
 pub is-past : (t : Timeline) (c : Command) (name : List ℕ) (k : ℕ) → c ≡ command.Past name k → command_step t c ≡ past_command t name k
 unfolding command_step
 is-past t c name k is = ap (command_step t) is
+
+pub why-asks : (t : Timeline) (name : List ℕ) (k : ℕ) → why_command t name k ≡ with_branch t name (λ b. why_reply t k b)
+unfolding why_command
+why-asks t name k = refl
+
+pub is-why : (t : Timeline) (c : Command) (name : List ℕ) (k : ℕ) → c ≡ command.Why name k → command_step t c ≡ why_command t name k
+unfolding command_step
+is-why t c name k is = ap (command_step t) is
 
 pub log-asks : (t : Timeline) (name : List ℕ) → log_command t name ≡ with_branch t name (λ b. log_reply t b)
 unfolding log_command

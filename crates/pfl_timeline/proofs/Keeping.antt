@@ -18,7 +18,7 @@ use Rattle.pfl_search.specs.world.Events.{step}
 use Rattle.pfl_search.specs.world.Meanings.{Stepped}
 use Rattle.pfl_search.specs.world.Runs.{run, world_after}
 use Rattle.pfl_search.specs.world.Worlds.{World}
-use Rattle.pfl_timeline.specs.Commands.{replied, reply_unless, with_branch, with_changed, extended, undone, at_cursor, step_answered, step_reply, back_reply, forward_reply, first_events, fork_refusal, fork_reply, drop_reply, show_reply, past_reply, step_command, back_command, forward_command, fork_command, drop_command, show_command, past_command, names_command, excise_reply, restore_reply, excise_command, restore_command, log_reply, log_command, command_step, replayed}
+use Rattle.pfl_timeline.specs.Commands.{replied, reply_unless, with_branch, with_changed, extended, undone, at_cursor, step_answered, step_reply, back_reply, forward_reply, first_events, fork_refusal, fork_reply, drop_reply, show_reply, past_reply, why_reply, step_command, back_command, forward_command, fork_command, drop_command, show_command, past_command, why_command, names_command, excise_reply, restore_reply, excise_command, restore_command, log_reply, log_command, command_step, replayed}
 use Rattle.pfl_timeline.specs.Excisions.{has_event, excised, fallen_places, restored}
 use Rattle.pfl_timeline.specs.Laws.{CommandsKeepTimelines, BranchesShowWorlds}
 use Rattle.pfl_timeline.specs.Replies.{Replied, Forked, Removed, Shown, Excised, Restored, Refused as Refusing}
@@ -31,7 +31,7 @@ use Rattle.pfl_timeline.proofs.Sieving.{excised-is}
 -- ---- branches
 
 -- what holds of all branches holds of the one that is found
-found_is : (P : Branch → Type 0) (p : Branch → Bool) (bs : List Branch) (b : Branch) → AllByRecursion P bs → find p bs ≡ Some b → P b
+pub found_is : (P : Branch → Type 0) (p : Branch → Bool) (bs : List Branch) (b : Branch) → AllByRecursion P bs → find p bs ≡ Some b → P b
 found_is P p [] b all is = absurd (some_is_none b (sym is))
 found_is P p (c ∷ cs) b all is =
     elim (p c) as (λ t. cond t (Some c) (find p cs) ≡ Some b → P b) [
@@ -260,7 +260,7 @@ named_keeps t name done is keep =
     ] refl
 
 pub command_keeps : (t : Timeline) (c : Command) → IsTimeline t → IsTimeline (command_step t c).timeline
-unfolding command_step step_command back_command forward_command fork_command drop_command show_command past_command names_command excise_command restore_command log_command
+unfolding command_step step_command back_command forward_command fork_command drop_command show_command past_command why_command names_command excise_command restore_command log_command
 command_keeps t (command.Step name e) is = named_keeps t name (step_reply t e) is (λ b _ branch. step_keeps t e b is branch)
 command_keeps t (command.Back name n) is = named_keeps t name (back_reply t n) is (λ b _ branch. back_keeps t n b is branch)
 command_keeps t (command.Forward name n) is = named_keeps t name (forward_reply t n) is (λ b _ branch. forward_keeps t n b is branch)
@@ -268,6 +268,7 @@ command_keeps t (command.Fork from k name) is = named_keeps t from (fork_reply t
 command_keeps t (command.Drop name) is = named_keeps t name (drop_reply t) is (λ b here _. drop_keeps t name b is here)
 command_keeps t (command.Show name) is = named_keeps t name (show_reply t) is (λ b _ branch. show_keeps t b is)
 command_keeps t (command.Past name k) is = named_keeps t name (past_reply t k) is (λ b _ branch. past_keeps t k b is)
+command_keeps t (command.Why name k) is = named_keeps t name (why_reply t k) is (λ _ _ _. is)
 command_keeps t command.Names is = is
 command_keeps t (command.Excise name k) is = named_keeps t name (excise_reply t k) is (λ b _ branch. excise_keeps t k b is branch)
 command_keeps t (command.Restore name) is = named_keeps t name (restore_reply t) is (λ b _ branch. restore_keeps t b is branch)

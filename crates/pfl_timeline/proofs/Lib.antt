@@ -17,6 +17,7 @@ pub mod Parting
 pub mod Excised
 pub mod Pasts
 pub mod Keeping
+pub mod Whys
 pub mod Forking
 pub mod Stepped
 pub mod Searched

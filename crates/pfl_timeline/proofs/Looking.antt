@@ -1,8 +1,8 @@
 -- A look at an earlier world: what is above the mark is taken back for a while, and redone.
-use Rattle.std.specs.Prelude.{◌≡◌, ℕ, ◌+◌, ◌-◌, ◌≤◌, List, [], ◌∷◌, ◌++◌, length, take, drop, Some, refl}
+use Rattle.std.specs.Prelude.{◌≡◌, ℕ, ◌+◌, ◌-◌, ◌≤◌, List, [], ◌∷◌, ◌++◌, length, take, Some, refl}
 use Rattle.std.proofs.Common.{sym, ◌∙◌, ap, subst, arith}
 use Rattle.std.proofs.lemmas.List.{take-append-drop, length-drop, length_push}
-use Rattle.pfl_edits.specs.Changes.{back, Fits}
+use Rattle.pfl_edits.specs.Changes.{back}
 use Rattle.pfl_edits.specs.Redoing.{set_aside, AreUndone}
 use Rattle.pfl_edits.specs.Tapes.{above, below}
 use Rattle.pfl_language.specs.declared.event.Event.{Event}
@@ -16,7 +16,8 @@ use Rattle.pfl_timeline.specs.inner.Histories.{standing_at}
 use Rattle.pfl_timeline.specs.inner.Looking.{IsSeen}
 use Rattle.pfl_timeline.specs.Kept.{IsKept, mark_at, history}
 use Rattle.pfl_timeline.specs.Replies.{Reply, Shown}
-use Rattle.pfl_timeline.proofs.Copying.{mark-kept, fits-copied}
+use Rattle.pfl_timeline.proofs.Copying.{fits-copied}
+use Rattle.pfl_timeline.proofs.Runs.{reached-kept}
 
 -- something is kept of each edit
 length-set_aside : {E U : Type 0} (of : E → U) (es : List E) → length (set_aside of es) ≡ length es
@@ -76,13 +77,21 @@ module _ {M : Type 0} (w : World) (events : List Event) (tape : List (WorldEdit 
     sees_it = subst (λ i. sees (Shown name i p v) old new seen) (many ∙ ap (λ (r : History). length r.events) view) saw;
   }
 
+-- this was seen of the world that is kept, which those that stand give
+pub seen-here : {M W S : Type 0} (w : World) (events : List Event) (tape : List (WorldEdit M)) (marks : List ℕ) → IsKept w events tape marks → (h : History) → history w events tape marks ≡ h
+    → (sees : Reply → W → W → S → Type 0) (name : List ℕ) (n c : ℕ) (old new : W) (seen : S) → n ≡ length events → c ≡ length marks → sees (Shown name n c w) old new seen
+    → IsSeen sees name h.opening h.events h.cursor old new seen
+seen-here w events tape marks k h view sees name n c old new seen many stand saw = record {
+  world = w;
+  run_to = ap reached (sym view) ∙ reached-kept w events tape marks k;
+  sees_it = subst (λ i. sees (Shown name (length h.events) i w) old new seen) (stand ∙ ap (λ (r : History). r.cursor) view)
+      (subst (λ i. sees (Shown name i c w) old new seen) (many ∙ ap (λ (r : History). length r.events) view) saw);
+}
+
 -- the events up to p happened again, and this was seen then
-pub seen-forward : {W S : Type 0} (sees : Reply → W → W → S → Type 0) (name : List ℕ) (h g : History) (p c : ℕ) → c ≡ h.cursor → c ≤ p → g ≡ standing_at h (h.cursor + (p - c)) → (v : World) → reached g ≡ Some v
-    → (es : List Event) → es ≡ g.events → (old new : W) (seen : S) → sees (Shown name (length es) p v) old new seen → IsSeen sees name h.opening h.events p old new seen
-seen-forward sees name h g p c is few at v here es all old new seen saw =
+pub seen-forward : {W S : Type 0} (sees : Reply → W → W → S → Type 0) (name : List ℕ) (h g : History) (p c : ℕ) → c ≡ h.cursor → c ≤ p → g ≡ standing_at h (h.cursor + (p - c))
+    → (old new : W) (seen : S) → IsSeen sees name g.opening g.events g.cursor old new seen → IsSeen sees name h.opening h.events p old new seen
+seen-forward sees name h g p c is few at old new seen saw =
     let end : h.cursor + (p - c) ≡ p = omega (arith, is, few) in
-    record {
-      world = v;
-      run_to = ap (λ n. run h.opening (take n h.events)) (sym end) ∙ (sym (ap reached at) ∙ here);
-      sees_it = subst (λ n. sees (Shown name n p v) old new seen) (ap length (all ∙ ap (λ (r : History). r.events) at)) saw;
-    }
+    subst (λ n. IsSeen sees name h.opening h.events n old new seen) end
+    (subst (λ (r : History). IsSeen sees name r.opening r.events r.cursor old new seen) at saw)

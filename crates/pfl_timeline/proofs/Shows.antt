@@ -14,7 +14,7 @@ use Rattle.pfl_search.specs.world.desk.Nodes.{refused_by}
 use Rattle.pfl_search.specs.world.Events.{step}
 use Rattle.pfl_search.specs.world.Runs.{run}
 use Rattle.pfl_search.specs.world.Worlds.{World}
-use Rattle.pfl_timeline.specs.Commands.{replied, reply_unless, with_branch, with_changed, undone, step_answered, step_reply, back_reply, forward_reply, fork_refusal, fork_reply, drop_reply, show_reply, past_reply, step_command, back_command, forward_command, fork_command, drop_command, show_command, past_command, names_command, excise_reply, restore_reply, excise_command, restore_command, log_reply, log_command, command_step, replayed}
+use Rattle.pfl_timeline.specs.Commands.{replied, reply_unless, with_branch, with_changed, undone, step_answered, step_reply, back_reply, forward_reply, fork_refusal, fork_reply, drop_reply, show_reply, past_reply, why_reply, step_command, back_command, forward_command, fork_command, drop_command, show_command, past_command, why_command, names_command, excise_reply, restore_reply, excise_command, restore_command, log_reply, log_command, command_step, replayed}
 use Rattle.pfl_timeline.specs.Excisions.{has_event, restored}
 use Rattle.pfl_timeline.specs.Laws.{ShowsItsRun, BranchesShowTheirRuns}
 use Rattle.pfl_timeline.specs.Replies.{Replied, Shown, Restored, Logged, Refused as Refusing}
@@ -71,7 +71,7 @@ begins_restore t b =
     ]
 
 opening_kept : (t : Timeline) (c : Command) → Begins t (command_step t c)
-unfolding command_step step_command back_command forward_command fork_command drop_command show_command past_command names_command excise_command restore_command log_command
+unfolding command_step step_command back_command forward_command fork_command drop_command show_command past_command why_command names_command excise_command restore_command log_command
 opening_kept t (command.Step of e) = begins_named t of (step_reply t e) (begins_step t e)
 opening_kept t (command.Back of n) = begins_named t of (back_reply t n) (λ b. begins_answered t (refused_by ((nat_lt b.cursor n, refused.TooFarBack) ∷ [])) _ refl)
 opening_kept t (command.Forward of n) = begins_named t of (forward_reply t n) (λ b. begins_answered t (refused_by ((nat_lt (undone b) n, refused.NothingForward) ∷ [])) _ refl)
@@ -79,6 +79,7 @@ opening_kept t (command.Fork from k new) = begins_named t from (fork_reply t k n
 opening_kept t (command.Drop of) = begins_named t of (drop_reply t) (λ b. begins_answered t (refused_by ((nat_le (length t.branches) 1, refused.LastBranch) ∷ [])) _ refl)
 opening_kept t (command.Show of) = begins_named t of (show_reply t) (begins_show t)
 opening_kept t (command.Past of k) = begins_named t of (past_reply t k) (begins_past t k)
+opening_kept t (command.Why of k) = begins_named t of (why_reply t k) (λ b. refl)
 opening_kept t command.Names = refl
 opening_kept t (command.Excise of k) = begins_named t of (excise_reply t k) (λ b. begins_answered t (refused_by ((not (has_event k b), refused.NoEvent) ∷ [])) _ refl)
 opening_kept t (command.Restore of) = begins_named t of (restore_reply t) (begins_restore t)

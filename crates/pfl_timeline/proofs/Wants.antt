@@ -46,7 +46,7 @@ use Rattle.pfl_search.specs.world.Delivering.{read_taken, deliver_step}
 use Rattle.pfl_search.specs.world.Flushing.{flush_step}
 use Rattle.pfl_search.specs.world.Restarting.{restart_step}
 use Rattle.pfl_search.specs.world.Worlds.{World, node_at}
-use Rattle.pfl_timeline.specs.Commands.{replied, reply_unless, with_branch, with_changed, undone, at_cursor, step_answered, step_reply, back_reply, forward_reply, first_events, fork_reply, drop_reply, show_reply, past_reply, step_command, back_command, forward_command, fork_command, drop_command, show_command, past_command, names_command, excise_reply, restore_reply, excise_command, restore_command, log_reply, log_command, command_step}
+use Rattle.pfl_timeline.specs.Commands.{replied, reply_unless, with_branch, with_changed, undone, at_cursor, step_answered, step_reply, back_reply, forward_reply, first_events, fork_reply, drop_reply, show_reply, past_reply, event_at, explanation, why_answer, why_reply, step_command, back_command, forward_command, fork_command, drop_command, show_command, past_command, why_command, names_command, excise_reply, restore_reply, excise_command, restore_command, log_reply, log_command, command_step}
 use Rattle.pfl_timeline.specs.Excisions.{has_event, excised, fallen_places, restored}
 use Rattle.pfl_timeline.specs.Laws.{NoReplyTellsWantOfMemory}
 use Rattle.pfl_timeline.specs.Memory.{is_refusal, IsAccepted, makes_something, MayWantMemory}
@@ -54,7 +54,7 @@ use Rattle.pfl_timeline.specs.Replies.{Reply, Replied, Forked, Removed, Shown, E
 use Rattle.pfl_timeline.specs.Rooted.{Rooted, shown}
 use Rattle.pfl_timeline.proofs.Rooted.{Accepts}
 use Rattle.pfl_timeline.specs.Timelines.{IsBranch, Branch, Timeline, branch_of, world_of}
-use Rattle.pfl_timeline.proofs.Asked.{asked_of, is-step, is-forward, is-fork, is-show, is-past, is-names, is-excise, is-log}
+use Rattle.pfl_timeline.proofs.Asked.{asked_of, is-step, is-forward, is-fork, is-show, is-past, is-why, is-names, is-excise, is-log}
 
 -- ---- no event is refused for want of memory
 
@@ -176,6 +176,10 @@ past-still t name k =
           ])
     ]
 
+-- what is explained is explained in each of its timelines
+pub why_accepts : (r : Rooted) (k : ℕ) → is_refusal (why_answer r.opening k r.branch) ≡ false → Accepts (λ t b. why_reply t k b) r
+why_accepts r k accepted = λ t stands. ap (λ (o : World). is_refusal (why_answer o k r.branch)) stands.opening ∙ accepted
+
 -- a way forward that is not too far
 pub forward_accepts : (r : Rooted) (n : ℕ) → nat_lt (undone r.branch) n ≡ false → Accepts (λ t b. forward_reply t n b) r
 forward_accepts r n near = λ t stands.
@@ -209,6 +213,9 @@ show_wants t c name is accepted = record { makes = ap makes_something is; not_re
 
 pub past_wants : (t : Timeline) (c : Command) (name : List ℕ) (k : ℕ) → c ≡ command.Past name k → IsAccepted (past_command t name k) → MayWantMemory t c
 past_wants t c name k is accepted = record { makes = ap makes_something is; not_refused = subst IsAccepted (sym (is-past t c name k is)) accepted }
+
+pub why_wants : (t : Timeline) (c : Command) (name : List ℕ) (k : ℕ) → c ≡ command.Why name k → IsAccepted (why_command t name k) → MayWantMemory t c
+why_wants t c name k is accepted = record { makes = ap makes_something is; not_refused = subst IsAccepted (sym (is-why t c name k is)) accepted }
 
 pub log_wants : (t : Timeline) (c : Command) (name : List ℕ) → c ≡ command.Log name → IsAccepted (log_command t name) → MayWantMemory t c
 log_wants t c name is accepted = record { makes = ap makes_something is; not_refused = subst IsAccepted (sym (is-log t c name is)) accepted }
@@ -282,6 +289,21 @@ past_tells t k b =
       ])
     ]
 
+explained_tells : (name : List ℕ) (k : ℕ) (w : World) (e : Event) (at : Result Stepped Refusal) → (at ≡ Err NoMemory → ⊥) → explanation name k w e at ≡ wanted → ⊥
+explained_tells name k w e (Ok s) other is = cc
+explained_tells name k w e (Err why) other is = let same : why ≡ NoMemory = cc in other (ap Err same)
+
+why_tells : (t : Timeline) (k : ℕ) (b : Branch) → (why_reply t k b).reply ≡ wanted → ⊥
+why_tells t k b =
+    let before : Option World = run t.opening (take (k - 1) b.events) in
+    elim (event_at k b) as (λ o. option_map_or (λ e. option_map_or (λ w. explanation b.name k w e (step w e)) before (Refusing refused.NoBranch)) o (Refusing refused.NoEvent) ≡ wanted → ⊥) [
+      | None ↦ λ is. cc
+      | Some e ↦ (elim before as (λ o. option_map_or (λ w. explanation b.name k w e (step w e)) o (Refusing refused.NoBranch) ≡ wanted → ⊥) [
+        | None ↦ λ is. cc
+        | Some w ↦ λ is. explained_tells b.name k w e (step w e) (step_is_other w e) is
+      ])
+    ]
+
 excise_tells : (t : Timeline) (k : ℕ) (b : Branch) → (excise_reply t k b).reply ≡ wanted → ⊥
 excise_tells t k b =
     elim (not (has_event k b)) as (λ none. (reply_unless t (refused_by ((none, refused.NoEvent) ∷ [])) (replied (with_changed t (excised t.opening k b)) (Excised (fallen_places t.opening k b)))).reply ≡ wanted → ⊥) [
@@ -304,7 +326,7 @@ named_tells t name done tells =
     ]
 
 pub no_reply-tells : NoReplyTellsWantOfMemory
-unfolding command_step step_command back_command forward_command fork_command drop_command show_command past_command names_command excise_command restore_command log_command
+unfolding command_step step_command back_command forward_command fork_command drop_command show_command past_command why_command names_command excise_command restore_command log_command
 no_reply-tells t (command.Step name e) = named_tells t name (step_reply t e) (step_tells t e)
 no_reply-tells t (command.Back name n) = named_tells t name (back_reply t n) (back_tells t n)
 no_reply-tells t (command.Forward name n) = named_tells t name (forward_reply t n) (forward_tells t n)
@@ -312,6 +334,7 @@ no_reply-tells t (command.Fork from k name) = named_tells t from (fork_reply t k
 no_reply-tells t (command.Drop name) = named_tells t name (drop_reply t) (drop_tells t)
 no_reply-tells t (command.Show name) = named_tells t name (show_reply t) (show_tells t)
 no_reply-tells t (command.Past name k) = named_tells t name (past_reply t k) (past_tells t k)
+no_reply-tells t (command.Why name k) = named_tells t name (why_reply t k) (why_tells t k)
 no_reply-tells t command.Names = λ is. cc
 no_reply-tells t (command.Excise name k) = named_tells t name (excise_reply t k) (excise_tells t k)
 no_reply-tells t (command.Restore name) = named_tells t name (restore_reply t) (restore_tells t)

@@ -16,6 +16,7 @@ use Rattle.pfl_language.specs.declared.command.Command.TheVariants as command
 use Rattle.pfl_language.specs.declared.refused.Refused.TheVariants as refused
 use Rattle.pfl_language.specs.BranchWords.{main_name}
 use Rattle.pfl_search.proofs.ForCallers.world.{limits, opening, u1, u2, u3, name, computing as of_worlds}
+use Rattle.pfl_reasons.specs.Explaining.{explained}
 use Rattle.pfl_timeline.specs.Timelines.{Timeline, new_timeline}
 use Rattle.pfl_timeline.specs.Timelines as timelines
 use Rattle.pfl_timeline.specs.Commands as commands
@@ -48,6 +49,9 @@ show of = command.Show of
 abbrev past : List ℕ → ℕ → Command
 past of k = command.Past of k
 
+abbrev why : List ℕ → ℕ → Command
+why of k = command.Why of k
+
 abbrev names : Command
 names = command.Names
 
@@ -77,7 +81,7 @@ final t [] = t
 final t (c ∷ cs) = final (command_step t c).timeline cs
 
 unfoldable computing : ℕ
-unfolding of_worlds replies final commands.command_step timelines.world_of commands.step_command commands.back_command commands.forward_command commands.fork_command commands.drop_command commands.show_command commands.past_command commands.names_command commands.excise_command commands.restore_command commands.log_command excisions.sieve summary
+unfolding of_worlds replies final commands.command_step timelines.world_of commands.step_command commands.back_command commands.forward_command commands.fork_command commands.drop_command commands.show_command commands.past_command commands.why_command commands.names_command commands.excise_command commands.restore_command commands.log_command excisions.sieve summary
 computing = 0
 
 abbrev t : Timeline
@@ -164,6 +168,17 @@ seen_there : asked_then (back 2 ∷ past main_name 0 ∷ past main_name 5 ∷ pa
     ≡ reply.At 2 ∷ reply.Shown main_name 4 0 (opening limits) ∷ reply.Refused refused.NothingForward ∷ reply.Refused refused.NoBranch ∷ reply.At 4 ∷ []
 unfolding computing
 seen_there = refl
+
+-- an event is explained where it stands, before the cursor and after it; places count from 1, and nothing moves
+abbrev first_explained : Reply
+first_explained =
+    let e = event.At A (own.Packet Outbound u1) in
+    reply.Explained main_name 1 e (outcome.At (given.Handled (fate.Pass (Some (name 1 1))))) (explained (opening limits) e)
+
+why_there : asked_then (why main_name 1 ∷ back 4 ∷ why main_name 1 ∷ why main_name 0 ∷ why main_name 5 ∷ why (codes "x") 0 ∷ forward 4 ∷ [])
+    ≡ first_explained ∷ reply.At 0 ∷ first_explained ∷ reply.Refused refused.NoEvent ∷ reply.Refused refused.NoEvent ∷ reply.Refused refused.NoBranch ∷ reply.At 4 ∷ []
+unfolding computing
+why_there = refl
 
 -- the former list and cursor are not counted
 counted_without : summary (final after_four (excise 1 ∷ [])) 5 ≡ 5 ∷ 1 ∷ 1 ∷ 1 ∷ 1 ∷ 0 ∷ 0 ∷ 1 ∷ []

@@ -1,5 +1,5 @@
 -- The commands over a timeline: the timeline after each, and the reply. A refused command changes nothing (this project's profile).
-use Rattle.std.specs.Prelude.{ℕ, ◌+◌, ◌-◌, Bool, not, nat_lt, nat_le, List, [], ◌∷◌, ◌++◌, length, map, filter, take, Option, Some, None, is_some, Result, Ok, Err, if◌then◌else◌}
+use Rattle.std.specs.Prelude.{ℕ, ◌+◌, ◌-◌, Bool, not, nat_lt, nat_le, List, [], ◌∷◌, ◌++◌, length, map, filter, take, slice_get, Option, Some, None, is_some, Result, Ok, Err, if◌then◌else◌}
 use Rattle.std.specs.List.{fold}
 use Rattle.std.specs.Option.{option_map_or}
 use Rattle.pfl_base.specs.declared.refusal.Refusal.{Refusal}
@@ -13,8 +13,10 @@ use Rattle.pfl_search.specs.world.desk.Nodes.{refused_by}
 use Rattle.pfl_search.specs.world.Meanings.{Stepped}
 use Rattle.pfl_search.specs.world.Events.{step}
 use Rattle.pfl_search.specs.world.Runs.{run}
+use Rattle.pfl_search.specs.world.Worlds.{World}
+use Rattle.pfl_reasons.specs.Explaining.{explained}
 use Rattle.pfl_timeline.specs.Excisions.{has_event, excised, fallen_places, restored}
-use Rattle.pfl_timeline.specs.Replies.{Reply, Stepped as StepReply, At, Forked, Removed, Shown, Names, Excised, Restored, Logged, Refused as Refusing, Replied}
+use Rattle.pfl_timeline.specs.Replies.{Reply, Stepped as StepReply, At, Forked, Removed, Shown, Names, Excised, Restored, Logged, Explained, Refused as Refusing, Replied}
 use Rattle.pfl_timeline.specs.Timelines.{Branch, Timeline, branch_of, standing, world_of}
 
 -- the timeline with a reply
@@ -98,6 +100,26 @@ past_reply t k b =
     command_unless t ((nat_lt (length b.events) k, refused.NothingForward) ∷ [])
     (option_map_or (λ w. replied t (Shown b.name (length b.events) k w)) (run t.opening (take k b.events)) (replied t (Refusing refused.NoBranch)))
 
+-- the k-th event of the branch, where there is one
+abbrev pub event_at : ℕ → Branch → Option Event
+event_at k b = if has_event k b then slice_get b.events (k - 1) else None
+
+-- the k-th event of the branch of the name, its outcome in the world before it, and why it has that
+abbrev pub explanation : List ℕ → ℕ → World → Event → Result Stepped Refusal → Reply
+explanation name k w e (Ok s) = Explained name k e s.outcome (explained w e)
+explanation name k w e (Err why) = Refusing (refused.Event why)
+
+-- the explanation of the branch's k-th event, those after the cursor too; it was accepted in the world that the events before it give
+abbrev pub why_answer : World → ℕ → Branch → Reply
+why_answer opening k b =
+    option_map_or
+    (λ e. option_map_or (λ w. explanation b.name k w e (step w e)) (run opening (take (k - 1) b.events)) (Refusing refused.NoBranch))
+    (event_at k b) (Refusing refused.NoEvent)
+
+-- the branch's k-th event explained; nothing changes
+abbrev pub why_reply : Timeline → ℕ → Branch → Replied
+why_reply t k b = replied t (why_answer t.opening k b)
+
 -- the k-th event taken out, and what is refused then left out
 abbrev pub excise_reply : Timeline → ℕ → Branch → Replied
 excise_reply t k b =
@@ -142,6 +164,10 @@ show_command t name = with_branch t name (show_reply t)
 unfoldable pub past_command : Timeline → List ℕ → ℕ → Replied
 past_command t name k = with_branch t name (past_reply t k)
 
+-- an event of a branch explained
+unfoldable pub why_command : Timeline → List ℕ → ℕ → Replied
+why_command t name k = with_branch t name (why_reply t k)
+
 -- an event taken out of the middle
 unfoldable pub excise_command : Timeline → List ℕ → ℕ → Replied
 excise_command t name k = with_branch t name (excise_reply t k)
@@ -167,6 +193,7 @@ command_step t (command.Fork from k name) = fork_command t from k name
 command_step t (command.Drop name) = drop_command t name
 command_step t (command.Show name) = show_command t name
 command_step t (command.Past name k) = past_command t name k
+command_step t (command.Why name k) = why_command t name k
 command_step t command.Names = names_command t
 command_step t (command.Excise name k) = excise_command t name k
 command_step t (command.Restore name) = restore_command t name

@@ -1,10 +1,11 @@
 -- Laws of timelines, in their own words (this project's profile).
-use Rattle.std.specs.Prelude.{◌≡◌, ◌≢◌, ℕ, ◌+◌, ◌-◌, ◌≤◌, Bool, false, List, [], ◌∷◌, length, map, take, drop, Option, Some, None, is_some, IsTrue, IsFalse, Result, Ok, Err}
+use Rattle.std.specs.Prelude.{◌≡◌, ◌≢◌, ℕ, ◌+◌, ◌-◌, ◌≤◌, Bool, false, List, [], ◌∷◌, length, map, take, drop, Option, Some, None, is_some, IsTrue, IsFalse, slice_get, Result, Ok, Err}
 use Rattle.std.specs.List.{AllByRecursion}
 use Rattle.std.specs.Option.{option_map}
 use Rattle.pfl_base.specs.declared.refusal.Refusal.{Refusal}
 use Rattle.pfl_base.specs.declared.refusal.Refusal.TheVariants.{NoMemory}
 use Rattle.pfl_language.specs.declared.event.Event.{Event}
+use Rattle.pfl_language.specs.declared.outcome.Outcome.{Outcome}
 use Rattle.pfl_language.specs.declared.command.Command.{Command}
 use Rattle.pfl_language.specs.declared.command.Command.TheVariants as command
 use Rattle.pfl_language.specs.declared.refused.Refused.TheVariants as refused
@@ -13,7 +14,8 @@ use Rattle.pfl_search.specs.world.Events.{step}
 use Rattle.pfl_search.specs.world.Meanings.{Stepped}
 use Rattle.pfl_search.specs.world.Runs.{run}
 use Rattle.pfl_search.specs.world.Worlds.{World, IsWorld}
-use Rattle.pfl_timeline.specs.Commands.{replied, with_changed, show_command, past_command, log_command, command_step, replayed}
+use Rattle.pfl_reasons.specs.Explaining.{explained}
+use Rattle.pfl_timeline.specs.Commands.{replied, with_changed, step_command, show_command, past_command, why_command, log_command, command_step, replayed}
 use Rattle.pfl_timeline.specs.Excisions.{without, has_event}
 use Rattle.pfl_timeline.specs.Replies as reply
 use Rattle.pfl_timeline.specs.Timelines.{Branch, Timeline, IsTimeline, branch_of, new_timeline, standing, world_of}
@@ -60,6 +62,7 @@ touches (command.Fork from k new) name = same_name new name
 touches (command.Drop of) name = same_name of name
 touches (command.Show of) name = false
 touches (command.Past of k) name = false
+touches (command.Why of k) name = false
 touches command.Names name = false
 touches (command.Excise of k) name = same_name of name
 touches (command.Restore of) name = same_name of name
@@ -87,6 +90,25 @@ abbrev pub PastsAreShown : Type 0
 PastsAreShown =
     (t : Timeline) (name : List ℕ) (k : ℕ) (b : Branch) → branch_of t name ≡ Some b → k ≤ length b.events
     → past_command t name k ≡ replied t (show_command (with_changed t (record b { cursor = k })) name).reply
+
+-- the timeline where the branch stands before its k-th event
+abbrev pub standing_before : ℕ → Branch → Timeline → Timeline
+standing_before k b t = with_changed t (record b { cursor = k - 1 })
+
+-- the branch's k-th event, the world that the branch shows where it stands before it, and the outcome that a step of it has there:
+-- the event and the outcome are reported, and why it has that in that world
+pub record IsExplained (t : Timeline) (name : List ℕ) (k : ℕ) (b : Branch) : Type 0 where
+  pub event : Event
+  pub world : World
+  pub outcome : Outcome
+  pub there : slice_get b.events (k - 1) ≡ Some event
+  pub shown : (show_command (standing_before k b t) name).reply ≡ reply.Shown b.name (length b.events) (k - 1) world
+  pub stepped : (step_command (standing_before k b t) name event).reply ≡ reply.Stepped outcome (length b.events - (k - 1))
+  pub reported : why_command t name k ≡ replied t (reply.Explained b.name k event outcome (explained world event))
+
+-- what is reported of an event of a branch is what a step of it replies where the branch stands before it
+abbrev pub WhysAreSteps : Type 0
+WhysAreSteps = (t : Timeline) (name : List ℕ) (k : ℕ) (b : Branch) → IsTimeline t → branch_of t name ≡ Some b → IsTrue (has_event k b) → IsExplained t name k b
 
 -- ---- an event taken out of the middle
 

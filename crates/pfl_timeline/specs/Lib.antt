@@ -20,3 +20,4 @@ pub use Rattle.pfl_language.specs as language
 pub use Rattle.pfl_search.specs.world.desk as desk
 pub use Rattle.pfl_search.specs.world as world
 pub use Rattle.pfl_search.specs as search
+pub use Rattle.pfl_reasons.specs as reasons

@@ -1,6 +1,6 @@
 -- Searches from where a branch stands: what a search answers, and what the answer means. It changes nothing (this project's profile).
-use Rattle.std.specs.Prelude.{◌≡◌, ◌≤◌, ℕ, nat_lt, List, length, Option, Some, None, IfSome, IfNone, if◌then◌else◌}
-use Rattle.std.specs.Option.{option_map, option_map_or}
+use Rattle.std.specs.Prelude.{◌≤◌, ℕ, nat_lt, List, length, Option, Some, None, if◌then◌else◌}
+use Rattle.std.specs.Option.{option_map_or}
 use Rattle.pfl_language.specs.declared.choice.Choice.{Choice}
 use Rattle.pfl_language.specs.declared.event.Event.{Event}
 use Rattle.pfl_language.specs.declared.goal.Goal.{Goal}

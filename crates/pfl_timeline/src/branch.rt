@@ -5,8 +5,10 @@ ghost use Rattle.std.specs.Option.{option_map, option_map_or};
 ghost use Rattle.pfl_language.specs.BranchWords.{is_branch_name};
 ghost use Rattle.pfl_search.specs.world.Events.{step, IsEventRefusal};
 ghost use Rattle.pfl_search.specs.world.Worlds.{World as Pair};
-ghost use Rattle.pfl_timeline.specs.Commands.{extended, undone, first_events};
+ghost use Rattle.pfl_timeline.specs.Commands.{extended, undone, first_events, why_answer};
 ghost use Rattle.pfl_timeline.specs.Excisions.{has_event, excised, fallen_places};
+ghost use Rattle.pfl_timeline.specs.Memory.{is_refusal};
+ghost use Rattle.pfl_timeline.specs.Replies.{reply_of};
 ghost use Rattle.pfl_timeline.specs.Rooted.{shown};
 ghost use Rattle.pfl_timeline.specs.Searches.{IsAnswer, finding_from, finding_of, sought};
 ghost use Rattle.pfl_timeline.specs.inner.Looking.{SeesAt};
@@ -15,10 +17,11 @@ ghost use Rattle.pfl_timeline.specs.Timelines.{IsBranch};
 
 use crate::finding::{Finding, found, stopped};
 use crate::history::History;
-use crate::look::Look;
+use crate::look::{Explaining, Look};
+use crate::reply::Reply;
 use pfl_base::Refusal;
 use pfl_edits::NoMemory;
-use pfl_language::{BranchWord, Choice, Event, Goal, Outcome};
+use pfl_language::{BranchWord, Choice, Event, Goal, Outcome, Refused};
 use pfl_search::World;
 use std::alloc::{AllocError, Allocator};
 use std::marker::Model;
@@ -230,6 +233,26 @@ impl<A: Allocator + Copy> Branch<A> {
         }
         let seen = self.history.look_at(&self.name, place, look, writer)?;
         Ok(Some(seen))
+    }
+
+    /// What came of the event at the place, counted from 1, those after the cursor too, and why. Nothing changes, whatever the answer.
+    pub(crate) fn why(&mut self, place: u32) -> Result<Reply<A>, NoMemory>
+        ensures answer { IfOk result (λ reply. reply_of reply ≡ why_answer self.old.opening place self.old.branch) }
+        ensures memory { OnErr result (is_refusal (why_answer self.old.opening place self.old.branch) ≡ false) }
+        ensures unchanged { self.new ≡ self.old }
+    {
+        let place = place as usize;
+        let count = self.events().len();
+        if place == 0 || place > count {
+            return Ok(Reply::Refused(Refused::NoEvent));
+        }
+        self.known();
+        let look = Explaining {
+            alloc: *Box::allocator(&self.history),
+            place,
+            event: self.events()[place - 1],
+        };
+        self.history.look_at(&self.name, place - 1, &look, &mut ())?
     }
 
     /// Searches for a shortest run of the choices from where it stands to the goal. Nothing changes, whatever the answer.

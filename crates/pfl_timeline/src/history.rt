@@ -246,11 +246,28 @@ impl<A: Allocator + Copy> History<A> {
             name,
             events: self.events.len(),
             cursor: place,
-            world: &self.world,
         };
-        let seen = look.look(&sight, writer);
+        let seen = look.look(&sight, &mut self.world, writer);
         redo_all(&mut self.world, &mut self.tape, undone);
         Ok(seen)
+    }
+
+    /// Looks at the world that those that stand give.
+    fn look_here<L: Look<A, W>, W>(
+        &mut self,
+        name: &BranchWord,
+        look: &L,
+        writer: &mut W,
+    ) -> L::Seen
+        ensures unchanged { self.new ≡ self.old }
+        ensures seen { IsSeen (L.sees look.now) name.now self.old.opening self.old.events self.old.cursor writer.old writer.new result }
+    {
+        let sight = Sight {
+            name,
+            events: self.events.len(),
+            cursor: self.marks.len(),
+        };
+        look.look(&sight, &mut self.world, writer)
     }
 
     /// Looks at the world that the first `place` events give. Then it stands where it stood. Where there is no memory, nothing is seen.
@@ -271,13 +288,7 @@ impl<A: Allocator + Copy> History<A> {
             return self.look_back(name, place, look, writer);
         }
         self.redo(place - cursor)?;
-        let sight = Sight {
-            name,
-            events: self.events().len(),
-            cursor: place,
-            world: self.world(),
-        };
-        let seen = look.look(&sight, writer);
+        let seen = self.look_here(name, look, writer);
         self.take_back_to(cursor);
         Ok(seen)
     }

@@ -1,6 +1,6 @@
 //! Laws of timelines. They have no code: each is a theorem over the definitions, which a function's contract names.
 
-ghost use Rattle.pfl_timeline.specs.Laws.{NewTimelinesAreTimelines, CommandsKeepTimelines, BranchesShowWorlds, BranchesShowTheirRuns, CommandsLeaveOthers, PastsAreShown, ExcisionsAreRunsWithout, ExcisionsLeaveStanding, ExcisionsTellTheRefused, NothingElseFallsOut, RestorationsTakeBack, NoReplyTellsWantOfMemory, StepsAreRuns};
+ghost use Rattle.pfl_timeline.specs.Laws.{NewTimelinesAreTimelines, CommandsKeepTimelines, BranchesShowWorlds, BranchesShowTheirRuns, CommandsLeaveOthers, PastsAreShown, WhysAreSteps, ExcisionsAreRunsWithout, ExcisionsLeaveStanding, ExcisionsTellTheRefused, NothingElseFallsOut, RestorationsTakeBack, NoReplyTellsWantOfMemory, StepsAreRuns};
 
 /// The timeline that opens over a world keeps all that is true of each timeline.
 pub fn new_timelines_are_timelines()
@@ -21,6 +21,11 @@ pub fn branches_show_their_runs()
 /// What is seen of a branch at a place is what it shows when it stands there.
 pub fn pasts_are_shown()
     ensures { PastsAreShown }
+{}
+
+/// What is reported of an event of a branch is what a step of it replies where the branch stands before it.
+pub fn whys_are_steps()
+    ensures { WhysAreSteps }
 {}
 
 /// A command leaves every branch but the one that it changes as it was.

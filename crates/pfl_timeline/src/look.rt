@@ -1,22 +1,24 @@
-//! Looks at the world that a branch shows, or showed at another place.
+//! Looks at the world that a branch shows, or would show if it stood at another place.
 
-use crate::reply::{Reply, boxed_copy};
+use crate::reply::{Explanation, Reply, boxed_copy};
 use pfl_edits::NoMemory;
-use pfl_language::{BranchWord, Refused};
+use pfl_language::{BranchWord, Event, Refused};
+use pfl_reasons::explain;
 use pfl_search::World;
 use std::alloc::Allocator;
 
-/// What is seen of a branch: its name, how many events it has, and the world that the first `cursor` of them give.
+/// What is seen of a branch beside the world that the first `cursor` of its events give: its name, and how many events it has.
 #[derive(Drop)]
-pub struct Sight<'a, A: Allocator> {
+pub struct Sight<'a> {
     pub name: &'a BranchWord,
     pub events: usize,
     pub cursor: usize,
-    pub world: &'a World<A>,
 }
 
-/// Who looks at a world that is there for a while, and writes to a `W` what there is to be seen.
+/// Who looks at a world that is lent for a while, and writes to a `W` what there is to be seen. A look may change the world to find
+/// out what follows, and leaves it as it was.
 pub trait Look<A: Allocator, W> {
+    ghost use Rattle.std.specs.Prelude.{◌≡◌};
     ghost use Rattle.pfl_timeline.specs.Replies.{Reply, Shown};
 
     /// What the look comes to.
@@ -26,8 +28,9 @@ pub trait Look<A: Allocator, W> {
     ghost sees: { Self → Reply → W → W → Self.Seen → Type 0 };
 
     /// Looks.
-    fn look(&self, sight: &Sight<'_, A>, writer: &mut W) -> Self::Seen
-        ensures sees { sees self.now (Shown sight.now.name.now sight.now.events sight.now.cursor sight.now.world.now) writer.old writer.new result };
+    fn look(&self, sight: &Sight<'_>, world: &mut World<A>, writer: &mut W) -> Self::Seen
+        ensures sees { sees self.now (Shown sight.now.name.now sight.now.events sight.now.cursor world.old) writer.old writer.new result }
+        ensures still { world.new ≡ world.old };
 }
 
 /// Why nothing is seen.
@@ -56,23 +59,71 @@ pub(crate) struct CopiedSight<A: Allocator + Copy> {
 }
 
 impl<A: Allocator + Copy> Look<A, ()> for CopiedSight<A> {
-    ghost use Rattle.std.specs.Prelude.{◌≡◌, false, IfOk};
-    ghost use Rattle.pfl_timeline.specs.Memory.{is_refusal};
+    ghost use Rattle.std.specs.Prelude.{◌≡◌, IfOk};
     ghost use Rattle.pfl_timeline.specs.Replies.{Shown, reply_of};
 
     type Seen = Result<Reply<A>, NoMemory>;
 
-    ghost sees = { λ self told old new seen. IfOk seen (λ reply. reply_of reply ≡ told) × (is_refusal told ≡ false) };
+    ghost sees = { λ self told old new seen. IfOk seen (λ reply. reply_of reply ≡ told) };
 
-    fn look(&self, sight: &Sight<'_, A>, _nothing: &mut ()) -> Result<Reply<A>, NoMemory>
-        ensures sees { IfOk result (λ reply. reply_of reply ≡ Shown sight.now.name.now sight.now.events sight.now.cursor sight.now.world.now) × (is_refusal (Shown sight.now.name.now sight.now.events sight.now.cursor sight.now.world.now) ≡ false) }
+    fn look(
+        &self,
+        sight: &Sight<'_>,
+        world: &mut World<A>,
+        _nothing: &mut (),
+    ) -> Result<Reply<A>, NoMemory>
+        ensures sees { IfOk result (λ reply. reply_of reply ≡ Shown sight.now.name.now sight.now.events sight.now.cursor world.old) }
+        ensures still { world.new ≡ world.old }
     {
-        let world = boxed_copy(self.alloc, sight.world)?;
+        let world = boxed_copy(self.alloc, world)?;
         Ok(Reply::Shown {
             name: *sight.name,
             events: sight.events,
             cursor: sight.cursor,
             world,
         })
+    }
+}
+
+/// Explains the event at a place of a branch, where the events before it have happened.
+#[derive(Clone, Copy, Debug)]
+pub(crate) struct Explaining<A: Allocator + Copy> {
+    pub(crate) alloc: A,
+    pub(crate) place: usize,
+    pub(crate) event: Event,
+}
+
+impl<A: Allocator + Copy> Look<A, ()> for Explaining<A> {
+    ghost use Rattle.std.specs.Prelude.{◌≡◌, IfOk};
+    ghost use Rattle.pfl_timeline.specs.Replies.{Shown, reply_of};
+    ghost use Rattle.pfl_timeline.specs.inner.Looking.{explained_there};
+
+    type Seen = Result<Reply<A>, NoMemory>;
+
+    ghost sees = { λ self told old new seen. IfOk seen (λ reply. reply_of reply ≡ explained_there self.place self.event told) };
+
+    fn look(
+        &self,
+        sight: &Sight<'_>,
+        world: &mut World<A>,
+        _nothing: &mut (),
+    ) -> Result<Reply<A>, NoMemory>
+        ensures sees { IfOk result (λ reply. reply_of reply ≡ explained_there self.now.place self.now.event (Shown sight.now.name.now sight.now.events sight.now.cursor world.old)) }
+        ensures still { world.new ≡ world.old }
+    {
+        match explain(self.alloc, world, &self.event) {
+            Ok((outcome, why)) => {
+                let explanation = Explanation {
+                    name: *sight.name,
+                    place: self.place,
+                    event: self.event,
+                    outcome,
+                    why,
+                };
+                explanation.reply(self.alloc)
+            }
+            // The events of a branch were accepted where they stand, so only memory can be wanting.
+            Err(_) => Err(NoMemory),
+        }
     }
 }

@@ -1,14 +1,53 @@
 //! Replies.
 
 ghost use Rattle.std.specs.Prelude.{◌≡◌, IfOk};
+ghost use Rattle.pfl_timeline.specs.Replies.{explanation_of, reply_of};
 
 use pfl_edits::NoMemory;
 use pfl_language::{BranchWord, Event, Outcome, Refused};
+use pfl_reasons::Explained;
 use pfl_search::World;
 use std::alloc::{AllocError, Allocator};
 
-/// The reply to a command. Clauses say by `reply_of` what it tells. The world that one shows is in a box, so that the others
-/// are small.
+/// What came of an event of a branch, and why: the branch's name, the event and its place, counted from 1, its outcome, and the
+/// reason for that. Clauses say by `explanation_of` what it tells.
+#[derive(Drop)]
+pub struct Explanation<A: Allocator> {
+    pub name: BranchWord,
+    pub place: usize,
+    pub event: Event,
+    pub outcome: Outcome,
+    pub why: Explained<A>,
+}
+
+impl<A: Allocator> Explanation<A> {
+    /// The reply that it is, in a box.
+    pub fn reply(self, alloc: A) -> Result<Reply<A>, NoMemory>
+        ensures { IfOk result (λ reply. reply_of reply ≡ explanation_of self) }
+    {
+        let boxed = Box::new(alloc, self).map_err(AllocError::from)?;
+        Ok(Reply::Explained(boxed))
+    }
+}
+
+impl<A: Allocator + Copy> Explanation<A> {
+    /// An equal one, in memory of its own.
+    pub fn copy(&self, alloc: A) -> Result<Explanation<A>, NoMemory>
+        ensures { IfOk result (λ copied. explanation_of copied ≡ explanation_of self.now) }
+    {
+        let why = self.why.copy(alloc)?;
+        Ok(Explanation {
+            name: self.name,
+            place: self.place,
+            event: self.event,
+            outcome: self.outcome,
+            why,
+        })
+    }
+}
+
+/// The reply to a command. Clauses say by `reply_of` what it tells. The world that one shows is in a box, and so is an explanation,
+/// so that the others are small.
 #[derive(Drop)]
 pub enum Reply<A: Allocator> {
     /// The event happened, and so many events that had been undone were cut.
@@ -41,6 +80,8 @@ pub enum Reply<A: Allocator> {
         events: Vec<Event, A>,
         cursor: usize,
     },
+    /// What came of an event, and why.
+    Explained(Box<Explanation<A>, A>),
     /// The command is refused.
     Refused(Refused),
 }

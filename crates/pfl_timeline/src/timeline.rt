@@ -1,9 +1,9 @@
 //! Timelines.
 
-ghost use Rattle.std.specs.Prelude.{◌≡◌, ◌≢◌, length, map, Some, is_some, IfOk, IfErr, IsSomeAnd, IsTrue, OnErr};
+ghost use Rattle.std.specs.Prelude.{◌≡◌, ◌≢◌, length, map, Some, is_some, IfOk, IfErr, IsSomeAnd, IsTrue, OnErr, OnOk};
 ghost use Rattle.std.specs.List.{AllByRecursion};
 ghost use Rattle.std.specs.Option.{option_map};
-ghost use Rattle.pfl_timeline.specs.Commands.{replied, step_command, back_command, forward_command, fork_refusal, fork_command, drop_command, show_command, past_command, names_command, excise_command, restore_command, log_command, command_step};
+ghost use Rattle.pfl_timeline.specs.Commands.{replied, step_command, back_command, forward_command, fork_refusal, fork_command, drop_command, show_command, past_command, why_command, names_command, excise_command, restore_command, log_command, command_step};
 ghost use Rattle.pfl_timeline.specs.Memory.{IsAccepted, MayWantMemory};
 ghost use Rattle.pfl_timeline.specs.Looks.{IsNotSeen};
 ghost use Rattle.pfl_timeline.specs.Replies.{reply_of, Reply as Replying, Refused as Refusing, Shown};
@@ -311,6 +311,7 @@ impl<A: Allocator + Copy> Timeline<A> {
         writer: &mut W,
     ) -> Result<L::Seen, NotSeen>
         ensures seen { IfOk result (λ seen. (told : Replying) × (past_command self.old name.now place ≡ replied self.old told) × L.sees look.now told writer.old writer.new seen) }
+        ensures accepted { OnOk result (IsAccepted (past_command self.old name.now place)) }
         ensures refused { IfErr result (IsNotSeen self.old (past_command self.old name.now place)) }
         ensures still { (past_command self.old name.now place).timeline ≡ self.old }
         ensures untouched { OnErr result (writer.new ≡ writer.old) }
@@ -327,7 +328,7 @@ impl<A: Allocator + Copy> Timeline<A> {
         }
     }
 
-    /// The branch at another place, with a copy of the world that it showed there.
+    /// The branch at another place, with a copy of the world that it would show there.
     fn past_copied(&mut self, name: &BranchWord, place: u32) -> Result<Reply<A>, NoMemory>
         ensures step { IfOk result (λ reply. past_command self.old name.now place ≡ replied self.new (reply_of reply)) }
         ensures memory { OnErr result (IsAccepted (past_command self.old name.now place)) }
@@ -341,6 +342,21 @@ impl<A: Allocator + Copy> Timeline<A> {
             Err(NotSeen::Refused(why)) => Ok(Reply::Refused(why)),
             Err(NotSeen::NoMemory) => Err(NoMemory),
         }
+    }
+
+    /// What came of the branch's event at the place, counted from 1, those after the cursor too, and why. The event happens again for a
+    /// while. No pair is copied, and the timeline stays as it was, whatever the answer.
+    pub fn why(&mut self, name: &BranchWord, place: u32) -> Result<Reply<A>, NoMemory>
+        ensures step { IfOk result (λ reply. why_command self.old name.now place ≡ replied self.new (reply_of reply)) }
+        ensures memory { OnErr result (IsAccepted (why_command self.old name.now place)) }
+        ensures unchanged { self.new ≡ self.old }
+    {
+        let Some(branch) = self.branches.get_mut(name) else {
+            return Ok(Reply::Refused(Refused::NoBranch));
+        };
+        let explained = branch.why(place);
+        branch.known();
+        explained
     }
 
     /// The branch's events, those behind the cursor too, in memory of their own, and its cursor. No pair is copied.
@@ -400,6 +416,7 @@ impl<A: Allocator + Copy> Timeline<A> {
             Command::Drop { branch } => Ok(self.remove(&branch)),
             Command::Show { branch } => self.show(&branch),
             Command::Past { branch, place } => self.past_copied(&branch, place),
+            Command::Why { branch, place } => self.why(&branch, place),
             Command::Names => self.names(),
             Command::Excise { branch, place } => self.excise(&branch, place),
             Command::Restore { branch } => Ok(self.restore(&branch)),

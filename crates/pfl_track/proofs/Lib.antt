@@ -6,3 +6,4 @@ pub mod Along
 pub mod Families
 mod Worked
 pub mod ForCallers
+pub mod Testing

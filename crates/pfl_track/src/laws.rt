@@ -1,5 +1,6 @@
 //! Laws of tracking. They have no code: each is a theorem over the definitions, which a function's contract names.
 
+ghost use Rattle.pfl_track.specs.Edges.{TestsAgree};
 ghost use Rattle.pfl_track.specs.Laws.{PacketsLowerNoLevel, PacketsLowerNoLevelAlong, OnlyEndsMove, OnlyEndsMoveAlong, StatesBegin, StatesStayStates, StatesStayStatesAlong};
 
 /// A packet lowers the level of no end, and lifts none above [`crate::MAX_LEVEL`]; nor do packets, one after the other.
@@ -22,4 +23,9 @@ pub fn states_stay_states()
     ensures begun { StatesBegin }
     ensures moved { StatesStayStates }
     ensures along { StatesStayStatesAlong }
+{}
+
+/// A packet is inside the window where it misses no edge of it.
+pub fn tests_agree()
+    ensures { TestsAgree }
 {}

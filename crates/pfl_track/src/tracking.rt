@@ -64,7 +64,7 @@ fn from_src(state: &State, dir: Dir) -> bool
 }
 
 /// The end that sent the packet.
-fn sender(state: &State, dir: Dir) -> Peer
+pub(crate) fn sender(state: &State, dir: Dir) -> Peer
     ensures { result ≡ meant.sender state.now dir }
 {
     if from_src(state, dir) {
@@ -75,7 +75,7 @@ fn sender(state: &State, dir: Dir) -> Peer
 }
 
 /// The other end.
-fn receiver(state: &State, dir: Dir) -> Peer
+pub(crate) fn receiver(state: &State, dir: Dir) -> Peer
     ensures { result ≡ meant.receiver state.now dir }
 {
     if from_src(state, dir) {

@@ -9,7 +9,7 @@ use pfl_base::{Packet, TcpFlags, seq_geq, seq_gt};
 
 /// How far an acknowledged number may be from what the other end sent: a packet of 65535 bytes, and one more of 1500 (pf's
 /// MAXACKWINDOW).
-const MAX_ACK_WINDOW: u32 = 67035;
+pub(crate) const MAX_ACK_WINDOW: u32 = 67035;
 
 /// The sequence number after the packet: SYN and FIN take one each (RFC 9293, 3.4).
 pub(crate) fn end_of(packet: &Packet) -> u32
@@ -24,7 +24,7 @@ pub(crate) fn end_of(packet: &Packet) -> u32
 }
 
 /// Whether windows are scaled: both ends offered a scale, and the packet has no SYN (RFC 7323, 2.2).
-fn is_scaled(sender: &Peer, receiver: &Peer, packet: &Packet) -> bool
+pub(crate) fn is_scaled(sender: &Peer, receiver: &Peer, packet: &Packet) -> bool
     ensures { result ≡ meant.is_scaled sender.now receiver.now packet.now }
 {
     sender.scale().is_some()
@@ -33,7 +33,7 @@ fn is_scaled(sender: &Peer, receiver: &Peer, packet: &Packet) -> bool
 }
 
 /// A window at the end's scale.
-fn at_scale(scaled: bool, end: &Peer, window: u32) -> u32
+pub(crate) fn at_scale(scaled: bool, end: &Peer, window: u32) -> u32
     requires { window < 2 ^ 17 }
     ensures { result ≡ meant.at_scale scaled end.now window }
 {
@@ -67,14 +67,14 @@ pub(crate) fn begun(sender: &Peer, receiver: &Peer, packet: &Packet) -> Peer
 }
 
 /// Whether the packet's acknowledgement counts: the other end has begun.
-fn acknowledges(receiver: &Peer, packet: &Packet) -> bool
+pub(crate) fn acknowledges(receiver: &Peer, packet: &Packet) -> bool
     ensures { result ≡ meant.acknowledges receiver.now packet.now }
 {
     packet.flags().contains(TcpFlags::ACK) && receiver.level() >= SYN_SENT
 }
 
 /// Whether the packet begins no more than a window back.
-fn left_edge(sender: &Peer, window: u32, packet: &Packet) -> bool
+pub(crate) fn left_edge(sender: &Peer, window: u32, packet: &Packet) -> bool
     ensures { result ≡ meant.left_edge sender.now window packet.now }
 {
     seq_geq(packet.seq(), sender.lo().wrapping_sub(window))
@@ -82,7 +82,7 @@ fn left_edge(sender: &Peer, window: u32, packet: &Packet) -> bool
 
 /// Whether the acknowledged number is near what the other end sent: at most `ahead` behind it, and at most [`MAX_ACK_WINDOW`]
 /// ahead of it.
-fn ack_near(ahead: u32, receiver: &Peer, packet: &Packet) -> bool
+pub(crate) fn ack_near(ahead: u32, receiver: &Peer, packet: &Packet) -> bool
     ensures { result ≡ meant.ack_near ahead receiver.now packet.now }
 {
     let behind = receiver.lo().wrapping_sub(packet.ack());

@@ -16,4 +16,5 @@ pub mod Ranges
 pub mod LimitFaults
 pub mod Little
 pub mod OnTapes
+pub mod OneRecord
 pub mod ForCallers

@@ -1,12 +1,11 @@
 //! Devices that fail at each place of a dialogue.
 ghost use Rattle.std.specs.Prelude.{◌≡◌};
-ghost use Rattle.pfl_session.specs.Passes.{IsPassOf};
+ghost use Rattle.pfl_serve.specs.session.Passes.{IsPassOf};
 
 use super::lab::{opened, speak, take, tells};
 use pfl_base::Std;
 use pfl_run::{EngineFault, LineReader};
-use pfl_serve::{Open, serve_session};
-use pfl_session::{Closed, Lab, Opened, Pass, Which};
+use pfl_serve::{Closed, Lab, Open, Opened, Pass, Which, serve_session};
 use std::alloc::Global;
 use std::marker::Brand;
 use std::sync::Wait;

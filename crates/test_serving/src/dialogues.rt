@@ -2,8 +2,7 @@
 ghost use Rattle.std.specs.Prelude.{◌≡◌};
 
 use super::lab::{Spoken, opened, speak, take};
-use pfl_serve::Open;
-use pfl_session::{Opened, Which};
+use pfl_serve::{Open, Opened, Which};
 use std::alloc::Global;
 use std::marker::Brand;
 use std::sync::Wait;

@@ -1,12 +1,11 @@
 //! Calls that go through a gate.
 ghost use Rattle.std.specs.Prelude.{◌≡◌};
-ghost use Rattle.pfl_session.specs.Passes.{IsPassOf};
+ghost use Rattle.pfl_serve.specs.session.Passes.{IsPassOf};
 
 use super::lab::{Spoken, opened, speak, take};
 use pfl_base::Std;
 use pfl_run::{EngineFault, LineReader};
-use pfl_serve::{Gate, serve_session};
-use pfl_session::{Lab, Opened, Pass, Which};
+use pfl_serve::{Gate, Lab, Opened, Pass, Which, serve_session};
 use std::alloc::Global;
 use std::marker::Brand;
 use std::sync::{Mutex, Wait};

@@ -1,13 +1,12 @@
 //! Labs over a pair in which each node passes what goes out, sessions that are served over memory, and journals as text.
 ghost use Rattle.std.specs.Prelude.{IfSome};
 ghost use Rattle.std.specs.List.{AllByRecursion};
-ghost use Rattle.pfl_session.specs.Passes.{IsPassOf};
-ghost use Rattle.pfl_session.specs.Totals.{HasFewEvents};
+ghost use Rattle.pfl_serve.specs.session.Passes.{IsPassOf};
+ghost use Rattle.pfl_serve.specs.session.Totals.{HasFewEvents};
 
 use pfl_base::Std;
 use pfl_run::{Ended, EngineFault, LineReader, Timeline, set_up, write_reply};
-use pfl_serve::{Gate, serve_session};
-use pfl_session::{Entry, Lab, LabFault, Opened, Pass, Which};
+use pfl_serve::{Entry, Gate, Lab, LabFault, Opened, Pass, Which, serve_session};
 use std::alloc::{Allocator, Global};
 use std::sync::Wait;
 

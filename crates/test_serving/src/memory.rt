@@ -1,13 +1,12 @@
 //! A session whose memory is wanting at each request in turn: what it is answered then, and what stands after it.
 ghost use Rattle.std.specs.Prelude.{◌≡◌};
 ghost use Rattle.std.specs.List.{AllByRecursion};
-ghost use Rattle.pfl_session.specs.Passes.{IsPassOf};
+ghost use Rattle.pfl_serve.specs.session.Passes.{IsPassOf};
 
 use super::dialogues::alone;
 use super::lab::{Spoken, opened, replays, speak_to_heap, take};
 use pfl_run::{Ended, EngineFault};
-use pfl_serve::Open;
-use pfl_session::{Closed, Lab, Opened, Pass, Which};
+use pfl_serve::{Closed, Lab, Open, Opened, Pass, Which};
 use std::alloc::Global;
 use std::marker::Brand;
 use std::sync::Wait;

@@ -1,13 +1,12 @@
 //! The sessions of a lab, served at once over memory.
 ghost use Rattle.std.specs.Prelude.{◌≡◌, IfSome};
 ghost use Rattle.std.specs.List.{AllByRecursion};
-ghost use Rattle.pfl_session.specs.Passes.{IsPassOf};
+ghost use Rattle.pfl_serve.specs.session.Passes.{IsPassOf};
 
 use super::lab::{Spoken, take};
 use pfl_base::Std;
 use pfl_run::LineReader;
-use pfl_serve::{EndedSeat, Gate, Seat, Service, serve_and_close};
-use pfl_session::{Opened, Pass, Which};
+use pfl_serve::{EndedSeat, Gate, Opened, Pass, Seat, Service, Which, serve_and_close};
 use std::alloc::Global;
 use std::sync::Wait;
 use std::thread::Threads;

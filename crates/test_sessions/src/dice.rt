@@ -146,6 +146,10 @@ impl Dice {
                 Some(Command::Past { branch, place })
             }
             97 => Some(Command::Log { branch }),
+            98 => {
+                let place = self.below(24);
+                Some(Command::Why { branch, place })
+            }
             _ => Some(Command::Names),
         }
     }

@@ -116,6 +116,12 @@ fn past(place: u32) -> Command {
     Command::Past { branch, place }
 }
 
+/// What came of an event of `main`, and why.
+fn why(place: u32) -> Command {
+    let branch = BranchWord::main();
+    Command::Why { branch, place }
+}
+
 /// The branch is shown so, with state 1.1 at node A and no other.
 fn shown(events: usize, cursor: usize) -> Answer {
     Answer::Shown {
@@ -136,7 +142,7 @@ fn fork(place: u32) -> Option<Command> {
 }
 
 /// The calls whose requests are refused.
-fn trials() -> Option<[Trial; 15]> {
+fn trials() -> Option<[Trial; 17]> {
     let branch = BranchWord::main();
     let node = NodeId::A;
     let logged = Answer::Logged {
@@ -153,6 +159,8 @@ fn trials() -> Option<[Trial; 15]> {
         once_answered(Command::Show { branch }, shown(4, 4), 0)?,
         once_answered(past(1), shown(4, 1), 0)?,
         once_undone(past(3), shown(3, 3))?,
+        once_answered(why(1), Answer::Explained(1), 0)?,
+        once_undone(why(3), Answer::Explained(3))?,
         once_answered(Command::Names, Answer::Names(1), 0)?,
         once_answered(Command::Log { branch }, logged, 0)?,
         once_answered(excise(1), Answer::Excised(Some([2, 3])), 0)?,

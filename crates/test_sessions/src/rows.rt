@@ -33,6 +33,8 @@ pub(super) enum Answer {
         events: usize,
         cursor: usize,
     },
+    /// The event at this place is explained.
+    Explained(usize),
     /// The command is refused.
     Refused(Refused),
 }
@@ -83,6 +85,9 @@ pub(super) fn is_wanted<A: Allocator>(wanted: Answer, reply: &Reply<A>) -> bool 
         }
         Answer::Logged { events, cursor } => {
             matches!(reply, Reply::Logged { events: es, cursor: c, .. } if (es.len(), *c) == (events, cursor))
+        }
+        Answer::Explained(place) => {
+            matches!(reply, Reply::Explained(explanation) if explanation.place == place)
         }
         Answer::Refused(why) => matches!(reply, Reply::Refused(other) if *other == why),
     }

@@ -3,7 +3,7 @@
 use super::lab::opening;
 use pfl_base::NodeId;
 use pfl_language::{BranchWord, Command, Limits};
-use pfl_session::{Branch, Closed, Entry, Node, Reply, Timeline, World};
+use pfl_session::{Branch, Closed, Entry, Explained, Explanation, Node, Reply, Timeline, World};
 use std::alloc::Allocator;
 
 /// The same word.
@@ -71,6 +71,29 @@ fn shows<A: Allocator>(reply: &Reply<A>, branch: &ShownBranch<'_, A>) -> bool {
     same_name(name, branch.name) && place && same_world(world, branch.world)
 }
 
+/// The same reason.
+fn same_reason<A: Allocator>(one: &Explained<A>, two: &Explained<A>) -> bool {
+    match one {
+        Explained::Packet(why) => matches!(two, Explained::Packet(other) if other == why),
+        Explained::Records(list) => matches!(two, Explained::Records(other) if **other == **list),
+        Explained::Expiries {
+            clock,
+            states,
+            list,
+            ..
+        } => {
+            matches!(two, Explained::Expiries { clock: c, states: s, list: other, .. } if c == clock && s == states && **other == **list)
+        }
+        Explained::Plain => matches!(two, Explained::Plain),
+    }
+}
+
+/// The same event at the same place, with the same outcome for the same reason.
+fn same_explanation<A: Allocator>(one: &Explanation<A>, two: &Explanation<A>) -> bool {
+    let event = one.place == two.place && one.event == two.event && one.outcome == two.outcome;
+    same_name(&one.name, &two.name) && event && same_reason(&one.why, &two.why)
+}
+
 /// The same reply.
 pub(super) fn same_reply<A: Allocator>(one: &Reply<A>, two: &Reply<A>) -> bool {
     match one {
@@ -104,6 +127,9 @@ pub(super) fn same_reply<A: Allocator>(one: &Reply<A>, two: &Reply<A>) -> bool {
         } => {
             matches!(two, Reply::Logged { name: n, events: es, cursor: c } if same_name(name, n) && **es == **events && c == cursor)
         }
+        Reply::Explained(explanation) => {
+            matches!(two, Reply::Explained(other) if same_explanation(explanation, other))
+        }
         Reply::Refused(why) => matches!(two, Reply::Refused(other) if other == why),
     }
 }
@@ -131,6 +157,9 @@ pub(super) fn same_command(one: &Command, two: &Command) -> bool {
         }
         Command::Past { branch, place } => {
             matches!(two, Command::Past { branch: b, place: p } if same_name(branch, b) && place == p)
+        }
+        Command::Why { branch, place } => {
+            matches!(two, Command::Why { branch: b, place: p } if same_name(branch, b) && place == p)
         }
         Command::Names => matches!(two, Command::Names),
         Command::Excise { branch, place } => {

@@ -1,6 +1,6 @@
 use Rattle.std.proofs.Common.{arith, ◌≡◌, length}
-use Rattle.pfl_session.proofs.ForCallers.{passes-many}
-use Rattle.pfl_session.specs.Passes.{IsPassOf}
+use Rattle.pfl_serve.proofs.ForCallers.session.{passes-many}
+use Rattle.pfl_serve.specs.session.Passes.{IsPassOf}
 use Rattle.pfl_host.proofs.Faults.{all-mapped}
 use Rattle.pfl_host.proofs.closing.serve_streams.Goals as goal
 

@@ -1,5 +1,5 @@
 use Rattle.std.specs.List.{AllByRecursion}
-use Rattle.pfl_session.specs.Passes.{IsPassOf}
+use Rattle.pfl_serve.specs.session.Passes.{IsPassOf}
 use Rattle.test_serving.proofs.served.seats.Given as goal
 
 -- the passes that are left, and those of the seats, are the lab's

@@ -59,7 +59,7 @@ redo_all-requires-clause-undone g c =
     let read = c.mark_of-mark.ensures.mark ∙ ap (λ (ns : List ℕ). mark_at h.tape.list ns c.args.place) c.deref.ensures.value in
     let kept = c.set_aside_to.ensures.kept ∙ ap (λ us. us ++ set_aside undone (above m c.reserve.new.self.list)) c.in_ok-undone.ensures.list ∙ ap (λ es. set_aside undone (above m es)) c.reserve.ensures.list in
     all-undone h.world h.events.items h.tape.list h.marks.items c.self.invariant c.args.self.now c.self.view_is c.args.place c.requires.within m read c.known.ensures.world _ _
-    (c.set_aside_to.ensures.value ∙ ap (λ es. back put_back (above m es) h.world) c.reserve.ensures.list) kept
+    (c.look-seen.ensures.still ∙ c.set_aside_to.ensures.value ∙ ap (λ es. back put_back (above m es) h.world) c.reserve.ensures.list) kept
 
 pub invariant_of-self-2 : goal.invariant_of-self-2
 invariant_of-self-2 g c =
@@ -68,7 +68,7 @@ invariant_of-self-2 g c =
     let read = c.mark_of-mark.ensures.mark ∙ ap (λ (ns : List ℕ). mark_at h.tape.list ns c.args.place) c.deref.ensures.value in
     let kept = c.set_aside_to.ensures.kept ∙ ap (λ us. us ++ set_aside undone (above m c.reserve.new.self.list)) c.in_ok-undone.ensures.list ∙ ap (λ es. set_aside undone (above m es)) c.reserve.ensures.list in
     let led = led-again h.world h.events.items h.tape.list h.marks.items c.self.invariant c.args.self.now c.self.view_is c.args.place c.requires.within m read c.known.ensures.world _ _
-    (c.set_aside_to.ensures.value ∙ ap (λ es. back put_back (above m es) h.world) c.reserve.ensures.list) kept _ (c.set_aside_to.ensures.list ∙ ap (below m) c.reserve.ensures.list) _ _ c.redo_all.ensures.value c.redo_all.ensures.list in
+    (c.look-seen.ensures.still ∙ c.set_aside_to.ensures.value ∙ ap (λ es. back put_back (above m es) h.world) c.reserve.ensures.list) kept _ (c.set_aside_to.ensures.list ∙ ap (below m) c.reserve.ensures.list) _ _ c.redo_all.ensures.value c.redo_all.ensures.list in
     kept_as h.world _ h.events.items h.events.items h.tape.list _ h.marks.items h.marks.items led.0 refl led.1 refl c.self.invariant
 
 pub returns-clause-unchanged : goal.returns-clause-unchanged
@@ -78,7 +78,7 @@ returns-clause-unchanged g c =
     let read = c.mark_of-mark.ensures.mark ∙ ap (λ (ns : List ℕ). mark_at h.tape.list ns c.args.place) c.deref.ensures.value in
     let kept = c.set_aside_to.ensures.kept ∙ ap (λ us. us ++ set_aside undone (above m c.reserve.new.self.list)) c.in_ok-undone.ensures.list ∙ ap (λ es. set_aside undone (above m es)) c.reserve.ensures.list in
     let led = led-again h.world h.events.items h.tape.list h.marks.items c.self.invariant c.args.self.now c.self.view_is c.args.place c.requires.within m read c.known.ensures.world _ _
-    (c.set_aside_to.ensures.value ∙ ap (λ es. back put_back (above m es) h.world) c.reserve.ensures.list) kept _ (c.set_aside_to.ensures.list ∙ ap (below m) c.reserve.ensures.list) _ _ c.redo_all.ensures.value c.redo_all.ensures.list in
+    (c.look-seen.ensures.still ∙ c.set_aside_to.ensures.value ∙ ap (λ es. back put_back (above m es) h.world) c.reserve.ensures.list) kept _ (c.set_aside_to.ensures.list ∙ ap (below m) c.reserve.ensures.list) _ _ c.redo_all.ensures.value c.redo_all.ensures.list in
     history_as h.world _ h.events.items h.events.items h.tape.list _ h.marks.items h.marks.items led.0 refl led.1 refl ∙ c.self.view_is
 
 pub returns-clause-seen : goal.returns-clause-seen

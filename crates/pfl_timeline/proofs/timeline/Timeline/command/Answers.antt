@@ -1,7 +1,7 @@
 use Rattle.std.proofs.Common.{◌∙◌}
 use Rattle.std.proofs.lemmas.Result.{IfOk-weaker, on_err_weaker}
-use Rattle.pfl_timeline.proofs.Asked.{is-step, is-back, is-forward, is-fork, is-drop, is-show, is-past, is-names, is-excise, is-restore, is-log, anyway}
-use Rattle.pfl_timeline.proofs.Wants.{step_wants, forward_wants, fork_wants, show_wants, past_wants, names_wants, excise_wants, log_wants}
+use Rattle.pfl_timeline.proofs.Asked.{is-step, is-back, is-forward, is-fork, is-drop, is-show, is-past, is-why, is-names, is-excise, is-restore, is-log, anyway}
+use Rattle.pfl_timeline.proofs.Wants.{step_wants, forward_wants, fork_wants, show_wants, past_wants, why_wants, names_wants, excise_wants, log_wants}
 use Rattle.pfl_timeline.proofs.timeline.Timeline.command.Goals as goal
 
 pub returns-in-Step-clause-step : goal.returns-in-Step-clause-step
@@ -24,6 +24,9 @@ returns-in-Show-clause-step g c = IfOk-weaker c.show.result _ _ (λ reply h. is-
 
 pub returns-in-Past-clause-step : goal.returns-in-Past-clause-step
 returns-in-Past-clause-step g c = IfOk-weaker c.past_copied.result _ _ (λ reply h. is-past _ _ _ _ c.in-Past.is ∙ h) c.past_copied.ensures.step
+
+pub returns-in-Why-clause-step : goal.returns-in-Why-clause-step
+returns-in-Why-clause-step g c = IfOk-weaker c.why.result _ _ (λ reply h. is-why _ _ _ _ c.in-Why.is ∙ h) c.why.ensures.step
 
 pub returns-in-Names-clause-step : goal.returns-in-Names-clause-step
 returns-in-Names-clause-step g c = IfOk-weaker c.names.result _ _ (λ reply h. is-names _ _ c.in-Names.is ∙ h) c.names.ensures.step
@@ -51,6 +54,9 @@ returns-in-Show-clause-memory g c = on_err_weaker c.show.result (λ accepted. sh
 
 pub returns-in-Past-clause-memory : goal.returns-in-Past-clause-memory
 returns-in-Past-clause-memory g c = on_err_weaker c.past_copied.result (λ accepted. past_wants _ _ _ _ c.in-Past.is accepted) c.past_copied.ensures.memory
+
+pub returns-in-Why-clause-memory : goal.returns-in-Why-clause-memory
+returns-in-Why-clause-memory g c = on_err_weaker c.why.result (λ accepted. why_wants _ _ _ _ c.in-Why.is accepted) c.why.ensures.memory
 
 pub returns-in-Names-clause-memory : goal.returns-in-Names-clause-memory
 returns-in-Names-clause-memory g c = anyway c.names.result (names_wants _ _ c.in-Names.is)

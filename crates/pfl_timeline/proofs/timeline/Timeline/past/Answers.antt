@@ -7,9 +7,9 @@ use Rattle.pfl_timeline.specs.Looks.{IsNotSeen}
 use Rattle.pfl_timeline.specs.inner.Looking.{SeesAt}
 use Rattle.pfl_timeline.specs.Timelines.{IsBranch}
 use Rattle.std.proofs.lemmas.Result.{err_from_is_err_and}
-use Rattle.pfl_timeline.specs.Replies.{Shown, Refused as Refusing}
+use Rattle.pfl_timeline.specs.Replies.{Replied, Shown, Refused as Refusing}
 use Rattle.pfl_timeline.specs.Rooted.{Rooted}
-use Rattle.pfl_timeline.proofs.Asked.{past-asks, told-past, told-no_past, if_ok, if_err, not_ok, not_err}
+use Rattle.pfl_timeline.proofs.Asked.{past-asks, told-past, told-no_past, if_ok, if_err, not_ok, not_err, ok_anyway, no_ok}
 use Rattle.pfl_timeline.proofs.Places.{kept-at, told-none, told-still, same_there, accepted-at}
 use Rattle.pfl_timeline.proofs.Wants.{past-still, past_accepts}
 use Rattle.pfl_timeline.proofs.timeline.Timeline.past.Goals as goal
@@ -66,6 +66,20 @@ returns-clause-seen g c =
             s.1.sees_it,
           )
       | in-None w ↦ not_ok _ _ _ w.result-is
+    ]
+
+pub returns-clause-accepted : goal.returns-clause-accepted
+returns-clause-accepted g c =
+    let old = c.in-Some.branch.now in
+    elim c.match-branch-2.branch [
+      | in-Some-2 w ↦
+          let s = subst (λ o. SeesAt (g.L.Look.sees c.args.look.now) old.branch.name old.opening old.branch.events c.args.place c.args.writer.now c.look_at-seen.new.writer o) w.in-Some-2.is c.in_ok-seen.ensures.seen in
+          ok_anyway _
+          (subst (λ (done : Replied). IsAccepted done)
+          (sym
+          (past-asks _ _ _
+          ∙ told-still c.args.name.now _ _ _ c.self.view_is c.self.invariant c.in-Some.ensures.value (λ t b. past_reply t c.args.place b) _ (told-past old c.args.place s.1.world s.0 s.1.run_to))) refl)
+      | in-None w ↦ no_ok _ _ _ w.result-is
     ]
 
 pub returns-clause-refused : goal.returns-clause-refused

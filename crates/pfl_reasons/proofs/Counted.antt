@@ -1,0 +1,175 @@
+-- Each record counts as its fate says.
+use Rattle.std.specs.Prelude.{◌≡◌, ◌+◌, ℕ, Bool, true, false, not, ◌&&◌, ◌||◌, List, [], ◌∷◌, Option, Some, None, is_some, nat_le, refl}
+use Rattle.std.specs.List.{fold}
+use Rattle.std.specs.Option.{option_map, option_map_or, option_or}
+use Rattle.std.proofs.Common.{cond, ◌∙◌, ap, arith}
+use Rattle.pfl_base.specs.declared.state_name.StateName.{StateName}
+use Rattle.pfl_base.specs.Names.{is_name}
+use Rattle.pfl_base.specs.Packets.{is_tcp}
+use Rattle.pfl_edits.specs.Maps as maps
+use Rattle.pfl_track.specs.declared.state.State.{State}
+use Rattle.pfl_wire.specs.declared.message.StateRecord.{StateRecord}
+use Rattle.pfl_wire.specs.declared.message.UpdateRecord.{UpdateRecord}
+use Rattle.pfl_wire.specs.declared.message.Message.TheVariants as message
+use Rattle.pfl_merge.specs.declared.merged.Merged.{Merged}
+use Rattle.pfl_merge.specs.declared.received.Received.{Received}
+use Rattle.pfl_merge.specs.Merging.{merged}
+use Rattle.pfl_queue.specs.Queues.{kind_of}
+use Rattle.pfl_world.specs.bulk.Bulk.{no_name}
+use Rattle.pfl_world.specs.desk.Changes.{ask, changed, count_bad, count_freed, count_lost, count_stale, forgotten, freed, is_held, is_untold, lost, not_waiting, push_if, put_state, released, without_held}
+use Rattle.pfl_world.specs.desk.declared.counters.Counters.{Counters}
+use Rattle.pfl_world.specs.desk.Nodes.{Node, timeout_at}
+use Rattle.pfl_world.specs.receive.Receiving.{ack_taken, bulk_taken, cleared_names, delete_taken, has_states, imported, insert_taken, is_delete, is_known, is_not_given, is_partly_told, merge_taken, merged_into, of_state, of_update, request_taken, state_answered, taken}
+use Rattle.pfl_world.specs.table.Tables.{by_stack, by_wire}
+use Rattle.pfl_reasons.specs.Laws.{RecordsAreCountedSo}
+use Rattle.pfl_reasons.specs.Records.{CountedSo, ack_fate, answer_fate, delete_fate, import_fate, merge_fate, record_fate, request_fate, short_fate, update_fate}
+use Rattle.pfl_reasons.specs.declared.record_fate.BadRecord.TheVariants as bad
+use Rattle.pfl_reasons.specs.declared.record_fate.RecordFate.TheVariants as fate
+use Rattle.pfl_reasons.specs.declared.record_fate.RecordFate.TheVariants.{Bad, Imported, Acknowledged, Nothing}
+
+-- as many records are counted as bad, and as many as stale
+abbrev Still : Node → Node → Type 0
+Still n after = (after.counters.bad ≡ n.counters.bad) × (after.counters.stale ≡ n.counters.stale)
+
+either : (n : Node) (b : Bool) (x y : Node) → Still n x → Still n y → Still n (cond b x y)
+either n true x y k l = k
+either n false x y k l = l
+
+further : (n m k : Node) → Still n m → Still m k → Still n k
+further n m k f g = (g.0 ∙ f.0, g.1 ∙ f.1)
+
+-- ---- small changes
+
+lost-still : (n : Node) (name : StateName) → Still n (lost n name)
+lost-still n name = either n (is_held n name) (count_lost (without_held n name)) n (refl, refl) (refl, refl)
+
+forgotten-still : (n : Node) (name : StateName) → Still n (forgotten n name)
+unfolding forgotten
+forgotten-still n name = lost-still n name
+
+all-still : (names : List StateName) (n m : Node) → Still n m → Still n (fold forgotten m names)
+all-still [] n m k = k
+all-still (name ∷ names) n m k = all-still names n (forgotten m name) (further n m (forgotten m name) k (forgotten-still m name))
+
+freed-still : (n : Node) (name : StateName) → Still n (freed n name)
+freed-still n name = either n (is_held n name) (count_freed (without_held n name)) n (refl, refl) (refl, refl)
+
+not_waiting-still : (n : Node) (name : StateName) → Still n (not_waiting n name)
+not_waiting-still n name = by (maps.get n.states name)
+  where
+    by : (o : Option State) → Still n (option_map_or (λ (s : State). put_state n (record s { ack_wanted = false })) o n)
+    by None = (refl, refl)
+    by (Some s) = (refl, refl)
+
+released-still : (n : Node) (name : StateName) → Still n (released n name)
+released-still n name = further n (freed n name) (released n name) (freed-still n name) (not_waiting-still (freed n name) name)
+
+-- one of two nodes that have counted the same
+one_of : (b : Bool) (x y : Node) (k : Counters) → x.counters ≡ k → y.counters ≡ k → (cond b x y).counters ≡ k
+one_of true x y k e f = e
+one_of false x y k e f = f
+
+changed-counts : (n : Node) (s : State) → (changed n s).counters ≡ n.counters
+unfolding changed
+changed-counts n s =
+    one_of s.no_sync _ _ n.counters refl
+    (one_of (is_untold (kind_of n.queue s.name)) _ _ n.counters refl (one_of (is_tcp s.wire.proto) _ _ n.counters refl refl))
+
+-- ---- by the kind of the record
+
+module _ (n : Node) (last : ℕ) (after : Node) (still : Still n after) where
+  -- a state that may not be taken over is counted as bad
+  by_faults : (known not_given deleting full : Bool) (on_wire on_stack : Option State)
+      → CountedSo n (cond (not (not (known || not_given || deleting || (is_some on_wire || is_some on_stack) || full))) (count_bad n) after)
+      (option_map_or Bad
+      (cond known (Some bad.Known) (cond not_given (Some bad.NotGiven) (cond deleting (Some bad.Deleting)
+      (option_or (option_map (λ (s : State). bad.WireInUse s.name) on_wire)
+      (option_or (option_map (λ (s : State). bad.StackInUse s.name) on_stack) (cond full (Some bad.Full) None))))))
+      (Imported last))
+  by_faults true not_given deleting full on_wire on_stack = refl
+  by_faults false true deleting full on_wire on_stack = refl
+  by_faults false false true full on_wire on_stack = refl
+  by_faults false false false full (Some s) on_stack = refl
+  by_faults false false false full None (Some s) = refl
+  by_faults false false false true None None = refl
+  by_faults false false false false None None = still
+
+insert-counted : (n : Node) (b : Bool) (r : StateRecord) (ack : Bool) → CountedSo n (insert_taken n b r ack) (import_fate n b r)
+insert-counted n b r ack =
+    by_faults n (imported n b r).last _ (either n ack _ _ (refl, refl) (refl, refl))
+    (is_known n r.name) (is_not_given n r.name) (is_delete (kind_of n.queue r.name)) (nat_le n.limits.states (maps.len n.states)) (by_wire n.states r.keys.wire) (by_stack n.states r.keys.stack)
+
+-- what a merge makes of a node that has counted as many
+into-counted : (n m : Node) (x : Merged) → Still n m → CountedSo n (merged_into m x) (fate.Merged x.stale_src x.stale_dst x.state.last)
+into-counted n m x still = by (x.stale_src || x.stale_dst)
+  where
+    told_of : State
+    told_of = record x.state { ack_wanted = false }
+
+    by : (b : Bool) → ((cond b (push_if true (changed (count_stale m) told_of)) (put_state m told_of)).counters.bad ≡ n.counters.bad)
+        × ((cond b (push_if true (changed (count_stale m) told_of)) (put_state m told_of)).counters.stale ≡ n.counters.stale + cond b 1 0)
+    by true =
+        let same = changed-counts (count_stale m) told_of in
+        (ap (λ (c : Counters). c.bad) same ∙ still.0, ap (λ (c : Counters). c.stale) same ∙ ap (λ (k : ℕ). k + 1) still.1)
+    by false = let stale = still.1 in (still.0, omega arith)
+
+merge-counted : (n : Node) (s : State) (r : Received) → CountedSo n (merge_taken n s r) (merge_fate n s r)
+merge-counted n s r = into-counted n (lost n s.name) (merged s r (timeout_at n s.rule r.class) n.clock) (lost-still n s.name)
+
+update-counted : (n : Node) (b : Bool) (r : StateRecord) → CountedSo n (option_map_or (λ (s : State). merge_taken n s (of_state r)) (maps.get n.states r.name) (insert_taken n b r false)) (update_fate n b r)
+update-counted n b r = by (maps.get n.states r.name)
+  where
+    by : (o : Option State) → CountedSo n (option_map_or (λ (s : State). merge_taken n s (of_state r)) o (insert_taken n b r false)) (option_map_or (λ (s : State). merge_fate n s (of_state r)) o (import_fate n b r))
+    by None = insert-counted n b r false
+    by (Some s) = merge-counted n s (of_state r)
+
+short-counted : (n : Node) (u : UpdateRecord) → CountedSo n (option_map_or (λ (s : State). merge_taken n s (of_update u)) (maps.get n.states u.name) (ask n u.name)) (short_fate n u)
+short-counted n u = by (maps.get n.states u.name)
+  where
+    by : (o : Option State) → CountedSo n (option_map_or (λ (s : State). merge_taken n s (of_update u)) o (ask n u.name)) (option_map_or (λ (s : State). merge_fate n s (of_update u)) o fate.Asked)
+    by None = (refl, refl)
+    by (Some s) = merge-counted n s (of_update u)
+
+ack-counted : (n : Node) (name : StateName) → CountedSo n (option_map_or (ack_taken n) (maps.get n.states name) n) (ack_fate n name)
+ack-counted n name = by (maps.get n.states name)
+  where
+    waiting : (b : Bool) (m : Node) → Still n m → CountedSo n (cond b m n) (cond b Acknowledged Nothing)
+    waiting true m k = k
+    waiting false m k = (refl, refl)
+
+    by : (o : Option State) → CountedSo n (option_map_or (ack_taken n) o n) (option_map_or (λ (s : State). cond s.ack_wanted Acknowledged Nothing) o Nothing)
+    by None = (refl, refl)
+    by (Some s) = waiting s.ack_wanted (released n s.name) (released-still n s.name)
+
+request-counted : (n : Node) (name : StateName) → CountedSo n (request_taken n name) (request_fate n name)
+request-counted n name = by (is_name no_name name) (maps.get n.states name)
+  where
+    answered : (b : Bool) (m : Node) → Still n m → CountedSo n (cond b m n) (cond b fate.Queued Nothing)
+    answered true m k = k
+    answered false m k = (refl, refl)
+
+    by : (all : Bool) (o : Option State) → CountedSo n (cond all (bulk_taken n) (option_map_or (state_answered n) o (count_bad n))) (cond all (fate.Bulk (has_states n)) (option_map_or (answer_fate n) o (Bad bad.Unknown)))
+    by true o = (refl, refl)
+    by false None = refl
+    by false (Some s) = answered (not s.no_sync && is_partly_told (kind_of n.queue s.name)) _ (refl, refl)
+
+delete-counted : (n : Node) (name : StateName) → CountedSo n (delete_taken n name) (delete_fate n name)
+delete-counted n name = by (is_known n name)
+  where
+    by : (b : Bool) → CountedSo n (cond b (forgotten n name) (count_bad n)) (cond b fate.Deleted (Bad bad.Unknown))
+    by true = forgotten-still n name
+    by false = refl
+
+-- ---- each record
+
+pub counted : RecordsAreCountedSo
+unfolding taken record_fate
+counted n b (message.Clear creator bound) = all-still (cleared_names n creator bound) n n (refl, refl)
+counted n b (message.Insert r) = insert-counted n b r r.ack_wanted
+counted n b (message.InsertAck name) = ack-counted n name
+counted n b (message.Update r) = update-counted n b r
+counted n b (message.UpdateShort u) = short-counted n u
+counted n b (message.UpdateRequest name) = request-counted n name
+counted n b (message.Delete r) = delete-counted n r.name
+counted n b (message.DeleteShort name) = delete-counted n name
+counted n b (message.Bulk creator status) = (refl, refl)

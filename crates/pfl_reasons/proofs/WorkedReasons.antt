@@ -1,0 +1,173 @@
+-- Worked cases of explanations, computed: the rule that decided, the edge that was missed and by how much, when states expire.
+use Rattle.std.specs.Prelude.{◌≡◌, ℕ, true, false, List, [], ◌∷◌, replicate, Some, None, unwrap_or, refl}
+use Rattle.pfl_base.specs.declared.addr.Addr.TheVariants.{V4}
+use Rattle.pfl_base.specs.declared.addr.End.{End}
+use Rattle.pfl_base.specs.declared.class.Class.TheVariants.{UdpFirst}
+use Rattle.pfl_base.specs.declared.direction.Dir.{Dir}
+use Rattle.pfl_base.specs.declared.direction.Dir.TheVariants.{Inbound, Outbound}
+use Rattle.pfl_base.specs.declared.node_id.NodeId.TheVariants.{A}
+use Rattle.pfl_base.specs.declared.packet.Packet.{Packet}
+use Rattle.pfl_base.specs.declared.proto.Proto.TheVariants.{Tcp}
+use Rattle.pfl_language.specs.declared.event.Event.{Event}
+use Rattle.pfl_language.specs.declared.event.Event.TheVariants as event
+use Rattle.pfl_language.specs.declared.limits.Limits.{Limits}
+use Rattle.pfl_language.specs.declared.node_event.NodeEvent.TheVariants as own
+use Rattle.pfl_rules.specs.declared.action.Action.TheVariants.{Block, Pass}
+use Rattle.pfl_rules.specs.declared.rule.Rule.{Rule}
+use Rattle.pfl_rules.specs.declared.rule_dir.RuleDir.TheVariants.{Any, Out}
+use Rattle.pfl_track.specs.Edges.{tested_by}
+use Rattle.pfl_world.proofs.ForCallers.{computing as of_worlds, limits, name, u1, u2, u3}
+use Rattle.pfl_world.specs.Runs.{run}
+use Rattle.pfl_world.specs.Worlds.{World, new_world}
+use Rattle.pfl_reasons.specs.declared.expiry.Expiry.{Expiry}
+use Rattle.pfl_reasons.specs.declared.packet_reason.Judged.{Judged}
+use Rattle.pfl_reasons.specs.declared.packet_reason.Judged.TheVariants.{AtMax, Blocked, Full, Makes, StackInUse, Unmatched, WireInUse}
+use Rattle.pfl_reasons.specs.declared.packet_reason.PacketReason.TheVariants.{ByRules, OfState}
+use Rattle.pfl_reasons.specs.Explaining.{Explained, Expiries, Packet as OfPacket, Plain, explained}
+use Rattle.pfl_reasons.specs.Packets.{judged_reason, packet_reason}
+use Rattle.pfl_reasons.specs.Purges.{expiries}
+
+unfoldable computing : ℕ
+unfolding of_worlds explained expiries judged_reason packet_reason tested_by
+computing = 0
+
+abbrev pass : Rule
+pass = record {
+  action = Pass;
+  direction = Any;
+  quick = false;
+  proto = None;
+  from = None;
+  from_port = None;
+  to = None;
+  to_port = None;
+  any_flags = false;
+  no_sync = false;
+  max = None;
+  nat = None;
+  timeouts = replicate 14 None;
+}
+
+abbrev block : Rule
+block = record pass { action = Block }
+
+abbrev pair : Limits → List Rule → World
+pair l rules = new_world l (record { list = rules; print = replicate 16 7 }) (record { list = rules; print = replicate 16 7 })
+
+abbrev after : World → List Event → World
+after w events = unwrap_or (run w events) w
+
+abbrev packet : Dir → Packet → Event
+packet dir p = event.At A (own.Packet dir p)
+
+abbrev by_rules : Judged → Explained
+by_rules made = OfPacket (ByRules None made)
+
+-- ---- rules, of which the first is 0
+
+last_match_blocks : explained (pair limits (block ∷ pass ∷ block ∷ [])) (packet Outbound u1) ≡ by_rules (Blocked 2)
+unfolding computing
+last_match_blocks = refl
+
+quick_match_blocks : explained (pair limits (pass ∷ record block { quick = true } ∷ pass ∷ [])) (packet Outbound u1) ≡ by_rules (Blocked 1)
+unfolding computing
+quick_match_blocks = refl
+
+nothing_matches : explained (pair limits []) (packet Outbound u1) ≡ by_rules Unmatched
+unfolding computing
+nothing_matches = refl
+
+last_match_passes : explained (pair limits (block ∷ pass ∷ [])) (packet Outbound u1) ≡ by_rules (Makes 1 (name 1 1))
+unfolding computing
+last_match_passes = refl
+
+at_its_most : explained (after (pair limits (record pass { max = Some 1 } ∷ [])) (packet Outbound u1 ∷ [])) (packet Outbound u2) ≡ by_rules (AtMax 0 1 1)
+unfolding computing
+at_its_most = refl
+
+node_full : explained (after (pair (record limits { states = 2 }) (pass ∷ [])) (packet Outbound u1 ∷ packet Outbound u2 ∷ [])) (packet Outbound u3) ≡ by_rules (Full 0 2 2)
+unfolding computing
+node_full = refl
+
+-- what goes out takes this end
+abbrev translated : Rule
+translated = record pass { direction = Out; nat = Some (record { addr = V4 0xcb007101; port = 5000 }) }
+
+-- two flows to one end
+same_on_the_wire : explained (after (pair limits (translated ∷ [])) (packet Outbound u1 ∷ [])) (packet Outbound u2) ≡ by_rules (WireInUse 0 (name 1 1))
+unfolding computing
+same_on_the_wire = refl
+
+-- what comes in for the end that was translated
+abbrev back : Packet
+back = record u1 { src = u1.dst; dst = u1.src }
+
+same_before_translation : explained (after (pair limits (pass ∷ translated ∷ [])) (packet Outbound u1 ∷ [])) (packet Inbound back) ≡ by_rules (StackInUse 0 (name 1 1))
+unfolding computing
+same_before_translation = refl
+
+-- ---- a connection
+
+abbrev client : End
+client = u1.src
+
+abbrev server : End
+server = record { addr = V4 0xc0000209; port = 80 }
+
+abbrev tcp : End → End → ℕ → ℕ → ℕ → ℕ → ℕ → Packet
+tcp src dst flags seq ack window len = record { proto = Tcp; src = src; dst = dst; flags = flags; seq = seq; ack = ack; window = window; len = len; scale = None }
+
+abbrev out : ℕ → ℕ → ℕ → ℕ → ℕ → Event
+out flags seq ack window len = packet Outbound (tcp client server flags seq ack window len)
+
+abbrev into : ℕ → ℕ → ℕ → ℕ → ℕ → Event
+into flags seq ack window len = packet Inbound (tcp server client flags seq ack window len)
+
+abbrev opened : World
+opened = after (pair limits (pass ∷ [])) (out 2 100 0 1000 0 ∷ into 18 500 101 2000 0 ∷ out 16 101 501 1000 0 ∷ [])
+
+-- the server allows as far as 2101
+misses_by_one : explained opened (out 16 101 501 1000 2001) ≡ OfPacket (OfState (name 1 1) (Some (record {
+  right = record { number = 2102; bound = 2101; missed = Some 1 };
+  left = record { number = 101; bound = 4294965397; missed = None };
+  ack = Some (record { number = 501; least = 4294900762; most = 67536; missed = None });
+})))
+unfolding computing
+misses_by_one = refl
+
+misses_nothing : explained opened (out 16 101 501 1000 2000) ≡ OfPacket (OfState (name 1 1) (Some (record {
+  right = record { number = 2101; bound = 2101; missed = None };
+  left = record { number = 101; bound = 4294965397; missed = None };
+  ack = Some (record { number = 501; least = 4294900762; most = 67536; missed = None });
+})))
+unfolding computing
+misses_nothing = refl
+
+-- a new connection over the closed one
+begins_anew : explained (after opened (out 17 101 501 1000 0 ∷ into 17 501 102 2000 0 ∷ out 16 102 502 1000 0 ∷ [])) (out 2 9000 0 1000 0) ≡ OfPacket (ByRules (Some (name 1 1)) (Makes 0 (name 1 2)))
+unfolding computing
+begins_anew = refl
+
+-- another protocol has no window
+without_window : explained (after (pair limits (pass ∷ [])) (packet Outbound u1 ∷ [])) (packet Outbound u1) ≡ OfPacket (OfState (name 1 1) None)
+unfolding computing
+without_window = refl
+
+-- ---- a purge
+
+-- of two states between one and four, two thirds of the timeout are left: one is due, and one was used later
+abbrev two_states : World
+two_states = after (pair (record limits { astart = Some 1; aend = Some 4 }) (pass ∷ [])) (packet Outbound u1 ∷ event.At A (own.Tick 1) ∷ packet Outbound u2 ∷ event.At A (own.Tick 39999) ∷ [])
+
+abbrev first_of_udp : ℕ → ℕ → Expiry
+first_of_udp id expires = record { name = name 1 id; class = UdpFirst; timeout = 60; scaled = 40; expires = expires }
+
+one_is_due : explained two_states (event.At A own.Purge) ≡ Expiries 40000 2 (record { start = 1; end = 4 }) (first_of_udp 1 40000 ∷ first_of_udp 2 40001 ∷ [])
+unfolding computing
+one_is_due = refl
+
+-- ---- what needs no reason
+
+outcome_says_all : explained two_states (event.At A own.Clear) ≡ Plain
+unfolding computing
+outcome_says_all = refl

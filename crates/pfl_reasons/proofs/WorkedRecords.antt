@@ -1,0 +1,89 @@
+-- Worked cases of records, computed: what becomes of each at a new node.
+use Rattle.std.specs.Prelude.{◌≡◌, ℕ, true, false, List, [], ◌∷◌, map, None, replicate, refl}
+use Rattle.pfl_base.specs.declared.addr.Addr.TheVariants.{V4}
+use Rattle.pfl_base.specs.declared.proto.Proto.TheVariants.{Udp}
+use Rattle.pfl_base.specs.declared.direction.Dir.TheVariants.{Outbound}
+use Rattle.pfl_base.specs.declared.class.Class.TheVariants.{UdpFirst}
+use Rattle.pfl_base.specs.declared.flow.Key.{Key}
+use Rattle.pfl_base.specs.declared.state_name.StateName.{StateName}
+use Rattle.pfl_edits.proofs.ForCallers as map_lemmas
+use Rattle.pfl_language.specs.Limits.{default_limits}
+use Rattle.pfl_track.specs.declared.peer.Peer.{Peer}
+use Rattle.pfl_track.specs.Tracking.{silent}
+use Rattle.pfl_wire.specs.declared.message.Message.{Message}
+use Rattle.pfl_wire.specs.declared.message.Message.TheVariants.{Insert, InsertAck, UpdateShort, UpdateRequest, DeleteShort, Clear}
+use Rattle.pfl_world.specs.desk.Changes as changes
+use Rattle.pfl_world.specs.desk.Nodes.{Node, new_node}
+use Rattle.pfl_world.specs.receive.Receiving as receiving
+use Rattle.pfl_reasons.specs.Records as records
+use Rattle.pfl_reasons.specs.Records.{fates}
+use Rattle.pfl_reasons.specs.declared.record_fate.BadRecord.TheVariants as bad
+use Rattle.pfl_reasons.specs.declared.record_fate.RecordFate.{RecordFate}
+use Rattle.pfl_reasons.specs.declared.record_fate.RecordFate.TheVariants as fate
+
+abbrev name : ℕ → ℕ → StateName
+name creator id = record { creator = creator; id = id }
+
+-- a new node of creator 1 without rules, a minute after it began; 16 equal bytes stand for the checksum
+abbrev fresh : Node
+fresh = new_node default_limits (record { list = []; print = replicate 16 7 }) 1 1 60000
+
+-- a query of 10.0.0.1:1000 to 192.0.2.9:53
+abbrev flow : Key
+flow = record { proto = Udp; far = record { addr = V4 0xc0000209; port = 53 }; near = record { addr = V4 0x0a000001; port = 1000 } }
+
+-- the whole state of the query under a name, with half of its minute left, which asks for an acknowledgement
+abbrev insertion : StateName → Message
+insertion of = Insert (record { name = of; keys = record { wire = flow; stack = flow }; direction = Outbound; ack_wanted = true; src = silent; dst = silent; class = UdpFirst; remaining = 30; rule = None })
+
+-- a part of the state, of which a third of the minute is left
+abbrev update : StateName → Peer → Message
+update of src = UpdateShort (record { name = of; src = src; dst = silent; class = UdpFirst; remaining = 20 })
+
+-- an end that has been heard
+abbrev heard : Peer
+heard = record { level = 1; scale = None; window = 0; lo = 0; hi = 0 }
+
+-- what becomes of the records of a frame that comes to the new node
+abbrev become : List Message → List RecordFate
+become messages = map (λ t. t.fate) (fates fresh true messages)
+
+unfoldable computing : ℕ
+unfolding map_lemmas.computing receiving.taken changes.changed changes.forgotten records.fates records.record_fate
+computing = 0
+
+-- a state of the peer's is taken over; the same once more is known
+taken_over : become (insertion (name 2 1) ∷ insertion (name 2 1) ∷ []) ≡ fate.Imported 30000 ∷ fate.Bad bad.Known ∷ []
+unfolding computing
+taken_over = refl
+
+-- the same keys under another name are in use
+keys_in_use : become (insertion (name 2 1) ∷ insertion (name 2 2) ∷ []) ≡ fate.Imported 30000 ∷ fate.Bad (bad.WireInUse (name 2 1)) ∷ []
+unfolding computing
+keys_in_use = refl
+
+-- a name that the node itself would give
+own_name : become (insertion (name 1 1) ∷ []) ≡ fate.Bad bad.NotGiven ∷ []
+unfolding computing
+own_name = refl
+
+-- a part of a state that is not known: the whole of it is asked for
+asked_for : become (update (name 2 1) heard ∷ []) ≡ fate.Asked ∷ []
+unfolding computing
+asked_for = refl
+
+-- an end that is further is taken, and then the former one is behind
+merged : become (insertion (name 2 1) ∷ update (name 2 1) heard ∷ update (name 2 1) silent ∷ []) ≡ fate.Imported 30000 ∷ fate.Merged false false 20000 ∷ fate.Merged true false 20000 ∷ []
+unfolding computing
+merged = refl
+
+-- requests for all states, for one and for one that is not there, and deletions
+asked_and_deleted : become (UpdateRequest (name 0 0) ∷ insertion (name 2 1) ∷ UpdateRequest (name 2 1) ∷ UpdateRequest (name 2 1) ∷ UpdateRequest (name 2 2) ∷ DeleteShort (name 2 1) ∷ DeleteShort (name 2 1) ∷ [])
+    ≡ fate.Bulk false ∷ fate.Imported 30000 ∷ fate.Queued ∷ fate.Nothing ∷ fate.Bad bad.Unknown ∷ fate.Deleted ∷ fate.Bad bad.Unknown ∷ []
+unfolding computing
+asked_and_deleted = refl
+
+-- a clear of a creator's states up to a bound
+cleared : become (insertion (name 2 5) ∷ Clear 2 4 ∷ Clear 2 5 ∷ InsertAck (name 2 5) ∷ []) ≡ fate.Imported 30000 ∷ fate.Cleared 0 ∷ fate.Cleared 1 ∷ fate.Nothing ∷ []
+unfolding computing
+cleared = refl

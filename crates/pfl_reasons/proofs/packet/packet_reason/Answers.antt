@@ -1,0 +1,61 @@
+use Rattle.std.proofs.Common.{◌≡◌, None, Some, ◌∙◌, ap, refl, subst, sym}
+use Rattle.std.specs.Result.{IfOk}
+use Rattle.pfl_base.specs.Keys.{key}
+use Rattle.pfl_track.specs.Tracking.{tracked}
+use Rattle.pfl_table.specs.Tables.{found, states_of}
+use Rattle.pfl_world.proofs.ForCallers.table.{found-stands}
+use Rattle.pfl_world.specs.desk.Nodes.{IsNode, Node}
+use Rattle.pfl_world.specs.Worlds.{node_at}
+use Rattle.pfl_reasons.specs.declared.packet_reason.PacketReason.{PacketReason}
+use Rattle.pfl_reasons.specs.declared.packet_reason.PacketReason.TheVariants.{ByRules, OfState}
+use Rattle.pfl_reasons.specs.Packets.{judged_reason}
+use Rattle.pfl_reasons.proofs.Finding.{found-is, of_closed, of_no_state, of_state}
+use Rattle.pfl_reasons.proofs.packet.packet_reason.Goals as goal
+
+pub judged-judged-requires : goal.judged-judged-requires
+judged-judged-requires g c = record { packet = c.key.ensures.packet }
+
+pub reuse_reason-requires : goal.reuse_reason-requires
+reuse_reason-requires g c =
+    let n = node_at c.args.world.now c.args.id in
+    let p = c.args.packet.now in
+    let given = c.copied.ensures ∙ c.found.ensures.state in
+    let at : found n.states (key p c.args.dir) c.args.dir ≡ Some c.in-Some.state = sym (found-is n c.node-node.result.now (states_of c.states.result.now) c.key.result c.args.dir p c.copied.result given c.states.ensures.states c.node-node.ensures.node c.key.ensures.key) ∙ c.in-Some.is in
+    let known : IsNode n = subst IsNode c.node-node.ensures.node c.known.ensures.node in
+    record {
+      packet = c.key.ensures.packet;
+      stands = found-stands n.states (key p c.args.dir) c.args.dir c.in-Some.state known.parts.states at;
+    }
+
+pub returns-in_default : goal.returns-in_default
+returns-in_default g c =
+    let n = node_at c.args.world.now c.args.id in
+    let p = c.args.packet.now in
+    let given = c.copied.ensures ∙ c.found.ensures.state in
+    let none : found n.states (key p c.args.dir) c.args.dir ≡ None = sym (found-is n c.node-node.result.now (states_of c.states.result.now) c.key.result c.args.dir p c.copied.result given c.states.ensures.states c.node-node.ensures.node c.key.ensures.key) ∙ c.in_default.is in
+    let made = c.judged-judged.ensures ∙ ap (λ (m : Node). judged_reason m c.args.dir p) c.node-node.ensures.node in
+    record { reason = ap (ByRules None) made ∙ sym (of_no_state n c.args.dir p none); still = refl }
+
+pub returns-in-Reused : goal.returns-in-Reused
+returns-in-Reused g c =
+    let n = node_at c.args.world.now c.args.id in
+    let p = c.args.packet.now in
+    let given = c.copied.ensures ∙ c.found.ensures.state in
+    let at : found n.states (key p c.args.dir) c.args.dir ≡ Some c.in-Some.state = sym (found-is n c.node-node.result.now (states_of c.states.result.now) c.key.result c.args.dir p c.copied.result given c.states.ensures.states c.node-node.ensures.node c.key.ensures.key) ∙ c.in-Some.is in
+    let moved : tracked c.in-Some.state p c.args.dir n.clock ≡ c.track.result = ap (tracked c.in-Some.state p c.args.dir) (sym (c.clock.ensures.clock ∙ ap (λ (m : Node). m.clock) c.node-node.ensures.node)) ∙ sym c.track.ensures in
+    record {
+      reason = subst (λ (why : PacketReason). IfOk c.reuse_reason.result (λ r. r ≡ why)) (sym (of_closed n c.args.dir p c.in-Some.state at c.track.result moved c.in-Reused.is)) c.reuse_reason.ensures.reason;
+      still = c.reuse_reason.ensures.still;
+    }
+
+pub returns-in_default-track : goal.returns-in_default-track
+returns-in_default-track g c =
+    let n = node_at c.args.world.now c.args.id in
+    let p = c.args.packet.now in
+    let given = c.copied.ensures ∙ c.found.ensures.state in
+    let at : found n.states (key p c.args.dir) c.args.dir ≡ Some c.in-Some.state = sym (found-is n c.node-node.result.now (states_of c.states.result.now) c.key.result c.args.dir p c.copied.result given c.states.ensures.states c.node-node.ensures.node c.key.ensures.key) ∙ c.in-Some.is in
+    let moved : tracked c.in-Some.state p c.args.dir n.clock ≡ c.track.result = ap (tracked c.in-Some.state p c.args.dir) (sym (c.clock.ensures.clock ∙ ap (λ (m : Node). m.clock) c.node-node.ensures.node)) ∙ sym c.track.ensures in
+    record {
+      reason = (λ i. OfState (c.name.ensures i) (c.tested.ensures i)) ∙ sym (of_state n c.args.dir p c.in-Some.state at c.track.result moved c.in_default-track.not-Reused);
+      still = refl;
+    }

@@ -1,0 +1,82 @@
+-- Why an event has its outcome: what it is about, read off the pair before it (this project's profile).
+use Rattle.std.specs.Prelude.{◌≡◌, ℕ, List, length, filter, Result, Ok, Err}
+use Rattle.std.specs.Option.{option_map_or}
+use Rattle.pfl_edits.specs.Maps as maps
+use Rattle.pfl_rules.specs.declared.adaptive.Adaptive.{Adaptive}
+use Rattle.pfl_language.specs.declared.event.Event.{Event}
+use Rattle.pfl_language.specs.declared.event.Event.TheVariants as event
+use Rattle.pfl_language.specs.declared.event.FrameEvent.{FrameEvent}
+use Rattle.pfl_language.specs.declared.event.FrameEvent.TheVariants as frame
+use Rattle.pfl_language.specs.declared.node_event.NodeEvent.{NodeEvent}
+use Rattle.pfl_language.specs.declared.node_event.NodeEvent.TheVariants as at_node
+use Rattle.pfl_language.specs.declared.node_event.NodeOutcome.TheVariants.{Handled, Purged}
+use Rattle.pfl_language.specs.declared.outcome.Outcome.{Outcome}
+use Rattle.pfl_language.specs.declared.outcome.Outcome.TheVariants.{At, Taken}
+use Rattle.pfl_language.specs.Limits.{adaptive}
+use Rattle.pfl_wire.specs.declared.fault.BadFrame.{BadFrame}
+use Rattle.pfl_wire.specs.Frames.{Frame, records_of}
+use Rattle.pfl_wire.specs.Reading.{reading}
+use Rattle.pfl_link.specs.Links.{InFlight}
+use Rattle.pfl_world.specs.desk.Nodes.{Node}
+use Rattle.pfl_world.specs.receive.Delivering.{same_rules}
+use Rattle.pfl_world.specs.Events.{step}
+use Rattle.pfl_world.specs.Meanings.{Stepped}
+use Rattle.pfl_world.specs.Worlds.{World, node_at}
+use Rattle.pfl_reasons.specs.declared.expiry.Expiry.{Expiry}
+use Rattle.pfl_reasons.specs.declared.explained.Explained.{Explained as GivenExplained}
+use Rattle.pfl_reasons.specs.declared.explained.Explained.TheVariants as given
+use Rattle.pfl_reasons.specs.declared.packet_reason.PacketReason.{PacketReason}
+use Rattle.pfl_reasons.specs.declared.record_fate.TakenRecord.{TakenRecord}
+use Rattle.pfl_reasons.specs.Packets.{HandledSo, packet_reason}
+use Rattle.pfl_reasons.specs.Purges.{expiries, is_due}
+use Rattle.pfl_reasons.specs.Records.{fates}
+
+-- an explanation
+pub data Explained : Type 0 where
+  Packet : PacketReason → Explained
+  Records : List TakenRecord → Explained
+  Expiries : ℕ → ℕ → Adaptive → List Expiry → Explained
+  Plain : Explained
+
+-- what an explanation of the code shows
+abbrev pub explained_of : {M : Type 0} → GivenExplained M → Explained
+explained_of (given.Packet why) = Packet why
+explained_of (given.Records list) = Records list.items
+explained_of (given.Expiries clock states between list) = Expiries clock states between list.items
+explained_of given.Plain = Plain
+
+-- of an event at a node by itself
+abbrev pub explained_at : Node → NodeEvent → Explained
+explained_at n (at_node.Packet dir p) = Packet (packet_reason n dir p)
+explained_at n at_node.Purge = Expiries n.clock (maps.len n.states) (adaptive n.limits) (expiries n)
+explained_at n other = Plain
+
+-- of a frame that comes to the node: its records, where it can be read
+abbrev pub explained_frame : Node → Result Frame BadFrame → Explained
+explained_frame n (Ok f) = Records (fates n (same_rules n f) (records_of f))
+explained_frame n (Err why) = Plain
+
+-- of a frame in flight
+abbrev pub explained_of_frame : World → ℕ → FrameEvent → Explained
+explained_of_frame w ticket frame.Deliver = option_map_or (λ (f : InFlight). explained_frame (node_at w f.to) (reading f.bytes)) (maps.get w.link.frames ticket) Plain
+explained_of_frame w ticket other = Plain
+
+-- why the event has its outcome
+unfoldable pub explained : World → Event → Explained
+explained w (event.At node e) = explained_at (node_at w node) e
+explained w (event.Of ticket e) = explained_of_frame w ticket e
+explained w other = Plain
+
+-- ---- the outcome that follows
+
+-- of an explanation: the packet's fate, the number of records, the number of states that are due
+abbrev pub FollowsFrom : Explained → Outcome → Type 0
+FollowsFrom (Packet why) (At (Handled f)) = HandledSo why f
+FollowsFrom (Records list) (Taken n) = n ≡ length list
+FollowsFrom (Expiries clock states between list) (At (Purged n)) = n ≡ length (filter (is_due clock) list)
+FollowsFrom Plain outcome = Unit {0}
+FollowsFrom _ _ = ⊥
+
+-- an event that is accepted has the outcome that follows from its explanation
+abbrev pub ReasonsAgree : Type 0
+ReasonsAgree = (w : World) (e : Event) (s : Stepped) → step w e ≡ Ok s → FollowsFrom (explained w e) s.outcome

@@ -1,0 +1,262 @@
+//! What becomes of one record, read off the node that it comes to (if_pfsync.c).
+
+ghost use Rattle.std.specs.Prelude.{◌≡◌};
+ghost use Rattle.pfl_world.specs.desk.Nodes.{timeout_at};
+ghost use Rattle.pfl_world.specs.receive.Receiving as receiving;
+ghost use Rattle.pfl_reasons.specs.Records as meant;
+
+use crate::cleared::count_cleared;
+use crate::record_fate::{BadRecord, RecordFate};
+use pfl_base::{Class, Millis, StateName};
+use pfl_merge::{Received, last_use, merge};
+use pfl_queue::Kind;
+use pfl_rules::scaled;
+use pfl_track::State;
+use pfl_wire::{Message, StateRecord, UpdateRecord};
+use pfl_world::Node;
+use std::alloc::Allocator;
+
+/// The name that no state has: a request for it is one for all states.
+const NO_NAME: StateName = StateName { creator: 0, id: 0 };
+
+/// What becomes of a record that comes to the node. `same_rules` says that the peer's rules are the node's own.
+#[tactic(auto, unfolding(crate::specs::Records::record_fate))]
+pub(crate) fn record_fate<A: Allocator>(
+    node: &Node<A>,
+    message: &Message,
+    same_rules: bool,
+) -> RecordFate
+    ensures { result ≡ meant.record_fate node.now same_rules message.now }
+{
+    match message {
+        Message::Clear { creator, bound } => {
+            RecordFate::Cleared(count_cleared(node, *creator, *bound))
+        }
+        Message::Insert(sent) => import_fate(node, sent, same_rules),
+        Message::InsertAck(name) => ack_fate(node, *name),
+        Message::Update(sent) => update_fate(node, sent, same_rules),
+        Message::UpdateShort(sent) => short_fate(node, sent),
+        Message::UpdateRequest(name) => request_fate(node, *name),
+        Message::Delete(sent) => delete_fate(node, sent.name),
+        Message::DeleteShort(name) => delete_fate(node, *name),
+        Message::Bulk { .. } => RecordFate::Heard,
+    }
+}
+
+/// The state of a record is taken over, or the record is bad.
+fn import_fate<A: Allocator>(node: &Node<A>, sent: &StateRecord, same_rules: bool) -> RecordFate
+    ensures { result ≡ meant.import_fate node.now same_rules sent.now }
+{
+    match import_fault(node, sent) {
+        Some(why) => RecordFate::Bad(why),
+        None => RecordFate::Imported {
+            last: imported_last(node, sent, same_rules),
+        },
+    }
+}
+
+/// Why the state may not be taken over, if there is a reason: the first one.
+fn import_fault<A: Allocator>(node: &Node<A>, sent: &StateRecord) -> Option<BadRecord>
+    ensures { result ≡ meant.import_fault node.now sent.now }
+{
+    if is_known(node, sent.name) {
+        return Some(BadRecord::Known);
+    }
+    if is_not_given(node, sent.name) {
+        return Some(BadRecord::NotGiven);
+    }
+    if is_deletion(node.queue().kind_of(sent.name)) {
+        return Some(BadRecord::Deleting);
+    }
+    key_fault(node, sent)
+}
+
+/// The node has a state of the name.
+fn is_known<A: Allocator>(node: &Node<A>, name: StateName) -> bool
+    ensures { result ≡ receiving.is_known node.now name }
+{
+    node.states().by_name(name).is_some()
+}
+
+/// The node itself would have given the name, and did not.
+fn is_not_given<A: Allocator>(node: &Node<A>, name: StateName) -> bool
+    ensures { result ≡ receiving.is_not_given node.now name }
+{
+    name.creator == node.creator() && node.next_id() <= name.id
+}
+
+/// A deletion is still to be told.
+fn is_deletion(kind: Option<Kind>) -> bool
+    ensures { result ≡ receiving.is_delete kind }
+{
+    match kind {
+        Some(Kind::Delete) => true,
+        _ => false,
+    }
+}
+
+/// The state that has a key of the record's, the wire key first, or else the limit.
+fn key_fault<A: Allocator>(node: &Node<A>, sent: &StateRecord) -> Option<BadRecord>
+    ensures { result ≡ meant.key_fault node.now sent.now }
+{
+    let states = node.states();
+    if let Some(state) = states.by_wire(&sent.keys.wire()) {
+        return Some(BadRecord::WireInUse(state.name()));
+    }
+    if let Some(state) = states.by_stack(&sent.keys.stack()) {
+        return Some(BadRecord::StackInUse(state.name()));
+    }
+    if states.is_full() {
+        Some(BadRecord::Full)
+    } else {
+        None
+    }
+}
+
+/// When the state of a record counts as last used, as the node keeps it.
+fn imported_last<A: Allocator>(node: &Node<A>, sent: &StateRecord, same_rules: bool) -> Millis
+    ensures { result ≡ (receiving.imported node.now same_rules sent.now).last }
+{
+    let rule = kept_rule(node, same_rules, sent.rule);
+    let seconds = timeout(node, rule, sent.class);
+    last_use(sent.remaining, seconds, node.clock())
+}
+
+/// The number of a rule, which means one only under the same rules.
+fn kept_rule<A: Allocator>(node: &Node<A>, same_rules: bool, rule: Option<u32>) -> Option<u16>
+    ensures { result ≡ receiving.kept_rule node.now same_rules rule }
+{
+    node.known();
+    let number = rule?;
+    let known = same_rules && (number as usize) < node.rules().rules().len();
+    if known { Some(number as u16) } else { None }
+}
+
+/// The timeout that the node gives the states of a rule and a class as it stands, in seconds (pf.conf(5), `adaptive.start`).
+fn timeout<A: Allocator>(node: &Node<A>, rule: Option<u16>, class: Class) -> u32
+    ensures { result ≡ timeout_at node.now rule class }
+{
+    node.known();
+    let seconds = node.rules().timeout(rule, class);
+    scaled(seconds, node.limits().adaptive(), node.states().len())
+}
+
+/// The state of the name waits no longer, if it does wait.
+fn ack_fate<A: Allocator>(node: &Node<A>, name: StateName) -> RecordFate
+    ensures { result ≡ meant.ack_fate node.now name }
+{
+    match node.states().by_name(name) {
+        Some(state) => {
+            if state.ack_wanted() {
+                RecordFate::Acknowledged
+            } else {
+                RecordFate::Nothing
+            }
+        }
+        None => RecordFate::Nothing,
+    }
+}
+
+/// A whole state: it is merged, or taken over.
+fn update_fate<A: Allocator>(node: &Node<A>, sent: &StateRecord, same_rules: bool) -> RecordFate
+    ensures { result ≡ meant.update_fate node.now same_rules sent.now }
+{
+    match node.states().by_name(sent.name) {
+        Some(state) => merge_fate(node, state, &of_state(sent)),
+        None => import_fate(node, sent, same_rules),
+    }
+}
+
+/// A part of a state: it is merged, or the whole state is asked for.
+fn short_fate<A: Allocator>(node: &Node<A>, sent: &UpdateRecord) -> RecordFate
+    ensures { result ≡ meant.short_fate node.now sent.now }
+{
+    match node.states().by_name(sent.name) {
+        Some(state) => merge_fate(node, state, &of_update(sent)),
+        None => RecordFate::Asked,
+    }
+}
+
+/// What is told of a state of the node is merged.
+fn merge_fate<A: Allocator>(node: &Node<A>, state: &State, received: &Received) -> RecordFate
+    ensures { result ≡ meant.merge_fate node.now state.now received.now }
+{
+    let seconds = timeout(node, state.rule(), received.class);
+    let merged = merge(state, received, seconds, node.clock());
+    RecordFate::Merged {
+        stale_src: merged.stale_src,
+        stale_dst: merged.stale_dst,
+        last: merged.state.last(),
+    }
+}
+
+/// What a whole record tells of a known state.
+fn of_state(sent: &StateRecord) -> Received
+    ensures { result ≡ receiving.of_state sent.now }
+{
+    Received {
+        src: sent.src,
+        dst: sent.dst,
+        class: sent.class,
+        remaining: sent.remaining,
+    }
+}
+
+/// What a short record tells of it.
+fn of_update(sent: &UpdateRecord) -> Received
+    ensures { result ≡ receiving.of_update sent.now }
+{
+    Received {
+        src: sent.src,
+        dst: sent.dst,
+        class: sent.class,
+        remaining: sent.remaining,
+    }
+}
+
+/// All states are asked for, or one, or one that is not there.
+fn request_fate<A: Allocator>(node: &Node<A>, name: StateName) -> RecordFate
+    ensures { result ≡ meant.request_fate node.now name }
+{
+    if name == NO_NAME {
+        return RecordFate::Bulk {
+            begins: node.states().len() > 0,
+        };
+    }
+    match node.states().by_name(name) {
+        Some(state) => answer_fate(node, state),
+        None => RecordFate::Bad(BadRecord::Unknown),
+    }
+}
+
+/// A state that is asked for is queued, unless it may not be told, or is to be told whole already.
+fn answer_fate<A: Allocator>(node: &Node<A>, state: &State) -> RecordFate
+    ensures { result ≡ meant.answer_fate node.now state.now }
+{
+    if !state.no_sync() && is_partly_told(node.queue().kind_of(state.name())) {
+        RecordFate::Queued
+    } else {
+        RecordFate::Nothing
+    }
+}
+
+/// On no queue, or on one that tells less than the whole state.
+fn is_partly_told(kind: Option<Kind>) -> bool
+    ensures { result ≡ receiving.is_partly_told kind }
+{
+    match kind {
+        None | Some(Kind::UpdateShort | Kind::InsertAck) => true,
+        Some(Kind::Insert | Kind::Update | Kind::Delete) => false,
+    }
+}
+
+/// The state of the name is deleted; a name without one is bad.
+fn delete_fate<A: Allocator>(node: &Node<A>, name: StateName) -> RecordFate
+    ensures { result ≡ meant.delete_fate node.now name }
+{
+    if is_known(node, name) {
+        RecordFate::Deleted
+    } else {
+        RecordFate::Bad(BadRecord::Unknown)
+    }
+}

@@ -1,0 +1,65 @@
+//! What becomes of the records of a frame, as plain data.
+
+use pfl_base::{Millis, StateName};
+use pfl_wire::Message;
+
+/// Why a record cannot be used: the first reason in this order.
+#[derive(Clone, Copy, Debug, PartialEq, Eq)]
+pub enum BadRecord {
+    /// The node has no state of the name.
+    Unknown,
+    /// The node has a state of the name.
+    Known,
+    /// The node itself gives the name, and has not yet.
+    NotGiven,
+    /// The node has still to tell the peer that it deleted the state.
+    Deleting,
+    /// This state has its wire key.
+    WireInUse(StateName),
+    /// This state has its stack key.
+    StackInUse(StateName),
+    /// The node has as many states as it may.
+    Full,
+}
+
+/// What becomes of a record at the node that it comes to.
+#[derive(Clone, Copy, Debug, PartialEq, Eq)]
+pub enum RecordFate {
+    /// It cannot be used.
+    Bad(BadRecord),
+    /// The state is taken over, and counts as last used then.
+    Imported {
+        last: Millis,
+    },
+    /// It is merged into the node's state: which ends are behind those of the node, and when the state counts as last used then.
+    Merged {
+        stale_src: bool,
+        stale_dst: bool,
+        last: Millis,
+    },
+    /// The state is not known, and is asked for.
+    Asked,
+    /// The whole state is queued for the peer.
+    Queued,
+    /// The bulk update begins that the peer asked for, or is over at once, since there is no state.
+    Bulk {
+        begins: bool,
+    },
+    /// The state waits no longer for its acknowledgement.
+    Acknowledged,
+    /// The state is deleted.
+    Deleted,
+    /// As many states are deleted.
+    Cleared(usize),
+    /// The client of a bulk update heard of its start or its end.
+    Heard,
+    /// Nothing changes.
+    Nothing,
+}
+
+/// A record, and what became of it.
+#[derive(Clone, Copy, Debug, PartialEq, Eq)]
+pub struct TakenRecord {
+    pub message: Message,
+    pub fate: RecordFate,
+}

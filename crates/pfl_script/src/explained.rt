@@ -1,0 +1,108 @@
+//! An event with its outcome and why it has it, line by line.
+
+ghost use Rattle.std.specs.Prelude.{◌≡◌, ◌++◌, IfOk, OnOk};
+ghost use Rattle.std.specs.List.{flat_map};
+ghost use Rattle.pfl_timeline.specs.reasons.Explaining.{explained_of};
+ghost use Rattle.pfl_timeline.specs.Replies.{explanation_of};
+ghost use Rattle.pfl_script.specs.Reasons.{record_line, expiry_line, reason_lines, why_line, outcome_line};
+ghost use Rattle.pfl_script.specs.Replies.{reply_text};
+
+use crate::expiry_lines::{ExpiryLine, ScalingLines};
+use crate::listed::push_shown;
+use crate::logged::push_event;
+use crate::outcomes::push_outcome;
+use crate::packet_lines::PacketLines;
+use crate::record_lines::RecordLine;
+use crate::short_line::plain_line;
+use pfl_edits::NoMemory;
+use pfl_language::Outcome;
+use pfl_timeline::{Expiry, Explained, Explanation, TakenRecord};
+use std::alloc::Allocator;
+
+/// Puts the lines of records after a text, each with its fate.
+fn push_records<A: Allocator>(
+    text: &mut Vec<u8, A>,
+    records: &[TakenRecord],
+) -> Result<(), NoMemory>
+    ensures { OnOk result (text.new.items ≡ text.old.items ++ flat_map record_line records.now) }
+{
+    for record in records {
+        push_shown(text, RecordLine(record))?;
+    }
+    Ok(())
+}
+
+/// Puts the lines of states after a text, each with when it expires.
+fn push_expiries<A: Allocator>(text: &mut Vec<u8, A>, states: &[Expiry]) -> Result<(), NoMemory>
+    ensures { OnOk result (text.new.items ≡ text.old.items ++ flat_map expiry_line states.now) }
+{
+    for state in states {
+        push_shown(text, ExpiryLine(*state))?;
+    }
+    Ok(())
+}
+
+/// Puts the lines that show why an event has its outcome after a text.
+fn push_reason<A: Allocator, B: Allocator>(
+    text: &mut Vec<u8, A>,
+    why: &Explained<B>,
+) -> Result<(), NoMemory>
+    ensures { OnOk result (text.new.items ≡ text.old.items ++ reason_lines (explained_of why.now)) }
+{
+    match why {
+        Explained::Packet(why) => push_shown(text, PacketLines(*why)),
+        Explained::Records(list) => push_records(text, list.as_slice()),
+        Explained::Expiries {
+            clock,
+            states,
+            adaptive,
+            list,
+        } => {
+            let scaling = ScalingLines {
+                clock: *clock,
+                states: *states,
+                adaptive: *adaptive,
+            };
+            push_shown(text, scaling)?;
+            push_expiries(text, list.as_slice())
+        }
+        Explained::Plain => Ok(()),
+    }
+}
+
+/// Puts the first line after a text.
+fn push_why<A: Allocator>(text: &mut Vec<u8, A>, name: &[u8], place: usize) -> Result<(), NoMemory>
+    ensures { OnOk result (text.new.items ≡ text.old.items ++ why_line name.now place) }
+{
+    text.extend_from_slice(b"why ")?;
+    text.extend_from_slice(name)?;
+    push_shown(text, format_args!(" {place}\n"))
+}
+
+/// Puts the line of what came of an event after a text.
+fn push_came<A: Allocator>(text: &mut Vec<u8, A>, outcome: Outcome) -> Result<(), NoMemory>
+    ensures { OnOk result (text.new.items ≡ text.old.items ++ outcome_line outcome) }
+{
+    let mut line = plain_line("outcome ");
+    push_outcome(&mut line, outcome);
+    line.push_str("\n");
+    Ok(text.extend_from_slice(line.as_str().as_bytes())?)
+}
+
+/// The text that reports what came of an event, and why.
+pub fn explained_text<A: Allocator, B: Allocator>(
+    alloc: A,
+    explanation: &Explanation<B>,
+) -> Result<Vec<u8, A>, NoMemory>
+    ensures { IfOk result (λ text. text.items ≡ reply_text (explanation_of explanation.now)) }
+{
+    let name = explanation.name.bytes();
+    let place = explanation.place;
+    let mut text = Vec::new(alloc);
+    push_why(&mut text, name, place)?;
+    push_event(&mut text, name, place, &explanation.event)?;
+    push_came(&mut text, explanation.outcome)?;
+    push_reason(&mut text, &explanation.why)?;
+    text.extend_from_slice(b"end\n")?;
+    Ok(text)
+}
