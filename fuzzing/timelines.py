@@ -27,7 +27,7 @@ class Timeline:
 
     def __init__(self, lab: Subject, seen: Seen):
         self.lab, self.seen, self.chance = lab, seen, random.Random(0)
-        self.branches: Dict[str, WantedBranch] = {"main": WantedBranch([], [lab.shown("main", 0, 0)], 0)}
+        self.branches: Dict[str, WantedBranch] = {"main": WantedBranch.at_opening(lab)}
 
     def take(self, line: str) -> List[str]:
         """A line that has a word: its reply, which is the one that is wanted."""
@@ -90,6 +90,10 @@ class Timeline:
     def past(self, name: str, at: str) -> List[str]:
         return self.branches[name].seen_at(name, int(at))
 
+    def why(self, name: str, at: str) -> List[str]:
+        # (so it is asked twice)
+        return self.branches[name].why(self.lab, name, int(at))
+
     def log(self, name: str) -> List[str]:
         return self.branches[name].log(name)
 
@@ -117,7 +121,7 @@ class Timeline:
             return [refused("NothingForward")]
         if len(self.branches) == MOST_BRANCHES:
             return [refused("BranchesFull")]
-        self.branches[new] = WantedBranch(origin.events[:place], origin.shown[: place + 1], place)
+        self.branches[new] = origin.fork(place)
         return ["forked"]
 
     def drop(self, name: str) -> List[str]:

@@ -2,12 +2,11 @@
 from __future__ import annotations
 
 import contextlib
-from typing import ContextManager, Iterator, List, Optional, Sequence, Tuple
+from typing import ContextManager, Iterator, List, NamedTuple, Optional, Sequence, Tuple
 
-from shell.pair import Node, read_shown
-from shell.setups import Setup
-from shell.words import expires_at
+from shell.laboratory import outcome_of
 
+from .reasons import compare_reason
 from .subject import Differs, Subject
 
 WITHOUT = "without"
@@ -15,12 +14,27 @@ WITHOUT = "without"
 Room = Tuple[Subject, str]
 
 
-class WantedBranch:
-    """The events of a branch, and what it has to show: one text after each that stands or was undone, the opening's first."""
+class Shown(NamedTuple):
+    """What a branch showed after an event, and the outcome of that event."""
 
-    def __init__(self, events: List[str], shown: List[List[str]], cursor: int):
+    lines: List[str]
+    outcome: str = ""
+
+
+class WantedBranch:
+    """The events of a branch, and what it has to show: after each that stands or was undone, and first of all at the opening."""
+
+    def __init__(self, events: List[str], shown: List[Shown], cursor: int):
         self.events, self.shown, self.cursor = events, shown, cursor
-        self.former: Optional[Tuple[List[str], List[List[str]], int]] = None
+        self.former: Optional[Tuple[List[str], List[Shown], int]] = None
+
+    @classmethod
+    def at_opening(cls, lab: Subject) -> "WantedBranch":
+        return cls([], [Shown(lab.shown("main", 0, 0))], 0)
+
+    def fork(self, place: int) -> "WantedBranch":
+        """A branch of the first events."""
+        return WantedBranch(self.events[:place], self.shown[: place + 1], place)
 
     def take(self, lab: Subject, name: str, event: str, reply: str) -> None:
         """An event was answered so: it stands now, or has changed nothing."""
@@ -32,10 +46,10 @@ class WantedBranch:
             raise Differs(f"{event}: {reply}, and {undone} events were undone")
         self.events[self.cursor :] = [event]
         self.cursor += 1
-        self.shown[self.cursor :] = [lab.shown(name, self.cursor, self.cursor)]
+        why = lab.answer(f"why {name} {self.cursor}")
+        self.shown[self.cursor :] = [Shown(lab.shown(name, self.cursor, self.cursor), outcome_of(reply))]
         self.former = None
-        if event.startswith("purge "):
-            compare_purge(lab.setup, event.split()[1], self.shown[self.cursor - 1], self.now())
+        self.compare_why(lab, name, self.cursor, why)
 
     def go(self, lab: Subject, name: str, n: int) -> None:
         """The cursor moves by `n` events."""
@@ -63,11 +77,12 @@ class WantedBranch:
         events, fallen, standing = self.events, [], min(self.cursor, place - 1)
         self.events, self.shown = events[: place - 1], self.shown[:place]
         for at, line in enumerate(events[place:], place + 1):
-            if not lab.ask(f"step {name} {line}").startswith("step "):
+            reply = lab.ask(f"step {name} {line}")
+            if not reply.startswith("step "):
                 fallen.append(at)
                 continue
             self.events.append(line)
-            self.shown.append(lab.shown(name, len(self.events), len(self.events)))
+            self.shown.append(Shown(lab.shown(name, len(self.events), len(self.events)), outcome_of(reply)))
             standing += at <= self.cursor
         self.cursor = standing
         return fallen
@@ -98,7 +113,7 @@ class WantedBranch:
         """The reply that `past` has to get: what the branch showed when it stood there, or that it has no such place."""
         if place > len(self.events):
             return ["refused 5 NothingForward"]
-        return [f"branch {name} events {len(self.events)} cursor {place}", *self.shown[place]]
+        return [f"branch {name} events {len(self.events)} cursor {place}", *self.shown[place].lines]
 
     def past(self, lab: Subject, name: str, place: int) -> str:
         """The branch is seen at a place, and stays as it is: the first line of the reply."""
@@ -108,8 +123,25 @@ class WantedBranch:
         self.compare_log(lab, name, line)
         return wanted[0]
 
+    def why(self, lab: Subject, name: str, place: int) -> List[str]:
+        """An event is explained, and the branch stays as it is: the reply."""
+        line = f"why {name} {place}"
+        reply = lab.answer(line)
+        if 1 <= place <= len(self.events):
+            self.compare_why(lab, name, place, reply)
+        else:
+            compare(line, ["refused 9 NoEvent"], reply, "came")
+        self.compare(lab, name, line)
+        return reply
+
+    def compare_why(self, lab: Subject, name: str, place: int, reply: List[str]) -> None:
+        """The reply to `why` has to have the event, its outcome, and what can be said without the program of the reason."""
+        head = f"why {name} {place}"
+        compare(head, [head, self.log(name)[place], f"outcome {self.shown[place].outcome}"], reply[:3], "came")
+        compare_reason(lab.setup, reply, self.shown[place - 1].lines, self.shown[place].lines)
+
     def now(self) -> List[str]:
-        return self.shown[self.cursor]
+        return self.shown[self.cursor].lines
 
     def compare(self, lab: Subject, name: str, after: str) -> None:
         compare(f"after {after}", self.now(), lab.shown(name, len(self.events), self.cursor), "shown")
@@ -126,17 +158,3 @@ def fork_for(lab: Subject, name: str, events: int, spare: str = WITHOUT) -> Iter
     lab.need(f"fork {name} {events} {spare}", "forked")
     yield lab, spare
     lab.need(f"drop {spare}", "removed")
-
-
-def left_by_purge(setup: Setup, node: Node) -> List[str]:
-    """The names of the states that have time left, which a purge leaves."""
-    return [str(name) for name, it in sorted(node.states.items()) if expires_at(setup, node, it) > node.clock]
-
-
-def compare_purge(setup: Setup, name: str, before: Sequence[str], after: Sequence[str]) -> None:
-    """A node has to have those states after a purge that had time left before it."""
-    was, now = (read_shown(["branch main events 0 cursor 0", *it]).nodes[name] for it in (before, after))
-    wanted, left = left_by_purge(setup, was), [str(it) for it in sorted(now.states)]
-    if left != wanted:
-        names = [", ".join(it) or "none" for it in (wanted, left)]
-        raise Differs("\n".join([f"after purge {name}", *before, f"wanted: {names[0]}", f"left: {names[1]}"]))

@@ -3,18 +3,19 @@ from __future__ import annotations
 
 import contextlib
 from dataclasses import dataclass
-from typing import Container, Dict, Iterator, List, Optional, Sequence, Tuple
+from typing import Dict, Iterator, List, Optional, Sequence, Tuple
 
 from .branches import Branch, read_log
+from .explanations import Explanation, read_explanation
 from .held import held_packets, tell_packets
 from .language.commands import NAMES, OPEN, STEP
 from .language.lines import has_word, opens
 from .language.names import NODES
 from .language.searches import SEARCH
-from .pair import Pair, read_shown
+from .language.setups import Limit
+from .pair import Pair, read_frames, read_shown
 from .programs import Client, Ended, Run, Session, check_setup, run_lines
 from .setups import Setup
-from .words import counted
 
 
 # What the numbers of a server's summary count, behind the number of commands.
@@ -56,6 +57,12 @@ class Laboratory:
         # The branch that is meant where none is named.
         self.in_use = "main"
 
+    def limit(self, limit: Limit) -> str:
+        """A limit in words, with its number: of a server's own nothing is known without its setup."""
+        if self.knows_setup:
+            return f"the limit `{limit.word}` is {self.setup.limits[limit]}"
+        return f"the limit `{limit.word}` of the server is not known here ({limit.default} unless its setup says otherwise; see --setup)"
+
     # ---- lines
 
     @property
@@ -93,19 +100,19 @@ class Laboratory:
 
     def show(self, branch: str) -> Pair:
         """The pair that a branch shows."""
-        reply = self._quietly(f"show {branch}")
-        if not reply[0].startswith("branch "):
-            raise Unknown(no_branch(branch))
-        return read_shown(reply)
+        return read_shown(self._told(f"show {branch}"))
 
     def past(self, branch: str, place: int) -> Pair:
         """The pair as it was after the first events of a branch, those after its cursor too."""
-        reply = self._quietly(f"past {branch} {place}")
-        if reply[0].split()[-1] == "NothingForward":
-            raise Unknown(f"{branch} has no first {counted(place, 'event')}; `log {branch}` lists its events")
-        if not reply[0].startswith("branch "):
-            raise Unknown(no_branch(branch))
-        return read_shown(reply)
+        return read_shown(self._told(f"past {branch} {place}"))
+
+    def frames(self, branch: str, place: int) -> Dict[int, bytes]:
+        """The bytes of the frames in flight after the first events of a branch, by ticket."""
+        return read_frames(self._told(f"past {branch} {place}"))
+
+    def explanation(self, branch: str, place: int) -> Explanation:
+        """What came of an event of a branch, those after its cursor too, and why."""
+        return read_explanation(self._told(f"why {branch} {place}"))
 
     def summary(self) -> str:
         """What a server answers to a viewer, who waits for nobody: a few numbers of one moment, each with its name."""
@@ -119,14 +126,21 @@ class Laboratory:
 
     def branch(self, name: str) -> Branch:
         """A branch with its events, those that were undone too."""
-        reply = self._quietly(f"log {name}")
-        if not reply[0].startswith("log "):
-            raise Unknown(no_branch(name))
-        return read_log(reply)
+        return read_log(self._told(f"log {name}"))
 
     def names(self) -> List[str]:
         """The names of the branches, in the order of their making."""
         return self._quietly(NAMES.word)[0].split()[1:]
+
+    def _told(self, line: str) -> List[str]:
+        """A reply of many lines about a branch, whose name is the second word of the line."""
+        reply, name = self._quietly(line), line.split()[1]
+        if reply[-1] == "end":
+            return reply
+        # (a name that is no name makes a faulty line)
+        if reply[0].endswith("NoBranch") or reply[0].startswith("bad ") and not reply[0].endswith("Unknown"):
+            raise Unknown(no_branch(name))
+        raise Unknown(f"the program answers `{reply[0]}` to `{line}`; `log {name}` lists its events")
 
     def _quietly(self, line: str) -> List[str]:
         """A reply that changes nothing, and that no one asks the reason of."""
@@ -160,23 +174,6 @@ class Laboratory:
             tell_packets(pair, held_packets(stood, self.outcomes(stood)))
         return pair
 
-    def shown_at(self, events: Sequence[str], places: Container[int]) -> Tuple[List[str], Dict[int, List[str]]]:
-        """The outcomes of events, and what the branch shows after those at some places; at place 0 is the opening."""
-        lines = ["show main"] * (0 in places)
-        for place, event in enumerate(events, 1):
-            lines += [f"step main {event}"] + ["show main"] * (place in places)
-        replies = self.run(lines)
-        told = [outcome_of(it[0]) for it in replies if not it[0].startswith("branch ")]
-        shown = (it for it in replies if it[0].startswith("branch "))
-        return told, dict(zip((it for it in range(len(events) + 1) if it in places), shown))
-
-    def steps(self, events: Sequence[str], numbers: Sequence[int]) -> List[Step]:
-        """The events of these numbers, each with the pair before and after it, all shown in one run."""
-        told, shown = self.shown_at(events, {place for it in numbers for place in (it - 1, it)})
-        packets = held_packets(events, told)
-        pairs = {place: tell_packets(read_shown(it), packets) for place, it in shown.items()}
-        return [Step(it, events[it - 1], told[it - 1], pairs[it - 1], pairs[it]) for it in numbers]
-
     @contextlib.contextmanager
     def aside(self, branch: Branch) -> Iterator[Run]:
         """A run of its own in which a branch stands as it does here. An interrupt may end what it is asked: the pair is here."""
@@ -192,13 +189,9 @@ class Laboratory:
         finally:
             run.kill()
 
-    def run(self, lines: Sequence[str], setup: Optional[Sequence[str]] = None) -> List[List[str]]:
-        """The replies to commands, on a new pair with this setup or another one."""
-        if not self.knows_setup:
-            raise Unknown(
-                "the setup of the server is not known here: start the shell with --setup FILE, the file that the server read"
-            )
-        ran = run_lines(self.program, (*(self.setup.lines if setup is None else setup), OPEN.word, *lines))
+    def run(self, lines: Sequence[str]) -> List[List[str]]:
+        """The replies to commands, on a new pair with this setup, which has to be known."""
+        ran = run_lines(self.program, (*self.setup.lines, OPEN.word, *lines))
         if len(ran.replies) != len(lines):
             raise Ended("; ".join(ran.faults) or f"the program ended with status {ran.status}")
         return ran.replies

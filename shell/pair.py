@@ -5,7 +5,7 @@ from dataclasses import dataclass, field
 from typing import Callable, Dict, List, Optional, Sequence
 
 from .language.names import COUNTERS, Name, number_or_none
-from .language.packets import Key
+from .language.packets import Key, PacketEvent
 
 
 class NotShown(ValueError):
@@ -124,6 +124,12 @@ class Node:
         (node, _, clock, _, boot, _, next_id, _, number, _, push, _, serve, _, sync) = words
         return cls(node, int(clock), int(boot), int(next_id), int(number), push == "1", serve, sync)
 
+    def found(self, packet: PacketEvent) -> Optional[State]:
+        """The state that has the packet's key: its wire key on the way in, its stack key on the way out."""
+        is_in = packet.direction == "in"
+        by_key = {(it.protocol, it.wire if is_in else it.stack): it for it in self.states.values()}
+        return by_key.get((packet.protocol, packet.key))
+
     @property
     def pending(self) -> int:
         """How much waits to be told to the peer."""
@@ -191,6 +197,16 @@ _OF_NODE: Dict[str, Callable[[Node, List[str]], None]] = {
     "clr": lambda node, it: node.clears.append(Cleared(int(it[0]), int(it[1]))),
     "held": lambda node, it: node.held.append(Held.read(it)),
 }
+
+
+def read_frames(lines: Sequence[str]) -> Dict[int, bytes]:
+    """The bytes of the frames in flight that a shown branch lists, which stand last in it: nothing else is read."""
+    found: Dict[int, bytes] = {}
+    for words in (line.split() for line in reversed(lines[:-1])):
+        if words[0] != "frame":
+            break
+        found[int(words[1])] = b"" if words[3] == "-" else bytes.fromhex(words[3])
+    return found
 
 
 def read_shown(lines: Sequence[str]) -> Pair:

@@ -28,9 +28,13 @@ class Rule:
     def has(self, option: Option) -> bool:
         return option.word in self.words
 
+    def value(self, option: Option) -> str:
+        """The word that follows an option which the rule has, in the form in which the program prints it."""
+        return option.values[0].plain(self.words[self.words.index(option.word) + 1])
+
     @property
     def most_states(self) -> Optional[int]:
-        return int(self.words[self.words.index(MAX.word) + 1]) if self.has(MAX) else None
+        return int(self.value(MAX)) if self.has(MAX) else None
 
     def seconds(self, timeout_class: str) -> Optional[int]:
         """The seconds that the rule sets for a class, if it does."""

@@ -7,7 +7,7 @@ from .frames import StateRecord
 from .language.names import BULK_STATUSES, Name, level_name
 from .language.setups import NO_SYNC
 from .pair import Cleared, End, Node, State
-from .setups import Setup
+from .setups import Adaptive, Setup
 
 Flow = Union[State, StateRecord]
 ALL_STATES = Name(0, 0)
@@ -87,12 +87,16 @@ def milliseconds_left(setup: Optional[Setup], node: Node, state: State) -> int:
 
 def scaling(setup: Optional[Setup], node: Node) -> str:
     """By how much the number of states shortens the timeouts of a node; empty where it does not."""
-    start, end = adaptive = (setup or Setup()).adaptive
-    states = len(node.states)
+    return scaled_by((setup or Setup()).adaptive, node.id, len(node.states))
+
+
+def scaled_by(adaptive: Adaptive, node: str, states: int) -> str:
+    """By how much this number of states shortens the timeouts of a node; empty where it does not."""
     if not adaptive.shortens(states):
         return ""
+    start, end = adaptive
     by = f"are scaled by {end - states}/{end - start}" if states < end else "are all 0 s"
-    return f"timeouts of {node.id} {by}: it has {counted(states, 'state')}, `astart` is {start}, `aend` {end}"
+    return f"timeouts of {node} {by}: it has {counted(states, 'state')}, `astart` is {start}, `aend` {end}"
 
 
 def expiry(left: int) -> str:

@@ -6,14 +6,13 @@ from __future__ import annotations
 
 import ipaddress
 import re
-from concurrent.futures import ThreadPoolExecutor
 from dataclasses import dataclass, field, replace
 from typing import Callable, Dict, Iterable, List, Optional, Sequence, Tuple
 
 from ..branches import Branch
-from .frames import LOOKS, asides, frames_sent, record_words
-from ..flights import Flight, Happened, flights_of, happened
-from ..laboratory import Laboratory, Unknown
+from .frames import beside, record_words
+from ..histories import Flight, Happened, History
+from ..laboratory import Laboratory
 from ..language.events import BROKEN, CUT, DELIVER, FLUSH, HELD_BACK, LOSE, PACKET, PASS, REPEAT, RESTART, TICK
 from ..language.faults import FRAME_FAULTS
 from ..words import counted, seconds
@@ -49,14 +48,14 @@ class Chart:
     branch: str
     events: int
     undone: int
-    # Whether deliveries tell what a node did not take of a frame.
-    looked: bool
     rows: List[Row] = field(default_factory=list)
     # Of each event the place of its row, from 0 on.
     places: Dict[int, int] = field(default_factory=dict)
     flights: Dict[int, Flight] = field(default_factory=dict)
     # Of each frame that a node sent, by its ticket, the records in words.
     records: Dict[int, Tuple[str, ...]] = field(default_factory=dict)
+    # What is left of a frame after a cut, by the number of the event.
+    sizes: Dict[int, int] = field(default_factory=dict)
     boots: Dict[str, int] = field(default_factory=lambda: {"a": 1, "b": 2})
 
     def sent(self, flight: Flight) -> int:
@@ -81,7 +80,7 @@ class Chart:
         if row.kind == REPEAT.word:
             return f"{frame}:", (f"copy of #{flight.origin}",)
         if row.kind == CUT.word:
-            return f"{frame}:", (f"cut to {next(it.now for it in flight.cuts if it.by.number == row.first)} bytes",)
+            return f"{frame}:", (f"cut to {self.sizes[row.first]} bytes",)
         return frame, ()
 
     @property
@@ -90,11 +89,6 @@ class Chart:
         # Frames are told by their tickets: in 80 columns there is no room for the word.
         legend = "; #N is frame N" if self.flights else ""
         return f"{self.branch}, {counted(self.events, 'event')}{undone}{legend}"
-
-    @property
-    def footing(self) -> str:
-        """What the chart does not tell; empty where it tells all."""
-        return "" if self.looked else f"More than {LOOKS} deliveries: what nodes did not take of the frames is not told."
 
 
 def broken(text: str, fits: Callable[[str], bool]) -> List[str]:
@@ -114,20 +108,12 @@ def duration(milliseconds: int) -> str:
 
 def chart(lab: Laboratory, branch: Branch) -> Chart:
     """The chart of the events of a branch that stand."""
-    events = branch.events[: branch.cursor]
-    looked = sum(it.startswith(f"{DELIVER.word} ") for it in events) <= LOOKS
-    # Three runs at the same time: the outcomes are those of just these events.
-    with ThreadPoolExecutor() as pool:
-        told, sent = pool.submit(lab.outcomes, events), pool.submit(frames_sent, lab, events)
-        beside = pool.submit(asides, lab, events) if looked else None
-        drawn = Chart(branch.name, len(events), len(branch.events) - len(events), looked)
-        drawn.records = {ticket: record_words(data) for ticket, data in sent.result().items()}
-        drawing, stood = _Drawing(drawn, beside.result() if beside else {}), happened(events, told.result())
-    for it in stood:
-        if it.outcome[0] in ("refused", "bad"):
-            raise Unknown(f"event {it.number} of {branch.name}, {it.line}, is not taken again: {' '.join(it.outcome)}")
-    drawn.flights = flights_of(stood)
-    for it in stood:
+    history = History(lab, branch.name, branch.events[: branch.cursor])
+    drawn = Chart(branch.name, branch.cursor, len(branch.events) - branch.cursor, flights=history.flights)
+    drawn.records = {ticket: record_words(history.records(it)) for ticket, it in drawn.flights.items() if it.origin is None}
+    drawn.sizes = {cut.number: int(cut.outcome[1]) for it in drawn.flights.values() for cut in it.cuts}
+    drawing = _Drawing(drawn)
+    for it in history.events:
         drawing.event(it)
     return drawn
 
@@ -165,8 +151,8 @@ def _of_node(it: Happened) -> Mark:
 class _Drawing:
     """A chart that grows event by event."""
 
-    def __init__(self, drawn: Chart, beside: Dict[int, str]):
-        self.chart, self.beside = drawn, beside
+    def __init__(self, drawn: Chart):
+        self.chart = drawn
 
     def event(self, it: Happened) -> None:
         if it.event in (DELIVER, LOSE):
@@ -205,6 +191,6 @@ class _Drawing:
     def _delivery(self, it: Happened, flight: Flight) -> Mark:
         if it.outcome[0] == BROKEN.word:
             return Mark(flight.to, DELIVER.word, (), f"broken: {FRAME_FAULTS[int(it.outcome[1]) - 1]}", "bad")
-        also = self.beside.get(it.number, "")
+        also = beside(it.explained.records)
         words = (f"taken {it.outcome[1]}:", also) if also else (f"taken {it.outcome[1]}",)
         return Mark(flight.to, DELIVER.word, words, "", "note" if also else "")

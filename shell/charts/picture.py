@@ -5,7 +5,7 @@ from typing import Dict, List, Sequence, Tuple
 from xml.sax.saxutils import escape
 
 from .chart import Chart, Mark, Row
-from ..flights import Flight
+from ..histories import Flight
 from ..language.events import CUT, DELIVER, LOSE, REPEAT, RESTART
 from .svg import BOLDER, Piece, Point, Sheet, in_lines, number, text_width
 
@@ -48,7 +48,7 @@ class _Picture:
         for place, row in enumerate(chart.rows):
             self._place(place, row)
         self.end = self.bottom + 30 if chart.in_flight else self.bottom
-        self.height = self.end + (34 if chart.in_flight else 14) + (24 if chart.footing else 0)
+        self.height = self.end + (34 if chart.in_flight else 14)
 
     # ---- where things are
 
@@ -173,7 +173,7 @@ class _Picture:
         if flight.origin is not None:
             self._leader(flight.source, points[0], NOTE)
         for cut in flight.cuts:
-            at = self._at(flight, self.chart.places[cut.by.number])
+            at = self._at(flight, self.chart.places[cut.number])
             self._leader(flight.source, at, BAD)
             self.sheet.line([(at[0] - 7, at[1] + 6), (at[0] + 7, at[1] - 6)], BAD, 3)
         if flight.is_lost:
@@ -245,8 +245,6 @@ class _Picture:
             tickets = ", ".join(f"#{it.ticket}" for it in waiting)
             told: List[Piece] = [("still in flight:", FRAME, False), (tickets, FRAME, True)]
             self.sheet.text(((LANES["a"] + LANES["b"]) / 2, self.end + 24), told, "middle")
-        if self.chart.footing:
-            self.sheet.text((float(MARGIN), self.height - 12), [(self.chart.footing, FAINT, False)], size=SMALL)
 
 
 def _mark_pieces(mark: Mark) -> List[Piece]:

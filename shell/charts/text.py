@@ -6,7 +6,7 @@ from typing import Dict, List, NamedTuple, Optional, Sequence, Tuple
 
 from .chart import Chart, Mark, Row, broken
 from ..colours import Paint
-from ..flights import Flight
+from ..histories import Flight
 from ..language.events import CUT, DELIVER, REPEAT, RESTART
 
 
@@ -121,9 +121,8 @@ class _Drawing:
         for place, row in enumerate(self.chart.rows):
             self._row(place, row)
         waiting = ", ".join(f"#{it.ticket} to {it.to}" for it in self.chart.in_flight)
-        for words in (f"still in flight: {waiting}" if waiting else "", self.chart.footing):
-            for line in wrapped([(it, "note") for it in words.split()], self.width):
-                self._new_line(False).put_pieces(0, line)
+        for line in wrapped([(it, "note") for it in f"still in flight: {waiting}".split()], self.width) if waiting else ():
+            self._new_line(False).put_pieces(0, line)
         return self.lines
 
     def _new_line(self, with_lanes: bool = True) -> _Line:

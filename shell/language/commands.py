@@ -89,6 +89,10 @@ PAST = Line(
     "K is at most the number of its events, and 0 is the pair of the opening. The branch stays as it is.",
     ("branch NAME events E cursor C",), ("NoBranch", "NothingForward"), is_long=True,
 )
+WHY = Line(
+    "why", _BRANCH_K, "explains the K-th event of the branch, those after the cursor too: what came of it, and why", "",
+    ("why NAME K",), ("NoBranch", "NoEvent"), is_long=True, is_hidden=True,
+)
 NAMES = Line("names", (), "tells the names of the branches", "", ("names NAME NAME ..",))
 EXCISE = Line(
     "excise", _BRANCH_K, "takes the K-th event out; the others happen again without it",
@@ -103,6 +107,6 @@ LOG = Line(
     "log", _BRANCH, "tells all events of the branch in order, each as the line that steps it, and the cursor",
     "", ("log NAME events E cursor C",), ("NoBranch",), is_long=True, is_hidden=True,
 )
-COMMANDS = {it.word: it for it in (STEP, BACK, FORWARD, FORK, DROP, SHOW, PAST, NAMES, EXCISE, RESTORE, LOG)}
+COMMANDS = {it.word: it for it in (STEP, BACK, FORWARD, FORK, DROP, SHOW, PAST, WHY, NAMES, EXCISE, RESTORE, LOG)}
 # Those that the shell takes as they are.
 TYPED = {word: it for word, it in COMMANDS.items() if not it.is_hidden}

@@ -7,23 +7,25 @@ from typing import Dict
 
 @dataclass(frozen=True)
 class RecordKind:
-    """A kind of record: its number, its name, the bytes of a record, and the word of the queue that sends it, if one does."""
+    """A kind of record: its number, its name, the bytes of a record, its word where it is explained, and that of the queue that sends
+    it, if one does."""
 
     number: int
     name: str
     size: int
+    word: str
     queue: str = ""
 
 
-CLEAR = RecordKind(0, "clear", 12)
-INSERT = RecordKind(1, "insert", 124, "ins")
-INSERT_ACK = RecordKind(2, "insert acknowledgement", 12, "iack")
-UPDATE = RecordKind(3, "update", 124, "upd")
-SHORT_UPDATE = RecordKind(4, "short update", 44, "updc")
-UPDATE_REQUEST = RecordKind(5, "update request", 12)
-DELETE = RecordKind(6, "delete", 124)
-SHORT_DELETE = RecordKind(7, "short delete", 12, "del")
-BULK_STATUS = RecordKind(10, "bulk status", 8)
+CLEAR = RecordKind(0, "clear", 12, "clr")
+INSERT = RecordKind(1, "insert", 124, "ins", "ins")
+INSERT_ACK = RecordKind(2, "insert acknowledgement", 12, "iack", "iack")
+UPDATE = RecordKind(3, "update", 124, "upd", "upd")
+SHORT_UPDATE = RecordKind(4, "short update", 44, "updc", "updc")
+UPDATE_REQUEST = RecordKind(5, "update request", 12, "req")
+DELETE = RecordKind(6, "delete", 124, "del")
+SHORT_DELETE = RecordKind(7, "short delete", 12, "delc", "del")
+BULK_STATUS = RecordKind(10, "bulk status", 8, "bus")
 _KINDS = (CLEAR, INSERT, INSERT_ACK, UPDATE, SHORT_UPDATE, UPDATE_REQUEST, DELETE, SHORT_DELETE, BULK_STATUS)
 KINDS: Dict[int, RecordKind] = {it.number: it for it in _KINDS}
 QUEUES: Dict[str, str] = {it.queue: it.name for it in KINDS.values() if it.queue}

@@ -71,11 +71,10 @@ CLASS = choice("CLASS", tuple(it.word for it in CLASSES))
 
 @dataclass(frozen=True)
 class Option:
-    """An option of a rule, and the words that follow it. Some have no effect on a block rule."""
+    """An option of a rule, and the words that follow it."""
 
     word: str
     values: Tuple[Form, ...] = ()
-    is_of_pass: bool = False
 
     @property
     def form(self) -> str:
@@ -84,17 +83,18 @@ class Option:
 
 _PORT = number("N", 65535)
 QUICK = Option("quick")
-FLAGS_ANY = Option("flags", (form.ANY,), True)
-NO_SYNC = Option("no-sync", (), True)
-MAX = Option("max", (form.N,), True)
-NAT = Option("nat", (form.END,), True)
+PROTO = Option("proto", (form.PROTOCOL.named("P"),))
+FROM, FROM_PORT = Option("from", (form.NET,)), Option("fport", (_PORT,))
+TO, TO_PORT = Option("to", (form.NET,)), Option("tport", (_PORT,))
+# These have no effect on a block rule.
+FLAGS_ANY = Option("flags", (form.ANY,))
+NO_SYNC = Option("no-sync")
+MAX = Option("max", (form.N,))
+NAT = Option("nat", (form.END,))
 # May come for each class, in the order of their numbers.
-TIMEOUT = Option("timeout", (CLASS, number("SECONDS", form.GREATEST)), True)
+TIMEOUT = Option("timeout", (CLASS, number("SECONDS", form.GREATEST)))
 # In the order in which a rule has them.
-_OPTIONS = (
-    *(QUICK, Option("proto", (form.PROTOCOL.named("P"),)), Option("from", (form.NET,)), Option("fport", (_PORT,))),
-    *(Option("to", (form.NET,)), Option("tport", (_PORT,)), FLAGS_ANY, NO_SYNC, MAX, NAT, TIMEOUT),
-)
+_OPTIONS = (QUICK, PROTO, FROM, FROM_PORT, TO, TO_PORT, FLAGS_ANY, NO_SYNC, MAX, NAT, TIMEOUT)
 OPTIONS = {it.word: it for it in _OPTIONS}
 RULE_FORM = f"pass|block in|out|any {' '.join(it.form for it in OPTIONS.values())}..."
 MOST_RULES = 256

@@ -2,21 +2,23 @@
 from __future__ import annotations
 
 from dataclasses import replace
-from typing import Container, Dict, List, Optional, Sequence, Tuple, Union
+from itertools import islice
+from typing import Callable, Container, Iterable, Iterator, List, Optional, Sequence, Tuple, Union
 
 from ..frames import Record, ShortUpdate, StateRecord
-from ..flights import Flight
-from ..laboratory import Step
-from ..language.events import BROKEN
+from ..histories import Flight, Happened
+from ..language.events import BROKEN, CLEAR, DELIVER, HELD_BACK, KILL, PACKET, PASS, PURGE, RESTART, read_packet
 from ..language.names import Name
 from ..language.packets import PacketEvent
 from ..language.records import DELETE, INSERT, QUEUES, UPDATE
+from ..language.setups import NAT
 from ..pair import Node, State, other
-from .questions import Question, found, peer_of, told_state
-from .records import what_became
-from ..words import counted
+from .questions import Question, peer_of, told_state
+from .records import became, came_records
 
 Kinds = Union[type, Tuple[type, ...]]
+# Whether a node lost a state, by what it was before and after an event.
+IsLoss = Callable[[Node, Node], bool]
 # So many frames that told of a state are spoken of.
 MOST_FATES = 4
 
@@ -25,10 +27,10 @@ def explain_absence(question: Question) -> List[str]:
     """Why no state matched where one could be expected; nothing where there is none to expect."""
     packet = question.packet
     here, there = question.table(packet.node), peer_of(question, packet.node)
-    if found(here, packet) is not None:
+    if here.found(packet) is not None:
         return []
     lines = _turned(here, packet)
-    state = found(there, packet)
+    state = there.found(packet)
     if state is None:
         return lines + _gone_by_flow(question)
     if state.name in here.states:
@@ -39,25 +41,59 @@ def explain_absence(question: Question) -> List[str]:
 
 def _gone_by_flow(question: Question) -> List[str]:
     """The last event that took a state of this flow from the node, where neither node has one now."""
-    packet, history = question.packet, question.history
+    packet = question.packet
 
     def is_loss(before: Node, after: Node) -> bool:
-        state = found(before, packet)
+        state = before.found(packet)
         return state is not None and state.name not in after.states
 
-    step = history.newest_loss(packet.node, packet, history.names_of(packet), is_loss)
-    state = found(step.before.nodes[packet.node], packet) if step else None
-    if step is None or state is None:
-        return []
-    until = f"until event {step.number}, `{step.event}` ({step.outcome})"
-    return [f"node {packet.node} had {told_state(state)} for this flow {until}; no node has one now"]
+    lost = _newest_loss(question, _names_of(question), is_loss)
+    state = question.history.pair(lost.number - 1).nodes[packet.node].found(packet) if lost else None
+    return [f"node {packet.node} had {told_state(state)} for this flow until {lost}; no node has one now"] if state else []
+
+
+def _names_of(question: Question) -> List[Name]:
+    """The states that a node can have had for the packet's flow: those of the packets of both nodes with the same ends, or the
+    same far end where rules are known to translate the near one. A state that a frame brought was made by a packet too."""
+    packet = question.packet
+    translate = any(it.has(NAT) for rules in question.lab.setup.rules.values() for it in rules)
+    packets = ((it, read_packet(it.line)) for it in question.history.events if it.event is PACKET)
+    made = (it.outcome for it, one in packets if _meets(one, packet) and (translate or one.key == packet.key))
+    return list({Name.read(it[1]): None for it in made if it[0] in (PASS.word, HELD_BACK.word) and it[1] != "-"})
+
+
+def _newest_loss(question: Question, names: Sequence[Name], is_loss: IsLoss) -> Optional[Happened]:
+    """The last event that took a state from the packet's node: one of these names, as the node before and after it shows."""
+    node, history = question.packet.node, question.history
+    for it in reversed(history.events if names else ()):
+        if _may_take(question, it, names) and is_loss(*(history.pair(it.number - more).nodes[node] for more in (1, 0))):
+            return it
+    return None
+
+
+def _may_take(question: Question, it: Happened, names: Sequence[Name]) -> bool:
+    """Whether an event can have taken one of the states of the packet's flow from its node."""
+    packet = question.packet
+    if it.event is DELIVER:
+        is_here = question.history.flights[int(it.words[1])].to == packet.node
+        return is_here and any(record.takes(name) for record in it.explained.records for name in names)
+    if it.words[1] != packet.node:
+        return False
+    if it.event is PACKET:
+        # A new connection ends a closed one of the same ends.
+        return read_packet(it.line).is_request and _meets(read_packet(it.line), packet)
+    return it.event in (PURGE, CLEAR, RESTART) or it.event is KILL and Name.read(it.words[2]) in names
+
+
+def _meets(one: PacketEvent, two: PacketEvent) -> bool:
+    return one.protocol == two.protocol and one.key.far == two.key.far
 
 
 def _turned(node: Node, packet: PacketEvent) -> List[str]:
     """States of the same two ends that this packet's direction, or its untranslated end, keeps from matching."""
     lines = []
     way = "in" if packet.direction == "out" else "out"
-    as_turned = found(node, replace(packet, direction=way))
+    as_turned = node.found(replace(packet, direction=way))
     if as_turned is not None:
         lines.append(f"{told_state(as_turned)} of {node.id} has these ends, but matches this packet on its way {way} alone")
     for state in node.states.values():
@@ -77,27 +113,22 @@ def _why_absent(question: Question, name: Name, node: str) -> List[str]:
     def is_loss(before: Node, after: Node) -> bool:
         return name in before.states and name not in after.states
 
-    gone = question.history.newest_loss(node, question.packet, [name], is_loss)
+    gone = _newest_loss(question, [name], is_loss)
     since = gone.number if gone else 0
-    carriers = [it for it in _carriers(question, name, node, StateRecord) if it.ended is None or it.ended.number > since]
-    told = _fates(question, carriers, name)
+    carriers = (it for it in _carriers(question, name, node, StateRecord) if it.ended is None or it.ended.number > since)
+    told = _fates(question, islice(carriers, MOST_FATES), name)
     if gone is None:
         return told or [_untold(question, peer_of(question, node), name)]
-    there = f"it was there until event {gone.number}, `{gone.event}` ({gone.outcome})"
+    there = f"it was there until {gone}"
     # A short update would not bring it.
     queued = _queued(peer_of(question, node), name, (INSERT.queue, UPDATE.queue))
     parts = [*([queued] if queued else []), *told]
     return [*parts[:-1], f"{parts[-1]}; before that {there}"] if parts else [there]
 
 
-def _fates(question: Question, carriers: Sequence[Flight], name: Name) -> List[str]:
-    """What became of frames with the state, the newest first; of many only the newest."""
-    newest = list(reversed(carriers))[:MOST_FATES]
-    landed = [it.ended.number for it in newest if it.ended and it.is_taken]
-    steps = question.history.steps_at(landed) if landed else {}
-    lines = [f"{'before that, ' * bool(at)}{_fate(question, it, steps, name)}" for at, it in enumerate(newest)]
-    more = len(carriers) - len(newest)
-    return [*lines, f"before that, {counted(more, 'frame')} more had it"] if more else lines
+def _fates(question: Question, newest: Iterable[Flight], name: Name) -> List[str]:
+    """What became of frames with the state, the newest first."""
+    return [f"{'before that, ' * bool(at)}{_fate(question, it, name)}" for at, it in enumerate(newest)]
 
 
 def explain_lag(question: Question, name: Name, node: str) -> List[str]:
@@ -106,39 +137,39 @@ def explain_lag(question: Question, name: Name, node: str) -> List[str]:
     queued = _queued(peer, name)
     if queued:
         return [queued]
-    fates = _fates(question, _carriers(question, name, node, (StateRecord, ShortUpdate))[-1:], name)
-    return [f"the newest that {peer.id} told of it: {it}" for it in fates]
+    newest = islice(_carriers(question, name, node, (StateRecord, ShortUpdate)), 1)
+    return [f"the newest that {peer.id} told of it: {it}" for it in _fates(question, newest, name)]
 
 
-def _carriers(question: Question, name: Name, node: str, kinds: Kinds) -> List[Flight]:
-    """The frames to the node with such records of the state, in the order in which they were sent."""
+def _carriers(question: Question, name: Name, node: str, kinds: Kinds) -> Iterator[Flight]:
+    """The frames to the node with such records of the state, the newest first."""
     history = question.history
-    flights = [it for it in history.flights.values() if it.to == node]
-    return [it for it in flights if _carried(history.sent_records(it), name, kinds)]
+    flights = (it for it in reversed(history.flights.values()) if it.to == node)
+    return (it for it in flights if _carried(history.records(it), name, kinds))
 
 
-def _carried(records: Sequence[Record], name: Name, kinds: Kinds) -> Optional[str]:
-    """The first action by which records tell of the state, if they do."""
-    told = [it for it in records if isinstance(it, (StateRecord, ShortUpdate)) and isinstance(it, kinds)]
-    actions = [it.action for it in told if it.name == name and it.action != DELETE.name]
-    return actions[0] if actions else None
+def _carried(records: Sequence[Record], name: Name, kinds: Kinds) -> str:
+    """The first action by which records tell of the state; empty where they do not."""
+    told = (it for it in records if isinstance(it, (StateRecord, ShortUpdate)) and isinstance(it, kinds))
+    return next((it.action for it in told if it.name == name and it.action != DELETE.name), "")
 
 
-def _fate(question: Question, flight: Flight, steps: Dict[int, Step], name: Name) -> str:
+def _fate(question: Question, flight: Flight, name: Name) -> str:
     """What became of a frame that told of the state."""
     frame, sent, ended = f"frame {flight.ticket}", f"(event {flight.sent.number})", flight.ended
     if ended is None:
-        if flight.shortenings:
+        if question.history.size(flight.ticket, question.place) < question.history.size(flight.ticket, flight.sent.number):
             return f"{frame}, which brought it {sent}, is in flight, but was cut short"
         return f"{frame}, which brings it {sent}, is still in flight"
-    action = _carried(question.history.sent_records(flight), name, (StateRecord, ShortUpdate))
+    action = _carried(question.history.records(flight), name, (StateRecord, ShortUpdate))
     what = "insertion" if action == INSERT.name else action
     if flight.is_lost:
         return f"its {what} was lost in {frame} (event {ended.number})"
     if ended.outcome[0] == BROKEN.word:
         return f"{frame}, which brought it, could not be read (event {ended.number}: {' '.join(ended.outcome)})"
-    became = what_became(steps[ended.number], question.lab.setup.limits, name)
-    return f"its {what} in {frame} was delivered (event {ended.number}): {became}"
+    came = came_records(question.history, ended.number, flight.ticket)
+    brought = next(it for it in came if it.name == name and it.record.action == action)
+    return f"its {what} in {frame} was delivered (event {ended.number}): {became(brought)}"
 
 
 def _queued(peer: Node, name: Name, kinds: Container[str] = QUEUES) -> str:

@@ -3,6 +3,7 @@ from __future__ import annotations
 
 from typing import Callable, Dict, List
 
+from ..explanations import Expiry, Purge
 from ..frames import HEADER, summary
 from ..language import events
 from ..language.events import MOST_TRIES, SERVED, Event
@@ -11,7 +12,7 @@ from ..language.records import SHORT_DELETE
 from ..language.setups import BATCH, BULK_MS, DEFER_MS, MTU
 from ..pair import Node, State, other
 from .questions import Question, name_list, told_state
-from ..words import counted, expires_at, scaling
+from ..words import counted, scaled_by
 
 
 def _node(question: Question) -> Node:
@@ -19,45 +20,35 @@ def _node(question: Question) -> Node:
 
 
 def _purged(question: Question) -> List[str]:
-    """What a purge found expired, the first to expire first. Its timeouts are those of the number of states at its start, and the
-    next purge may have longer ones."""
-    node = _node(question)
-    after, setup = question.after.nodes[node.id], question.lab.setup
-    by_expiry = sorted(node.states.values(), key=lambda it: (expires_at(setup, node, it), it.name))
-    gone = [it for it in by_expiry if it.name not in after.states]
-    lines = [f"the clock of {node.id} stands at {node.clock} ms", *filter(None, [scaling(setup, node)])]
-    lines += [_expired(question, node, it) for it in gone]
-    if gone != [it for it in by_expiry if expires_at(setup, node, it) <= node.clock]:
-        lines.append("by the shell's reckoning others have expired: trust the program")
-    return [*lines, *_left(question, node, after)]
-
-
-def _expired(question: Question, node: Node, state: State) -> str:
-    setup, at = question.lab.setup, expires_at(question.lab.setup, node, state)
-    timeout = setup.seconds(node.id, state.rule, state.timeout_class)
-    now = setup.adaptive.scaled(timeout, len(node.states))
-    scaled = f", scaled to {now} s" if setup.adaptive.shortens(len(node.states)) else ""
-    used = f"last used at {state.last} ms, and {state.timeout_class} is {timeout} s{scaled}"
-    return f"{told_state(state)} expired at {at} ms: {used}"
-
-
-def _left(question: Question, node: Node, after: Node) -> List[str]:
-    """What is left after a purge, and when the next of it expires; where the purge had shorter timeouts, by which ones."""
-    if not after.states:
-        return ["no state is left"]
-    setup = question.lab.setup
-    expiry, left = min(expires_at(setup, after, it) for it in after.states.values()), counted(len(after.states), "state")
-    lines = [f"of the {left} left the next expires at {expiry} ms"]
-    if scaling(setup, after) == scaling(setup, node):
+    """What a purge found expired, the first to expire first, and when the next of what is left expires. Its timeouts are those of the
+    number of states at its start, and the next purge may have longer ones."""
+    purge, node = question.reason, _node(question)
+    assert isinstance(purge, Purge)
+    due = sorted(purge.due, key=lambda it: (it.expires, it.name))
+    left = [it for it in purge.expiries if it.expires > purge.clock]
+    lines = [f"the clock of {node.id} stands at {purge.clock} ms", *filter(None, [scaled_by(purge.adaptive, node.id, purge.states)])]
+    lines += [_expired(it, node.states[it.name]) for it in due]
+    if not left:
+        return [*lines, "no state is left"]
+    expires = min(it.last + 1000 * purge.adaptive.scaled(it.timeout, len(left)) for it in left)
+    lines.append(f"of the {counted(len(left), 'state')} left the next expires at {expires} ms")
+    if not due or not purge.adaptive.shortens(purge.states):
         return lines
-    return [*lines, scaling(setup, after) or f"timeouts of {node.id} are whole again: it has {left}"]
+    whole = f"timeouts of {node.id} are whole again: it has {counted(len(left), 'state')}"
+    return [*lines, scaled_by(purge.adaptive, node.id, len(left)) or whole]
+
+
+def _expired(it: Expiry, state: State) -> str:
+    scaled = f", scaled to {it.scaled} s" if it.scaled != it.timeout else ""
+    used = f"last used at {it.last} ms, and {it.timeout_class} is {it.timeout} s{scaled}"
+    return f"{told_state(state)} expired at {it.expires} ms: {used}"
 
 
 def _released(question: Question) -> List[str]:
-    node, wait = _node(question), question.lab.setup.limits[DEFER_MS]
+    node = _node(question)
     left = [it.name for it in question.after.nodes[node.id].held]
     gone = [it for it in node.held if it.name not in left]
-    lines = [f"the clock of {node.id} stands at {node.clock} ms, and a packet is due {wait} ms after it was held"]
+    lines = [f"the clock of {node.id} stands at {node.clock} ms, and a packet is due a while after it was held: {question.lab.limit(DEFER_MS)}"]
     lines += [f"the packet of state {it.name}, held since {it.since} ms, went out" for it in gone]
     return lines + ([f"still held: {name_list(left)}"] if left else [])
 
@@ -68,8 +59,7 @@ def _sent(question: Question) -> List[str]:
     lines = [f"frame {ticket} goes to {frame.to}, and carries {summary(frame.data)}"]
     if question.kind is events.FLUSH:
         left = question.after.nodes[question.words[1]].pending
-        mtu = question.lab.setup.limits[MTU]
-        rest = f"{left} pending are left for the next frame: a frame has {mtu} bytes at most (`mtu`)"
+        rest = f"{left} pending are left for the next frame: {question.lab.limit(MTU)}"
         return [*lines, rest] if left else lines
     return [*lines, f"it is a copy of frame {question.words[1]}"]
 
@@ -80,11 +70,11 @@ def _lost(question: Question) -> List[str]:
 
 
 def _queued(question: Question) -> List[str]:
-    node, batch = _node(question), question.lab.setup.limits[BATCH]
+    node = _node(question)
     after = question.after.nodes[node.id]
     ended = f"these were the last: {node.id} lists the end of the bulk update"
     return [
-        f"a turn queues {batch} states at most (`batch`), and none that is queued already, `no-sync`, or newer from the peer",
+        f"a turn passes over states that are queued already, `no-sync`, or newer from the peer; {question.lab.limit(BATCH)}",
         ended if after.serve == "-" else f"{node.id} serves on",
     ]
 
@@ -136,7 +126,7 @@ def _boot(question: Question) -> List[str]:
 def _retried(question: Question) -> List[str]:
     node = _node(question)
     tries, asked = node.sync.split("/")
-    waited = f"{node.id} has waited since {asked} ms, and `bulk_ms` is {question.lab.setup.limits[BULK_MS]} ms"
+    waited = f"{node.id} has waited since {asked} ms, and {question.lab.limit(BULK_MS)}"
     if question.outcome == SERVED.word:
         return [waited, f"it had asked {tries} times, and goes on as if it had been served: {MOST_TRIES} tries are the most"]
     return [waited, f"this is try {int(tries) + 1} of {MOST_TRIES} at most"]

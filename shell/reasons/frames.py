@@ -37,13 +37,12 @@ def _fault(name: str, data: bytes) -> str:
 def _cuts(question: Question, ticket: int) -> List[str]:
     """The events that made the frame shorter: its own, and those of the frame that it is a copy of."""
     lines: List[str] = []
-    flights = question.history.flights
-    copied = len(question.before) + 1
+    history, copied = question.history, question.place + 1
     while True:
-        flight = flights[ticket]
-        for it in reversed(flight.shortenings):
-            if it.by.number < copied:
-                lines.append(f"event {it.by.number} cut frame {ticket} from {it.was} bytes to {it.now}")
+        flight = history.flights[ticket]
+        for it in reversed([it for it in flight.cuts if it.number < copied]):
+            was, now = (history.size(ticket, it.number - more) for more in (1, 0))
+            lines += [f"event {it.number} cut frame {ticket} from {was} bytes to {now}"] * (now < was)
         if flight.origin is None:
             return lines
         copied = flight.sent.number

@@ -3,11 +3,12 @@ from __future__ import annotations
 
 from dataclasses import dataclass
 from functools import cached_property
-from typing import List, Optional, Sequence, Tuple
+from typing import List, Optional, Sequence
 
 from ..colours import Paint
-from .histories import History
-from ..laboratory import Laboratory, Step, outcome_of
+from ..explanations import Reason
+from ..histories import History
+from ..laboratory import Laboratory
 from ..language.events import EVENTS, Event, read_packet
 from ..language.names import Name
 from ..language.packets import PacketEvent
@@ -18,14 +19,14 @@ from ..words import flow
 
 @dataclass(eq=False)
 class Question:
-    """An event with its reply, after the events that stood. The pair around it comes from a run of its own."""
+    """An event after those before it, what came of it, and why. An event that was refused has changed nothing."""
 
     lab: Laboratory
-    before: Tuple[str, ...]
+    history: History
     event: str
-    reply: str
+    outcome: str
+    reason: Reason
     paint: Paint
-    step: Step
 
     @property
     def words(self) -> List[str]:
@@ -36,53 +37,37 @@ class Question:
         return EVENTS[self.words[0]]
 
     @property
-    def outcome(self) -> str:
-        return outcome_of(self.reply)
-
-    @property
-    def told_again(self) -> bool:
-        """Whether the run of its own answered as the program did at first."""
-        return self.step.outcome == self.outcome
+    def place(self) -> int:
+        """How many events were before it."""
+        return len(self.history.events)
 
     @property
     def pair(self) -> Pair:
         """The pair before the event."""
-        return self.step.before
+        return self.history.pair(self.place)
 
     @property
     def after(self) -> Pair:
-        return self.step.after
+        """The pair after the event, which was accepted."""
+        return self.history.pair(self.place + 1)
 
-    @property
+    @cached_property
     def packet(self) -> PacketEvent:
         """The packet of an event that is one."""
         return read_packet(self.event)
-
-    @cached_property
-    def history(self) -> History:
-        """All events before; asked of the program only as far as a reason needs them."""
-        return History(self.lab, self.before)
 
     def table(self, node: str) -> Node:
         """A node before the event."""
         return self.pair.nodes[node]
 
+    def rule(self, node: str, number: Optional[int]) -> Optional[Rule]:
+        """A rule of a node by its number, where the setup is known."""
+        return self.lab.setup.rule(node, number) if self.lab.knows_setup else None
+
     def rule_words(self, node: str, number: Optional[int]) -> str:
         """A rule by its number with its words, as `rule 1 of a (pass out)`."""
-        rule: Optional[Rule] = self.lab.setup.rule(node, number)
-        return f"rule {number} of {node} ({rule.text})" if rule else "no rule"
-
-
-def ask(lab: Laboratory, before: Tuple[str, ...], event: str, reply: str, paint: Paint) -> Question:
-    """The question, with the pair before and after the event as the program shows them."""
-    return Question(lab, before, event, reply, paint, lab.steps([*before, event], [len(before) + 1])[0])
-
-
-def found(node: Node, packet: PacketEvent) -> Optional[State]:
-    """The node's state for the packet: by the wire key on the way in, by the stack key on the way out."""
-    is_in = packet.direction == "in"
-    by_key = {(it.protocol, it.wire if is_in else it.stack): it for it in node.states.values()}
-    return by_key.get((packet.protocol, packet.key))
+        rule = self.rule(node, number)
+        return f"rule {number} of {node}" + (f" ({rule.text})" if rule else "")
 
 
 def told_state(state: State) -> str:

@@ -4,20 +4,15 @@ from __future__ import annotations
 from difflib import get_close_matches
 from typing import Callable, Dict, List
 
-from ..language.events import DELIVER, LAST_MILLISECOND, LOSE, OF_FRAME, RELEASE, TURN
+from ..language.events import LAST_MILLISECOND, OF_FRAME, RELEASE, TURN
 from ..language.forms import GREATEST
 from ..language.names import Name
-from ..language.setups import BULK_MS, DEFER_MS, FRAMES, QUEUE, Limit
+from ..language.setups import BULK_MS, DEFER_MS, FRAMES, QUEUE
 from ..pair import Node, other
 from .questions import Question, name_list
 from ..words import counted
 
 NOT_SHOWN = "the pair before the event does not show it: the shell cannot tell more"
-
-
-def _unknown(limit: Limit) -> str:
-    """That a limit of a server is not known."""
-    return f"the server's `{limit.word}` is not known here ({limit.default} unless its setup says otherwise; see --setup)"
 
 
 def _node(question: Question) -> Node:
@@ -32,10 +27,9 @@ def _no_such_frame(question: Question) -> List[str]:
         return [NOT_SHOWN]
     flying = ", ".join(f"{it.ticket} (to {it.to})" for it in question.pair.frames.values()) or "none"
     lines = [f"no frame in flight has the ticket {ticket}; in flight: {flying}"]
-    for number, event in reversed(list(enumerate(question.before, 1))):
-        words = event.split()
-        if words[0] in (DELIVER.word, LOSE.word) and int(words[1]) == ticket:
-            return [*lines, f"frame {ticket} was {'delivered' if words[0] == DELIVER.word else 'lost'} by event {number}"]
+    flight = question.history.flights.get(ticket)
+    if flight and flight.ended:
+        return [*lines, f"frame {ticket} was {'lost' if flight.is_lost else 'delivered'} by event {flight.ended.number}"]
     if ticket >= question.pair.next_ticket:
         lines.append(f"frame {ticket} was not sent yet: the next frame gets the ticket {question.pair.next_ticket}")
     return lines
@@ -67,22 +61,17 @@ def _no_such_state(question: Question) -> List[str]:
 
 
 def _link_full(question: Question) -> List[str]:
-    limit, flying = question.lab.setup.limits[FRAMES], len(question.pair.frames)
-    known = question.lab.knows_setup
-    if known and flying < limit:
-        return [NOT_SHOWN]
+    flying = question.pair.frames
     return [
-        f"the link carries {counted(flying, 'frame')}, and "
-        + (f"the limit `frames` is {limit}" if known else _unknown(FRAMES)),
-        f"deliver or lose one first: {', '.join(str(it) for it in list(question.pair.frames)[:8])}",
+        f"the link carries {counted(len(flying), 'frame')}, and {question.lab.limit(FRAMES)}",
+        f"deliver or lose one first: {', '.join(str(it) for it in list(flying)[:8])}",
     ]
 
 
 def _queue_full(question: Question) -> List[str]:
-    node, limit = _node(question), question.lab.setup.limits[QUEUE]
-    allowed = f", {limit}" if question.lab.knows_setup else f": {_unknown(QUEUE)}"
+    node = _node(question)
     lines = [
-        f"at some point of the event more would be pending at {node.id} than the limit `queue` allows{allowed}",
+        f"at some point of the event more would be pending at {node.id} than allowed: {question.lab.limit(QUEUE)}",
         f"pending before it: {node.pending} ({_pending_parts(node)})",
     ]
     return [*lines, f"`flush {node.id}` makes room"] if node.pending else lines
@@ -147,7 +136,7 @@ def _too_early(question: Question) -> List[str]:
         who, what = node.id, f"{node.id} can ask for all states again at"
     if not question.lab.knows_setup:
         waited = f"{who} has waited since {since} ms, and the clock of {node.id} stands at {node.clock} ms"
-        return [waited, _unknown(limit)]
+        return [waited, question.lab.limit(limit)]
     due = since + limits[limit]
     if node.clock >= due:
         return [NOT_SHOWN]
@@ -177,7 +166,7 @@ _REFUSALS: Dict[str, Callable[[Question], List[str]]] = {
 
 def explain_refusal(question: Question) -> List[str]:
     """Why the event was refused, by the name at the end of the reply."""
-    refusal, words = question.reply.split()[-1], question.words
+    refusal, words = question.outcome.split()[-1], question.words
     if words[0] in OF_FRAME and refusal != "NoSuchFrame" and int(words[1]) not in question.pair.frames:
         return [NOT_SHOWN]
     return _REFUSALS[refusal](question)

@@ -1,122 +1,73 @@
-"""The window test of a TCP packet with its numbers, as crates/pfl_track/specs/Windows.antt defines it."""
+"""The window test of a TCP packet with its numbers, in words."""
 from __future__ import annotations
 
-from typing import List, NamedTuple, Tuple
+from typing import List, Tuple
 
 from .absence import explain_lag
-from ..language.names import SYN_SENT, level_name
+from ..explanations import Edge, OfState
+from ..language.names import level_name
 from ..language.packets import CIRCLE, PacketEvent
 from ..pair import End, State
-from .questions import Question, found, peer_of, told_state
-
-# How far an acknowledged number may be from what the other end sent: pf's MAXACKWINDOW, 65535 + 1500.
-MOST_ACK_WINDOW = 67035
+from .questions import Question, peer_of, told_state
 
 
-class WindowTest(NamedTuple):
-    """A part of the window test: whether it holds, and its numbers in words."""
+def explain_window(question: Question, reason: OfState) -> List[str]:
+    """Which edges the packet misses, its numbers and those of the state, and what the peer would have done."""
+    packet, state = question.packet, question.table(question.packet.node).states[reason.name]
+    words = [(edge.missed, _edge(which, edge, state, packet)) for which, edge in reason.edges.items()]
+    return [
+        *(text for missed, text in words if missed is not None),
+        f"{told_state(state)} of {packet.node} matches it, and it comes from the {_ends(state, packet)[2]} end",
+        _packet_words(packet),
+        f"source end: {_end_words(state, state.source)}",
+        f"destination end: {_end_words(state, state.destination)}",
+        *(question.paint.dim(f"holds: {text}") for missed, text in words if missed is None),
+        *_at_peer(question, state),
+    ]
 
-    holds: bool
-    words: str
 
-
-def is_at_or_after(number: int, other: int) -> bool:
-    """The order of sequence numbers, which wrap (RFC 9293, 3.4)."""
-    return (number - other) % CIRCLE < CIRCLE // 2
-
-
-def ends_of(state: State, packet: PacketEvent) -> Tuple[End, End, str, str]:
+def _ends(state: State, packet: PacketEvent) -> Tuple[End, End, str, str]:
     """The sender's end and the other one before the packet, and their names."""
     if packet.direction == state.direction:
         return state.source, state.destination, "source", "destination"
     return state.destination, state.source, "destination", "source"
 
 
-def begun(sender: End, receiver: End, packet: PacketEvent) -> End:
-    """The sender's end; one that was silent begins with this packet."""
-    if sender.level:
-        return sender
-    scale = packet.scale if "S" in packet.flags else None
-    return End(SYN_SENT, scale, 0, packet.seq, (packet.end + max(1, receiver.window)) % CIRCLE)
-
-
-def window_tests(state: State, packet: PacketEvent) -> List[WindowTest]:
-    """The parts of the test, in the order in which they are made."""
-    sender, receiver, name, other_name = ends_of(state, packet)
-    sender = begun(sender, receiver, packet)
-    scaled = sender.scale is not None and receiver.scale is not None and "S" not in packet.flags
-    tests = [_right_edge(sender, packet, name), _left_edge(sender, receiver, packet, scaled, (name, other_name))]
-    if "A" in packet.flags and receiver.level >= SYN_SENT:
-        tests.append(_ack(sender, receiver, packet, scaled, (name, other_name)))
-    return tests
-
-
-def _right_edge(sender: End, packet: PacketEvent, name: str) -> WindowTest:
-    holds = is_at_or_after(sender.hi, packet.end)
-    what = f"seq {packet.seq} ends at {packet.end}"
-    if holds:
-        return WindowTest(True, f"{what}, not above {sender.hi} (hi of the {name} end)")
-    return WindowTest(False, f"{what}, {(packet.end - sender.hi) % CIRCLE} above {sender.hi} (hi of the {name} end)")
-
-
-def _left_edge(sender: End, receiver: End, packet: PacketEvent, scaled: bool, names: Tuple[str, str]) -> WindowTest:
-    window = receiver.window << (receiver.scale or 0) if scaled else receiver.window
-    least = (sender.lo - window) % CIRCLE
-    how = f"lo {sender.lo} of the {names[0]} end less the window {_window(receiver, scaled)} of the {names[1]} end"
-    edge = f"{sender.lo - window} ({how}" + (f"; {least} mod 2^32)" if sender.lo < window else ")")
-    if is_at_or_after(packet.seq, least):
-        return WindowTest(True, f"seq {packet.seq} begins not below {edge}")
-    return WindowTest(False, f"seq {packet.seq} begins {(least - packet.seq) % CIRCLE} below {edge}")
-
-
-def _window(end: End, scaled: bool) -> str:
-    if not scaled:
-        return str(end.window)
-    return f"{end.window << (end.scale or 0)} ({end.window} at scale {end.scale})"
-
-
-def _ack(sender: End, receiver: End, packet: PacketEvent, scaled: bool, names: Tuple[str, str]) -> WindowTest:
-    """The acknowledged number is near what the other end sent."""
-    behind = (receiver.lo - packet.ack) % CIRCLE
-    ahead = (packet.ack - receiver.lo) % CIRCLE
-    most_behind = MOST_ACK_WINDOW << (sender.scale or 0) if scaled else MOST_ACK_WINDOW
-    lo = f"{receiver.lo} (lo of the {names[1]} end)"
-    if behind <= most_behind:
-        return WindowTest(True, f"ack {packet.ack} is {behind} behind {lo}, at most {most_behind} is allowed")
-    if ahead <= MOST_ACK_WINDOW:
-        return WindowTest(True, f"ack {packet.ack} is {ahead} ahead of {lo}, at most {MOST_ACK_WINDOW} is allowed")
-    if ahead < CIRCLE // 2:
-        return WindowTest(False, f"ack {packet.ack} is {ahead} ahead of {lo}, and at most {MOST_ACK_WINDOW} is allowed")
-    return WindowTest(False, f"ack {packet.ack} is {behind} behind {lo}, and at most {most_behind} is allowed")
-
-
-def explain_window(question: Question) -> List[str]:
-    """Which part of the test fails, the numbers of the packet and of the state, and what the peer would have done."""
-    packet, paint = question.packet, question.paint
-    state = found(question.table(packet.node), packet)
-    if state is None:
-        return ["the packet is outside the window of its state, which the shell does not find in the table before it"]
-    tests = window_tests(state, packet)
-    failing = [it.words for it in tests if not it.holds]
-    lines = failing or ["by its numbers the packet is inside the window: the shell cannot tell which test it failed"]
-    sender = ends_of(state, packet)[2]
-    lines.append(f"{told_state(state)} of {packet.node} matches it, and it comes from the {sender} end")
-    lines.append(_packet_words(packet))
-    lines += [f"source end: {_end_words(state, state.source)}", f"destination end: {_end_words(state, state.destination)}"]
-    lines += [paint.dim(f"holds: {it.words}") for it in tests if it.holds]
-    return lines + _at_peer(question, state)
+def _edge(which: str, edge: Edge, state: State, packet: PacketEvent) -> str:
+    """An edge of the window: what is compared, and where its bounds come from."""
+    sender, receiver, name, other = _ends(state, packet)
+    bound, most = edge.bounds[0], edge.bounds[-1]
+    if which == "right":
+        beyond = "not above" if edge.missed is None else f"{edge.missed} above"
+        return f"seq {packet.seq} ends at {edge.number}, {beyond} {bound} (hi of the {name} end)"
+    if which == "left":
+        beyond = "not below" if edge.missed is None else f"{edge.missed} below"
+        # (an end that was silent begins with this packet)
+        first = sender.lo if sender.level else packet.seq
+        window = (first - bound) % CIRCLE
+        scaled = "" if window == receiver.window else f" ({receiver.window} at scale {receiver.scale})"
+        less = f"lo {first} of the {name} end less the window {window}{scaled} of the {other} end{', mod 2^32' * (first < window)}"
+        return f"seq {edge.number} begins {beyond} {bound} ({less})"
+    lo, ack = f"lo {receiver.lo} of the {other} end", f"ack {edge.number} is"
+    less, more = f"less {(receiver.lo - bound) % CIRCLE}", f"and {(most - receiver.lo) % CIRCLE} more"
+    if edge.missed is None:
+        return f"{ack} between {bound} and {most} ({lo} {less}, {more})"
+    is_above = (edge.number - most) % CIRCLE == edge.missed
+    return f"{ack} {edge.missed} above {most} ({lo} {more})" if is_above else f"{ack} {edge.missed} below {bound} ({lo} {less})"
 
 
 def _at_peer(question: Question, state: State) -> List[str]:
     """What the program answers to the same packet at the peer, where that has other numbers for the state."""
-    packet, peer = question.packet, peer_of(question, question.packet.node)
+    packet, peer, lab = question.packet, peer_of(question, question.packet.node), question.lab
     copy = peer.states.get(state.name)
     if copy is None or (copy.source, copy.destination) == (state.source, state.destination):
         return []
-    words = [peer.id if at == 1 else word for at, word in enumerate(question.words)]
-    outcome = question.lab.outcomes([*question.before, " ".join(words)])[-1]
-    lines = [f"node {peer.id} has other numbers for state {state.name}: the same packet at {peer.id} gives `{outcome}`"]
-    return lines + explain_lag(question, state.name, packet.node)
+    line = f"node {peer.id} has other numbers for state {state.name}"
+    if lab.knows_setup:
+        words = [peer.id if at == 1 else word for at, word in enumerate(question.words)]
+        outcome = lab.outcomes([*(it.line for it in question.history.events), " ".join(words)])[-1]
+        line += f": the same packet at {peer.id} gives `{outcome}`"
+    return [line, *explain_lag(question, state.name, packet.node)]
 
 
 def _packet_words(packet: PacketEvent) -> str:

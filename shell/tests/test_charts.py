@@ -5,10 +5,9 @@ import re
 import unittest
 from functools import lru_cache
 from typing import List, NamedTuple
-from unittest import mock
 from xml.etree import ElementTree
 
-from ..charts import frames as chart_frames, picture as chart_svg, text as chart_text
+from ..charts import picture as chart_svg, text as chart_text
 from ..charts.chart import Chart, chart, duration, end_words
 from ..colours import PLAIN, Paint
 from ..charts.svg import text_width
@@ -75,7 +74,7 @@ class Models(unittest.TestCase):
         it = drawn(CROSSING)
         ways = [(way.ticket, it.sent(way), it.ended(way), way.origin) for way in it.flights.values()]
         self.assertEqual(ways, [(1, 1, 6, None), (2, 3, 5, None), (3, 4, 7, 1), (4, 10, 12, None)])
-        self.assertEqual([(it.places[cut.by.number], cut.now) for cut in it.flights[4].cuts], [(11, 30)])
+        self.assertEqual([(it.places[cut], size) for cut, size in it.sizes.items()], [(11, 30)])
         # The copy brings a state that b has from the first: the record is bad.
         self.assertEqual(it.rows[7].marks[0].words, ("taken 1:", "1 bad"))
         self.assertEqual(it.rows[12].marks[0].fate, "broken: Length")
@@ -112,30 +111,10 @@ class Models(unittest.TestCase):
         mark = it.rows[2].marks[0]
         self.assertEqual((mark.fate, mark.words[3:]), ("drop window", ("seq 900000,", "ack 501,", "length 10")))
 
-    def test_many_deliveries_are_not_looked_into(self) -> None:
-        with mock.patch("shell.charts.chart.LOOKS", 1):
-            it = drawn.__wrapped__(CROSSING)
-        self.assertEqual(it.rows[7].marks[0].words, ("taken 1",))
-        self.assertTrue(it.footing)
-        self.assertFalse(drawn(CROSSING).footing)
-
     def test_words(self) -> None:
         self.assertEqual([duration(it) for it in (0, 20, 1000, 1500, 86400000)], ["0 s", "20 ms", "1 s", "1.5 s", "86400 s"])
         self.assertEqual(end_words("[2001:0db8:0000:0000:0000:0000:0000:0001]:53"), "[2001:db8::1]:53")
         self.assertEqual(end_words("10.0.0.1:53"), "10.0.0.1:53")
-
-
-class Frames(unittest.TestCase):
-    def test_copies_are_the_frames_that_were_sent(self) -> None:
-        """Also where more copies are taken than may be in flight together."""
-        packets = [f"packet a out udp 10.0.0.{it}:1000 192.0.2.9:53 40" for it in range(1, 6)]
-        events: List[str] = [event for packet in packets for event in (packet, "flush a")]
-        lab = laboratory(f"set frames 6\n{RULES}")
-        with mock.patch("shell.charts.frames.COPIES", 2):
-            found = chart_frames.frames_sent(lab, [*events, "repeat 2", "lose 6", "lose 1"])
-        lab.close()
-        sent = lab.steps(events, [len(events)])[0].after.frames
-        self.assertEqual(found, {ticket: frame.data for ticket, frame in sent.items()})
 
 
 # At 80 columns the link has 26, and each side 19: `192.0.2.9:53 pass 1.1` is too long for a line.

@@ -36,6 +36,8 @@ forward main 1
 excise main 1
 restore main
 names
+why main 1
+why main 3
 # a comment
 step main lose 7
 fork main 1 other
@@ -70,6 +72,13 @@ LIES = (
     ("next 2 boot", "next 1 boot", 1),
     ("event 1 step main packet a out udp 10.0.0.1:1000", "event 1 step main packet a out udp 10.0.0.1:01000", 0),
     ("cursor 2", "cursor 1", 0),
+    # Reasons.
+    ("outcome sent 1 148", "outcome sent 1 149", 0),
+    ("rule 0 pass", "rule 1 pass", 0),
+    ("new 1.1", "new 1.2", 0),
+    ("scaling 1 38 76", "scaling 2 38 76", 0),
+    ("udp.first 60 60 60000", "udp.first 60 59 59000", 0),
+    ("why main 2", "why main 1", 0),
     # A search.
     ("found main events 1", "found main events 2", 0),
     ("found main events 1 runs 4", "found main events 1 runs 91", 0),

@@ -78,6 +78,8 @@ class Page(unittest.TestCase):
         page = [(int(number), name, int(size)) for name, number, size, _ in table("## Frames", "Message")]
         self.assertEqual(page, [(it.number, it.name, it.size) for it in KINDS.values()])
         self.assertIn(f"`queue N {'|'.join(QUEUES)} NUMBER NAME`", section("### Replies"))
+        explained = codes(section("### What `why` answers").partition("RECORD is")[2].partition("FATE is")[0])
+        self.assertEqual([it.split()[0] for it in explained], [it.word for it in KINDS.values()])
 
     def test_lines_of_a_setup_and_commands(self) -> None:
         setup = [codes(row[0])[0] for row in table("### Setup", "Line")]
@@ -90,7 +92,7 @@ class Page(unittest.TestCase):
         rows = table("### Replies", "Reply")
         page = {code for what, cell in rows for code in codes(cell) if "refused" not in what and "faulty" not in what}
         shown = codes(section("### Replies").partition("A shown branch is many lines")[2].partition("\n1. ")[2])[0]
-        others = {"excised", "event K step NAME EVENT", "end"}
+        others = {"excised", "event K step NAME EVENT", "outcome OUTCOME", "end"}
         self.assertEqual(page - others | {shown}, {reply for it in COMMANDS.values() for reply in it.replies})
 
     def test_events(self) -> None:

@@ -57,7 +57,8 @@ class Named(unittest.TestCase):
         for name, words in (("SETUP", helps.SETUP), ("COMMANDS", helps.COMMANDS), ("EVENTS", helps.EVENTS)):
             for word, it in words.items():
                 self.item(section("pfl_lab", name), word, len(it.form.split("\n")))
-        self.item(section("pfl_lab", "COMMANDS"), "log")
+        for word in ("log", "why"):
+            self.item(section("pfl_lab", "COMMANDS"), word)
         self.item(section("pfl_lab", "SESSIONS"), "view")
 
     def test_each_word_of_the_shell(self) -> None:

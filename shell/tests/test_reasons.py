@@ -8,10 +8,7 @@ from unittest import mock
 from . import laboratory, reasons
 from ..colours import PLAIN
 from ..laboratory import Unknown
-from ..reasons.events import explain_other
-from ..reasons.histories import History
-from ..reasons.questions import ask
-from ..reasons.why import why, why_event, why_last
+from ..reasons.why import why_event, why_last
 
 WALLS = "rule a block any\nrule a pass out\nrule b block any\nrule b pass out\nopen\n"
 OPEN = "rule a pass any flags any\nrule b pass any flags any\nopen\n"
@@ -78,7 +75,7 @@ DROPS: Cases = {
         + ANSWER_AT_B,
         [
             ABSENT + "its insertion in frame 1 was delivered (event 4): "
-            "bad: the state table of b is full: 1 entry, and the limit `states` is 1"
+            "bad: the state table of b is full: the limit `states` is 1"
         ],
     ),
     "block, the insertion came before a restart, and the update was lost": (
@@ -181,18 +178,18 @@ DROPS: Cases = {
         # 60000 at scale 3 is 480000, and 5000 less 480000 is 4294492296 in 32 bits.
         WALLS + SYN + SYN_ACK + ACK.format((5000 - 480000 - 100) % 2**32, 9001),
         [
-            "seq 4294492196 begins 100 below -475000 (lo 5000 of the source end less the window 480000 (60000 at scale 3) "
-            "of the destination end; 4294492296 mod 2^32)"
+            "seq 4294492196 begins 100 below 4294492296 (lo 5000 of the source end less the window 480000 (60000 at scale 3) "
+            "of the destination end, mod 2^32)"
         ],
     ),
     "window, an acknowledgement ahead": (
         WALLS + SYN + SYN_ACK + ACK.format(5001, 9001 + 67036),
-        ["ack 76037 is 67036 ahead of 9001 (lo of the destination end), and at most 67035 is allowed"],
+        ["ack 76037 is 1 above 76036 (lo 9001 of the destination end and 67035 more)"],
     ),
     "window, an acknowledgement behind": (
         # At the sender's scale 2 it may be 268140 behind.
         WALLS + SYN + SYN_ACK + ACK.format(5001, (9001 - 268141) % 2**32),
-        ["ack 4294708156 is 268141 behind 9001 (lo of the destination end), and at most 268140 is allowed"],
+        ["ack 4294708156 is 1 below 4294708157 (lo 9001 of the destination end less 268140)"],
     ),
     "window, an update was lost": (
         WALLS
@@ -212,7 +209,6 @@ PASSES: Cases = {
         WALLS + QUERY + QUERY,
         [f"{FLOW} of a matches it by its stack key; a packet of a state is not tested against rules"],
     ),
-    "no rules": ("open\n" + QUERY, ["no rule of a matches it, which has 0 rules: what no rule matches passes, without a state"]),
     "no rule": (
         "rule a block in\nopen\n" + QUERY,
         ["no rule of a matches it, which has 1 rule: what no rule matches passes, without a state"],
@@ -265,7 +261,7 @@ REFUSALS: Cases = {
     "queue full": (
         "set queue 1\n" + WALLS + QUERY + SECOND,
         [
-            "at some point of the event more would be pending at a than the limit `queue` allows, 1",
+            "at some point of the event more would be pending at a than allowed: the limit `queue` is 1",
             "pending before it: 1 (1 state, 0 requests, 0 bulk statuses, 0 clears)",
         ],
     ),
@@ -351,13 +347,6 @@ PURGES: Cases = {
         WALLS + QUERY + "step main tick a 60000\nstep main purge a",
         [f"{FLOW} expired at 60000 ms: last used at 0 ms, and udp.first is 60 s", "no state is left"],
     ),
-    "two states, whose timeouts are whole": (
-        HALVED + QUERY + SECOND + "step main tick a 5000\nstep main purge a",
-        [
-            "state 1.2 (udp 10.0.0.2:1000 -> 192.0.2.9:53) expired at 5000 ms: last used at 0 ms, and udp.first is 5 s",
-            "of the 1 state left the next expires at 60000 ms",
-        ],
-    ),
     # Half of five seconds is two whole ones. The two that are left have all of their 60.
     "three states, whose timeouts are halved": (
         HALVED + QUERY + SECOND + THIRD + "step main tick a 2000\nstep main purge a",
@@ -367,13 +356,6 @@ PURGES: Cases = {
             "last used at 0 ms, and udp.first is 5 s, scaled to 2 s",
             "of the 2 states left the next expires at 60000 ms",
             "timeouts of a are whole again: it has 2 states",
-        ],
-    ),
-    "three states, one millisecond early": (
-        HALVED + QUERY + SECOND + THIRD + "step main tick a 1999\nstep main purge a",
-        [
-            "timeouts of a are scaled by 1/2: it has 3 states, `astart` is 2, `aend` 4",
-            "of the 3 states left the next expires at 2000 ms",
         ],
     ),
     # Behind the purge there are two states in place of three: two thirds are left, where it was one.
@@ -391,6 +373,27 @@ PURGES: Cases = {
             "timeouts of a are all 0 s: it has 1 state, `astart` is 0, `aend` 1",
             f"{FLOW} expired at 0 ms: last used at 0 ms, and udp.first is 60 s, scaled to 0 s",
             "no state is left",
+        ],
+    ),
+}
+
+
+WITHOUT_SETUP: Cases = {
+    "block": (
+        WALLS + QUERY + FLUSH + "step main lose 1\n" + ANSWER_AT_B,
+        ["rule 0 of b decided", ABSENT + "its insertion was lost in frame 1 (event 3)"],
+    ),
+    "no rule": ("open\n" + QUERY, ["no rule of a matches it: what no rule matches passes, without a state"]),
+    "max": (
+        "rule a pass out max 1\nopen\n" + QUERY + SECOND,
+        ["rule 0 of a decided: it may have 1 state, and has 1 now: 1.1"],
+    ),
+    "held": (
+        "set defer 1\n" + WALLS + "step main tick a 100\n" + QUERY,
+        [
+            "no state matched; rule 1 of a passed it, and made state 1.1",
+            "`defer` is on: the packet of a new state waits on its way out until the peer acknowledges the insertion",
+            "or it goes out with the next packet of the state, or once it is due: `release a` from `defer_ms` after 100 ms on a's clock",
         ],
     ),
 }
@@ -427,14 +430,6 @@ class Reasons(unittest.TestCase):
         told = reasons(HALVED + QUERY + SECOND + THIRD + THIRD.replace("10.0.0.3", "10.0.0.4") + "step main purge a")
         self.assertEqual([it.split(" (")[0] for it in told[2:]], [*(f"state 1.{it}" for it in range(1, 5)), "no state is left"])
 
-    def test_a_purge_of_others_is_told(self) -> None:
-        lab = laboratory(WALLS + QUERY)
-        self.addCleanup(lab.close)
-        question = ask(lab, tuple(lab.branch("main").events), "purge a", "step purged 0 dropped 0", PLAIN)
-        # As if the program had deleted a state that has 60 seconds left.
-        question.after.a.states.clear()
-        self.assertIn("by the shell's reckoning others have expired: trust the program", explain_other(question))
-
     def test_the_outcome_comes_first(self) -> None:
         lab = laboratory(WALLS + ANSWER_AT_B)
         self.addCleanup(lab.close)
@@ -448,12 +443,16 @@ class Reasons(unittest.TestCase):
         self.assertEqual(why_event(lab, branch, 5, PLAIN)[0].split(": ")[1], "pass 1.1")
         self.assertRaises(Unknown, why_event, lab, branch, 6, PLAIN)
 
-    def test_an_answer_that_does_not_come_again_is_not_explained(self) -> None:
-        lab = laboratory(WALLS)
+    def test_an_event_that_came_since_is_told(self) -> None:
+        lab = laboratory(WALLS + QUERY)
         self.addCleanup(lab.close)
-        event = "packet a out udp 10.0.0.1:1000 192.0.2.9:53 40"
-        lines = why(lab, (), event, "step drop window dropped 0", PLAIN)
-        self.assertIn("a run of its own answers `pass 1.1` behind the same events: the shell cannot tell the reason", lines[1])
+        lab.branch("main")
+        assert lab.session
+        # As another session of a server does it.
+        lab.session.ask("step main flush a")
+        first, second, *_ = why_last(lab, PLAIN)
+        self.assertEqual(first, "another session has moved main on since; its newest event is this:")
+        self.assertEqual(second, "flush a: sent 1 148")
 
     def test_a_new_connection_misses_no_state(self) -> None:
         lab = laboratory(OPEN + SYN + SYNC + SYN_ACK + RESET + SYN)
@@ -470,31 +469,36 @@ class Reasons(unittest.TestCase):
                 WALLS + "step main restart a\nstep main tick a 1\nstep main retry a",
                 [
                     "a has waited since 0 ms, and the clock of a stands at 1 ms",
-                    "the server's `bulk_ms` is not known here (10000 unless its setup says otherwise; see --setup)",
+                    "the limit `bulk_ms` of the server is not known here (10000 unless its setup says otherwise; see --setup)",
                 ],
             ),
         }
         for name, (script, expected) in cases.items():
             with self.subTest(name):
                 lab = laboratory(script)
-                lab.knows_setup = False
+                lab.knows_setup, lab.port = False, 1
                 lines = [it.strip() for it in why_last(lab, PLAIN)]
                 lab.close()
                 for line in [*expected, "told from the branch as it is now, which other sessions may have changed since"]:
                     self.assertIn(line, lines)
 
-    def test_an_accepted_event_of_a_server_wants_its_setup(self) -> None:
-        lab = laboratory(WALLS + QUERY)
-        self.addCleanup(lab.close)
-        lab.knows_setup = False
-        self.assertRaises(Unknown, why_last, lab, PLAIN)
+    def test_an_accepted_event_of_a_server_without_its_setup(self) -> None:
+        """All but the words of rules, and what only another run could tell."""
+        for name, (script, expected) in WITHOUT_SETUP.items():
+            with self.subTest(name):
+                lab = laboratory(script)
+                lab.knows_setup = False
+                with mock.patch.object(lab, "run") as ran:
+                    self.assertEqual([it.strip() for it in why_last(lab, PLAIN)[1:]], expected)
+                ran.assert_not_called()
+                lab.close()
 
     def test_a_new_flow_after_many_events_is_not_looked_for_in_shows(self) -> None:
         lab = laboratory(WALLS + (QUERY + SECOND) * 20 + ANSWER_AT_B.replace("192.0.2.9", "192.0.2.77"))
         self.addCleanup(lab.close)
-        with mock.patch.object(History, "steps_at") as shown:
+        with mock.patch.object(lab, "past", wraps=lab.past) as shown:
             self.assertEqual(why_last(lab, PLAIN)[1:], ["  rule 0 of b (block any) decided: it is the last rule that matches"])
-        shown.assert_not_called()
+        self.assertEqual([it.args for it in shown.call_args_list], [("main", 40)])
 
     def test_nothing_was_asked(self) -> None:
         self.assertRaises(Unknown, why_last, laboratory("open"), PLAIN)

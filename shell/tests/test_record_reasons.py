@@ -3,11 +3,8 @@ from __future__ import annotations
 
 import unittest
 
-from . import laboratory, reasons
+from . import reasons
 from .test_reasons import ACK, FLUSH, OPEN, QUERY, SECOND, SYN, SYN_ACK, SYNC, Cases
-from ..colours import PLAIN
-from ..reasons.questions import ask
-from ..reasons.records import explain_taken
 
 # The source's acknowledgement: its lo is 6001 then, and the destination ESTABLISHED.
 ACKED = ACK.format(5001, 9001)
@@ -23,11 +20,10 @@ UNHEARD = (
 )
 
 CASES: Cases = {
-    "new": (OPEN + QUERY + SYNC, ["frame 1 came to node b with 1 record:", "1. insert 1.1: new: inserted"]),
-    "two new": (OPEN + QUERY + SECOND + SYNC, ["1. insert 1.1: new: inserted", "2. insert 1.2: new: inserted"]),
+    "new": (OPEN + QUERY + SYNC, ["frame 1 came to node b with 1 record:", "1. insert 1.1: new: inserted; last used at 0 ms"]),
     "new, and to be acknowledged": (
         "set defer 1\n" + OPEN + QUERY + SYNC,
-        ["1. insert 1.1: new: inserted; it asks for an acknowledgement, which is queued"],
+        ["1. insert 1.1: new: inserted; last used at 0 ms; it asks for an acknowledgement, which is queued"],
     ),
     "new, without its rule": (
         "rule a pass out\nrule b pass any\nopen\n" + QUERY + SYNC,
@@ -45,7 +41,7 @@ CASES: Cases = {
         "set defer 1\n" + OPEN + QUERY + SYNC + "step main flush b\nstep main kill a 1.1\nstep main deliver 2",
         ["1. insert acknowledgement 1.1: unknown: a has no such state, and passes over it"],
     ),
-    "merged": (ANSWERED + "step main deliver 2", ["1. short update 1.1: merged: neither end is behind the one here"]),
+    "merged": (ANSWERED + "step main deliver 2", ["1. short update 1.1: merged: neither end is behind the one here; last used at 0 ms"]),
     "stale by sequence and level": (
         ANSWERED + ACKED + FLUSH + "step main deliver 3\nstep main deliver 2",
         [
@@ -62,7 +58,7 @@ CASES: Cases = {
         + "step main deliver 3",
         [
             "1. short update 1.1: merged in part, counted as stale: the source end is taken; "
-            "the destination end's lo 10001 here is after the 9001 that came"
+            "the destination end's lo 10001 here is after the 9001 that came; last used at 0 ms"
         ],
     ),
     "stale by level, of UDP": (
@@ -94,7 +90,7 @@ CASES: Cases = {
     ),
     "bad, the key is there": (
         OPEN + QUERY + QUERY.replace(" a ", " b ") + SYNC,
-        ["1. insert 1.1: bad: its key is in use: b has state 2.1 for 10.0.0.1:1000 and 192.0.2.9:53"],
+        ["1. insert 1.1: bad: its wire key is in use: b has state 2.1 for 10.0.0.1:1000 and 192.0.2.9:53"],
     ),
     "bad, the deletion is to be told": (
         OPEN + QUERY + FLUSH + "step main repeat 1\nstep main deliver 1\nstep main kill b 1.1\nstep main deliver 2",
@@ -102,7 +98,7 @@ CASES: Cases = {
     ),
     "bad, the table is full": (
         "set states 1\n" + OPEN + QUERY + SECOND.replace(" a ", " b ") + SYNC,
-        ["1. insert 1.1: bad: the state table of b is full: 1 entry, and the limit `states` is 1"],
+        ["1. insert 1.1: bad: the state table of b is full: the limit `states` is 1"],
     ),
     "deleted": (
         OPEN + QUERY + SYNC + "step main kill a 1.1\nstep main flush a\nstep main deliver 2",
@@ -136,7 +132,7 @@ CASES: Cases = {
     "the end of a bulk update without its start": (
         UNHEARD + "step main deliver 4",
         [
-            "1. update 1.2: new: inserted, since b did not know the state",
+            "1. update 1.2: new: inserted, since b did not know the state; last used at 0 ms",
             "2. bulk status end: the server says that it is at the end; b, which was waiting, waits no more, whatever came",
             "b has not heard the start since it asked for all states (event 5, `restart b`): frame 3, which had it, was lost "
             "(event 10)",
@@ -190,18 +186,6 @@ class RecordReasons(unittest.TestCase):
                 lines = reasons(script)
                 for line in expected:
                     self.assertIn(line, lines)
-                self.assertFalse([it for it in lines if "cannot tell" in it or "the program's" in it])
-
-    def test_counters_that_move_otherwise_are_told(self) -> None:
-        lab = laboratory(OPEN + QUERY + FLUSH)
-        self.addCleanup(lab.close)
-        question = ask(lab, tuple(lab.branch("main").events), "deliver 1", "step taken 1 dropped 0", PLAIN)
-        # As if the program had counted a record as bad, and not inserted the state.
-        question.after.b.counters["bad"] += 1
-        question.after.b.states.clear()
-        lines = explain_taken(question)
-        self.assertIn("the program counted 1 bad, and the shell 0: it cannot tell which record that was", lines)
-        self.assertIn("the program's table of b has other states than these records would leave: trust the program", lines)
 
 
 if __name__ == "__main__":

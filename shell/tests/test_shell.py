@@ -133,7 +133,7 @@ class Questions(Dialogue):
             # All but the first line, which names the branch and counts its events.
             self.assertEqual(self.said(shell, "view")[1:], told[1:])
         self.assertEqual(self.said(shell, "use main", "view main 2"), seen[2])
-        self.assertEqual(self.said(shell, "view 4"), ["main has no first 4 events; `log main` lists its events"])
+        self.assertEqual(self.said(shell, "view 4"), ["the program answers `refused 5 NothingForward` to `past main 4`; `log main` lists its events"])
         self.assertEqual(self.said(shell, "view none 1"), ["there is no branch none; `names` tells them"])
 
     def test_questions_change_nothing(self) -> None:
@@ -361,7 +361,7 @@ class Server(Dialogue):
         self.assertFalse(any("frame" in line for line in self.said(two, "view 1")))
         self.assertEqual(self.said(two, "past main 1")[0], "branch main events 2 cursor 1")
         said = self.said(two, "changes 2")
-        self.assertEqual(said[0], "event 2: flush a")
+        self.assertEqual(said[0], "event 2: flush a: sent 1 148")
         self.assertIn("  link: frame 1 new: to b, 148 bytes: 1 insert", said)
 
     def test_a_summary_is_no_command(self) -> None:
@@ -394,10 +394,15 @@ class Server(Dialogue):
         self.assertRegex(said[0], "^main: 2 events, 2 stand; the outcomes are known with --setup FILE")
         self.assertEqual(said[1:], [f"  1  {QUERY}", f"  2  flush a{' ' * (len(QUERY) - 7)}".rstrip(), "  >  cursor at 2"])
 
-    def test_a_question_that_needs_the_setup_says_so(self) -> None:
-        one, _ = self.shells
+    def test_a_reason_and_a_chart_need_no_setup(self) -> None:
+        one, two = self.shells
         self.said(one, QUERY)
-        self.assertRegex(self.said(one, "why")[0], "setup of the server")
+        self.said(two, "flush a")
+        rule = "  no state matched; rule 0 of a passed it, and made state 1.1"
+        self.assertEqual(self.said(one, "why 1"), [f"{QUERY}: pass 1.1", rule])
+        told = "another session has moved main on since; its newest event is this:"
+        self.assertEqual(self.said(one, "why")[:2], [told, "flush a: sent 1 148"])
+        self.assertRegex("\n".join(self.said(one, "chart")), "#1: insert 1.1")
 
     def test_with_the_setup_all_questions_are_answered(self) -> None:
         one, two = self.shells

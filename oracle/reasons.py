@@ -1,0 +1,133 @@
+"""What a reply to `why` has to say: what the pairs before and after the event tell of it, reckoned without the program."""
+from __future__ import annotations
+
+from typing import List, Sequence, Tuple
+
+from shell.explanations import Expiry, Explanation, Judged, OfState, Purge, read_explanation
+from shell.frames import Broken, ClearRecord, Record, StatusRecord, decode
+from shell.language.events import DELIVER, PACKET, PURGE, read_packet
+from shell.language.names import SYN_SENT, Name
+from shell.language.packets import Key, PacketEvent
+from shell.language.records import KINDS
+from shell.language.setups import DEFER, NAT, NO_SYNC, STATES
+from shell.pair import Frame, Node, State, read_shown
+from shell.rulings import deciding
+from shell.setups import Setup
+from shell.words import expires_at
+
+from .subject import Differs
+
+_WORDS = {it.name: it.word for it in KINDS.values()}
+_OUTCOMES = {"": "pass -", "block": "drop block", "max": "drop max", "full": "drop full", "wire": "drop key", "stack": "drop key"}
+# What has to be, and what came.
+Both = Tuple[object, object]
+
+
+def compare_reason(setup: Setup, reply: Sequence[str], before: Sequence[str], after: Sequence[str]) -> None:
+    """An explanation has to be what the pairs before and after the event tell."""
+    was, now = (read_shown(["branch main events 0 cursor 0", *it]) for it in (before, after))
+    it = read_explanation(reply)
+    kind, about, *_ = it.event.split()
+    wanted: object = None
+    came: object = it.reason
+    if kind == PACKET.word:
+        wanted, came = _packet(setup, it, was.nodes[about], now.nodes[about])
+    elif kind == DELIVER.word:
+        frame = was.frames[int(about)]
+        wanted, came = _delivery(it, frame, was.nodes[frame.to], now.nodes[frame.to])
+    elif kind == PURGE.word:
+        wanted, came = _purge(setup, it, was.nodes[about], now.nodes[about])
+    if wanted != came:
+        raise Differs("\n".join([*reply, f"wanted: {wanted}", f"came: {came}", "before:", *before, "after:", *after]))
+
+
+# ---- a packet
+
+
+def _packet(setup: Setup, it: Explanation, was: Node, now: Node) -> Both:
+    packet = read_packet(it.event)
+    state = was.found(packet)
+    # (a closed connection is deleted where a new one begins)
+    if state is None or state.name not in now.states:
+        wanted = _judged(setup, was, packet)
+        return (wanted, _outcome(setup, packet, wanted)), (it.reason, it.outcome)
+    if not isinstance(it.reason, OfState):
+        return "by its state", it.reason
+    is_missed = any(edge.missed is not None for edge in it.reason.edges.values())
+    outcome = "drop window" if is_missed else f"pass {state.name}"
+    return (state.name, _edges(state, packet), outcome), (it.reason.name, [*it.reason.edges], it.outcome)
+
+
+def _outcome(setup: Setup, packet: PacketEvent, judged: Judged) -> str:
+    """What follows for the packet. That of a new state is held on its way out, where deferring is on and the state is told to the peer."""
+    if judged.how != "new" or judged.rule is None:
+        return _OUTCOMES[judged.how]
+    is_told = not setup.rules[packet.node][judged.rule].has(NO_SYNC)
+    is_held = setup.limits[DEFER] and packet.direction == "out" and is_told
+    return f"{'held' if is_held else 'pass'} {judged.name}"
+
+
+def _edges(state: State, packet: PacketEvent) -> List[str]:
+    """The edges that a packet of a state is tested against."""
+    other = state.destination if packet.direction == state.direction else state.source
+    counts = "A" in packet.flags and other.level >= SYN_SENT
+    return ["right", "left", *["ack"] * counts] if packet.is_tcp else []
+
+
+def _judged(setup: Setup, node: Node, packet: PacketEvent) -> Judged:
+    """What the rules make of a packet that no state takes, or over a closed one."""
+    closed, rules = node.found(packet), setup.rules[packet.node]
+    standing = [it for it in node.states.values() if it is not closed]
+    number, name = deciding(rules, packet), closed.name if closed else None
+    if number is None:
+        return Judged(name, None, "", ())
+    if rules[number].action == "block":
+        return Judged(name, number, "block", ())
+    most, many = rules[number].most_states, sum(it.rule == number for it in standing)
+    if most is not None and many >= most:
+        return Judged(name, number, "max", (str(most), str(many)))
+    if len(standing) >= setup.limits[STATES]:
+        return Judged(name, number, "full", (str(setup.limits[STATES]), str(len(standing))))
+    near = rules[number].value(NAT) if rules[number].has(NAT) else packet.key.near
+    wire = Key(packet.key.far, near)
+    found = [("wire", it.name) for it in standing if (it.protocol, it.wire) == (packet.protocol, wire)]
+    found += [("stack", it.name) for it in standing if (it.protocol, it.stack) == (packet.protocol, packet.key)]
+    how, value = [*found, ("new", Name(node.boot, node.next_id))][0]
+    return Judged(name, number, how, (str(value),))
+
+
+# ---- a frame that comes
+
+
+def _delivery(it: Explanation, frame: Frame, was: Node, now: Node) -> Both:
+    """Its records, as many bad and stale ones as are counted."""
+    try:
+        records = [_written(record) for record in decode(frame.data)]
+    except Broken:
+        return None, it.reason
+    counted = [now.counters[name] - was.counters[name] for name in ("bad", "stale")]
+    told = [sum(record.is_bad for record in it.records), sum(bool(record.stale) for record in it.records)]
+    came = [(record.kind, *record.about) for record in it.records]
+    return (records, counted, f"taken {len(records)}"), (came, told, it.outcome)
+
+
+def _written(record: Record) -> Tuple[str, ...]:
+    """A record as an explanation has it."""
+    if isinstance(record, ClearRecord):
+        return _WORDS[record.action], str(record.creator), str(record.bound)
+    return _WORDS[record.action], str(record.status if isinstance(record, StatusRecord) else record.name)
+
+
+# ---- a purge
+
+
+def _purge(setup: Setup, it: Explanation, was: Node, now: Node) -> Both:
+    """When each state expires; those that are due are deleted."""
+    expiries, many = [], len(was.states)
+    for name, state in sorted(was.states.items()):
+        seconds = setup.seconds(was.id, state.rule, state.timeout_class)
+        scaled = setup.adaptive.scaled(seconds, many)
+        expiries.append(Expiry(name, state.timeout_class, seconds, scaled, expires_at(setup, was, state)))
+    wanted = Purge(was.clock, many, setup.adaptive, expiries)
+    due = [one.name for one in wanted.due]
+    return (wanted, due, f"purged {len(due)}"), (it.reason, sorted(was.states.keys() - now.states.keys()), it.outcome)

@@ -1,0 +1,152 @@
+"""What the program answers to `why BRANCH K`: what came of an event, and why."""
+from __future__ import annotations
+
+from typing import Dict, List, NamedTuple, Optional, Sequence, Tuple, Union
+
+from .language.names import Name, number_or_none
+from .language.records import CLEAR
+from .setups import Adaptive
+
+
+class NotExplained(ValueError):
+    """The text is not that of an explanation."""
+
+
+class Edge(NamedTuple):
+    """A number of a packet of TCP, the one or the two that bound it, and by how much it lies beyond, if it does."""
+
+    number: int
+    bounds: Tuple[int, ...]
+    missed: Optional[int]
+
+
+class OfState(NamedTuple):
+    """A state has the key of the packet. One of TCP is tested: its edges are `right`, `left`, and `ack` where that counts."""
+
+    name: Name
+    edges: Dict[str, Edge]
+
+
+class Judged(NamedTuple):
+    """The rules judged the packet, after a closed connection of its ends went: the rule that decided, if one matches, and what came
+    of it: `block`, `max MOST STATES`, `full LIMIT STATES`, `wire NAME`, `stack NAME` or `new NAME`; nothing where none matches."""
+
+    closed: Optional[Name]
+    rule: Optional[int]
+    how: str
+    values: Tuple[str, ...]
+
+    @property
+    def name(self) -> Name:
+        return Name.read(self.values[0])
+
+
+# The ends of a record that are behind those of the state, by the word for them.
+_STALE: Dict[str, Tuple[str, ...]] = {"-": (), "src": ("source",), "dst": ("destination",), "both": ("source", "destination")}
+
+
+class TakenRecord(NamedTuple):
+    """A record of a frame, by the word of its kind and what it is about, and the words of what became of it."""
+
+    kind: str
+    about: Tuple[str, ...]
+    fate: Tuple[str, ...]
+
+    @property
+    def is_bad(self) -> bool:
+        return self.fate[0] == "bad"
+
+    @property
+    def stale(self) -> Tuple[str, ...]:
+        return _STALE[self.fate[1]] if self.fate[0] == "merged" else ()
+
+    def takes(self, name: Name) -> bool:
+        """Whether it took a state of this name, if there was one."""
+        if self.kind == CLEAR.word:
+            return name.creator == int(self.about[0]) and name.id <= int(self.about[1])
+        return self.fate == ("deleted",) and self.about == (str(name),)
+
+
+class Expiry(NamedTuple):
+    """A state that a purge found: the seconds of its class, those as the number of states shortens them, and when it expires."""
+
+    name: Name
+    timeout_class: str
+    timeout: int
+    scaled: int
+    expires: int
+
+    @property
+    def last(self) -> int:
+        """When the state was last used."""
+        return self.expires - 1000 * self.scaled
+
+
+class Purge(NamedTuple):
+    """What a purge looked at: the clock, how many states it found, between which numbers timeouts shrink, and the states by name."""
+
+    clock: int
+    states: int
+    adaptive: Adaptive
+    expiries: List[Expiry]
+
+    @property
+    def due(self) -> List[Expiry]:
+        """The states that are deleted, by name."""
+        return [it for it in self.expiries if it.expires <= self.clock]
+
+
+# What there is to say beside the outcome: of a frame that can be read its records, and of most events nothing.
+Reason = Union[OfState, Judged, List[TakenRecord], Purge, None]
+
+
+class Explanation(NamedTuple):
+    """An event of a branch by its line, its outcome, and why."""
+
+    event: str
+    outcome: str
+    reason: Reason
+
+    @property
+    def records(self) -> List[TakenRecord]:
+        """The records of a frame that was read."""
+        return self.reason if isinstance(self.reason, list) else []
+
+
+def read_explanation(reply: Sequence[str]) -> Explanation:
+    """The explanation that a reply gives."""
+    try:
+        _, event, outcome, *lines, _ = reply
+        return Explanation(event.split(" ", 4)[4], outcome.split(" ", 1)[1], _reason([it.split() for it in lines]))
+    except (IndexError, KeyError, ValueError) as error:
+        raise NotExplained("\n".join(reply)) from error
+
+
+def _reason(lines: Sequence[List[str]]) -> Reason:
+    first = lines[0][0] if lines else ""
+    if first == "state":
+        edges = {word: Edge(int(number), tuple(map(int, bounds)), number_or_none(missed)) for word, number, *bounds, missed in lines[1:]}
+        return OfState(Name.read(lines[0][1]), edges)
+    if first in ("closed", "rule"):
+        return _judged(lines)
+    if first == "record":
+        return [_record(*words) for _, *words in lines]
+    return _purge(lines) if lines else None
+
+
+def _judged(lines: Sequence[List[str]]) -> Judged:
+    closed = Name.read(lines[0][1]) if lines[0][0] == "closed" else None
+    (_, rule, *verdict), *start = lines[closed is not None :]
+    how, *values = start[0] if start else verdict or [""]
+    return Judged(closed, number_or_none(rule), how, tuple(values))
+
+
+def _record(kind: str, *words: str) -> TakenRecord:
+    size = 2 if kind == CLEAR.word else 1
+    return TakenRecord(kind, words[:size], words[size:])
+
+
+def _purge(lines: Sequence[List[str]]) -> Purge:
+    (_, clock), (_, states, start, end), *rest = lines
+    expiries = [Expiry(Name.read(name), its_class, *map(int, numbers)) for _, name, its_class, *numbers in rest]
+    return Purge(int(clock), int(states), Adaptive(int(start), int(end)), expiries)

@@ -1,0 +1,106 @@
+"""Why a packet passed, is held or was dropped: by a state, or by a rule and what stood against a new state."""
+from __future__ import annotations
+
+from typing import List, Optional
+
+from .absence import explain_absence
+from ..explanations import Judged, OfState
+from ..language.events import DROPPED, HELD_BACK
+from ..language.setups import DEFER_MS, FLAGS_ANY, HELD, QUICK
+from .questions import Question, name_list, told_state
+from ..rulings import deciding
+from ..setups import Rule
+from .windows import explain_window
+from ..words import counted
+
+
+def explain_packet(question: Question) -> List[str]:
+    """The state that has the packet's key, or what the rules made of it, and why there is no such state."""
+    reason = question.reason
+    if isinstance(reason, OfState):
+        is_dropped = question.outcome.startswith(DROPPED.word)
+        return explain_window(question, reason) if is_dropped else _passed(question, reason)
+    assert isinstance(reason, Judged)
+    lines = [*_judged(question, reason), *explain_absence(question)]
+    return lines + (_held(question) if question.outcome.startswith(HELD_BACK.word) else [])
+
+
+def _passed(question: Question, reason: OfState) -> List[str]:
+    node = question.table(question.packet.node)
+    key = "wire" if question.packet.direction == "in" else "stack"
+    by_key = f"{told_state(node.states[reason.name])} of {node.id} matches it by its {key} key"
+    lines = [f"{by_key}; a packet of a state is not tested against rules"]
+    return lines + ["it also let the held packet of the state go"] * (reason.name in [it.name for it in node.held])
+
+
+def _held(question: Question) -> List[str]:
+    """How long a packet waits, and whose place it took."""
+    node, after = question.table(question.packet.node), question.after.nodes[question.packet.node]
+    known, wait = question.lab.knows_setup, question.lab.setup.limits[DEFER_MS]
+    due = f"{node.clock + wait} ms" if known else f"`{DEFER_MS.word}` after {node.clock} ms"
+    lines = [
+        "`defer` is on: the packet of a new state waits on its way out until the peer acknowledges the insertion",
+        f"or it goes out with the next packet of the state, or once it is due: `release {node.id}` from {due} on {node.id}'s clock",
+    ]
+    out = [it.name for it in node.held if it not in after.held]
+    held = f"{node.id} held {len(node.held)}, and {question.lab.limit(HELD)}"
+    return lines + ([f"the packet of {name_list(out)} went out at once: {held}"] if out else [])
+
+
+def _judged(question: Question, reason: Judged) -> List[str]:
+    """What the rules made of it, after the closed connection went that a packet of a new one ends."""
+    states, node = question.table(question.packet.node).states, question.packet.node
+    rule = question.rule_words(node, reason.rule)
+    if reason.how == "":
+        lines = [f"no rule of {node} matches it{_of(question)}: what no rule matches passes, without a state", *_but_for_flags(question)]
+    elif reason.how == "block":
+        lines = [f"{rule} decided{_place(question.rule(node, reason.rule))}", *_but_for_flags(question)]
+    elif reason.how == "new":
+        lines = [f"no state matched; {rule} passed it, and made state {reason.name}"]
+    elif reason.how == "max":
+        names = name_list([it.name for it in states.values() if it.rule == reason.rule and it.name != reason.closed])
+        lines = [f"{rule} decided: it may have {counted(int(reason.values[0]), 'state')}, and has {reason.values[1]} now: {names}"]
+    else:
+        lines = [_room(question, reason), f"{rule} decided, and would make a state"]
+    if reason.closed is not None:
+        old = told_state(states[reason.closed])
+        lines.append(f"{old} was closed at both ends, and this packet begins a new connection: so it was deleted first")
+    return lines
+
+
+def _of(question: Question) -> str:
+    """Of how many rules none matches."""
+    rules = question.lab.setup.rules[question.packet.node]
+    return f", which has {counted(len(rules), 'rule')}" if question.lab.knows_setup else ""
+
+
+def _place(rule: Optional[Rule]) -> str:
+    """Why a rule is the one that decides."""
+    if rule is None:
+        return ""
+    return ": it is the first `quick` rule that matches" if rule.has(QUICK) else ": it is the last rule that matches"
+
+
+def _room(question: Question, reason: Judged) -> str:
+    """That the table is full, or which state has a key of the new one."""
+    node = question.table(question.packet.node)
+    if reason.how == "full":
+        entries = counted(int(reason.values[1]), "entry", "entries")
+        return f"the state table of {node.id} has {entries}, and the limit `states` is {reason.values[0]}"
+    state = node.states[reason.name]
+    key = state.wire if reason.how == "wire" else state.stack
+    return f"{told_state(state)} of {node.id} has its {reason.how} key already: {key.near} and {key.far}"
+
+
+def _but_for_flags(question: Question) -> List[str]:
+    """The last pass rule that would take the packet if it said `flags any`; nothing where there is none, or rules are not known."""
+    packet, lab = question.packet, question.lab
+    rules = lab.setup.rules[packet.node] if lab.knows_setup else []
+    open_to = [number for number, it in enumerate(rules) if it.action == "pass" and not it.has(FLAGS_ANY)]
+    taking = [it for it in open_to if deciding(rules, packet, any_flags=it) == it] if packet.is_tcp and not packet.is_request else []
+    if not taking:
+        return []
+    return [
+        f"{question.rule_words(packet.node, taking[-1])} would pass it, but for its flags {packet.flags}",
+        "a pass rule without `flags any` takes only a TCP packet that begins a connection: SYN without ACK",
+    ]

@@ -1,0 +1,70 @@
+"""What the lines of an explanation tell, and which rule decides over a packet, both without a program."""
+from __future__ import annotations
+
+import unittest
+from typing import List, Optional
+
+from ..explanations import Edge, Expiry, Judged, NotExplained, OfState, Purge, Reason, TakenRecord, read_explanation
+from ..language.events import read_packet
+from ..language.names import Name
+from ..rulings import deciding
+from ..setups import Adaptive, Rule
+
+HEAD = ["why main 3", "event 3 step main deliver 1", "outcome taken 2"]
+
+
+def reason(*lines: str) -> Reason:
+    return read_explanation([*HEAD, *lines, "end"]).reason
+
+
+class Replies(unittest.TestCase):
+    def test_the_event_and_its_outcome(self) -> None:
+        self.assertEqual(read_explanation([*HEAD, "end"])[:], ("deliver 1", "taken 2", None))
+
+    def test_packets(self) -> None:
+        edges = {"right": Edge(127001, (65001,), 62000), "ack": Edge(9001, (8000, 9500), None)}
+        self.assertEqual(reason("state 1.1", "right 127001 65001 62000", "ack 9001 8000 9500 -"), OfState(Name(1, 1), edges))
+        self.assertEqual(reason("state 1.1"), OfState(Name(1, 1), {}))
+        self.assertEqual(reason("rule -"), Judged(None, None, "", ()))
+        self.assertEqual(reason("rule 2 block"), Judged(None, 2, "block", ()))
+        self.assertEqual(reason("closed 1.2", "rule 0 pass", "max 1 3"), Judged(Name(1, 2), 0, "max", ("1", "3")))
+
+    def test_records(self) -> None:
+        bad, clear = TakenRecord("ins", ("1.2",), ("bad", "wire", "2.1")), TakenRecord("clr", ("1", "2"), ("cleared", "2"))
+        self.assertEqual(reason("record ins 1.2 bad wire 2.1", "record clr 1 2 cleared 2"), [bad, clear])
+        self.assertEqual((bad.is_bad, clear.is_bad, bad.takes(Name(1, 2))), (True, False, False))
+        self.assertEqual([clear.takes(Name(*it)) for it in ((1, 2), (1, 3), (2, 1))], [True, False, False])
+        ends = [TakenRecord("upd", ("1.1",), ("merged", it, "0")).stale for it in ("-", "src", "dst", "both")]
+        self.assertEqual(ends, [(), ("source",), ("destination",), ("source", "destination")])
+
+    def test_purges(self) -> None:
+        due, left = Expiry(Name(1, 1), "udp.first", 5, 2, 3000), Expiry(Name(1, 2), "udp.first", 60, 30, 31000)
+        lines = ("clock 3000", "scaling 3 2 4", "expiry 1.1 udp.first 5 2 3000", "expiry 1.2 udp.first 60 30 31000")
+        purge = Purge(3000, 3, Adaptive(2, 4), [due, left])
+        self.assertEqual((reason(*lines), purge.due, due.last), (purge, [due], 1000))
+
+    def test_other_lines_are_refused(self) -> None:
+        for lines in (["names main"], [*HEAD, "rule x block", "end"], [*HEAD, "clock 1", "end"]):
+            self.assertRaises(NotExplained, read_explanation, lines)
+
+
+class Rules(unittest.TestCase):
+    def decided(self, packet: str, *rules: str, any_flags: Optional[int] = None) -> Optional[int]:
+        words: List[Rule] = [Rule(tuple(it.split())) for it in rules]
+        return deciding(words, read_packet(f"packet a {packet}"), any_flags)
+
+    def test_the_last_that_matches_or_the_first_that_is_quick(self) -> None:
+        udp, tcp = "out udp 10.0.0.1:1000 192.0.2.9:53 40", "in tcp 192.0.2.9:80 10.0.0.1:1000 A 1 2 3 4"
+        self.assertEqual(self.decided(udp, "block any", "pass out", "pass in"), 1)
+        self.assertEqual(self.decided(udp, "block any quick", "pass out"), 0)
+        self.assertIsNone(self.decided(udp, "block in", "pass out proto 6", "pass out from 10.0.0.2/32", "pass out to 10.0.0.0/8"))
+        self.assertEqual(self.decided(udp, "pass out tport 053", "pass out fport 53", "block any from 010.0.0.255/24 to 0.0.0.0/0"), 2)
+        self.assertIsNone(self.decided("out icmp 10.0.0.1:53 192.0.2.9:53 40", "block any tport 53"))
+        v6 = "[2001:0db8:0000:0000:0000:0000:0000:0001]:9"
+        self.assertIsNone(self.decided(udp, f"pass out nat {v6}", "block any to 2001:0db8:0000:0000:0000:0000:0000:0000/0"))
+        rules = ("pass in proto tcp", "pass in flags any tport 9")
+        self.assertEqual([self.decided(tcp, *rules), self.decided(tcp, *rules, any_flags=0)], [None, 0])
+
+
+if __name__ == "__main__":
+    unittest.main()
