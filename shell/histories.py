@@ -15,11 +15,12 @@ from .pair import other
 
 @dataclass(frozen=True)
 class Happened:
-    """An event that stood: its place from 1 on, its line, and who explains it."""
+    """An event that stood: its place from 1 on, its line, who explains it, and its outcome where that was asked for all at once."""
 
     number: int
     line: str
     explain: Callable[[int], Explanation]
+    known: Optional[str] = None
 
     @cached_property
     def words(self) -> Tuple[str, ...]:
@@ -31,14 +32,14 @@ class Happened:
 
     @property
     def outcome(self) -> List[str]:
-        return self.explained.outcome.split()
+        return (self.known or self.explained.outcome).split()
 
     @property
     def event(self) -> Event:
         return EVENTS[self.words[0]]
 
     def __str__(self) -> str:
-        return f"event {self.number}, `{self.line}` ({self.explained.outcome})"
+        return f"event {self.number}, `{self.line}` ({' '.join(self.outcome)})"
 
 
 @dataclass
@@ -71,15 +72,16 @@ class Flight:
 
 
 class History:
-    """The first events of a branch."""
+    """The first events of a branch. Where all their outcomes are wanted they can be given, so that none has to be asked for alone."""
 
-    def __init__(self, lab: Laboratory, branch: str, events: Sequence[str]):
+    def __init__(self, lab: Laboratory, branch: str, events: Sequence[str], outcomes: Sequence[Optional[str]] = ()):
         self.lab = lab
         # What came of an event and why, the pair after it, and the frames in flight there alone, by its place.
         self.explained = lru_cache(maxsize=None)(partial(lab.explanation, branch))
         self.pair = lru_cache(maxsize=None)(partial(lab.past, branch))
         self.frames = lru_cache(maxsize=None)(partial(lab.frames, branch))
-        self.events = [Happened(number, line, self.explained) for number, line in enumerate(events, 1)]
+        known = outcomes or [None] * len(events)
+        self.events = [Happened(number, line, self.explained, it) for number, (line, it) in enumerate(zip(events, known), 1)]
 
     @cached_property
     def flights(self) -> Dict[int, Flight]:

@@ -108,7 +108,9 @@ def duration(milliseconds: int) -> str:
 
 def chart(lab: Laboratory, branch: Branch) -> Chart:
     """The chart of the events of a branch that stand."""
-    history = History(lab, branch.name, branch.events[: branch.cursor])
+    events = branch.events[: branch.cursor]
+    # One run is quicker than a question for each event.
+    history = History(lab, branch.name, events, lab.outcomes(events) if lab.knows_setup else ())
     drawn = Chart(branch.name, branch.cursor, len(branch.events) - branch.cursor, flights=history.flights)
     drawn.records = {ticket: record_words(history.records(it)) for ticket, it in drawn.flights.items() if it.origin is None}
     drawn.sizes = {cut.number: int(cut.outcome[1]) for it in drawn.flights.values() for cut in it.cuts}
