@@ -5,6 +5,7 @@ here and not asked of the program, so that a load that does not do what it is me
 """
 from __future__ import annotations
 
+import hashlib
 import random
 from typing import Callable, Dict, Iterable, Iterator, List, Optional, Sequence, Tuple
 
@@ -23,6 +24,7 @@ RESTARTS, LIMIT_FORKS = 20, 15
 MOST_FRAMES, MOST_MTU = 4096, 9000
 TIMEOUTS = 200
 WHYS = 1000
+FRAME_LOOKS = 1000
 FIRST_PORT = 1000
 # The near and the far end of a flow.
 Ends = Tuple[str, str]
@@ -369,6 +371,30 @@ def whys(pair: TrackedPair) -> Iterator[Part]:
         yield part
 
 
+def request_frame() -> str:
+    """The frame in which a node with the setup's rules asks for all states, in hexadecimal."""
+    length = FRAME_HEADER + GROUP_HEADER + NAME_RECORD
+    return f"0500{length:04x}{hashlib.md5(b'pass out' + bytes([10])).hexdigest()}05000001{'00' * NAME_RECORD}"
+
+
+def traces(pair: TrackedPair) -> Iterator[Part]:
+    """Looks at the newest frame, over and over, and at one that was sent half the way back: each asks for all states."""
+    places: List[int] = []
+    for ticket, first in enumerate((0, pair.states // 2), 1):
+        yield pair.begin(first, first + pair.states // 2)
+        part = Part()
+        pair.step(part, "restart b", f"boot {ticket + 2}")
+        pair.step(part, "flush b", f"sent {ticket} {FRAME_HEADER + GROUP_HEADER + NAME_RECORD}")
+        places.append(pair.cursor)
+        yield part
+    for what, ticket, times in (("a look at the newest frame", 2, FRAME_LOOKS), ("a look at a frame sent half the way back", 1, ROUNDS)):
+        part, sent = Part(what), f"event {places[ticket - 1]} step main flush b"
+        for _ in range(times):
+            head = f"frame main {ticket}"
+            part.ask(head, head, sent, f"outcome sent {ticket} 36", f"frame {ticket} a {request_frame()}", "record req 0.0", "end")
+        yield part
+
+
 def forks(pair: TrackedPair) -> Iterator[Part]:
     """Branches of all events so far, which are dropped again."""
     yield pair.fill()
@@ -406,7 +432,7 @@ LOADS: Dict[str, Callable[[TrackedPair], Iterator[Part]]] = {
     it.__name__: it
     for it in (
         *(replies, flows, rooms, hits, ticks, undo, connections, frames),
-        *(purges, scattered, timeouts, shows, pasts, whys, forks, short_forks, limits),
+        *(purges, scattered, timeouts, shows, pasts, whys, traces, forks, short_forks, limits),
     )
 }
 # The number of states of the loads that are measured at one number alone.

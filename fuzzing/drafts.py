@@ -96,7 +96,7 @@ class Draft:
         first = self.chance.choice((0, self.chance.randint(0, len(other))))
         name, at = self.name(), self.place()
         taken = other[first : first + self.chance.choice((1, 5, 10, 40))]
-        self.commands[at:at] = [re.sub(r"^(step|back|forward|excise|restore|search) main\b", rf"\1 {name}", it) for it in taken]
+        self.commands[at:at] = [re.sub(r"^(step|back|forward|excise|restore|why|frame|search) main\b", rf"\1 {name}", it) for it in taken]
 
     def add_events(self) -> None:
         for _ in range(self.chance.choice((1, 1, 3, 10))):
@@ -124,9 +124,9 @@ class Draft:
         name = self.name() if self.chance.random() < 0.95 else self.chance.choice(BRANCHES)
         few = self.chance.choice((0, 1, 1, 2, 3, 5, 8, self.chance.randint(0, 60)))
         new = f"n{len(self.names())}" if self.chance.random() < 0.7 else self.chance.choice(BRANCHES)
-        by_name = {"BRANCH": name, "NEW": new, "EVENT": "flush a"}
+        by_name = {"BRANCH": name, "NEW": new, "EVENT": event(self.chance, SHOWN)}
         command = self.chance.choice((*OFTEN, *OFTEN, *COMMANDS.values()))
-        words = (by_name.get(it.name, str(few)) for it in command.values)
+        words = (by_name.get(it.name, str(few)) for it in self.chance.choice(command.alternatives))
         self.commands.insert(self.place(), " ".join([command.word, *words]))
 
     def add_search(self) -> None:

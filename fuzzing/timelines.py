@@ -11,7 +11,7 @@ from oracle.searches import Search, compare_search
 from oracle.subject import Differs, Subject
 from oracle.tallies import Seen
 from shell.language.commands import MOST_BRANCHES, STEP
-from shell.language.events import plain_event
+from shell.language.events import EVENTS, plain_event
 from shell.language.faults import COMMAND_REFUSALS, numbered
 from shell.language.lines import has_word
 from shell.language.searches import SEARCH
@@ -53,13 +53,13 @@ class Timeline:
         return reply
 
     def step(self, line: str, name: str, event: str) -> List[str]:
-        reply = self.lab.answer(line)
+        foretold, reply = self.lab.answer(f"why {name} {event}"), self.lab.answer(line)
         if len(reply) > 1:
             raise Differs("\n".join([f"{line}: {len(reply)} lines", *reply]))
         branch, outcome = self.branches[name], outcome_in(event, reply[0])
         self.seen[event.split()[0], kind_of(outcome)] += 1
         before = branch.now()
-        branch.take(self.lab, name, event, reply[0])
+        branch.take(self.lab, name, event, reply[0], foretold)
         compare_event(self.lab.setup, before, branch.now(), event, outcome)
         return reply
 
@@ -90,9 +90,15 @@ class Timeline:
     def past(self, name: str, at: str) -> List[str]:
         return self.branches[name].seen_at(name, int(at))
 
-    def why(self, name: str, at: str) -> List[str]:
+    def why(self, name: str, *what: str) -> List[str]:
         # (so it is asked twice)
-        return self.branches[name].why(self.lab, name, int(at))
+        branch = self.branches[name]
+        if what[0] in EVENTS:
+            return branch.foretell(self.lab, name, plain_event(what), self.room_for(name, branch.cursor))
+        return branch.why(self.lab, name, int(what[0]))
+
+    def frame(self, name: str, ticket: str) -> List[str]:
+        return self.branches[name].frame(self.lab, name, int(ticket))
 
     def log(self, name: str) -> List[str]:
         return self.branches[name].log(name)

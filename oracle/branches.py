@@ -5,8 +5,12 @@ import contextlib
 from typing import ContextManager, Iterator, List, NamedTuple, Optional, Sequence, Tuple
 
 from shell.laboratory import outcome_of
+from shell.language.events import OF_FRAME
+from shell.pair import read_shown
 
+from .frames import contents
 from .reasons import compare_reason
+from .refusals import against
 from .subject import Differs, Subject
 
 WITHOUT = "without"
@@ -36,9 +40,10 @@ class WantedBranch:
         """A branch of the first events."""
         return WantedBranch(self.events[:place], self.shown[: place + 1], place)
 
-    def take(self, lab: Subject, name: str, event: str, reply: str) -> None:
-        """An event was answered so: it stands now, or has changed nothing."""
+    def take(self, lab: Subject, name: str, event: str, reply: str, foretold: Sequence[str]) -> None:
+        """An event was answered so: it stands now, or has changed nothing. It had been foretold, by `why` of it."""
         if not reply.startswith("step "):
+            compare(f"why {name} {event}", self.refused(lab, name, event, reply), foretold, "came")
             self.compare(lab, name, f"{event}: {reply}")
             return
         undone = len(self.events) - self.cursor
@@ -47,6 +52,7 @@ class WantedBranch:
         self.events[self.cursor :] = [event]
         self.cursor += 1
         why = lab.answer(f"why {name} {self.cursor}")
+        compare(f"why {name} {event}", why, foretold, "came")
         self.shown[self.cursor :] = [Shown(lab.shown(name, self.cursor, self.cursor), outcome_of(reply))]
         self.former = None
         self.compare_why(lab, name, self.cursor, why)
@@ -57,10 +63,13 @@ class WantedBranch:
         self.order(lab, name, f"{'back' if n < 0 else 'forward'} {name} {abs(n)}", f"at {self.cursor}")
 
     def end(self, lab: Subject, name: str) -> None:
-        """All events happen again, then all are taken back, and then they happen once more; both ends are seen from each other."""
+        """All events happen again, then all are taken back, and then they happen once more; both ends are seen from each other, and
+        some frames from the first."""
         self.go(lab, name, len(self.events) - self.cursor)
         self.go(lab, name, -self.cursor)
         self.past(lab, name, len(self.events))
+        for ticket in sorted({0, 1, self.sent // 2, self.sent, self.sent + 1}):
+            self.frame(lab, name, ticket)
         self.go(lab, name, len(self.events))
         self.past(lab, name, 0)
 
@@ -139,6 +148,53 @@ class WantedBranch:
         head = f"why {name} {place}"
         compare(head, [head, self.log(name)[place], f"outcome {self.shown[place].outcome}"], reply[:3], "came")
         compare_reason(lab.setup, reply, self.shown[place - 1].lines, self.shown[place].lines)
+
+    def foretell(self, lab: Subject, name: str, event: str, room: ContextManager[Room]) -> List[str]:
+        """An event is explained that has not happened, and the branch stays as it is: the reply. The room has what stands of it."""
+        line = f"why {name} {event}"
+        reply = lab.answer(line)
+        with room as (other, spare):
+            came = other.ask(f"step {spare} {event}")
+            rest = other.answer(f"why {spare} {self.cursor + 1}")[2:] if came.startswith("step ") else []
+        compare(line, [*self.head(name, event), *rest] if rest else self.refused(lab, name, event, came), reply, "came")
+        self.compare(lab, name, line)
+        return reply
+
+    def head(self, name: str, event: str) -> List[str]:
+        """How the reply begins that explains an event where the branch stands."""
+        return [f"why {name} {self.cursor + 1}", f"event {self.cursor + 1} step {name} {event}"]
+
+    def refused(self, lab: Subject, name: str, event: str, reply: str) -> List[str]:
+        """What `why` has to say of an event that is refused so where the branch stands."""
+        _, _, _, number, refusal = reply.split()
+        pair = read_shown([f"branch {name} events 0 cursor 0", *self.now()])
+        return [*self.head(name, event), f"refused {number} {refusal}", *against(lab.setup, pair, event, refusal), "end"]
+
+    def frame(self, lab: Subject, name: str, ticket: int) -> List[str]:
+        """A frame is shown, and the branch stays as it is: the reply."""
+        line = f"frame {name} {ticket}"
+        reply = lab.answer(line)
+        compare(line, self.traced(name, ticket), reply, "came")
+        self.compare(lab, name, line)
+        return reply
+
+    @property
+    def sent(self) -> int:
+        """How many frames its events sent, under tickets from 1."""
+        return sum(it.outcome.startswith("sent ") for it in self.shown)
+
+    def traced(self, name: str, ticket: int) -> List[str]:
+        """The reply that `frame` has to get: the event that sent the frame, its bytes as they were shown then, what is in them, and
+        the events of the ticket."""
+        steps = [(line, f"outcome {it.outcome}") for line, it in zip(self.log(name)[1:], self.shown[1:])]
+        sent = next((at for at, it in enumerate(self.shown) if it.outcome.startswith(f"sent {ticket} ")), None)
+        if sent is None:
+            return ["refused 11 NoFrame"]
+        frame = next(it for it in self.shown[sent].lines if it.startswith(f"frame {ticket} "))
+        data = frame.split()[3].replace("-", "")
+        befell = [it for it, event in zip(steps, self.events) if event.split()[0] in OF_FRAME and event.split()[1] == str(ticket)]
+        told = [*steps[sent - 1], frame, *contents(bytes.fromhex(data)), *(line for two in befell for line in two)]
+        return [f"frame {name} {ticket}", *told, "end"]
 
     def now(self) -> List[str]:
         return self.shown[self.cursor].lines

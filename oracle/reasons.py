@@ -4,20 +4,21 @@ from __future__ import annotations
 from typing import List, Sequence, Tuple
 
 from shell.explanations import Expiry, Explanation, Judged, OfState, Purge, read_explanation
-from shell.frames import Broken, ClearRecord, Record, StatusRecord, decode
+from shell.frames import Frame
 from shell.language.events import DELIVER, PACKET, PURGE, read_packet
 from shell.language.names import SYN_SENT, Name
 from shell.language.packets import Key, PacketEvent
-from shell.language.records import KINDS
+from shell.language.records import BY_WORD
 from shell.language.setups import DEFER, NAT, NO_SYNC, STATES
-from shell.pair import Frame, Node, State, read_shown
+from shell.pair import Node, read_shown
 from shell.rulings import deciding
 from shell.setups import Setup
+from shell.states import State
 from shell.words import expires_at
 
+from .frames import contents
 from .subject import Differs
 
-_WORDS = {it.name: it.word for it in KINDS.values()}
 _OUTCOMES = {"": "pass -", "block": "drop block", "max": "drop max", "full": "drop full", "wire": "drop key", "stack": "drop key"}
 # What has to be, and what came.
 Both = Tuple[object, object]
@@ -27,7 +28,7 @@ def compare_reason(setup: Setup, reply: Sequence[str], before: Sequence[str], af
     """An explanation has to be what the pairs before and after the event tell."""
     was, now = (read_shown(["branch main events 0 cursor 0", *it]) for it in (before, after))
     it = read_explanation(reply)
-    kind, about, *_ = it.event.split()
+    kind, about, *_ = it.event.words
     wanted: object = None
     came: object = it.reason
     if kind == PACKET.word:
@@ -45,17 +46,17 @@ def compare_reason(setup: Setup, reply: Sequence[str], before: Sequence[str], af
 
 
 def _packet(setup: Setup, it: Explanation, was: Node, now: Node) -> Both:
-    packet = read_packet(it.event)
+    packet = read_packet(it.event.line)
     state = was.found(packet)
     # (a closed connection is deleted where a new one begins)
     if state is None or state.name not in now.states:
         wanted = _judged(setup, was, packet)
-        return (wanted, _outcome(setup, packet, wanted)), (it.reason, it.outcome)
+        return (wanted, _outcome(setup, packet, wanted)), (it.reason, it.event.came)
     if not isinstance(it.reason, OfState):
         return "by its state", it.reason
     is_missed = any(edge.missed is not None for edge in it.reason.edges.values())
     outcome = "drop window" if is_missed else f"pass {state.name}"
-    return (state.name, _edges(state, packet), outcome), (it.reason.name, [*it.reason.edges], it.outcome)
+    return (state.name, _edges(state, packet), outcome), (it.reason.name, [*it.reason.edges], it.event.came)
 
 
 def _outcome(setup: Setup, packet: PacketEvent, judged: Judged) -> str:
@@ -101,21 +102,14 @@ def _judged(setup: Setup, node: Node, packet: PacketEvent) -> Judged:
 
 def _delivery(it: Explanation, frame: Frame, was: Node, now: Node) -> Both:
     """Its records, as many bad and stale ones as are counted."""
-    try:
-        records = [_written(record) for record in decode(frame.data)]
-    except Broken:
-        return None, it.reason
+    first, *_ = lines = contents(frame.data)
+    if not first.startswith("record "):
+        return (None, first), (it.reason, it.event.came)
+    records = [words[: BY_WORD[words[0]].words + 1] for _, *words in map(str.split, lines)]
     counted = [now.counters[name] - was.counters[name] for name in ("bad", "stale")]
     told = [sum(record.is_bad for record in it.records), sum(bool(record.stale) for record in it.records)]
-    came = [(record.kind, *record.about) for record in it.records]
-    return (records, counted, f"taken {len(records)}"), (came, told, it.outcome)
-
-
-def _written(record: Record) -> Tuple[str, ...]:
-    """A record as an explanation has it."""
-    if isinstance(record, ClearRecord):
-        return _WORDS[record.action], str(record.creator), str(record.bound)
-    return _WORDS[record.action], str(record.status if isinstance(record, StatusRecord) else record.name)
+    came = [[record.kind.word, *record.about] for record in it.records]
+    return (records, counted, f"taken {len(records)}"), (came, told, it.event.came)
 
 
 # ---- a purge
@@ -130,4 +124,4 @@ def _purge(setup: Setup, it: Explanation, was: Node, now: Node) -> Both:
         expiries.append(Expiry(name, state.timeout_class, seconds, scaled, expires_at(setup, was, state)))
     wanted = Purge(was.clock, many, setup.adaptive, expiries)
     due = [one.name for one in wanted.due]
-    return (wanted, due, f"purged {len(due)}"), (it.reason, sorted(was.states.keys() - now.states.keys()), it.outcome)
+    return (wanted, due, f"purged {len(due)}"), (it.reason, sorted(was.states.keys() - now.states.keys()), it.event.came)

@@ -1,8 +1,10 @@
-"""A branch as `log` tells it: the lines of its events, and how many of them stand."""
+"""A branch as `log` tells it: the lines of its events, and how many of them stand; and one of its events with what came of it."""
 from __future__ import annotations
 
 from dataclasses import dataclass, field
-from typing import List, Sequence
+from typing import List, NamedTuple, Sequence
+
+from .language.events import EVENTS, Event
 
 
 @dataclass(frozen=True)
@@ -18,3 +20,36 @@ def read_log(lines: Sequence[str]) -> Branch:
     """The branch that a reply to `log` tells."""
     head = lines[0].split()
     return Branch(head[1], [line.split(" ", 4)[4] for line in lines[1:-1]], int(head[5]))
+
+
+class Happened(NamedTuple):
+    """An event by its place from 1 on and its line, and what came of it: its outcome, or `refused K NAME`."""
+
+    number: int
+    line: str
+    came: str
+
+    @classmethod
+    def read(cls, event: str, came: str) -> "Happened":
+        """One that a reply tells in two lines."""
+        _, number, _, _, line = event.split(" ", 4)
+        return cls(int(number), line, came if came.startswith("refused ") else came.partition(" ")[2])
+
+    @property
+    def words(self) -> List[str]:
+        return self.line.split()
+
+    @property
+    def outcome(self) -> List[str]:
+        return self.came.split()
+
+    @property
+    def kind(self) -> Event:
+        return EVENTS[self.words[0]]
+
+    @property
+    def is_refused(self) -> bool:
+        return self.outcome[0] == "refused"
+
+    def __str__(self) -> str:
+        return f"event {self.number}, `{self.line}` ({self.came})"

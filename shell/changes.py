@@ -11,9 +11,9 @@ from .laboratory import Laboratory
 
 def changes(lab: Laboratory, branch: Branch, number: int, paint: Paint) -> List[str]:
     """The event with its outcome, and each thing that it changed, before and after."""
-    it = lab.explanation(branch.name, number)
-    before, after = (lab.with_packets(lab.past(branch.name, place), branch) for place in (number - 1, number))
-    lines = [paint.head(f"event {number}: {it.event}: {it.outcome}")]
+    it = lab.explanation(branch.name, number).event
+    before, after = (lab.with_contents(lab.past(branch.name, place), branch) for place in (number - 1, number))
+    lines = [paint.head(f"event {number}: {it.line}: {it.came}")]
     if number > branch.cursor:
         lines.append(paint.dim("  it was undone: so it changed the pair while it stood"))
     found = differences(before, after)

@@ -7,7 +7,7 @@ from typing import Callable, Dict, Iterable, List, Sequence, Tuple
 
 from .helps import SHELL, WORDS
 from .laboratory import Laboratory
-from .language.commands import RULE, SETUP, STEP, TYPED
+from .language.commands import COMMANDS, FRAME, RULE, SETUP, STEP, TYPED, WHY
 from .language.events import EVENTS
 from .language.forms import ACTION, NODE, RULE_DIRECTION
 from .language.searches import SEARCH
@@ -23,11 +23,13 @@ def _branches(lab: Laboratory, _: Sequence[str]) -> Sequence[str]:
 
 
 def _pair(lab: Laboratory, words: Sequence[str]) -> Pair:
-    return lab.show(words[1] if words[0] in TYPED else lab.in_use)
+    return lab.show(words[1] if words[0] in COMMANDS and words[1] not in EVENTS else lab.in_use)
 
 
 def _tickets(lab: Laboratory, words: Sequence[str]) -> Sequence[str]:
-    return [*map(str, _pair(lab, words).frames)]
+    """The frames in flight, or all that were sent."""
+    pair = _pair(lab, words)
+    return [*map(str, range(1, pair.next_ticket) if words[0] == FRAME.word else pair.frames)]
 
 
 def _state_names(lab: Laboratory, words: Sequence[str]) -> Sequence[str]:
@@ -53,7 +55,9 @@ def candidates(lab: Laboratory, before: Sequence[str], begun: str) -> List[str]:
         return _matching(WORDS, begun)
     if words[0] == SEARCH:
         return _search(lab, words, begun)
-    part = words[2:] if words[0] == STEP.word and words[2:] else words
+    # An event follows the branch, which `why` may be without.
+    places = {STEP.word: (2,), WHY.word: (1, 2)}.get(words[0], ())
+    part = next((words[at:] for at in places if words[at:] and words[at] in EVENTS), words)
     return _matching(_following(lab, words, part, begun), begun)
 
 
@@ -66,8 +70,8 @@ def _following(lab: Laboratory, words: Sequence[str], part: Sequence[str], begun
     name, fixed = values[at]
     if name == "FILE":
         return glob.glob(glob.escape(begun) + "*")
-    every = EVENTS[word].every if word in EVENTS and at == 0 else ""
-    return [*(CHOICES[name](lab, words) if name in CHOICES else fixed), *filter(None, [every])]
+    others = (EVENTS[word].every,) if word in EVENTS else EVENTS if word == WHY.word else ()
+    return [*(CHOICES[name](lab, words) if name in CHOICES else fixed), *(it for it in others if it and at == 0)]
 
 
 def _values(word: str) -> List[Tuple[str, Sequence[str]]]:

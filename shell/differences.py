@@ -5,13 +5,13 @@ from dataclasses import dataclass, replace
 from difflib import SequenceMatcher
 from typing import Dict, List, Sequence, Tuple
 
-from .frames import Broken, checksum, decode, summary
-from .language.names import COUNTERS, NODES, Name
+from .frames import Frame
+from .language.names import ALL_STATES, COUNTERS, NODES, Name
 from .language.records import BULK_STATUS, CLEAR, QUEUES
-from .pair import Frame, Node, Pair, State
-from .records import record_lines
+from .pair import Node, Pair
+from .records import record_line
+from .states import State
 from .words import (
-    ALL_STATES,
     bulk_client,
     bulk_server,
     bulk_status,
@@ -154,24 +154,16 @@ def _of_node(where: str, before: Node, after: Node) -> List[Difference]:
 
 
 def _frame_text(frame: Frame) -> str:
-    return f"to {frame.to}, {counted(len(frame.data), 'byte')}: {summary(frame.data)}"
-
-
-def _is_readable(frame: Frame) -> bool:
-    try:
-        decode(frame.data)
-    except Broken:
-        return False
-    return True
+    return f"to {frame.to}, {counted(len(frame.data), 'byte')}: {frame.summary}"
 
 
 def _of_records(before: Frame, after: Frame) -> List[Difference]:
     """The records that differ; where one of the frames cannot be read, only what it is."""
     subject = str(before.ticket)
-    if not (_is_readable(before) and _is_readable(after)):
-        old, new = summary(before.data), summary(after.data)
+    if before.broken or after.broken:
+        old, new = before.summary, after.summary
         return [Difference("link", "frame", subject, old, new, "content")] if old != new else []
-    old_records, new_records = ([(subject, it) for it in record_lines(frame.data)] for frame in (before, after))
+    old_records, new_records = ([(subject, record_line(it)) for it in frame.records] for frame in (before, after))
     moved = _moved("link", "frame", old_records, new_records)
     return [replace(it, part="record") for it in moved]
 
@@ -182,7 +174,7 @@ def _of_frame(before: Frame, after: Frame) -> List[Difference]:
     parts = {
         "receiver": (before.to, after.to),
         "size": (counted(len(before.data), "byte"), counted(len(after.data), "byte")),
-        "checksum": (checksum(before.data) or "none", checksum(after.data) or "none"),
+        "checksum": (before.checksum or "none", after.checksum or "none"),
     }
     found = [Difference("link", "frame", subject, old, new, part) for part, (old, new) in parts.items() if old != new]
     found += _of_records(before, after)

@@ -11,8 +11,9 @@ from .colours import Paint
 from .differences import Difference, differences
 from .laboratory import Laboratory
 from .language.names import NODES, Name
-from .pair import Node, Pair, State, other
+from .pair import Node, Pair, other
 from .setups import Setup
+from .states import State
 from .words import (
     UNKNOWN_SETUP,
     bulk_client,
@@ -163,7 +164,7 @@ def _names_of_flow(node: Node, state: State) -> List[Name]:
 
 def between_branches(lab: Laboratory, one: Branch, two: Branch, paint: Paint) -> List[str]:
     """Whether two branches show the same pair, where their events part, and what differs between the pairs."""
-    found = differences(lab.with_packets(lab.show(one.name), one), lab.with_packets(lab.show(two.name), two))
+    found = differences(lab.with_contents(lab.show(one.name), one), lab.with_contents(lab.show(two.name), two))
     answer = "show the same pair" if not found else f"show pairs that differ in {counted(len(found), 'place')}"
     colour = paint.bad if found else paint.good
     lines = [colour(f"{one.name} and {two.name} {answer}"), *_where_they_part(one, two)]

@@ -1,10 +1,11 @@
-"""What the program answers to `why BRANCH K`: what came of an event, and why."""
+"""What the program answers to `why`: what came of an event of a branch, or would come of one, and why."""
 from __future__ import annotations
 
 from typing import Dict, List, NamedTuple, Optional, Sequence, Tuple, Union
 
+from .branches import Happened
 from .language.names import Name, number_or_none
-from .language.records import CLEAR
+from .language.records import BY_WORD, CLEAR, RecordKind
 from .setups import Adaptive
 
 
@@ -46,9 +47,9 @@ _STALE: Dict[str, Tuple[str, ...]] = {"-": (), "src": ("source",), "dst": ("dest
 
 
 class TakenRecord(NamedTuple):
-    """A record of a frame, by the word of its kind and what it is about, and the words of what became of it."""
+    """A record of a frame, by its kind and what it is about, and the words of what became of it."""
 
-    kind: str
+    kind: RecordKind
     about: Tuple[str, ...]
     fate: Tuple[str, ...]
 
@@ -62,7 +63,7 @@ class TakenRecord(NamedTuple):
 
     def takes(self, name: Name) -> bool:
         """Whether it took a state of this name, if there was one."""
-        if self.kind == CLEAR.word:
+        if self.kind is CLEAR:
             return name.creator == int(self.about[0]) and name.id <= int(self.about[1])
         return self.fate == ("deleted",) and self.about == (str(name),)
 
@@ -96,16 +97,23 @@ class Purge(NamedTuple):
         return [it for it in self.expiries if it.expires <= self.clock]
 
 
+class Against(NamedTuple):
+    """The numbers that stand against an event that is refused, as they follow the word for them: `ticket NEXT`, `frames LIMIT
+    FRAMES`, `pending LIMIT PENDING`, `clock MS LAST` or `due MS DUE`; none where the refusal has none."""
+
+    numbers: Tuple[int, ...]
+
+
 # What there is to say beside the outcome: of a frame that can be read its records, and of most events nothing.
-Reason = Union[OfState, Judged, List[TakenRecord], Purge, None]
+Reason = Union[OfState, Judged, List[TakenRecord], Purge, Against, None]
 
 
 class Explanation(NamedTuple):
-    """An event of a branch by its line, its outcome, and why."""
+    """An event with what came of it, or would come of it, and why; the lines of the reason as the program writes them."""
 
-    event: str
-    outcome: str
+    event: Happened
     reason: Reason
+    lines: Sequence[str] = ()
 
     @property
     def records(self) -> List[TakenRecord]:
@@ -116,8 +124,9 @@ class Explanation(NamedTuple):
 def read_explanation(reply: Sequence[str]) -> Explanation:
     """The explanation that a reply gives."""
     try:
-        _, event, outcome, *lines, _ = reply
-        return Explanation(event.split(" ", 4)[4], outcome.split(" ", 1)[1], _reason([it.split() for it in lines]))
+        _, event, came, *lines, _ = reply
+        it, words = Happened.read(event, came), [line.split() for line in lines]
+        return Explanation(it, _against(words) if it.is_refused else _reason(words), lines)
     except (IndexError, KeyError, ValueError) as error:
         raise NotExplained("\n".join(reply)) from error
 
@@ -130,8 +139,12 @@ def _reason(lines: Sequence[List[str]]) -> Reason:
     if first in ("closed", "rule"):
         return _judged(lines)
     if first == "record":
-        return [_record(*words) for _, *words in lines]
+        return [_record(BY_WORD[kind], words) for _, kind, *words in lines]
     return _purge(lines) if lines else None
+
+
+def _against(lines: Sequence[List[str]]) -> Against:
+    return Against(tuple(int(it) for _, *numbers in lines for it in numbers))
 
 
 def _judged(lines: Sequence[List[str]]) -> Judged:
@@ -141,9 +154,8 @@ def _judged(lines: Sequence[List[str]]) -> Judged:
     return Judged(closed, number_or_none(rule), how, tuple(values))
 
 
-def _record(kind: str, *words: str) -> TakenRecord:
-    size = 2 if kind == CLEAR.word else 1
-    return TakenRecord(kind, words[:size], words[size:])
+def _record(kind: RecordKind, words: Sequence[str]) -> TakenRecord:
+    return TakenRecord(kind, tuple(words[: kind.words]), tuple(words[kind.words :]))
 
 
 def _purge(lines: Sequence[List[str]]) -> Purge:

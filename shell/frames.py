@@ -1,49 +1,30 @@
-"""Frames, record by record: the messages of pfsync(4) version 5 in this laboratory's layout (docs/FORMATS.md)."""
+"""Frames and their records: the messages of pfsync(4) version 5, as the program reports them (docs/FORMATS.md)."""
 from __future__ import annotations
 
-import ipaddress
 from collections import Counter
 from dataclasses import dataclass
-from typing import Callable, Dict, List, Optional, Union
+from typing import Optional, Sequence, Tuple, Union
 
-from .language.forms import GREATEST, PROTOCOLS
-from .language.names import Name
-from .language.packets import Key
-from .language.records import BULK_STATUS, CLEAR, DELETE, INSERT, KINDS, SHORT_UPDATE, UPDATE, RecordKind
-from .language.setups import CLASSES
-from .pair import End
+from .language.names import ALL_STATES, Name, number_or_none
+from .language.records import BULK_STATUS, BY_WORD, CLEAR, SHORT_UPDATE, RecordKind
+from .states import FLOW_WORDS, End, Flow, flow_fields
 
 HEADER = 20
 
 
-class Broken(ValueError):
-    """The bytes are no frame, for the fault that a node counts them as broken for."""
-
-
 @dataclass(frozen=True)
-class StateRecord:
-    """A state as an insertion, an update or a deletion carries it."""
+class Carried(Flow):
+    """A state as an insertion, an update or a deletion carries it, with the seconds that are left of it at the sender."""
 
-    action: str
-    name: Name
-    protocol: str
-    direction: str
-    asks_for_acknowledgement: bool
-    wire: Key
-    stack: Key
-    source: End
-    destination: End
-    timeout_class: str
     remaining: int
     rule: Optional[int]
+    asks_for_acknowledgement: bool
 
 
 @dataclass(frozen=True)
-class ShortUpdate:
-    """The parts of a state that packets change."""
+class Changes:
+    """The parts of a state that packets change, as a short update carries them."""
 
-    action: str
-    name: Name
     source: End
     destination: End
     timeout_class: str
@@ -51,162 +32,66 @@ class ShortUpdate:
 
 
 @dataclass(frozen=True)
-class Named:
-    """A record that carries a state's name alone: an acknowledgement, a request or a short deletion."""
+class Record:
+    """A record by its kind and what it is about: a name, or of a clear a creator and the greatest id, or of a bulk status where the
+    update is; and what it carries of a state."""
 
-    action: str
-    name: Name
+    kind: RecordKind
+    about: Tuple[str, ...]
+    state: Union[Carried, Changes, None] = None
 
+    @classmethod
+    def read(cls, words: Sequence[str]) -> "Record":
+        kind = BY_WORD[words[0]]
+        about, rest = tuple(words[1 : kind.words + 1]), words[kind.words + 1 :]
+        if kind is SHORT_UPDATE:
+            return cls(kind, about, Changes(End.read(rest[:5]), End.read(rest[5:10]), rest[10], int(rest[11])))
+        if not rest:
+            return cls(kind, about)
+        remaining, rule, flags = words[1 + FLOW_WORDS :]
+        return cls(kind, about, Carried(*flow_fields(words[1:]), int(remaining), number_or_none(rule), flags == "k"))
 
-@dataclass(frozen=True)
-class ClearRecord:
-    """A clear: the states of a creator up to an id are gone."""
-
-    action: str
-    creator: int
-    bound: int
-
-
-@dataclass(frozen=True)
-class StatusRecord:
-    """Where a bulk update is: 1 at its start, 2 at its end."""
-
-    action: str
-    creator: int
-    status: int
-
-
-Record = Union[StateRecord, ShortUpdate, Named, ClearRecord, StatusRecord]
-
-
-class _Bytes:
-    """Numbers that are read one after the other, big endian."""
-
-    def __init__(self, data: bytes):
-        self.data, self.at = data, 0
-
-    def take(self, size: int) -> bytes:
-        part = self.data[self.at : self.at + size]
-        self.at += size
-        return part
-
-    def number(self, size: int) -> int:
-        return int.from_bytes(self.take(size), "big")
-
+    @property
     def name(self) -> Name:
-        number = self.number(8)
-        return Name(self.number(4), number)
-
-    def peer(self) -> End:
-        level, scale = self.number(1), self.number(1)
-        return End(level, None if scale == 255 else scale, self.number(2), self.number(4), self.number(4))
-
-    def timeout_class(self) -> str:
-        number = self.number(1)
-        if number >= len(CLASSES):
-            raise Broken(f"there is no class {number}")
-        return CLASSES[number].word
-
-    def end(self, family: int) -> str:
-        address = self.take(16)
-        port = self.number(2)
-        if family == 4:
-            return f"{ipaddress.IPv4Address(address[:4])}:{port}"
-        return f"[{ipaddress.IPv6Address(address).exploded}]:{port}"
+        """The state that it is about; 0.0 for all of them."""
+        return ALL_STATES if self.kind in (CLEAR, BULK_STATUS) else Name.read(self.about[0])
 
 
-def _state(action: str, data: _Bytes) -> StateRecord:
-    name = data.name()
-    protocol, family, direction, flags = (data.number(1) for _ in range(4))
-    wire = Key(data.end(family), data.end(family))
-    stack = Key(data.end(family), data.end(family))
-    source, destination = data.peer(), data.peer()
-    timeout_class = data.timeout_class()
-    data.take(3)
-    remaining, rule = data.number(4), data.number(4)
-    return StateRecord(
-        action,
-        name,
-        PROTOCOLS.get(protocol, str(protocol)),
-        "in" if direction == 1 else "out",
-        flags == 1,
-        wire,
-        stack,
-        source,
-        destination,
-        timeout_class,
-        remaining,
-        None if rule == GREATEST else rule,
-    )
+@dataclass(frozen=True)
+class Frame:
+    """A frame on its way: the node that it goes to, its bytes, and the records in them, where those were asked for."""
+
+    ticket: int
+    to: str
+    data: bytes
+    records: Tuple[Record, ...] = ()
+
+    @classmethod
+    def read(cls, words: Sequence[str]) -> "Frame":
+        ticket, to, data = words
+        return cls(int(ticket), to, b"" if data == "-" else bytes.fromhex(data))
+
+    @property
+    def broken(self) -> str:
+        """Why its receiver cannot read it, empty where it can: a cut frame still has its first length in its header."""
+        length, first = len(self.data), int.from_bytes(self.data[2:4], "big")
+        if length < HEADER:
+            return f"it has {length} bytes, and a header alone has {HEADER}"
+        return "" if first == length else f"bytes 2 and 3 of its header say {first} bytes, and {length} are there"
+
+    @property
+    def checksum(self) -> str:
+        """The checksum of the sender's rules."""
+        return self.data[4:HEADER].hex()
+
+    @property
+    def summary(self) -> str:
+        """What it carries, in a few words: `2 inserts, 1 bulk status`."""
+        if self.broken:
+            return f"broken: {self.broken}"
+        counts = Counter(it.kind.name for it in self.records)
+        return ", ".join(f"{n} {_plural(name) if n > 1 else name}" for name, n in counts.items()) or "no records"
 
 
-def _short_update(action: str, data: _Bytes) -> ShortUpdate:
-    name, source, destination = data.name(), data.peer(), data.peer()
-    timeout_class = data.timeout_class()
-    data.take(3)
-    return ShortUpdate(action, name, source, destination, timeout_class, data.number(4))
-
-
-def _clear(action: str, data: _Bytes) -> ClearRecord:
-    return ClearRecord(action, data.number(4), data.number(8))
-
-
-def _status(action: str, data: _Bytes) -> StatusRecord:
-    return StatusRecord(action, data.number(4), data.number(1))
-
-
-def _named(action: str, data: _Bytes) -> Named:
-    return Named(action, data.name())
-
-
-_READERS: Dict[RecordKind, Callable[[str, _Bytes], Record]] = {
-    CLEAR: _clear,
-    INSERT: _state,
-    UPDATE: _state,
-    DELETE: _state,
-    SHORT_UPDATE: _short_update,
-    BULK_STATUS: _status,
-}
-
-
-def decode(frame: bytes) -> List[Record]:
-    """The records of a frame, in their order."""
-    if len(frame) < HEADER:
-        raise Broken(f"{len(frame)} bytes are too few for a header")
-    if frame[0] != 5:
-        raise Broken(f"version {frame[0]}")
-    length = int.from_bytes(frame[2:4], "big")
-    if length != len(frame):
-        raise Broken(f"the header says {length} bytes, and {len(frame)} are there")
-    records: List[Record] = []
-    at = HEADER
-    while at < len(frame):
-        if len(frame) - at < 4 or frame[at] not in KINDS:
-            raise Broken(f"no group begins at byte {at}")
-        kind = KINDS[frame[at]]
-        count = int.from_bytes(frame[at + 2 : at + 4], "big")
-        at += 4
-        if not count or count * kind.size > len(frame) - at:
-            raise Broken(f"{count} records of {kind.name} at byte {at}")
-        for _ in range(count):
-            records.append(_READERS.get(kind, _named)(kind.name, _Bytes(frame[at : at + kind.size])))
-            at += kind.size
-    return records
-
-
-def checksum(frame: bytes) -> str:
-    """The checksum of the sender's rules."""
-    return frame[4:HEADER].hex()
-
-
-def _plural(action: str) -> str:
-    return action + ("es" if action.endswith("s") else "s")
-
-
-def summary(frame: bytes) -> str:
-    """What a frame carries, in a few words: `2 inserts, 1 bulk status`."""
-    try:
-        counts = Counter(it.action for it in decode(frame))
-    except Broken as error:
-        return f"broken: {error}"
-    return ", ".join(f"{n} {_plural(action) if n > 1 else action}" for action, n in counts.items()) or "no records"
+def _plural(name: str) -> str:
+    return name + ("es" if name.endswith("s") else "s")

@@ -77,7 +77,16 @@ SHELL: Dict[str, Help] = {
     "changes": Help(
         "changes [BRANCH] [K]", "tells what the K-th event changed, before and after; without K, the newest that stands"
     ),
-    "why": Help("why [[BRANCH] K]", "tells the reason of the last reply, or of what became of the K-th event"),
+    "why": Help(
+        "why [[BRANCH] K]\nwhy [BRANCH] EVENT",
+        "gives the reason for the last reply, or for what became of the K-th event; or what would come of an event, and why",
+        "The event does not happen: the branch stays as it is.",
+    ),
+    "frame": Help(
+        "frame [BRANCH] TICKET",
+        "shows a frame that an event sent, record by record, and the events that sent, cut, copied, delivered or lost it",
+        "Events after the cursor count too, and are marked as undone.",
+    ),
     "quiet": Help(
         "quiet [BRANCH]", "flushes and delivers, bulk turns too, until nothing is pending or in flight, telling each step"
     ),

@@ -2,24 +2,31 @@
 from __future__ import annotations
 
 import contextlib
-from dataclasses import dataclass
-from typing import Dict, Iterator, List, Optional, Sequence, Tuple
+from dataclasses import dataclass, replace
+from typing import Iterator, List, Optional, Sequence, Tuple, Union
 
 from .branches import Branch, read_log
 from .explanations import Explanation, read_explanation
+from .flights import Flight, read_flight
 from .held import held_packets, tell_packets
 from .language.commands import NAMES, OPEN, STEP
-from .language.lines import has_word, opens
+from .language.faults import COMMAND_REFUSALS, numbered
+from .language.lines import check_line, has_word, opens
 from .language.names import NODES
+from .language.readers import LineFault
 from .language.searches import SEARCH
 from .language.setups import Limit
-from .pair import Pair, read_frames, read_shown
+from .pair import Pair, read_shown
 from .programs import Client, Ended, Run, Session, check_setup, run_lines
 from .setups import Setup
 
 
 # What the numbers of a server's summary count, behind the number of commands.
 SUMMARY = ("branches", "events", "their cursors together", "states at a", "states at b", "frames in flight", "pending")
+
+
+# The reply of a branch whose events sent no such frame.
+NO_FRAME = f"refused {numbered('NoFrame', COMMAND_REFUSALS)}"
 
 
 class Unknown(Exception):
@@ -32,17 +39,6 @@ class Asked:
 
     line: str
     reply: Tuple[str, ...]
-
-
-@dataclass(frozen=True)
-class Step:
-    """An event of a branch: its place from 1 on, its line, its outcome, and the pair before and after it."""
-
-    number: int
-    event: str
-    outcome: str
-    before: Pair
-    after: Pair
 
 
 class Laboratory:
@@ -106,13 +102,14 @@ class Laboratory:
         """The pair as it was after the first events of a branch, those after its cursor too."""
         return read_shown(self._told(f"past {branch} {place}"))
 
-    def frames(self, branch: str, place: int) -> Dict[int, bytes]:
-        """The bytes of the frames in flight after the first events of a branch, by ticket."""
-        return read_frames(self._told(f"past {branch} {place}"))
+    def explanation(self, branch: str, event: Union[int, str]) -> Explanation:
+        """What came of an event of a branch by its place, those after its cursor too, and why; or what would come of one by its line
+        where the branch stands."""
+        return read_explanation(self._told(f"why {branch} {event}"))
 
-    def explanation(self, branch: str, place: int) -> Explanation:
-        """What came of an event of a branch, those after its cursor too, and why."""
-        return read_explanation(self._told(f"why {branch} {place}"))
+    def flight(self, branch: str, ticket: int) -> Flight:
+        """A frame that an event of a branch sent, those after its cursor too, and what became of it."""
+        return read_flight(self._told(f"frame {branch} {ticket}"))
 
     def summary(self) -> str:
         """What a server answers to a viewer, who waits for nobody: a few numbers of one moment, each with its name."""
@@ -138,9 +135,10 @@ class Laboratory:
         if reply[-1] == "end":
             return reply
         # (a name that is no name makes a faulty line)
-        if reply[0].endswith("NoBranch") or reply[0].startswith("bad ") and not reply[0].endswith("Unknown"):
+        if name not in self.names():
             raise Unknown(no_branch(name))
-        raise Unknown(f"the program answers `{reply[0]}` to `{line}`; `log {name}` lists its events")
+        what = f"no event of {name} sent a frame {line.split()[2]}" if reply[0] == NO_FRAME else f"the program answers `{reply[0]}` to `{line}`"
+        raise Unknown(f"{what}; `log {name}` lists its events")
 
     def _quietly(self, line: str) -> List[str]:
         """A reply that changes nothing, and that no one asks the reason of."""
@@ -167,8 +165,11 @@ class Laboratory:
         replies = self.run([f"step main {it}" for it in events])
         return [outcome_of(it[0]) for it in replies]
 
-    def with_packets(self, pair: Pair, branch: Optional[Branch] = None) -> Pair:
-        """A shown pair with the packets that its nodes hold, out of its branch; without the setup nobody can tell which those are."""
+    def with_contents(self, pair: Pair, branch: Optional[Branch] = None) -> Pair:
+        """A shown pair with the records of its frames; and with the packets that its nodes hold, out of its branch: without the setup
+        nobody can tell which those are."""
+        for ticket, it in pair.frames.items():
+            pair.frames[ticket] = it if it.broken else replace(it, records=self.flight(pair.branch, ticket).frame.records)
         if self.knows_setup and any(node.held for node in pair.nodes.values()):
             stood = (branch or self.branch(pair.branch)).events[: pair.cursor]
             tell_packets(pair, held_packets(stood, self.outcomes(stood)))
@@ -189,6 +190,14 @@ class Laboratory:
         finally:
             run.kill()
 
+    @contextlib.contextmanager
+    def beside(self, branch: Branch) -> Iterator["Laboratory"]:
+        """A laboratory of its own, in which a branch stands as it does here."""
+        with self.aside(branch) as run:
+            other = Laboratory(self.program, setup=self.setup)
+            other.session = run
+            yield other
+
     def run(self, lines: Sequence[str]) -> List[List[str]]:
         """The replies to commands, on a new pair with this setup, which has to be known."""
         ran = run_lines(self.program, (*self.setup.lines, OPEN.word, *lines))
@@ -201,7 +210,17 @@ def no_branch(name: str) -> str:
     """That there is no such branch; a node is none."""
     if name in NODES:
         return f"{name} is a node, and there is no branch of that name: `view` shows both nodes, and `diff` compares them"
-    return f"there is no branch {name}; `names` tells them"
+    return f"there is no branch {name}; `names` lists them"
+
+
+def event_of(words: Sequence[str]) -> str:
+    """An event that was typed, as the program takes it, or what is wrong with it."""
+    event = " ".join(words)
+    try:
+        check_line(f"{STEP.word} main {event}", False)
+    except LineFault as fault:
+        raise Unknown(f"`{event}`: {fault.why}") from fault
+    return event
 
 
 def outcome_of(reply: str) -> str:

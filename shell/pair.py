@@ -4,67 +4,14 @@ from __future__ import annotations
 from dataclasses import dataclass, field
 from typing import Callable, Dict, List, Optional, Sequence
 
-from .language.names import COUNTERS, Name, number_or_none
-from .language.packets import Key, PacketEvent
+from .frames import Frame
+from .language.names import COUNTERS, Name
+from .language.packets import PacketEvent
+from .states import State
 
 
 class NotShown(ValueError):
     """The text is not that of a shown branch."""
-
-
-@dataclass(frozen=True)
-class End:
-    """An end of a connection, as the window is followed."""
-
-    level: int
-    scale: Optional[int]
-    window: int
-    lo: int
-    hi: int
-
-    @classmethod
-    def read(cls, words: Sequence[str]) -> "End":
-        level, scale, window, lo, hi = words
-        return cls(int(level), number_or_none(scale), int(window), int(lo), int(hi))
-
-
-@dataclass(frozen=True)
-class State:
-    """An entry of a node's state table."""
-
-    name: Name
-    protocol: str
-    direction: str
-    wire: Key
-    stack: Key
-    source: End
-    destination: End
-    timeout_class: str
-    last: int
-    rule: Optional[int]
-    flags: str
-    updates: int
-    peer: Optional[int]
-
-    @classmethod
-    def read(cls, words: Sequence[str]) -> "State":
-        name, protocol, direction, wire_far, wire_near, stack_far, stack_near = words[:7]
-        timeout_class, last, rule, flags, updates, peer = words[17:23]
-        return cls(
-            Name.read(name),
-            protocol,
-            direction,
-            Key(wire_far, wire_near),
-            Key(stack_far, stack_near),
-            End.read(words[7:12]),
-            End.read(words[12:17]),
-            timeout_class,
-            int(last),
-            number_or_none(rule),
-            flags,
-            int(updates),
-            number_or_none(peer),
-        )
 
 
 @dataclass(frozen=True)
@@ -136,15 +83,6 @@ class Node:
         return len(self.queue) + len(self.asks) + len(self.statuses) + len(self.clears)
 
 
-@dataclass(frozen=True)
-class Frame:
-    """A frame in flight: the node that it goes to, and its bytes."""
-
-    ticket: int
-    to: str
-    data: bytes
-
-
 @dataclass
 class Pair:
     """A branch with its pair, as `show` tells it."""
@@ -173,8 +111,8 @@ class Pair:
         elif kind == "link":
             self.next_ticket, self.next_boot = int(rest[1]), int(rest[3])
         elif kind == "frame":
-            data = b"" if rest[2] == "-" else bytes.fromhex(rest[2])
-            self.frames[int(rest[0])] = Frame(int(rest[0]), rest[1], data)
+            frame = Frame.read(rest)
+            self.frames[frame.ticket] = frame
         else:
             _OF_NODE[kind](self.nodes[rest[0]], rest[1:])
 
@@ -197,16 +135,6 @@ _OF_NODE: Dict[str, Callable[[Node, List[str]], None]] = {
     "clr": lambda node, it: node.clears.append(Cleared(int(it[0]), int(it[1]))),
     "held": lambda node, it: node.held.append(Held.read(it)),
 }
-
-
-def read_frames(lines: Sequence[str]) -> Dict[int, bytes]:
-    """The bytes of the frames in flight that a shown branch lists, which stand last in it: nothing else is read."""
-    found: Dict[int, bytes] = {}
-    for words in (line.split() for line in reversed(lines[:-1])):
-        if words[0] != "frame":
-            break
-        found[int(words[1])] = b"" if words[3] == "-" else bytes.fromhex(words[3])
-    return found
 
 
 def read_shown(lines: Sequence[str]) -> Pair:

@@ -4,6 +4,7 @@ from __future__ import annotations
 import cmd
 import difflib
 import os
+import re
 from typing import IO, Any, Iterable, List, Sequence, Tuple
 
 from . import changes, diffs, helps, logs, macros, scripts, views
@@ -13,15 +14,16 @@ from .charts.picture import draw
 from .charts.text import text as chart_text
 from .colours import Paint
 from .completion import candidates
-from .laboratory import Laboratory, Unknown
+from .laboratory import Laboratory, Unknown, event_of
 from .language.commands import SETUP, STEP
 from .language.events import BROKEN, DELIVER, DROPPED, EVENTS, TICK
+from .language.forms import GREATEST
 from .language.lines import has_word, lines_of, opens
 from .language.names import NODES
 from .language.searches import GAVE_UP, SEARCH
 from .programs import Ended, SetupFault
 from .reasons.faults import explain_fault
-from .reasons.why import why_event, why_last
+from .reasons.why import why_ahead, why_event, why_last
 from .searches.finder import Finder
 
 STRICT_STATUS = 4
@@ -213,7 +215,7 @@ class Shell(cmd.Cmd):
             raise Unknown(f"usage: {helps.SHELL['view'].form}")
         name = names[0] if names else self.lab.in_use
         pair = self.lab.show(name) if place is None else self.lab.past(name, place)
-        self.tell(views.view(self.lab.with_packets(pair), setup, self.paint))
+        self.tell(views.view(self.lab.with_contents(pair), setup, self.paint))
 
     def do_diff(self, words: str) -> None:
         names = words.split()
@@ -235,11 +237,22 @@ class Shell(cmd.Cmd):
         self.tell(changes.changes(self.lab, branch, number, self.paint))
 
     def do_why(self, words: str) -> None:
-        if not words.split():
+        said = words.split()
+        # An event that has not happened begins with its word, which a branch may stand before.
+        begin = next((at for at, word in enumerate(said[:2]) if word in EVENTS), None)
+        if not said:
             self.tell(why_last(self.lab, self.paint))
-            return
-        branch, number = self.place(words.split(), "why")
-        self.tell(why_event(self.lab, branch, number, self.paint))
+        elif begin is not None:
+            self.tell(why_ahead(self.lab, said[0] if begin else self.lab.in_use, event_of(said[begin:]), self.paint))
+        else:
+            self.tell(why_event(self.lab, *self.place(said, "why"), self.paint))
+
+    def do_frame(self, words: str) -> None:
+        *names, ticket = self.needed(words, "frame").split()
+        if len(names) > 1 or not re.fullmatch("[0-9]{1,10}", ticket) or int(ticket) > GREATEST:
+            raise Unknown(f"usage: {helps.SHELL['frame'].form}")
+        branch, setup = self.branch(names[0] if names else ""), self.lab.setup if self.lab.knows_setup else None
+        self.tell(views.flight(self.lab.flight(branch.name, int(ticket)), branch.cursor, setup, self.paint))
 
     def do_quiet(self, words: str) -> None:
         name = words.strip() or self.lab.in_use
@@ -273,7 +286,7 @@ class Shell(cmd.Cmd):
     def do_use(self, words: str) -> None:
         name = self.needed(words, "use")
         if name not in self.lab.names():
-            raise Unknown(f"there is no branch {name}; `names` tells them")
+            raise Unknown(f"there is no branch {name}; `names` lists them")
         self.lab.in_use = name
 
     def do_summary(self, words: str) -> None:

@@ -6,14 +6,16 @@ from typing import Dict, List, Optional
 
 from .checksums import rules_checksum
 from .colours import Paint
-from .frames import HEADER, Broken, checksum, decode, summary
+from .flights import Flight
+from .frames import HEADER, Frame
 from .language.events import MOST_TRIES
 from .language.names import COUNTERS, NODES
 from .language.records import BULK_STATUS, CLEAR, QUEUES, UPDATE_REQUEST
 from .language.setups import BULK_MS, DEFER_MS
-from .pair import Frame, Held, Node, Pair, State, other
+from .pair import Held, Node, Pair, other
 from .records import record_line
 from .setups import Setup
+from .states import State
 from .words import (
     FLAGS,
     UNKNOWN_SETUP,
@@ -147,21 +149,27 @@ def _link(pair: Pair, setup: Optional[Setup], paint: Paint) -> List[str]:
     return lines
 
 
+def flight(it: Flight, cursor: int, setup: Optional[Setup], paint: Paint) -> List[str]:
+    """A frame as it was sent, and the events that sent it and befell it, where this number of the branch's events stands."""
+    lines = [line[2:] for line in _frame(it.frame, setup, paint)]
+    lines += [f"  {one}" if one.number <= cursor else paint.dim(f"  {one}  (undone)") for one in (it.sent, *it.later)]
+    is_over = it.ended is not None and it.ended.number <= cursor
+    return lines + ["  it is in flight"] * (it.sent.number <= cursor and not is_over)
+
+
 def _frame(frame: Frame, setup: Optional[Setup], paint: Paint) -> List[str]:
     """A frame in flight, and its records one a line."""
     head = f"  frame {frame.ticket} to {frame.to}, {counted(len(frame.data), 'byte')}{_rules(frame, setup)}"
-    try:
-        records = decode(frame.data)
-    except Broken:
-        return [f"{head}: {paint.bad(summary(frame.data))}"]
-    return [f"{head}: {summary(frame.data)}", *(f"    {record_line(it)}" for it in records)]
+    if frame.broken:
+        return [f"{head}: {paint.bad(frame.summary)}"]
+    return [f"{head}: {frame.summary}", *(f"    {record_line(it)}" for it in frame.records)]
 
 
 def _rules(frame: Frame, setup: Optional[Setup]) -> str:
     """The checksum in the header, beside those of the rules of the sender and of the receiver."""
     if len(frame.data) < HEADER:
         return ""
-    told = checksum(frame.data)
+    told = frame.checksum
     text = f", rules {told[:8]}"
     if setup is None:
         return text

@@ -1,16 +1,14 @@
 """States, ends, queues and bulk updates in words: those of pfctl(8) and pfsync(4)."""
 from __future__ import annotations
 
-from typing import Dict, Optional, Tuple, Union
+from typing import Dict, Optional, Tuple
 
-from .frames import StateRecord
-from .language.names import BULK_STATUSES, Name, level_name
+from .language.names import ALL_STATES, BULK_STATUSES, Name, level_name
 from .language.setups import NO_SYNC
-from .pair import Cleared, End, Node, State
+from .pair import Cleared, Node
 from .setups import Adaptive, Setup
+from .states import End, Flow, State
 
-Flow = Union[State, StateRecord]
-ALL_STATES = Name(0, 0)
 UNKNOWN_SETUP = "the setup is not known here: times of expiry are those of the default timeouts and limits"
 FLAGS = {"-": "none", "n": NO_SYNC.word, "k": "waits for an acknowledgement"}
 

@@ -7,13 +7,15 @@ from __future__ import annotations
 import ipaddress
 import re
 from dataclasses import dataclass, field, replace
-from typing import Callable, Dict, Iterable, List, Optional, Sequence, Tuple
+from itertools import accumulate
+from typing import Callable, Dict, Iterable, Iterator, List, Optional, Sequence, Tuple
 
-from ..branches import Branch
+from ..branches import Branch, Happened
+from ..explanations import Explanation, read_explanation
+from ..flights import Flight, read_flight
 from .frames import beside, record_words
-from ..histories import Flight, Happened, History
 from ..laboratory import Laboratory
-from ..language.events import BROKEN, CUT, DELIVER, FLUSH, HELD_BACK, LOSE, PACKET, PASS, REPEAT, RESTART, TICK
+from ..language.events import BROKEN, CUT, DELIVER, FLUSH, HELD_BACK, LOSE, OF_FRAME, PACKET, PASS, REPEAT, RESTART, TICK
 from ..language.faults import FRAME_FAULTS
 from ..words import counted, seconds
 
@@ -52,10 +54,6 @@ class Chart:
     # Of each event the place of its row, from 0 on.
     places: Dict[int, int] = field(default_factory=dict)
     flights: Dict[int, Flight] = field(default_factory=dict)
-    # Of each frame that a node sent, by its ticket, the records in words.
-    records: Dict[int, Tuple[str, ...]] = field(default_factory=dict)
-    # What is left of a frame after a cut, by the number of the event.
-    sizes: Dict[int, int] = field(default_factory=dict)
     boots: Dict[str, int] = field(default_factory=lambda: {"a": 1, "b": 2})
 
     def sent(self, flight: Flight) -> int:
@@ -75,12 +73,12 @@ class Chart:
         """What the link tells of a frame in a row: which frame it is, and what it has or what happens to it."""
         frame = f"#{flight.ticket}"
         if row.kind == FLUSH.word:
-            records = self.records[flight.ticket]
+            records = record_words(flight.frame.records)
             return f"{frame}:", tuple(f"{it}{',' * (it != records[-1])}" for it in records)
         if row.kind == REPEAT.word:
             return f"{frame}:", (f"copy of #{flight.origin}",)
         if row.kind == CUT.word:
-            return f"{frame}:", (f"cut to {self.sizes[row.first]} bytes",)
+            return f"{frame}:", (f"cut to {next(it.outcome[1] for it in flight.cuts if it.number == row.first)} bytes",)
         return frame, ()
 
     @property
@@ -108,16 +106,28 @@ def duration(milliseconds: int) -> str:
 
 def chart(lab: Laboratory, branch: Branch) -> Chart:
     """The chart of the events of a branch that stand."""
+    drawing = _Drawing(Chart(branch.name, branch.cursor, len(branch.events) - branch.cursor))
+    for it, flight in _explained(lab, branch):
+        drawing.event(it, flight)
+    return drawing.chart
+
+
+def _explained(lab: Laboratory, branch: Branch) -> Iterator[Tuple[Explanation, Optional[Flight]]]:
+    """Each event that stands, explained, and the frame that it sent, if it did: tickets are counted from 1."""
     events = branch.events[: branch.cursor]
-    # One run is quicker than a question for each event.
-    history = History(lab, branch.name, events, lab.outcomes(events) if lab.knows_setup else ())
-    drawn = Chart(branch.name, branch.cursor, len(branch.events) - branch.cursor, flights=history.flights)
-    drawn.records = {ticket: record_words(history.records(it)) for ticket, it in drawn.flights.items() if it.origin is None}
-    drawn.sizes = {cut.number: int(cut.outcome[1]) for it in drawn.flights.values() for cut in it.cuts}
-    drawing = _Drawing(drawn)
-    for it in history.events:
-        drawing.event(it)
-    return drawn
+    sends = [it.split()[0] in (FLUSH.word, REPEAT.word) for it in events]
+    tickets = [*accumulate(map(int, sends))]
+    if not lab.knows_setup:
+        for number, (ticket, is_sent) in enumerate(zip(tickets, sends), 1):
+            yield lab.explanation(branch.name, number), lab.flight(branch.name, ticket) if is_sent else None
+        return
+    # One run is quicker, in which each is asked for where it has just happened: the program has no long way back to it.
+    asked = enumerate(zip(events, tickets, sends), 1)
+    lines = [(f"step main {it}", f"why main {at}", f"frame main {ticket}")[: 2 + is_sent] for at, (it, ticket, is_sent) in asked]
+    replies = iter(lab.run([line for it in lines for line in it]))
+    for is_sent in sends:
+        next(replies)
+        yield read_explanation(next(replies)), read_flight(next(replies)) if is_sent else None
 
 
 # ---- marks at a lane
@@ -145,9 +155,9 @@ def _of_node(it: Happened) -> Mark:
     """The mark of an event at one node that is no packet."""
     number = int(it.outcome[1]) if len(it.outcome) > 1 else 0
     counts = {"states": counted(number, "state"), "packets": counted(number, "held packet"), "clock": duration(number)}
-    fate = it.event.outcome_of(it.outcome).drawn.format(n=number, **counts)
-    what = it.event.drawn.format(duration(int(it.words[2])) if it.event is TICK else it.words[-1])
-    return Mark(it.words[1], it.event.word, (what,), fate, "note" if it.event is RESTART else "")
+    fate = it.kind.outcome_of(it.outcome).drawn.format(n=number, **counts)
+    what = it.kind.drawn.format(duration(int(it.words[2])) if it.kind is TICK else it.words[-1])
+    return Mark(it.words[1], it.kind.word, (what,), fate, "note" if it.kind is RESTART else "")
 
 
 class _Drawing:
@@ -156,43 +166,50 @@ class _Drawing:
     def __init__(self, drawn: Chart):
         self.chart = drawn
 
-    def event(self, it: Happened) -> None:
-        if it.event in (DELIVER, LOSE):
-            self._end(it, self.chart.flights[int(it.words[1])])
-        elif it.event is PACKET:
+    def event(self, explained: Explanation, flight: Optional[Flight]) -> None:
+        it = explained.event
+        if flight:
+            # (what befalls it follows, if that stands)
+            self.chart.flights[flight.ticket] = replace(flight, later=[])
+        if it.words[0] in OF_FRAME:
+            self.chart.flights[int(it.words[1])].later.append(it)
+        if it.kind in (DELIVER, LOSE):
+            self._end(explained, self.chart.flights[int(it.words[1])])
+        elif it.kind is PACKET:
             self._row(it, (_packet(it.words, it.outcome),))
-        elif it.event in (FLUSH, REPEAT):
+        elif it.kind in (FLUSH, REPEAT):
             self._row(it, (), int(it.outcome[1]))
-        elif it.event is CUT:
+        elif it.kind is CUT:
             self._row(it, (), int(it.words[1]))
         else:
             self._at_node(it, _of_node(it))
 
     def _row(self, it: Happened, marks: Iterable[Mark], ticket: Optional[int] = None) -> None:
         self.chart.places[it.number] = len(self.chart.rows)
-        self.chart.rows.append(Row(it.number, it.number, it.event.word, tuple(marks), ticket))
+        self.chart.rows.append(Row(it.number, it.number, it.kind.word, tuple(marks), ticket))
 
     def _at_node(self, it: Happened, mark: Mark) -> None:
         """An event of one node; the same tick of both is one row."""
         last = self.chart.rows[-1] if self.chart.rows else None
-        if it.event is TICK and last and last.kind == TICK.word and len(last.marks) == 1:
+        if it.kind is TICK and last and last.kind == TICK.word and len(last.marks) == 1:
             if last.marks[0].node != mark.node and last.marks[0].words == mark.words:
                 self.chart.rows[-1] = replace(last, last=it.number, marks=(*last.marks, mark))
                 return
         self._row(it, (mark,))
 
-    def _end(self, it: Happened, flight: Flight) -> None:
+    def _end(self, explained: Explanation, flight: Flight) -> None:
         """A frame is delivered or lost: in the row where it was sent, if nothing lies between."""
-        marks = () if flight.is_lost else (self._delivery(it, flight),)
+        it, marks = explained.event, () if flight.is_lost else (self._delivery(explained, flight),)
         if self.chart.sent(flight) == len(self.chart.rows) - 1:
             self.chart.places[it.number] = self.chart.sent(flight)
             self.chart.rows[-1] = replace(self.chart.rows[-1], last=it.number, marks=marks)
         else:
             self._row(it, marks, flight.ticket)
 
-    def _delivery(self, it: Happened, flight: Flight) -> Mark:
-        if it.outcome[0] == BROKEN.word:
-            return Mark(flight.to, DELIVER.word, (), f"broken: {FRAME_FAULTS[int(it.outcome[1]) - 1]}", "bad")
-        also = beside(it.explained.records)
-        words = (f"taken {it.outcome[1]}:", also) if also else (f"taken {it.outcome[1]}",)
+    def _delivery(self, explained: Explanation, flight: Flight) -> Mark:
+        how, number = explained.event.outcome
+        if how == BROKEN.word:
+            return Mark(flight.to, DELIVER.word, (), f"broken: {FRAME_FAULTS[int(number) - 1]}", "bad")
+        also = beside(explained.records)
+        words = (f"taken {number}:", also) if also else (f"taken {number}",)
         return Mark(flight.to, DELIVER.word, words, "", "note" if also else "")

@@ -4,12 +4,10 @@ from __future__ import annotations
 from typing import List, Sequence, Tuple
 
 from ..explanations import TakenRecord
-from ..frames import ClearRecord, Record, StateRecord, StatusRecord
-from ..language.records import INSERT_ACK
-from ..words import ALL_STATES, bulk_status, counted
-
-# A word of tcpdump(8) that is shorter than the message's name.
-_SHORTER = {INSERT_ACK.name: "insert ack"}
+from ..frames import Carried, Record
+from ..language.names import ALL_STATES
+from ..language.records import BULK_STATUS, CLEAR, INSERT_ACK
+from ..words import bulk_status, counted
 
 
 def beside(records: Sequence[TakenRecord]) -> str:
@@ -26,7 +24,7 @@ def record_words(records: Sequence[Record]) -> Tuple[str, ...]:
     """The records of a frame in words, those of one kind that follow one another together."""
     groups: List[List[Record]] = []
     for record in records:
-        if groups and groups[-1][0].action == record.action and not isinstance(record, (StatusRecord, ClearRecord)):
+        if groups and groups[-1][0].kind is record.kind and record.kind not in (BULK_STATUS, CLEAR):
             groups[-1].append(record)
         else:
             groups.append([record])
@@ -34,17 +32,18 @@ def record_words(records: Sequence[Record]) -> Tuple[str, ...]:
 
 
 def _group_words(records: Sequence[Record]) -> str:
-    first = records[0]
-    if isinstance(first, StatusRecord):
-        return f"bulk {bulk_status(first.status)}"
-    if isinstance(first, ClearRecord):
-        return f"clear boot {first.creator} up to {first.creator}.{first.bound}"
-    wanted = all(isinstance(it, StateRecord) and it.asks_for_acknowledgement for it in records)
-    names = [str(it.name) for it in records if not isinstance(it, (StatusRecord, ClearRecord))]
-    action = _SHORTER.get(first.action, first.action)
+    kind, about = records[0].kind, records[0].about
+    if kind is BULK_STATUS:
+        return f"bulk {bulk_status(int(about[0]))}"
+    if kind is CLEAR:
+        return f"clear boot {about[0]} up to {'.'.join(about)}"
+    wanted = all(isinstance(it.state, Carried) and it.state.asks_for_acknowledgement for it in records)
+    names = [str(it.name) for it in records]
+    # (tcpdump(8) has a word that is shorter than the message's name)
+    what = "insert ack" if kind is INSERT_ACK else kind.name
     if len(records) == 1:
-        return f"{action} {'0.0 (all)' if names == [str(ALL_STATES)] else names[0]}{' (wants ack)' if wanted else ''}"
-    told = f"{action}s {', '.join(names)}" if len(records) == 2 else f"{len(records)} {action}s"
+        return f"{what} {'0.0 (all)' if names == [str(ALL_STATES)] else names[0]}{' (wants ack)' if wanted else ''}"
+    told = f"{what}s {', '.join(names)}" if len(records) == 2 else f"{len(records)} {what}s"
     return f"{told}{' (want ack)' if wanted else ''}"
 
 

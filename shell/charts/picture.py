@@ -5,7 +5,7 @@ from typing import Dict, List, Sequence, Tuple
 from xml.sax.saxutils import escape
 
 from .chart import Chart, Mark, Row
-from ..histories import Flight
+from ..flights import Flight
 from ..language.events import CUT, DELIVER, LOSE, REPEAT, RESTART
 from .svg import BOLDER, Piece, Point, Sheet, in_lines, number, text_width
 
@@ -43,6 +43,9 @@ class _Picture:
         self.tops: List[float] = []
         self.middles: List[float] = []
         self.bottom = float(HEAD)
+        # Of each frame the places of the rows where its way begins and ends.
+        ends = [(chart.sent(it), chart.ended(it)) for it in chart.flights.values()]
+        self.ways = [(sent, len(chart.rows) if ended is None else ended) for sent, ended in ends]
         # Of the events' numbers, at the left.
         self.numbers = MARGIN + text_width(f"{chart.events}–{chart.events}", SMALL)
         for place, row in enumerate(chart.rows):
@@ -79,10 +82,7 @@ class _Picture:
 
     def _is_crossed(self, place: int) -> bool:
         """Whether a row has a sloped line, or is crossed by one."""
-        after = len(self.chart.rows)
-        ends = [(self.chart.sent(it), self.chart.ended(it)) for it in self.chart.flights.values()]
-        ways = ((sent, after if ended is None else ended) for sent, ended in ends)
-        return any(sent <= place <= ended and sent != ended for sent, ended in ways)
+        return any(sent <= place <= ended and sent != ended for sent, ended in self.ways)
 
     def _inner(self, node: str) -> float:
         """Where the sloped part of the link begins, beside a lane."""

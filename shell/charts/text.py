@@ -6,7 +6,7 @@ from typing import Dict, List, NamedTuple, Optional, Sequence, Tuple
 
 from .chart import Chart, Mark, Row, broken
 from ..colours import Paint
-from ..histories import Flight
+from ..flights import Flight
 from ..language.events import CUT, DELIVER, REPEAT, RESTART
 
 

@@ -2,9 +2,10 @@
 from __future__ import annotations
 
 from dataclasses import dataclass
-from typing import Tuple
+from typing import Sequence, Tuple
 
 from . import forms as form
+from .events import EVENTS
 from .forms import Form
 from .setups import LIMITS, RULE_FORM
 
@@ -33,10 +34,22 @@ class Line:
     is_long: bool = False
     # Whether the shell has a word of its own in its place.
     is_hidden: bool = False
+    # The forms of those that follow where the word after the branch is an event's.
+    of_event: Tuple[Form, ...] = ()
+
+    @property
+    def alternatives(self) -> Tuple[Tuple[Form, ...], ...]:
+        """The forms of the words that can follow its own."""
+        return (self.values, self.of_event) if self.of_event else (self.values,)
 
     @property
     def form(self) -> str:
-        return " ".join([self.word, *(it.name for it in self.values)])
+        """Its form, or each of two on a line."""
+        return "\n".join(" ".join([self.word, *(it.name for it in values)]) for values in self.alternatives)
+
+    def values_of(self, words: Sequence[str]) -> Tuple[Form, ...]:
+        """The forms of the words that follow its own, which is the first of these."""
+        return self.of_event if self.of_event and len(words) > 2 and words[2] in EVENTS else self.values
 
 
 SET = Line(
@@ -90,8 +103,12 @@ PAST = Line(
     ("branch NAME events E cursor C",), ("NoBranch", "NothingForward"), is_long=True,
 )
 WHY = Line(
-    "why", _BRANCH_K, "explains the K-th event of the branch, those after the cursor too: what came of it, and why", "",
-    ("why NAME K",), ("NoBranch", "NoEvent"), is_long=True, is_hidden=True,
+    "why", _BRANCH_K, "explains the K-th event of the branch, or what would come of an event where the branch stands, and why", "",
+    ("why NAME K",), ("NoBranch", "NoEvent"), is_long=True, is_hidden=True, of_event=(form.BRANCH, EVENT),
+)
+FRAME = Line(
+    "frame", (form.BRANCH, form.TICKET), "shows a frame that an event of the branch sent, and what became of it", "",
+    ("frame NAME TICKET",), ("NoBranch", "NoFrame"), is_long=True, is_hidden=True,
 )
 NAMES = Line("names", (), "tells the names of the branches", "", ("names NAME NAME ..",))
 EXCISE = Line(
@@ -107,6 +124,6 @@ LOG = Line(
     "log", _BRANCH, "tells all events of the branch in order, each as the line that steps it, and the cursor",
     "", ("log NAME events E cursor C",), ("NoBranch",), is_long=True, is_hidden=True,
 )
-COMMANDS = {it.word: it for it in (STEP, BACK, FORWARD, FORK, DROP, SHOW, PAST, WHY, NAMES, EXCISE, RESTORE, LOG)}
+COMMANDS = {it.word: it for it in (STEP, BACK, FORWARD, FORK, DROP, SHOW, PAST, WHY, FRAME, NAMES, EXCISE, RESTORE, LOG)}
 # Those that the shell takes as they are.
 TYPED = {word: it for word, it in COMMANDS.items() if not it.is_hidden}

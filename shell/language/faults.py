@@ -14,7 +14,7 @@ EVENT_REFUSALS = (
 )
 COMMAND_REFUSALS = (
     *("NoBranch", "NameTaken", "BadName", "TooFarBack", "NothingForward", "LastBranch", "BranchesFull", "Event", "NoEvent"),
-    "NothingExcised",
+    *("NothingExcised", "NoFrame"),
 )
 
 

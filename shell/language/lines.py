@@ -4,7 +4,7 @@ from __future__ import annotations
 from typing import List, Sequence
 
 from . import forms as form
-from .commands import COMMANDS, EVENT, OPEN, RULE, SET, SETUP, STEP, TYPED
+from .commands import COMMANDS, EVENT, OPEN, RULE, SET, SETUP, STEP, WHY
 from .events import CUT, CUT_LENGTH, EVENTS, OF_FRAME, PACKET, read_packet
 from .forms import nearest, number
 from .packets import PacketEvent
@@ -72,7 +72,7 @@ def _check_command(line: str) -> None:
     if word == SEARCH:
         _check_search(line)
         return
-    for wanted in COMMANDS[word].values:
+    for wanted in COMMANDS[word].values_of(reader.words):
         if wanted is EVENT:
             _check_step(reader)
         else:
@@ -218,8 +218,8 @@ def wanted_form(words: Sequence[str]) -> List[str]:
     first = words[0] if words else ""
     if first == SEARCH:
         return [FORM, *FOR_PEOPLE]
-    event = EVENTS.get(words[2]) if first == STEP.word and len(words) > 2 else None
+    event = EVENTS.get(words[2]) if first in (STEP.word, WHY.word) and len(words) > 2 else None
     if event is None:
-        return [it.form for table in (SETUP, TYPED) for it in table.values() if it.word == first]
+        return [it for table in (SETUP, COMMANDS) if first in table for it in table[first].form.split("\n")]
     forms = event.forms if len(words) <= 5 else (event.form_with(event.values_of(words[2:])),)
     return [f"{first} {form.BRANCH} {it}" for it in forms]

@@ -57,6 +57,10 @@ class Name(NamedTuple):
         return f"{self.creator}.{self.id}"
 
 
+# The name that stands for all states.
+ALL_STATES = Name(0, 0)
+
+
 def number_or_none(text: str) -> Optional[int]:
     """A number, or nothing where the line has a dash."""
     return None if text == "-" else int(text)

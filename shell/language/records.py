@@ -7,17 +7,18 @@ from typing import Dict
 
 @dataclass(frozen=True)
 class RecordKind:
-    """A kind of record: its number, its name, the bytes of a record, its word where it is explained, and that of the queue that sends
-    it, if one does."""
+    """A kind of record: its number, its name, the bytes of a record, its word where it is explained or shown, that of the queue that
+    sends it, if one does, and how many words say what it is about."""
 
     number: int
     name: str
     size: int
     word: str
     queue: str = ""
+    words: int = 1
 
 
-CLEAR = RecordKind(0, "clear", 12, "clr")
+CLEAR = RecordKind(0, "clear", 12, "clr", words=2)
 INSERT = RecordKind(1, "insert", 124, "ins", "ins")
 INSERT_ACK = RecordKind(2, "insert acknowledgement", 12, "iack", "iack")
 UPDATE = RecordKind(3, "update", 124, "upd", "upd")
@@ -28,4 +29,5 @@ SHORT_DELETE = RecordKind(7, "short delete", 12, "delc", "del")
 BULK_STATUS = RecordKind(10, "bulk status", 8, "bus")
 _KINDS = (CLEAR, INSERT, INSERT_ACK, UPDATE, SHORT_UPDATE, UPDATE_REQUEST, DELETE, SHORT_DELETE, BULK_STATUS)
 KINDS: Dict[int, RecordKind] = {it.number: it for it in _KINDS}
+BY_WORD: Dict[str, RecordKind] = {it.word: it for it in _KINDS}
 QUEUES: Dict[str, str] = {it.queue: it.name for it in KINDS.values() if it.queue}

@@ -3,20 +3,22 @@ from __future__ import annotations
 
 from dataclasses import replace
 from itertools import islice
-from typing import Callable, Container, Iterable, Iterator, List, Optional, Sequence, Tuple, Union
+from typing import Callable, Container, Iterable, Iterator, List, Optional, Sequence
 
-from ..frames import Record, ShortUpdate, StateRecord
-from ..histories import Flight, Happened
-from ..language.events import BROKEN, CLEAR, DELIVER, HELD_BACK, KILL, PACKET, PASS, PURGE, RESTART, read_packet
+from ..branches import Happened
+from ..flights import Flight
+from ..language.events import BROKEN, CLEAR, DELIVER, EVENTS, HELD_BACK, KILL, PACKET, PASS, PURGE, RESTART, read_packet
 from ..language.names import Name
 from ..language.packets import PacketEvent
-from ..language.records import DELETE, INSERT, QUEUES, UPDATE
+from ..language.records import INSERT, QUEUES, SHORT_UPDATE, UPDATE, RecordKind
 from ..language.setups import NAT
-from ..pair import Node, State, other
+from ..pair import Node, other
 from .questions import Question, peer_of, told_state
 from .records import became, came_records
 
-Kinds = Union[type, Tuple[type, ...]]
+# What brings a state to a node that does not have it, and what else tells of one.
+WHOLE = (INSERT, UPDATE)
+TOLD = (*WHOLE, SHORT_UPDATE)
 # Whether a node lost a state, by what it was before and after an event.
 IsLoss = Callable[[Node, Node], bool]
 # So many frames that told of a state are spoken of.
@@ -57,32 +59,35 @@ def _names_of(question: Question) -> List[Name]:
     same far end where rules are known to translate the near one. A state that a frame brought was made by a packet too."""
     packet = question.packet
     translate = any(it.has(NAT) for rules in question.lab.setup.rules.values() for it in rules)
-    packets = ((it, read_packet(it.line)) for it in question.history.events if it.event is PACKET)
-    made = (it.outcome for it, one in packets if _meets(one, packet) and (translate or one.key == packet.key))
-    return list({Name.read(it[1]): None for it in made if it[0] in (PASS.word, HELD_BACK.word) and it[1] != "-"})
+    lines = (it for it in enumerate(question.history.lines, 1) if it[1].startswith(f"{PACKET.word} "))
+    packets = ((number, read_packet(line)) for number, line in lines)
+    made = (number for number, one in packets if _meets(one, packet) and (translate or one.key == packet.key))
+    outcomes = (question.history.explained(it).event.outcome for it in made)
+    return list({Name.read(it[1]): None for it in outcomes if it[0] in (PASS.word, HELD_BACK.word) and it[1] != "-"})
 
 
 def _newest_loss(question: Question, names: Sequence[Name], is_loss: IsLoss) -> Optional[Happened]:
     """The last event that took a state from the packet's node: one of these names, as the node before and after it shows."""
     node, history = question.packet.node, question.history
-    for it in reversed(history.events if names else ()):
-        if _may_take(question, it, names) and is_loss(*(history.pair(it.number - more).nodes[node] for more in (1, 0))):
-            return it
+    for number in range(len(history.lines) if names else 0, 0, -1):
+        if _may_take(question, number, names) and is_loss(*(history.pair(number - more).nodes[node] for more in (1, 0))):
+            return history.explained(number).event
     return None
 
 
-def _may_take(question: Question, it: Happened, names: Sequence[Name]) -> bool:
-    """Whether an event can have taken one of the states of the packet's flow from its node."""
-    packet = question.packet
-    if it.event is DELIVER:
-        is_here = question.history.flights[int(it.words[1])].to == packet.node
-        return is_here and any(record.takes(name) for record in it.explained.records for name in names)
-    if it.words[1] != packet.node:
+def _may_take(question: Question, number: int, names: Sequence[Name]) -> bool:
+    """Whether an event can have taken one of the states of the packet's flow, if it did not do so at the other node."""
+    packet, line = question.packet, question.history.lines[number - 1]
+    words = line.split()
+    event = EVENTS[words[0]]
+    if event is DELIVER:
+        return any(record.takes(name) for record in question.history.explained(number).records for name in names)
+    if words[1] != packet.node:
         return False
-    if it.event is PACKET:
+    if event is PACKET:
         # A new connection ends a closed one of the same ends.
-        return read_packet(it.line).is_request and _meets(read_packet(it.line), packet)
-    return it.event in (PURGE, CLEAR, RESTART) or it.event is KILL and Name.read(it.words[2]) in names
+        return read_packet(line).is_request and _meets(read_packet(line), packet)
+    return event in (PURGE, CLEAR, RESTART) or event is KILL and Name.read(words[2]) in names
 
 
 def _meets(one: PacketEvent, two: PacketEvent) -> bool:
@@ -115,7 +120,7 @@ def _why_absent(question: Question, name: Name, node: str) -> List[str]:
 
     gone = _newest_loss(question, [name], is_loss)
     since = gone.number if gone else 0
-    carriers = (it for it in _carriers(question, name, node, StateRecord) if it.ended is None or it.ended.number > since)
+    carriers = (it for it in _carriers(question, name, node, WHOLE) if it.ended is None or it.ended.number > since)
     told = _fates(question, islice(carriers, MOST_FATES), name)
     if gone is None:
         return told or [_untold(question, peer_of(question, node), name)]
@@ -137,38 +142,35 @@ def explain_lag(question: Question, name: Name, node: str) -> List[str]:
     queued = _queued(peer, name)
     if queued:
         return [queued]
-    newest = islice(_carriers(question, name, node, (StateRecord, ShortUpdate)), 1)
+    newest = islice(_carriers(question, name, node, TOLD), 1)
     return [f"the newest that {peer.id} told of it: {it}" for it in _fates(question, newest, name)]
 
 
-def _carriers(question: Question, name: Name, node: str, kinds: Kinds) -> Iterator[Flight]:
+def _carriers(question: Question, name: Name, node: str, kinds: Sequence[RecordKind]) -> Iterator[Flight]:
     """The frames to the node with such records of the state, the newest first."""
-    history = question.history
-    flights = (it for it in reversed(history.flights.values()) if it.to == node)
-    return (it for it in flights if _carried(history.records(it), name, kinds))
+    return (it for it in question.history.newest_flights() if it.to == node and _carried(it, name, kinds))
 
 
-def _carried(records: Sequence[Record], name: Name, kinds: Kinds) -> str:
-    """The first action by which records tell of the state; empty where they do not."""
-    told = (it for it in records if isinstance(it, (StateRecord, ShortUpdate)) and isinstance(it, kinds))
-    return next((it.action for it in told if it.name == name and it.action != DELETE.name), "")
+def _carried(flight: Flight, name: Name, kinds: Sequence[RecordKind]) -> Optional[RecordKind]:
+    """The kind of a frame's first such record of the state, if there is one."""
+    return next((it.kind for it in flight.frame.records if it.kind in kinds and it.name == name), None)
 
 
 def _fate(question: Question, flight: Flight, name: Name) -> str:
     """What became of a frame that told of the state."""
     frame, sent, ended = f"frame {flight.ticket}", f"(event {flight.sent.number})", flight.ended
     if ended is None:
-        if question.history.size(flight.ticket, question.place) < question.history.size(flight.ticket, flight.sent.number):
+        if flight.now.broken:
             return f"{frame}, which brought it {sent}, is in flight, but was cut short"
         return f"{frame}, which brings it {sent}, is still in flight"
-    action = _carried(question.history.records(flight), name, (StateRecord, ShortUpdate))
-    what = "insertion" if action == INSERT.name else action
+    kind = _carried(flight, name, TOLD)
+    what = "insertion" if kind is INSERT else kind.name if kind else ""
     if flight.is_lost:
         return f"its {what} was lost in {frame} (event {ended.number})"
     if ended.outcome[0] == BROKEN.word:
-        return f"{frame}, which brought it, could not be read (event {ended.number}: {' '.join(ended.outcome)})"
+        return f"{frame}, which brought it, could not be read (event {ended.number}: {ended.came})"
     came = came_records(question.history, ended.number, flight.ticket)
-    brought = next(it for it in came if it.name == name and it.record.action == action)
+    brought = next(it for it in came if it.record.name == name and it.record.kind is kind)
     return f"its {what} in {frame} was delivered (event {ended.number}): {became(brought)}"
 
 
@@ -182,7 +184,7 @@ def _queued(peer: Node, name: Name, kinds: Container[str] = QUEUES) -> str:
 
 def _untold(question: Question, peer: Node, name: Name) -> str:
     """Why no frame brought the state."""
-    state: State = peer.states[name]
+    state = peer.states[name]
     if "n" in state.flags:
         return f"{question.rule_words(peer.id, state.rule)} made it with `no-sync`, so {peer.id} never tells of it"
     return _queued(peer, name) or f"no frame to {other(peer.id)} has carried it"

@@ -83,6 +83,12 @@ def _no_event(lab: Laboratory, words: Sequence[str]) -> List[str]:
     return [NOT_SHOWN] if number <= events else [f"{words[1]} has {counted(events, 'event')}: there is no event {number}"]
 
 
+def _no_frame(lab: Laboratory, words: Sequence[str]) -> List[str]:
+    sent = lab.past(words[1], _branch(lab, words).events).next_ticket - 1
+    sends = f"of {counted(sent, 'frame')} the last has the ticket {sent}" if sent else "they sent none"
+    return [f"no event of {words[1]} sent a frame under the ticket {int(words[2])}: {sends}"]
+
+
 def _nothing_excised(lab: Laboratory, words: Sequence[str]) -> List[str]:
     return [f"{words[1]} has nothing to bring back: no event was taken out, or an event was accepted or restored since"]
 
@@ -97,6 +103,7 @@ _REFUSALS: Dict[str, Callable[[Laboratory, Sequence[str]], List[str]]] = {
     "BranchesFull": _branches_full,
     "NoEvent": _no_event,
     "NothingExcised": _nothing_excised,
+    "NoFrame": _no_frame,
 }
 
 

@@ -4,13 +4,14 @@ from __future__ import annotations
 from typing import Callable, Dict, List
 
 from ..explanations import Expiry, Purge
-from ..frames import HEADER, summary
+from ..frames import HEADER
 from ..language import events
 from ..language.events import MOST_TRIES, SERVED, Event
 from ..language.names import Name
 from ..language.records import SHORT_DELETE
 from ..language.setups import BATCH, BULK_MS, DEFER_MS, MTU
-from ..pair import Node, State, other
+from ..pair import Node, other
+from ..states import State
 from .questions import Question, name_list, told_state
 from ..words import counted, scaled_by
 
@@ -54,9 +55,8 @@ def _released(question: Question) -> List[str]:
 
 
 def _sent(question: Question) -> List[str]:
-    ticket = int(question.outcome.split()[1])
-    frame = question.after.frames[ticket]
-    lines = [f"frame {ticket} goes to {frame.to}, and carries {summary(frame.data)}"]
+    frame = question.history.flight(int(question.outcome[1])).frame
+    lines = [f"frame {frame.ticket} goes to {frame.to}, and carries {frame.summary}"]
     if question.kind is events.FLUSH:
         left = question.after.nodes[question.words[1]].pending
         rest = f"{left} pending are left for the next frame: {question.lab.limit(MTU)}"
@@ -65,8 +65,8 @@ def _sent(question: Question) -> List[str]:
 
 
 def _lost(question: Question) -> List[str]:
-    frame = question.pair.frames[int(question.words[1])]
-    return [f"frame {frame.ticket} was on its way to {frame.to}, and carried {summary(frame.data)}; nobody learns of its loss"]
+    frame = question.history.flight(int(question.words[1])).now
+    return [f"frame {frame.ticket} was on its way to {frame.to}, and carried {frame.summary}; nobody learns of its loss"]
 
 
 def _queued(question: Question) -> List[str]:
@@ -107,7 +107,7 @@ def _cleared(question: Question) -> List[str]:
 
 def _cut(question: Question) -> List[str]:
     ticket = int(question.words[1])
-    was, now = len(question.pair.frames[ticket].data), len(question.after.frames[ticket].data)
+    was, now = len(question.history.flight(ticket).now.data), int(question.outcome[1])
     if was == now:
         return [f"frame {ticket} had {was} bytes, and keeps them all"]
     if now < HEADER:
@@ -127,7 +127,7 @@ def _retried(question: Question) -> List[str]:
     node = _node(question)
     tries, asked = node.sync.split("/")
     waited = f"{node.id} has waited since {asked} ms, and {question.lab.limit(BULK_MS)}"
-    if question.outcome == SERVED.word:
+    if question.outcome == [SERVED.word]:
         return [waited, f"it had asked {tries} times, and goes on as if it had been served: {MOST_TRIES} tries are the most"]
     return [waited, f"this is try {int(tries) + 1} of {MOST_TRIES} at most"]
 

@@ -18,11 +18,11 @@ def explain_packet(question: Question) -> List[str]:
     """The state that has the packet's key, or what the rules made of it, and why there is no such state."""
     reason = question.reason
     if isinstance(reason, OfState):
-        is_dropped = question.outcome.startswith(DROPPED.word)
+        is_dropped = question.outcome[0] == DROPPED.word
         return explain_window(question, reason) if is_dropped else _passed(question, reason)
     assert isinstance(reason, Judged)
     lines = [*_judged(question, reason), *explain_absence(question)]
-    return lines + (_held(question) if question.outcome.startswith(HELD_BACK.word) else [])
+    return lines + (_held(question) if question.outcome[0] == HELD_BACK.word else [])
 
 
 def _passed(question: Question, reason: OfState) -> List[str]:

@@ -6,40 +6,50 @@ from functools import cached_property
 from typing import List, Optional, Sequence
 
 from ..colours import Paint
-from ..explanations import Reason
+from ..explanations import Explanation, Reason
 from ..histories import History
 from ..laboratory import Laboratory
-from ..language.events import EVENTS, Event, read_packet
+from ..language.events import Event, read_packet
 from ..language.names import Name
 from ..language.packets import PacketEvent
-from ..pair import Node, Pair, State, other
+from ..pair import Node, Pair, other
 from ..setups import Rule
+from ..states import State
 from ..words import flow
 
 
 @dataclass(eq=False)
 class Question:
-    """An event after those before it, what came of it, and why. An event that was refused has changed nothing."""
+    """An event after those before it, what came of it, and why. An event that is refused changes nothing."""
 
-    lab: Laboratory
     history: History
-    event: str
-    outcome: str
-    reason: Reason
+    explanation: Explanation
     paint: Paint
 
     @property
+    def lab(self) -> Laboratory:
+        return self.history.lab
+
+    @property
     def words(self) -> List[str]:
-        return self.event.split()
+        return self.explanation.event.words
+
+    @property
+    def outcome(self) -> List[str]:
+        return self.explanation.event.outcome
+
+    @property
+    def reason(self) -> Reason:
+        return self.explanation.reason
 
     @property
     def kind(self) -> Event:
-        return EVENTS[self.words[0]]
+        return self.explanation.event.kind
 
     @property
     def place(self) -> int:
         """How many events were before it."""
-        return len(self.history.events)
+        return len(self.history.lines)
 
     @property
     def pair(self) -> Pair:
@@ -54,7 +64,7 @@ class Question:
     @cached_property
     def packet(self) -> PacketEvent:
         """The packet of an event that is one."""
-        return read_packet(self.event)
+        return read_packet(self.explanation.event.line)
 
     def table(self, node: str) -> Node:
         """A node before the event."""

@@ -2,18 +2,20 @@
 shows what it met there. Where an earlier record of the frame has changed that, the words are fewer."""
 from __future__ import annotations
 
-from typing import List, NamedTuple
+from itertools import takewhile
+from typing import List, NamedTuple, Sequence
 
 from ..explanations import TakenRecord
-from ..frames import ClearRecord, Record, ShortUpdate, StateRecord, StatusRecord, decode
-from ..histories import Flight, History
-from ..language.events import ASKED, RESTART, RETRY
-from ..language.names import BULK_END, BULK_START, Name, level_name
-from ..language.records import INSERT, INSERT_ACK, UPDATE_REQUEST
+from ..flights import Flight
+from ..frames import Carried, Record
+from ..histories import History
+from ..language.events import RESTART, RETRY, SERVED
+from ..language.names import ALL_STATES, BULK_END, BULK_START, Name, level_name
+from ..language.records import BULK_STATUS, CLEAR, INSERT, INSERT_ACK, UPDATE_REQUEST
 from ..language.setups import STATES
 from ..pair import Node
 from .questions import Question, name_list
-from ..words import ALL_STATES, bulk_status, counted
+from ..words import bulk_status, counted
 
 
 class Came(NamedTuple):
@@ -27,22 +29,20 @@ class Came(NamedTuple):
     @property
     def name(self) -> Name:
         """The state that it is about."""
-        return ALL_STATES if isinstance(self.record, (ClearRecord, StatusRecord)) else self.record.name
+        return self.record.name
 
     def __str__(self) -> str:
-        if isinstance(self.record, ClearRecord):
-            return self.record.action
-        if isinstance(self.record, StatusRecord):
-            return f"{self.record.action} {bulk_status(self.record.status)}"
-        return f"{self.record.action} {self.name if self.name != ALL_STATES else 'of all states'}"
+        kind = self.record.kind
+        if kind is BULK_STATUS:
+            return f"{kind.name} {bulk_status(int(self.record.about[0]))}"
+        return kind.name if kind is CLEAR else f"{kind.name} {'of all states' if self.name == ALL_STATES else self.name}"
 
 
 def came_records(history: History, number: int, ticket: int) -> List[Came]:
     """The records that a delivery brought, by the place of the event."""
-    before = history.pair(number - 1)
-    frame = before.frames[ticket]
-    node, limit = before.nodes[frame.to], history.lab.limit(STATES)
-    return [Came(*it, node, limit) for it in zip(decode(frame.data), history.explained(number).records)]
+    frame = history.flight(ticket).frame
+    node, limit = history.pair(number - 1).nodes[frame.to], history.lab.limit(STATES)
+    return [Came(*it, node, limit) for it in zip(frame.records, history.explained(number).records)]
 
 
 # ---- what became of a record
@@ -54,11 +54,11 @@ def became(it: Came) -> str:
     held = "; its held packet is dropped" if it.name in [one.name for one in it.node.held] else ""
     if kind in ("bad", "imported", "merged"):
         return {"bad": _bad, "imported": _imported, "merged": _merged}[kind](it) + held * (kind == "merged")
-    if isinstance(it.record, StatusRecord):
-        return _heard(it.record, it.node)
-    if isinstance(it.record, ClearRecord):
+    if it.record.kind is BULK_STATUS:
+        return _heard(int(it.record.about[0]), it.node)
+    if it.record.kind is CLEAR:
         names = name_list(sorted(name for name in it.node.states if it.taken.takes(name)))
-        of = f"of boot {it.record.creator} up to id {it.record.bound}"
+        of = "of boot {} up to id {}".format(*it.record.about)
         return f"{node} gave up {counted(int(it.taken.fate[1]), 'state')} {of}" + f": {names}" * bool(names)
     begins = it.taken.fate[-1] == "begins"
     return {
@@ -74,13 +74,13 @@ def became(it: Came) -> str:
 def _bad(it: Came) -> str:
     """Why a record cannot be used."""
     why, node = it.taken.fate[1], it.node
-    if isinstance(it.record, StateRecord) and why in ("wire", "stack"):
-        key = it.record.wire if why == "wire" else it.record.stack
+    if isinstance(it.record.state, Carried) and why in ("wire", "stack"):
+        key = it.record.state.wire if why == "wire" else it.record.state.stack
         return f"bad: its {why} key is in use: {node.id} has state {it.taken.fate[2]} for {key.near} and {key.far}"
     has = f"{node.id} has a state {it.name} already"
     known = node.states.get(it.name)
     return "bad: " + {
-        "unknown": f"{node.id} has no such state to {'send' if it.record.action == UPDATE_REQUEST.name else 'delete'}",
+        "unknown": f"{node.id} has no such state to {'send' if it.record.kind is UPDATE_REQUEST else 'delete'}",
         "known": f"{has} ({known.protocol} {known.wire.near}, {known.wire.far})" if known else has,
         "notgiven": f"{node.id} is boot {node.boot} itself and has not given the id {it.name.id} yet (its next id is {node.next_id})",
         "deleting": f"{node.id} has deleted the state, and has still to tell so",
@@ -90,9 +90,9 @@ def _bad(it: Came) -> str:
 
 def _imported(it: Came) -> str:
     last = f"last used at {it.taken.fate[1]} ms"
-    if it.record.action != INSERT.name:
+    if it.record.kind is not INSERT:
         return f"new: inserted, since {it.node.id} did not know the state; {last}"
-    asks = isinstance(it.record, StateRecord) and it.record.asks_for_acknowledgement
+    asks = isinstance(it.record.state, Carried) and it.record.state.asks_for_acknowledgement
     return f"new: inserted; {last}" + "; it asks for an acknowledgement, which is queued" * asks
 
 
@@ -110,10 +110,10 @@ def _merged(it: Came) -> str:
 
 def _staleness(it: Came, end: str) -> str:
     """Why an end that came is behind the one here."""
-    known, record = it.node.states.get(it.name), it.record
-    if known is None or not isinstance(record, (StateRecord, ShortUpdate)):
+    known, carried = it.node.states.get(it.name), it.record.state
+    if known is None or carried is None:
         return f"the {end} end is behind the one here"
-    came, here = (one.source if end == "source" else one.destination for one in (record, known))
+    came, here = (one.source if end == "source" else one.destination for one in (carried, known))
     if here.level <= came.level:
         return f"the {end} end's lo {here.lo} here is after the {came.lo} that came"
     level = "level " if known.protocol == "icmp" else ""
@@ -124,7 +124,7 @@ def _staleness(it: Came, end: str) -> str:
 def _nothing(it: Came) -> str:
     """Why a request or an acknowledgement changed nothing."""
     known = it.node.states.get(it.name)
-    if it.record.action != INSERT_ACK.name:
+    if it.record.kind is not INSERT_ACK:
         is_kept = known is not None and "n" in known.flags
         return "asked for, but its rule says `no-sync`: it is not sent" if is_kept else "asked for: it is queued already"
     if known is None:
@@ -132,9 +132,9 @@ def _nothing(it: Came) -> str:
     return "acknowledged: nothing waited for it any more"
 
 
-def _heard(record: StatusRecord, node: Node) -> str:
+def _heard(status: int, node: Node) -> str:
     waits = node.sync != "-"
-    if record.status == BULK_START:
+    if status == BULK_START:
         return f"the bulk update begins, and {node.id} " + ("goes on waiting for its end" if waits else "was not waiting for one")
     ended = f"{node.id}, which was waiting, waits no more, whatever came" if waits else f"{node.id} was not waiting for it"
     return f"the server says that it is at the end; {ended}"
@@ -146,7 +146,7 @@ def _heard(record: StatusRecord, node: Node) -> str:
 def explain_taken(question: Question) -> List[str]:
     """Each record of the frame with what it did, and what else is to be known of them."""
     ticket, history = int(question.words[1]), question.history
-    came, node = came_records(history, question.place + 1, ticket), question.table(question.pair.frames[ticket].to)
+    came, node = came_records(history, question.place + 1, ticket), question.table(history.flight(ticket).to)
     return [
         f"frame {ticket} came to node {node.id} with {counted(len(came), 'record')}:",
         *(f"{place}. {it}: {became(it)}" for place, it in enumerate(came, 1)),
@@ -157,8 +157,9 @@ def explain_taken(question: Question) -> List[str]:
 
 def _without_rule(came: List[Came], after: Node) -> List[str]:
     """States that came with a rule's number and stand without it."""
-    new = [it for it in came if it.taken.fate[0] == "imported" and isinstance(it.record, StateRecord) and it.record.rule is not None]
-    names = sorted(it.name for it in new if it.name in after.states and after.states[it.name].rule is None)
+    new = (it.record.state for it in came if it.taken.fate[0] == "imported")
+    with_rule = (it.name for it in new if isinstance(it, Carried) and it.rule is not None)
+    names = sorted(it for it in with_rule if it in after.states and after.states[it].rule is None)
     if not names:
         return []
     return [f"without the number of its rule, since the sender's rules are not those of {after.id}: {name_list(names)}"]
@@ -170,17 +171,24 @@ def _without_rule(came: List[Came], after: Node) -> List[str]:
 def _without_start(history: History, came: List[Came], node: Node) -> List[str]:
     """That a node heard the end of a bulk update, and not its start: what came with the start was lost, or is on its way. A
     node without states sends no start."""
-    statuses = [it.record.status for it in came if isinstance(it.record, StatusRecord)]
+    statuses = _statuses([it.record for it in came])
     if BULK_END not in statuses or BULK_START in statuses[: statuses.index(BULK_END)] or node.sync == "-":
         return []
-    requests = (it for it in reversed(history.events) if it.words[1] == node.id and it.event in (RESTART, RETRY))
-    asked = next(it for it in requests if it.event is RESTART or it.outcome[0] == ASKED.word)
-    flights = (it for it in history.flights.values() if it.to == node.id and it.sent.number > asked.number)
-    starts = [it for it in flights if any(isinstance(one, StatusRecord) and one.status == BULK_START for one in history.records(it))]
+    asks = (f"{RESTART.word} {node.id}", f"{RETRY.word} {node.id}")
+    asking = [number for number, line in enumerate(history.lines, 1) if line in asks]
+    requests = (history.explained(number).event for number in reversed(asking))
+    asked = next(it for it in requests if it.outcome != [SERVED.word])
+    flights = takewhile(lambda it: it.sent.number > asked.number, history.newest_flights())
+    starts = [it for it in flights if it.to == node.id and BULK_START in _statuses(it.frame.records)]
     if not starts or any(it.is_taken for it in starts):
         return []
     since = f"since it asked for all states (event {asked.number}, `{asked.line}`)"
-    return [f"{node.id} has not heard the start {since}: {_start_fate(starts[-1])}"]
+    return [f"{node.id} has not heard the start {since}: {_start_fate(starts[0])}"]
+
+
+def _statuses(records: Sequence[Record]) -> List[int]:
+    """What records say of a bulk update."""
+    return [int(it.about[0]) for it in records if it.kind is BULK_STATUS]
 
 
 def _start_fate(start: Flight) -> str:

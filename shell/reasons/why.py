@@ -1,5 +1,5 @@
-"""`why`: the reason of what the program replied, in words and with numbers. Of an event of a branch the program says itself what came
-of it and why; a refused one has changed nothing, so that the branch shows what it met."""
+"""`why`: the reason of what the program replied, in words and with numbers. Of an event the program says itself what came of it, or
+would come of it, and why."""
 from __future__ import annotations
 
 from typing import Callable, Dict, List, Sequence
@@ -10,6 +10,7 @@ from .commands import explain_command, explain_done
 from .events import explain_other
 from .faults import explain_fault
 from .frames import explain_broken
+from ..explanations import Explanation
 from ..histories import History
 from ..laboratory import Laboratory, Unknown, outcome_of
 from ..language.commands import STEP
@@ -31,8 +32,19 @@ _OF_OUTCOMES: Dict[str, Callable[[Question], List[str]]] = {
 
 def why_event(lab: Laboratory, branch: Branch, number: int, paint: Paint) -> List[str]:
     """The reason of what became of an event of a branch, by its place from 1 on: the outcome, and under it the reason."""
-    it = lab.explanation(branch.name, number)
-    return _told(Question(lab, _before(lab, branch, number), it.event, it.outcome, it.reason, paint))
+    return _told(lab, branch, lab.explanation(branch.name, number), paint)
+
+
+def why_ahead(lab: Laboratory, name: str, event: str, paint: Paint) -> List[str]:
+    """What would come of an event where a branch stands, and why. One that would be accepted happens aside, for what it would do."""
+    it, branch = lab.explanation(name, event), lab.branch(name)
+    if it.event.is_refused:
+        return _told(lab, branch, it, paint)
+    if not lab.knows_setup:
+        return [_head(it, paint), *_indented([*it.lines, "it would be accepted; with --setup FILE, or once it is stepped, `why` says more"])]
+    with lab.beside(branch) as other:
+        other.ask(f"{STEP.word} {name} {event}")
+        return why_event(other, other.branch(name), it.event.number, paint)
 
 
 def why_last(lab: Laboratory, paint: Paint) -> List[str]:
@@ -47,24 +59,24 @@ def why_last(lab: Laboratory, paint: Paint) -> List[str]:
         return [paint.head(f"{line}: {reply}"), *_indented(explain_command(lab, line, reply))]
     if words[0] != STEP.word:
         return [paint.head(f"{line}: {reply}"), *_indented(explain_done(words, reply))]
-    branch = lab.branch(words[1])
     if kind == STEP.word:
+        branch = lab.branch(words[1])
         lines = why_event(lab, branch, branch.cursor, paint)
         same = lines[0] == paint.head(f"{plain_event(words[2:])}: {outcome_of(reply)}")
         return lines if same else [paint.note(f"another session has moved {branch.name} on since; its newest event is this:"), *lines]
-    before = _before(lab, branch, branch.cursor + 1)
-    lines = _told(Question(lab, before, " ".join(words[2:]), reply, None, paint))
+    lines = why_ahead(lab, words[1], " ".join(words[2:]), paint)
     moved = paint.dim("told from the branch as it is now, which other sessions may have changed since")
     return lines if lab.port is None else [*lines, *_indented([moved])]
 
 
-def _before(lab: Laboratory, branch: Branch, number: int) -> History:
-    return History(lab, branch.name, branch.events[: number - 1])
+def _told(lab: Laboratory, branch: Branch, it: Explanation, paint: Paint) -> List[str]:
+    explain = _OF_OUTCOMES.get(it.event.outcome[0], explain_other)
+    before = History(lab, branch.name, branch.events[: it.event.number - 1])
+    return [_head(it, paint), *_indented(explain(Question(before, it, paint)))]
 
 
-def _told(question: Question) -> List[str]:
-    explain = _OF_OUTCOMES.get(question.outcome.split()[0], explain_other)
-    return [question.paint.head(f"{question.event}: {question.outcome}"), *_indented(explain(question))]
+def _head(it: Explanation, paint: Paint) -> str:
+    return paint.head(f"{it.event.line}: {it.event.came}")
 
 
 def _indented(lines: Sequence[str]) -> List[str]:

@@ -7,7 +7,7 @@ from .absence import explain_lag
 from ..explanations import Edge, OfState
 from ..language.names import level_name
 from ..language.packets import CIRCLE, PacketEvent
-from ..pair import End, State
+from ..states import End, State
 from .questions import Question, peer_of, told_state
 
 
@@ -65,7 +65,7 @@ def _at_peer(question: Question, state: State) -> List[str]:
     line = f"node {peer.id} has other numbers for state {state.name}"
     if lab.knows_setup:
         words = [peer.id if at == 1 else word for at, word in enumerate(question.words)]
-        outcome = lab.outcomes([*(it.line for it in question.history.events), " ".join(words)])[-1]
+        outcome = lab.outcomes([*question.history.lines, " ".join(words)])[-1]
         line += f": the same packet at {peer.id} gives `{outcome}`"
     return [line, *explain_lag(question, state.name, packet.node)]
 

@@ -3,10 +3,13 @@ the worse."""
 from __future__ import annotations
 
 from dataclasses import dataclass
-from typing import Callable, List, Optional, Tuple
+from typing import Callable, List, NamedTuple, Optional, Tuple
 
-from ..branches import Branch
-from ..laboratory import Laboratory, Step, Unknown, outcome_of
+from ..branches import Branch, Happened
+from ..flights import read_flight
+from ..frames import Frame
+from ..laboratory import Laboratory, Unknown, outcome_of
+from ..language.events import FLUSH, OF_FRAME
 from ..pair import Pair, read_shown
 from ..programs import Run
 from .answers import Answer, Found, GaveUp, NoRun, read_answer
@@ -15,6 +18,13 @@ from .sought import Sought
 OLD_PROGRAM = "this program does not know the line `search`: it is older than the shell"
 # Takes the depth that is searched now, and what the search before it answered, if there was one.
 Watch = Callable[[int, Optional[NoRun]], None]
+
+
+class Step(NamedTuple):
+    """An event that was found, and the frame that it sends, or that it is about, as it leaves it."""
+
+    event: Happened
+    frame: Optional[Frame]
 
 
 @dataclass(frozen=True)
@@ -59,19 +69,20 @@ def _asked(run: Run, line: str) -> Answer:
 
 def _found(run: Run, branch: Branch, sought: Sought, answer: Found) -> Outcome:
     """The events that were found, each with what it does."""
-    pairs = [_shown(run, branch)]
-    outcomes: List[str] = []
-    for event in answer.events:
-        outcomes.append(_step(run, branch, event))
-        pairs.append(_shown(run, branch))
-    numbered = enumerate(zip(answer.events, outcomes, pairs, pairs[1:]), branch.cursor + 1)
-    steps = tuple(Step(number, *of) for number, of in numbered)
+    steps: List[Step] = []
+    for number, event in enumerate(answer.events, branch.cursor + 1):
+        it = Happened(number, event, _step(run, branch, event))
+        steps.append(Step(it, _frame(run, branch, it)))
+    last = read_shown(run.ask_freely(f"show {branch.name}"))
     packet = _step(run, branch, sought.packet) if sought.packet else ""
-    return Outcome(answer, len(steps), steps, packet, pairs[-1])
+    return Outcome(answer, len(steps), tuple(steps), packet, last)
 
 
-def _shown(run: Run, branch: Branch) -> Pair:
-    return read_shown(run.ask_freely(f"show {branch.name}"))
+def _frame(run: Run, branch: Branch, it: Happened) -> Optional[Frame]:
+    if it.kind is not FLUSH and it.words[0] not in OF_FRAME:
+        return None
+    ticket = (it.outcome if it.kind is FLUSH else it.words)[1]
+    return read_flight(run.ask_freely(f"frame {branch.name} {ticket}")).now
 
 
 def _step(run: Run, branch: Branch, event: str) -> str:

@@ -5,11 +5,10 @@ import re
 from typing import Dict, List, Optional, Sequence, Tuple
 
 from .. import macros
-from ..laboratory import Unknown
+from ..laboratory import Unknown, event_of
 from ..language.events import CUT, DELIVER, EVENTS, FLUSH, LOSE, PACKET, REPEAT, TICK
 from ..language.forms import GREATEST, nearest
-from ..language.lines import LONGEST_LINE, check_line
-from ..language.readers import LineFault
+from ..language.lines import LONGEST_LINE
 from ..language.searches import ANY, APART, DEEPEST, MOST_CHOICES
 from .sought import ALWAYS, ANY_DELIVERY, GOALS, RUNS, SCOPE, WHERE, Choice, Sought
 from .sought import EVENTS as EVENTS_AT_MOST
@@ -50,7 +49,7 @@ def _packet(words: Sequence[str]) -> str:
         return ""
     if event[:1] != [PACKET.word]:
         raise Unknown(f"what {kind} is a packet: `search {kind} packet NODE in|out ..`; `help packet` has its form")
-    return _event(event)
+    return event_of(event)
 
 
 class _Parts:
@@ -104,8 +103,8 @@ def _choices(words: Sequence[str]) -> List[Tuple[str, Optional[int]]]:
         return [(ANY_DELIVERY, None)]
     what, uses = _times(words)
     if what[:2] == [TICK.word, TICK.every] and len(what) == 3:
-        return [(_event(it.split()), uses) for it in macros.ticks(what[2])]
-    return [(_any(what) or _event(what), uses)]
+        return [(event_of(it.split()), uses) for it in macros.ticks(what[2])]
+    return [(_any(what) or event_of(what), uses)]
 
 
 def _any(words: Sequence[str]) -> str:
@@ -125,16 +124,6 @@ def _times(words: Sequence[str]) -> Tuple[List[str], int]:
     if with_number.get(words[0]) == len(words):
         return list(words[:-1]), _number(words[-1], GREATEST, f"{' '.join(words[:-1])} N")
     return list(words), 1
-
-
-def _event(words: Sequence[str]) -> str:
-    """An event as the program takes it, or what is wrong with it."""
-    event = " ".join(words)
-    try:
-        check_line(f"step main {event}", False)
-    except LineFault as fault:
-        raise Unknown(f"`{event}`: {fault.why}") from fault
-    return event
 
 
 def _counted(words: Sequence[str], noun: str, most: int, form: str) -> int:

@@ -4,13 +4,10 @@ from __future__ import annotations
 from typing import List, Sequence
 
 from ..colours import Paint
-from ..frames import summary
-from ..laboratory import Step
-from ..language.events import CUT, FLUSH, OF_FRAME
-from ..pair import Frame, Pair
+from ..pair import Pair
 from ..words import counted
 from .answers import Found, GaveUp, NoRun
-from .deepening import Outcome
+from .deepening import Outcome, Step
 from .sought import WHERE, Sought
 
 
@@ -42,23 +39,14 @@ def _found(sought: Sought, outcome: Outcome, answer: Found, paint: Paint) -> Lis
 
 def _steps(steps: Sequence[Step]) -> List[str]:
     """The events by the places that they get, as they are typed, with what becomes of each."""
-    rows = [(str(it.number), it.event, it.outcome, _frame(it)) for it in steps]
+    rows = [(str(it.event.number), it.event.line, it.event.came, _frame(it)) for it in steps]
     number, event, outcome = (max((len(row[at]) for row in rows), default=0) for at in range(3))
     return [f"  {it[0]:>{number}}  {it[1]:<{event}}  {it[2]:<{outcome}}  {it[3]}".rstrip() for it in rows]
 
 
 def _frame(step: Step) -> str:
     """The frame that an event is about: where it goes, and what it carries."""
-    kind, *rest = step.event.split()
-    if kind == FLUSH.word:
-        return _carries(step.after.frames[int(step.outcome.split()[1])])
-    if kind not in OF_FRAME:
-        return ""
-    return _carries((step.after if kind == CUT.word else step.before).frames[int(rest[0])])
-
-
-def _carries(frame: Frame) -> str:
-    return f"frame {frame.ticket} to {frame.to}: {summary(frame.data)}"
+    return f"frame {step.frame.ticket} to {step.frame.to}: {step.frame.summary}" if step.frame else ""
 
 
 def _then(sought: Sought, outcome: Outcome, last: Pair, paint: Paint) -> List[str]:

@@ -9,6 +9,7 @@ from xml.etree import ElementTree
 
 from ..charts import picture as chart_svg, text as chart_text
 from ..charts.chart import Chart, chart, duration, end_words
+from ..charts.frames import record_words
 from ..colours import PLAIN, Paint
 from ..charts.svg import text_width
 from . import laboratory
@@ -64,7 +65,7 @@ class Models(unittest.TestCase):
         ways = [(way.source, way.to, it.sent(way), it.ended(way), way.is_lost) for way in it.flights.values()]
         self.assertEqual(ways, [("a", "b", 1, 1, True), ("a", "b", 3, 3, False), ("b", "a", 5, 5, False), ("a", "b", 6, 6, False)])
         records = [("insert 1.1",), ("short update 1.1",), ("update request 1.1",), ("update 1.1",)]
-        self.assertEqual(list(it.records.values()), records)
+        self.assertEqual([record_words(way.frame.records) for way in it.flights.values()], records)
         self.assertEqual([mark.words for mark in it.rows[3].marks], [("taken 1:", "asks for 1.1")])
         blocked = it.rows[4].marks[0]
         self.assertEqual((blocked.node, blocked.kind, blocked.fate, blocked.tone), ("b", "in", "drop block", "bad"))
@@ -74,7 +75,8 @@ class Models(unittest.TestCase):
         it = drawn(CROSSING)
         ways = [(way.ticket, it.sent(way), it.ended(way), way.origin) for way in it.flights.values()]
         self.assertEqual(ways, [(1, 1, 6, None), (2, 3, 5, None), (3, 4, 7, 1), (4, 10, 12, None)])
-        self.assertEqual([(it.places[cut], size) for cut, size in it.sizes.items()], [(11, 30)])
+        cuts = [(it.places[cut.number], cut.came) for way in it.flights.values() for cut in way.cuts]
+        self.assertEqual(cuts, [(11, "cut 30")])
         # The copy brings a state that b has from the first: the record is bad.
         self.assertEqual(it.rows[7].marks[0].words, ("taken 1:", "1 bad"))
         self.assertEqual(it.rows[12].marks[0].fate, "broken: Length")
@@ -97,7 +99,8 @@ class Models(unittest.TestCase):
         frames = "step main flush a\nstep main deliver 1\nstep main flush b\nstep main deliver 2\n"
         it = drawn(f"set defer 1\n{RULES}{QUERY}{frames}")
         self.assertEqual((it.rows[0].marks[0].fate, it.rows[0].marks[0].tone), ("held 1.1", "note"))
-        self.assertEqual(list(it.records.values()), [("insert 1.1 (wants ack)",), ("insert ack 1.1",)])
+        told = [record_words(way.frame.records) for way in it.flights.values()]
+        self.assertEqual(told, [("insert 1.1 (wants ack)",), ("insert ack 1.1",)])
         self.assertEqual(it.rows[2].marks[0].words, ("taken 1:", "1 held let go"))
 
     def test_packets_outside_the_window_have_their_numbers(self) -> None:

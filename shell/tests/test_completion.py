@@ -39,6 +39,12 @@ class Offered(unittest.TestCase):
         self.offers("diff main ", "main", "other")
         self.offers("set a", "astart", "aend")
         self.offers("back main ")
+        self.offers("why main rel", "release")
+        self.offers("why lo", "lose")
+        self.offers("why other kill b ")
+        self.offers("why lose ", "1")
+        self.offers("frame ", "main", "other")
+        self.offers("frame main ", "1")
 
 
 if __name__ == "__main__":

@@ -9,8 +9,9 @@ from typing import Callable, List
 from ..differences import differences
 from ..language.names import Name
 from ..language.packets import Key
-from ..pair import Cleared, End, Frame, Held, Pair, Queued, read_shown
-from .test_frames import NAME, UDP, frame
+from ..pair import Cleared, Held, Pair, Queued, read_shown
+from ..states import End
+from .test_frames import NAME, UDP, frame, framed
 
 SHOWN = [
     "branch main events 5 cursor 3",
@@ -21,7 +22,6 @@ SHOWN = [
     "node b clock 0 boot 2 id 1 seq 1 push 0 serve - sync -",
     "count b 0 0 0 0 0 0 0",
     "link next 2 boot 3",
-    "frame 1 b " + frame("01000001", UDP).hex(),
     "end",
 ]
 ONE = Name(1, 1)
@@ -31,6 +31,7 @@ PACKET = "udp 10.0.0.1:1000 192.0.2.9:53 40"
 def found(change: Callable[[Pair], None]) -> List[str]:
     """What differs between the pair above and the same with a change."""
     before = read_shown(SHOWN)
+    before.frames[1] = framed(frame("01000001", UDP))
     after = copy.deepcopy(before)
     change(after)
     return [str(it) for it in differences(before, after)]
@@ -129,11 +130,11 @@ class Links(unittest.TestCase):
         self.assertEqual(found(lambda it: it.frames.clear()), ["link: frame 1 gone: to b, 148 bytes: 1 insert"])
 
         def put(to: str, data: bytes) -> List[str]:
-            return found(lambda it: it.frames.update({1: Frame(1, to, data)}))
+            return found(lambda it: it.frames.update({1: replace(framed(data), to=to)}))
 
         whole = frame("01000001", UDP)
         self.assertEqual(put("a", whole), ["link: frame 1 receiver: b -> a"])
-        cut = "link: frame 1 content: 1 insert -> broken: the header says 148 bytes, and 100 are there"
+        cut = "link: frame 1 content: 1 insert -> broken: bytes 2 and 3 of its header say 148 bytes, and 100 are there"
         self.assertEqual(put("b", whole[:100]), ["link: frame 1 size: 148 bytes -> 100 bytes", cut])
         rules = "link: frame 1 checksum: d41d8cd98f00b204e9800998ecf8427e -> 00" + "1d8cd98f00b204e9800998ecf8427e"
         self.assertEqual(put("b", whole[:4] + b"\0" + whole[5:]), [rules])
@@ -147,7 +148,7 @@ class Links(unittest.TestCase):
         one = frame("02000001", NAME)
         two = one[:1] + bytes([1]) + one[2:]
         before, after = read_shown(SHOWN), read_shown(SHOWN)
-        before.frames[1], after.frames[1] = Frame(1, "b", one), Frame(1, "b", two)
+        before.frames[1], after.frames[1] = framed(one), framed(two)
         (difference,) = differences(before, after)
         self.assertEqual((difference.part, difference.before, difference.after), ("bytes", one.hex(), two.hex()))
 

@@ -4,9 +4,11 @@ from __future__ import annotations
 import unittest
 from typing import List, Optional
 
-from ..explanations import Edge, Expiry, Judged, NotExplained, OfState, Purge, Reason, TakenRecord, read_explanation
+from ..explanations import Against, Edge, Expiry, Judged, NotExplained, OfState, Purge, Reason, TakenRecord, read_explanation
+from ..branches import Happened
 from ..language.events import read_packet
 from ..language.names import Name
+from ..language.records import CLEAR, INSERT, UPDATE
 from ..rulings import deciding
 from ..setups import Adaptive, Rule
 
@@ -19,7 +21,15 @@ def reason(*lines: str) -> Reason:
 
 class Replies(unittest.TestCase):
     def test_the_event_and_its_outcome(self) -> None:
-        self.assertEqual(read_explanation([*HEAD, "end"])[:], ("deliver 1", "taken 2", None))
+        self.assertEqual(read_explanation([*HEAD, "end"]), (Happened(3, "deliver 1", "taken 2"), None, []))
+
+    def test_an_event_that_is_refused_and_the_numbers_against_it(self) -> None:
+        head = ["why main 4", "event 4 step main deliver 7", "refused 1 NoSuchFrame"]
+        refused = Happened(4, "deliver 7", "refused 1 NoSuchFrame")
+        self.assertTrue(refused.is_refused)
+        self.assertEqual(read_explanation([*head, "ticket 2", "end"]), (refused, Against((2,)), ["ticket 2"]))
+        self.assertEqual(read_explanation([*head, "clock 5 9", "end"]).reason, Against((5, 9)))
+        self.assertEqual(read_explanation([*head, "end"]).reason, Against(()))
 
     def test_packets(self) -> None:
         edges = {"right": Edge(127001, (65001,), 62000), "ack": Edge(9001, (8000, 9500), None)}
@@ -30,11 +40,11 @@ class Replies(unittest.TestCase):
         self.assertEqual(reason("closed 1.2", "rule 0 pass", "max 1 3"), Judged(Name(1, 2), 0, "max", ("1", "3")))
 
     def test_records(self) -> None:
-        bad, clear = TakenRecord("ins", ("1.2",), ("bad", "wire", "2.1")), TakenRecord("clr", ("1", "2"), ("cleared", "2"))
+        bad, clear = TakenRecord(INSERT, ("1.2",), ("bad", "wire", "2.1")), TakenRecord(CLEAR, ("1", "2"), ("cleared", "2"))
         self.assertEqual(reason("record ins 1.2 bad wire 2.1", "record clr 1 2 cleared 2"), [bad, clear])
         self.assertEqual((bad.is_bad, clear.is_bad, bad.takes(Name(1, 2))), (True, False, False))
         self.assertEqual([clear.takes(Name(*it)) for it in ((1, 2), (1, 3), (2, 1))], [True, False, False])
-        ends = [TakenRecord("upd", ("1.1",), ("merged", it, "0")).stale for it in ("-", "src", "dst", "both")]
+        ends = [TakenRecord(UPDATE, ("1.1",), ("merged", it, "0")).stale for it in ("-", "src", "dst", "both")]
         self.assertEqual(ends, [(), ("source",), ("destination",), ("source", "destination")])
 
     def test_purges(self) -> None:

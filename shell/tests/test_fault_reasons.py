@@ -26,6 +26,13 @@ COMMANDS = [
     ("step main packet a", "bad 4 Missing", "", "in|out is missing: in or out"),
     ("show " + "x" * 33, "bad 5 Number", "x" * 33, "has 33 characters; BRANCH is a letter from a to z and at most 15 more of"),
     ("fork main 3", "bad 4 Missing", "", "NEW is missing"),
+    ("why main", "bad 4 Missing", "", "K is missing"),
+    ("why main flsh", "bad 5 Number", "flsh", "is no number of decimal digits"),
+    ("why main flush", "bad 4 Missing", "", "NODE is missing"),
+    ("why main 3 4", "bad 6 Extra", "4", "the line was complete before `4`"),
+    (PACKET.replace("step", "why").replace("2 3", "2 65500"), "bad 7 Packet", "65500", "above 65495"),
+    ("frame main", "bad 4 Missing", "", "TICKET is missing"),
+    ("frame main 4294967296", "bad 5 Number", "4294967296", "is above 4294967295"),
     ("past main", "bad 4 Missing", "", "K is missing"),
     ("past main 4294967296", "bad 5 Number", "4294967296", "is above 4294967295"),
     ("past main 3 2", "bad 6 Extra", "2", "the line was complete before `2`"),
@@ -111,6 +118,14 @@ class FaultReasons(unittest.TestCase):
                 self.assertEqual(came, [reply])
                 self.check(line, reply, word, part)
 
+    def test_what_was_wanted(self) -> None:
+        for line, wanted in (
+            ("why main 3 4", ["why BRANCH K", "why BRANCH EVENT"]),
+            ("why main lose x", ["why BRANCH lose TICKET"]),
+            ("frame main", ["frame BRANCH TICKET"]),
+        ):
+            self.assertEqual(explain_fault(line, "bad 6 Extra")[-len(wanted) :], [f"wanted: {it}" for it in wanted])
+
     def test_setups(self) -> None:
         for line, reply, word, part in SETUPS:
             with self.subTest(line):
@@ -162,7 +177,8 @@ class FaultReasons(unittest.TestCase):
             f"{TCP.replace('step main', 'search main 8 9 landed passed')} ; 1 lose 2",
             f"search main 8 9 apart; 2 {PACKET[10:]}; 3 kill a 1.1",
         ]
-        good = [PACKET, TCP, *steps, *searches, *searches, "fork main 1 x", "back main 1", "names"]
+        whys = [TCP.replace("step", "why"), "why main lose 1", "why main 3", "frame main 1"]
+        good = [PACKET, TCP, *steps, *searches, *searches, *whys, "fork main 1 x", "back main 1", "names"]
         lines = []
         for _ in range(3000):
             words = chance.choice(good).split()

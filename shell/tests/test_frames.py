@@ -1,13 +1,15 @@
-"""Frames are read as docs/FORMATS.md lays them out. The bytes are put together by hand, field by field."""
+"""Frames are read as docs/FORMATS.md lays them out, and shown in words. The bytes are put together by hand, field by field."""
 from __future__ import annotations
 
 import unittest
+from typing import List
 
-from ..frames import Broken, ClearRecord, Named, ShortUpdate, StateRecord, StatusRecord, checksum, decode, summary
-from ..language.names import Name
-from ..language.packets import Key
-from ..pair import End
-from ..records import record_lines
+from oracle.frames import contents
+
+from ..branches import Happened
+from ..flights import read_flight
+from ..frames import Frame, Record
+from ..records import record_line
 
 NO_RULES = "d41d8cd98f00b204e9800998ecf8427e"
 NAME = "0000000000000001 00000001"
@@ -30,82 +32,69 @@ def frame(*groups: str) -> bytes:
     return bytes.fromhex("0500") + (20 + len(body)).to_bytes(2, "big") + bytes.fromhex(NO_RULES) + body
 
 
-class Decoding(unittest.TestCase):
+def framed(data: bytes) -> Frame:
+    """A frame in flight to b, with the records in its bytes."""
+    words = (line.split()[1:] for line in contents(data) if line.startswith("record "))
+    return Frame(1, "b", data, tuple(map(Record.read, words)))
+
+
+def record_lines(data: bytes) -> List[str]:
+    return [record_line(it) for it in framed(data).records]
+
+
+class Contents(unittest.TestCase):
+    """What `frame` has to write of bytes."""
+
     def test_the_acknowledgement_of_formats(self) -> None:
         data = bytes.fromhex("05000024d41d8cd98f00b204e9800998ecf8427e02000001000000000000000100000001")
-        self.assertEqual(decode(data), [Named("insert acknowledgement", Name(1, 1))])
-        self.assertEqual(checksum(data), NO_RULES)
+        self.assertEqual(contents(data), ["record iack 1.1"])
+        self.assertEqual(Frame(1, "b", data).checksum, NO_RULES)
         self.assertEqual(data, frame("02000001", NAME))
 
-    def test_an_insertion_with_a_translation(self) -> None:
-        (record,) = decode(frame("01000001", UDP))
-        wire, stack = Key("192.0.2.9:53", "198.51.100.1:4000"), Key("192.0.2.9:53", "10.0.0.1:1000")
-        source, destination = End(1, None, 0, 0, 0), End(0, None, 0, 0, 0)
-        expected = StateRecord("insert", Name(1, 1), "udp", "out", True, wire, stack, source, destination, "udp.first", 60, 0)
-        self.assertEqual(record, expected)
-
-    def test_an_update_of_tcp_over_ipv6(self) -> None:
-        (record,) = decode(frame("03000001", TCP))
-        assert isinstance(record, StateRecord)
-        far, near = "[2001:0db8:0000:0000:0000:0000:0000:0009]:5353", "[2001:0db8:0000:0000:0000:0000:0000:0001]:22"
-        self.assertEqual((record.action, record.protocol, record.direction), ("update", "tcp", "in"))
-        self.assertEqual((record.wire, record.stack), (Key(far, near), Key(far, near)))
-        self.assertEqual(record.source, End(4, 3, 1000, 100, 2100))
-        self.assertEqual(record.destination, End(2, None, 2000, 4294967295, 1))
-        self.assertEqual((record.timeout_class, record.remaining, record.rule), ("tcp.opening", 30, None))
-        self.assertFalse(record.asks_for_acknowledgement)
-
-    def test_a_short_update(self) -> None:
+    def test_states(self) -> None:
+        ends, keys = "1 - 0 0 0 0 - 0 0 0", "192.0.2.9:53 198.51.100.1:4000 192.0.2.9:53 10.0.0.1:1000"
+        self.assertEqual(contents(frame("01000001", UDP)), [f"record ins 1.1 udp out {keys} {ends} udp.first 60 0 k"])
+        key = "[2001:0db8:0000:0000:0000:0000:0000:0009]:5353 [2001:0db8:0000:0000:0000:0000:0000:0001]:22"
+        ends = "4 3 1000 100 2100 2 - 2000 4294967295 1"
+        self.assertEqual(contents(frame("03000001", TCP)), [f"record upd 1.1 tcp in {key} {key} {ends} tcp.opening 30 - -"])
         data = frame("04000001", NAME, SINGLE, SILENT, "06 000000 0000003b")
-        ends = End(1, None, 0, 0, 0), End(0, None, 0, 0, 0)
-        self.assertEqual(decode(data), [ShortUpdate("short update", Name(1, 1), *ends, "udp.first", 59)])
+        self.assertEqual(contents(data), ["record updc 1.1 1 - 0 0 0 0 - 0 0 0 udp.first 59"])
 
     def test_groups_of_the_other_actions(self) -> None:
-        data = frame(
-            "05000002",
-            NAME,
-            24 * "0",
-            "07000001",
-            "0000000100000000 00000003",
-            "00000001",
-            "00000001 0000000000000007",
-            "0a000001",
-            "00000002 02 000000",
-        )
-        self.assertEqual(
-            decode(data),
-            [
-                Named("update request", Name(1, 1)),
-                Named("update request", Name(0, 0)),
-                Named("short delete", Name(3, 2**32)),
-                ClearRecord("clear", 1, 7),
-                StatusRecord("bulk status", 2, 2),
-            ],
-        )
-
-    def test_a_header_alone_has_no_records(self) -> None:
-        self.assertEqual(decode(frame()), [])
-        self.assertEqual(summary(frame()), "no records")
+        groups = ("05000002", NAME, 24 * "0", "07000001", "0000000100000000 00000003", "00000001", "00000001 0000000000000007")
+        expected = ["req 1.1", "req 0.0", "delc 3.4294967296", "clr 1 7", "bus 2"]
+        self.assertEqual(contents(frame(*groups, "0a000001", "00000002 02 000000")), [f"record {it}" for it in expected])
+        self.assertEqual(contents(frame()), [])
 
     def test_bytes_that_are_no_frame(self) -> None:
         whole = frame("02000001", NAME)
-        broken = {
-            "5 bytes are too few": whole[:5],
-            "version 6": b"\x06" + whole[1:],
-            "says 36 bytes, and 30": whole[:30],
-            "no group begins at byte 20": frame("0200"),
-            "0 records": frame("02000000"),
-            "2 records": frame("02000002", NAME),
-            "no group begins": frame("08000001", NAME),
-        }
-        for fault, data in broken.items():
-            with self.subTest(fault), self.assertRaisesRegex(Broken, fault):
-                decode(data)
+        cases = ((0, 1, "it has 0 bytes, and"), (19, 1, "it has 19 bytes, and a"), (20, 3, "say 36 bytes, and 20"), (35, 3, "and 35 are"))
+        for length, fault, words in cases:
+            self.assertEqual(contents(whole[:length]), [f"broken {fault}"])
+            self.assertIn(words, Frame(1, "b", whole[:length]).summary)
+        self.assertEqual(Frame(1, "b", whole).broken, "")
 
     def test_a_summary_counts_the_records_of_each_kind(self) -> None:
         data = frame("05000002", NAME, NAME, "0a000002", "00000001 01 000000", "00000001 02 000000")
-        self.assertEqual(summary(data), "2 update requests, 2 bulk statuses")
-        self.assertEqual(summary(data[:10]), "broken: 10 bytes are too few for a header")
+        self.assertEqual(framed(data).summary, "2 update requests, 2 bulk statuses")
+        self.assertEqual(framed(frame()).summary, "no records")
+
+
+class Replies(unittest.TestCase):
+    """What a reply to `frame` tells."""
+
+    def test_a_frame_and_what_befell_it(self) -> None:
+        data = frame("02000001", NAME)
+        steps = ["event 5 step x cut 7 30", "outcome cut 30", "event 6 step x repeat 7", "outcome sent 8 30"]
+        head = ["frame x 7", "event 4 step x flush b", "outcome sent 7 36", f"frame 7 a {data.hex()}", "record iack 1.1"]
+        it = read_flight([*head, *steps, "event 9 step x lose 7", "outcome lost", "end"])
+        self.assertEqual((it.ticket, it.source, it.to, it.origin, it.sent), (7, "b", "a", None, Happened(4, "flush b", "sent 7 36")))
+        self.assertEqual((it.frame.records, it.now.data), ((Record.read(["iack", "1.1"]),), data[:30]))
+        self.assertEqual((it.ended, it.is_lost, it.is_taken), (Happened(9, "lose 7", "lost"), True, False))
+
+    def test_a_copy_of_a_frame_that_was_cut(self) -> None:
+        it = read_flight(["frame x 8", "event 6 step x repeat 7", "outcome sent 8 0", "frame 8 a -", "broken 1", "end"])
+        self.assertEqual((it.origin, it.frame.data, it.frame.records, it.ended), (7, b"", (), None))
 
 
 class Lines(unittest.TestCase):
@@ -134,11 +123,8 @@ class Lines(unittest.TestCase):
 
     def test_the_others(self) -> None:
         data = frame("05000001", 24 * "0", "00000001", "00000001 0000000000000007", "0a000001", "00000002 01 000000")
-        expected = ["update request 0.0 (all states)", "clear creator 1 up to id 7", "bulk status start, from boot 2"]
+        expected = ["update request 0.0 (all states)", "clear creator 1 up to id 7", "bulk status start"]
         self.assertEqual(record_lines(data), expected)
-
-    def test_a_cut_frame(self) -> None:
-        self.assertEqual(record_lines(frame("02000001", NAME)[:24]), ["broken: the header says 36 bytes, and 24 are there"])
 
 
 if __name__ == "__main__":

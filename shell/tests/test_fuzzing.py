@@ -31,6 +31,10 @@ open
 step main packet a out udp 10.0.0.1:01000 192.0.2.9:53 40
 step main flush a
 show main
+why main lose 01
+why main flush b
+frame main 1
+frame main 2
 back main 2
 forward main 1
 excise main 1
@@ -79,6 +83,16 @@ LIES = (
     ("scaling 1 38 76", "scaling 2 38 76", 0),
     ("udp.first 60 60 60000", "udp.first 60 59 59000", 0),
     ("why main 2", "why main 1", 0),
+    # What has not happened.
+    ("refused 2 NothingPending", "refused 4 LinkFull", 0),
+    ("outcome lost", "outcome cut 0", 0),
+    ("ticket 1", "ticket 3", 0),
+    ("why main 3", "why main 2", 0),
+    # Frames.
+    ("frame main 1", "frame main 2", 0),
+    ("record ins 1.1 udp out", "record ins 1.1 udp in", 0),
+    ("udp.first 60 0 -", "udp.first 60 1 -", 0),
+    ("refused 11 NoFrame", "refused 9 NoEvent", 0),
     # A search.
     ("found main events 1", "found main events 2", 0),
     ("found main events 1 runs 4", "found main events 1 runs 91", 0),

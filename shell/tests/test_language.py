@@ -8,13 +8,15 @@ from typing import List
 from fuzzing.outcomes import _CHECKS
 from fuzzing.timelines import Timeline
 
-from .. import frames
+from oracle.frames import _READERS, Bytes
+
+from ..frames import Record
 from ..language import faults
 from ..language.commands import COMMANDS, MOST_BRANCHES, SETUP, STEP
 from ..language.events import DELIVER, EVENTS, LAST_MILLISECOND, OF_FRAME, PACKET
 from ..language.forms import GREATEST, GREATEST_LONG, NODE, TICKET
 from ..language.lines import LONGEST_LINE
-from ..language.records import KINDS, QUEUES
+from ..language.records import BY_WORD, KINDS, QUEUES
 from ..language.searches import ANY, DEEPEST, GOALS, MOST_CHOICES, SCOPES, SEARCH
 from ..language.setups import CLASSES, LIMITS, MOST_RULES, RULE_FORM, STATES
 from ..reasons import commands, events, refusals
@@ -80,11 +82,14 @@ class Page(unittest.TestCase):
         self.assertIn(f"`queue N {'|'.join(QUEUES)} NUMBER NAME`", section("### Replies"))
         explained = codes(section("### What `why` answers").partition("RECORD is")[2].partition("FATE is")[0])
         self.assertEqual([it.split()[0] for it in explained], [it.word for it in KINDS.values()])
+        shown = [code.split()[0] for row in table("### What `frame` answers", "RECORD") for code in codes(row[0])]
+        self.assertEqual({*shown}, {*BY_WORD})
 
     def test_lines_of_a_setup_and_commands(self) -> None:
         setup = [codes(row[0])[0] for row in table("### Setup", "Line")]
         self.assertEqual(setup, [it.form.replace(RULE_FORM, "RULE") for it in SETUP.values()])
-        self.assertEqual([codes(row[0])[0] for row in table("### Commands", "Line")], [it.form for it in COMMANDS.values()])
+        commands = [form for it in COMMANDS.values() for form in it.form.split("\n")]
+        self.assertEqual([codes(row[0])[0] for row in table("### Commands", "Line")], commands)
         self.assertIn(f"There are at most {MOST_BRANCHES} branches", section("### Commands"))
         self.assertIn(f"of more than {LONGEST_LINE} bytes", section("## Lines and replies"))
 
@@ -92,7 +97,7 @@ class Page(unittest.TestCase):
         rows = table("### Replies", "Reply")
         page = {code for what, cell in rows for code in codes(cell) if "refused" not in what and "faulty" not in what}
         shown = codes(section("### Replies").partition("A shown branch is many lines")[2].partition("\n1. ")[2])[0]
-        others = {"excised", "event K step NAME EVENT", "outcome OUTCOME", "end"}
+        others = {"excised", "event K step NAME EVENT", "outcome OUTCOME", "refused N REFUSAL", "end"}
         self.assertEqual(page - others | {shown}, {reply for it in COMMANDS.values() for reply in it.replies})
 
     def test_events(self) -> None:
@@ -161,8 +166,10 @@ class Complete(unittest.TestCase):
 
     def test_records(self) -> None:
         for kind in KINDS.values():
-            record = frames._READERS.get(kind, frames._named)(kind.name, frames._Bytes(bytes(kind.size)))
-            self.assertEqual(record.action, kind.name)
+            # (the direction is 1 or 2)
+            data = Bytes(bytes([0] * 14 + [1] + [0] * kind.size)[: kind.size])
+            words = [kind.word, *_READERS.get(kind, Bytes.name)(data).split()]
+            self.assertEqual((data.data.strip(b"\0"), Record.read(words).kind), (b"", kind))
 
 
 if __name__ == "__main__":

@@ -57,8 +57,8 @@ class Named(unittest.TestCase):
         for name, words in (("SETUP", helps.SETUP), ("COMMANDS", helps.COMMANDS), ("EVENTS", helps.EVENTS)):
             for word, it in words.items():
                 self.item(section("pfl_lab", name), word, len(it.form.split("\n")))
-        for word in ("log", "why"):
-            self.item(section("pfl_lab", "COMMANDS"), word)
+        for word, forms in (("log", 1), ("why", 2), ("frame", 1)):
+            self.item(section("pfl_lab", "COMMANDS"), word, forms)
         self.item(section("pfl_lab", "SESSIONS"), "view")
 
     def test_each_word_of_the_shell(self) -> None:

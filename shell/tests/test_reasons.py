@@ -316,6 +316,8 @@ COMMANDS: Cases = {
     ),
     "no event 0": (WALLS + QUERY + "excise main 0", ["events are counted from 1"]),
     "no event": (WALLS + QUERY + "excise main 2", ["main has 1 event: there is no event 2"]),
+    "no frame": (WALLS + QUERY + FLUSH + "frame main 2", ["no event of main sent a frame under the ticket 2: of 1 frame the last has the ticket 1"]),
+    "no frame at all": (WALLS + "frame main 1", ["no event of main sent a frame under the ticket 1: they sent none"]),
     "nothing excised": (
         WALLS + "restore main",
         ["main has nothing to bring back: no event was taken out, or an event was accepted or restored since"],
@@ -460,18 +462,13 @@ class Reasons(unittest.TestCase):
         self.assertNotIn("other keys", "\n".join(why_last(lab, PLAIN)))
 
     def test_refusals_of_a_server_without_its_setup(self) -> None:
-        """The branch shows what they need, but for limits."""
+        """The program says which numbers stand against them, limits too."""
         cases: Cases = {
             "deliver": (WALLS + FLUSH.replace("flush a", "deliver 9"), ["no frame in flight has the ticket 9; in flight: none"]),
             "flush": REFUSALS["nothing to send"],
             "kill": REFUSALS["a state of the peer"],
-            "retry": (
-                WALLS + "step main restart a\nstep main tick a 1\nstep main retry a",
-                [
-                    "a has waited since 0 ms, and the clock of a stands at 1 ms",
-                    "the limit `bulk_ms` of the server is not known here (10000 unless its setup says otherwise; see --setup)",
-                ],
-            ),
+            "retry": REFUSALS["too early to retry"],
+            "packet": REFUSALS["queue full"],
         }
         for name, (script, expected) in cases.items():
             with self.subTest(name):

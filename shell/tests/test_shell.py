@@ -134,13 +134,39 @@ class Questions(Dialogue):
             self.assertEqual(self.said(shell, "view")[1:], told[1:])
         self.assertEqual(self.said(shell, "use main", "view main 2"), seen[2])
         self.assertEqual(self.said(shell, "view 4"), ["the program answers `refused 5 NothingForward` to `past main 4`; `log main` lists its events"])
-        self.assertEqual(self.said(shell, "view none 1"), ["there is no branch none; `names` tells them"])
+        self.assertEqual(self.said(shell, "view none 1"), ["there is no branch none; `names` lists them"])
+
+    def test_a_frame_is_shown_with_what_befell_it(self) -> None:
+        shell = self.shell()
+        self.said(shell, *SETUP, QUERY, "flush a", "repeat 1", "cut 1 40", "deliver 1", "deliver 2", "back main 1", "fork main 3 other")
+        insert = "  insert 1.1  udp 10.0.0.1:1000 -> 192.0.2.9:53  SINGLE:NO_TRAFFIC  60 s left of udp.first, rule 0"
+        head = "to b, 148 bytes, rules 6d740d4d of a, b has the same: 1 insert"
+        copied = ["  event 2, `flush a` (sent 1 148)", "  event 3, `repeat 1` (sent 2 148)"]
+        steps = ["  event 4, `cut 1 40` (cut 40)", "  event 5, `deliver 1` (broken 3)"]
+        self.assertEqual(self.said(shell, "frame 1"), [f"frame 1 {head}", insert, *copied, *steps])
+        self.assertEqual(self.said(shell, "frame other 1"), [f"frame 1 {head}", insert, *copied, "  it is in flight"])
+        steps = [copied[1], "  event 6, `deliver 2` (taken 1)  (undone)", "  it is in flight"]
+        self.assertEqual(self.said(shell, "frame 2"), [f"frame 2 {head}", insert, *steps])
+        told = "no event of main sent a frame 3; `log main` lists its events"
+        none, usage = "there is no branch none; `names` lists them", "usage: frame [BRANCH] TICKET"
+        asked = ("frame 3", "frame none 1", "frame x", "frame", "frame 4294967296")
+        self.assertEqual(self.said(shell, *asked), [told, none, *[usage] * 3])
+
+    def test_what_an_event_would_do_is_told(self) -> None:
+        shell = self.shell()
+        self.said(shell, *SETUP, QUERY, "flush a", "tick a 5", "back main 1", "fork main 1 other")
+        self.assertEqual(self.said(shell, "why deliver 1")[:2], ["deliver 1: taken 1", "  frame 1 came to node b with 1 record:"])
+        refused = ["lose 1: refused 1 NoSuchFrame", "  no frame in flight has the ticket 1; in flight: none"]
+        self.assertEqual(self.said(shell, "why other lose 01")[:2], refused)
+        self.assertEqual(self.said(shell, "why other flush a"), ["flush a: sent 1 148", "  frame 1 goes to b, and carries 1 insert"])
+        self.assertEqual(self.said(shell, "why flush c"), ["`flush c`: `c` is no NODE; NODE is a or b"])
+        self.assertEqual(self.said(shell, "log")[0], "main: 3 events, 2 stand")
 
     def test_questions_change_nothing(self) -> None:
         shell = self.shell()
         self.said(shell, *SETUP, QUERY, "flush a", "fork main 1 other")
         before = [shell.lab.show(it) for it in ("main", "other")]
-        self.said(shell, "view", "view 1", "past main 0", "diff", "diff main other", "log", "changes 2", "why", "why 1", "chart", "names", "show main")
+        self.said(shell, "view", "view 1", "past main 0", "diff", "diff main other", "log", "changes 2", "why", "why 1", "why lose 7", "why deliver 1", "frame 1", "chart", "names", "show main")
         self.assertEqual(before, [shell.lab.show(it) for it in ("main", "other")])
 
 
@@ -403,6 +429,17 @@ class Server(Dialogue):
         told = "another session has moved main on since; its newest event is this:"
         self.assertEqual(self.said(one, "why")[:2], [told, "flush a: sent 1 148"])
         self.assertRegex("\n".join(self.said(one, "chart")), "#1: insert 1.1")
+        self.assertEqual(self.said(one, "frame 1")[2:], ["  event 2, `flush a` (sent 1 148)", "  it is in flight"])
+        ahead = "  it would be accepted; with --setup FILE, or once it is stepped, `why` says more"
+        self.assertEqual(self.said(one, "why lose 1"), ["lose 1: lost", ahead])
+        self.assertEqual(self.said(one, "why deliver 1"), ["deliver 1: taken 1", "  record ins 1.1 imported 0", ahead])
+
+    def test_a_refusal_is_explained_without_the_setup(self) -> None:
+        one, two = self.shells
+        self.said(one, QUERY, "restart b", "retry b")
+        told = ["retry b: refused 9 TooEarly", "  b can ask for all states again at 10000 ms: it has waited since 0 ms, and `bulk_ms` is 10000 ms"]
+        self.assertEqual(self.said(one, "why")[:2], told)
+        self.assertEqual(self.said(two, "why retry b")[:2], told)
 
     def test_with_the_setup_all_questions_are_answered(self) -> None:
         one, two = self.shells

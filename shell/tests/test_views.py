@@ -7,7 +7,6 @@ from typing import List, Tuple
 
 from ..checksums import canonical_text, rules_checksum
 from ..colours import PLAIN, Paint
-from ..frames import checksum
 from ..held import tell_packets
 from ..language.names import Name
 from ..pair import NotShown, Pair, read_shown
@@ -82,10 +81,11 @@ class Whole(unittest.TestCase):
         rules = "rules " + rules_checksum([Rule(("pass", "out"))])[:8]
         expected = [
             "link  2 frames in flight, next ticket 3, next boot 3",
-            f"  frame 1 to b, 100 bytes, {rules} of a, b has others: broken: the header says 148 bytes, and 100 are there",
-            "  frame 2 to b, 4 bytes: broken: 4 bytes are too few for a header",
+            f"  frame 1 to b, 100 bytes, {rules} of a, b has others: "
+            "broken: bytes 2 and 3 of its header say 148 bytes, and 100 are there",
+            "  frame 2 to b, 4 bytes: broken: it has 4 bytes, and a header alone has 20",
         ]
-        self.assertEqual(view(lab.show("main"), lab.setup, PLAIN)[-3:], expected)
+        self.assertEqual(view(lab.with_contents(lab.show("main")), lab.setup, PLAIN)[-3:], expected)
         lab.ask("step main repeat 1")
         lab.ask("back main 4")
         expected = [
@@ -93,8 +93,8 @@ class Whole(unittest.TestCase):
             f"  frame 1 to b, 148 bytes, {rules} of a, b has others: 1 insert",
             "    insert 1.1  udp 10.0.0.1:1000 -> 192.0.2.9:53  SINGLE:NO_TRAFFIC  60 s left of udp.first, rule 0",
         ]
-        self.assertEqual(view(lab.show("main"), lab.setup, PLAIN)[-3:], expected)
-        self.assertIn(f"  frame 1 to b, 148 bytes, {rules}: 1 insert", view(lab.show("main"), None, PLAIN))
+        self.assertEqual(view(lab.with_contents(lab.show("main")), lab.setup, PLAIN)[-3:], expected)
+        self.assertIn(f"  frame 1 to b, 148 bytes, {rules}: 1 insert", view(lab.with_contents(lab.show("main")), None, PLAIN))
         lab.close()
 
     def test_both_nodes_have_the_same_rules(self) -> None:
@@ -104,7 +104,7 @@ class Whole(unittest.TestCase):
             f"  frame 1 to a, 36 bytes, rules {rules} of b, a has the same: 1 update request",
             "    update request 0.0 (all states)",
         ]
-        self.assertEqual(view(lab.show("main"), lab.setup, PLAIN)[-2:], expected)
+        self.assertEqual(view(lab.with_contents(lab.show("main")), lab.setup, PLAIN)[-2:], expected)
         lab.close()
 
     def test_without_a_setup_it_is_said_once(self) -> None:
@@ -294,7 +294,7 @@ class Checksums(unittest.TestCase):
             """
         )
         (frame,) = lab.show("main").frames.values()
-        self.assertEqual(rules_checksum(lab.setup.rules["a"]), checksum(frame.data))
+        self.assertEqual(rules_checksum(lab.setup.rules["a"]), frame.checksum)
         lab.close()
 
 

@@ -45,6 +45,16 @@ pub enum Command {
         branch: BranchWord,
         place: u32,
     },
+    /// Asks what would come of the event where the branch stands, and why.
+    WhyStep {
+        branch: BranchWord,
+        event: Event,
+    },
+    /// Asks for the frame that an event of the branch sent under the ticket, and what became of it.
+    Frame {
+        branch: BranchWord,
+        ticket: u32,
+    },
     /// Asks for the names of the branches, in the order of their making.
     Names,
     /// Takes an event out of the branch, and with it each later one that is refused then. Places count from 1.

@@ -25,4 +25,6 @@ pub enum Refused {
     NoEvent,
     /// The branch has nothing from before an excision that could be brought back.
     NothingExcised,
+    /// No event of the branch sent a frame under the ticket.
+    NoFrame,
 }

@@ -1,4 +1,4 @@
--- Worked cases of searches, and of commands that ask for an earlier pair, computed.
+-- Worked cases of searches, and of commands that ask for an earlier pair, why of an event, or for a frame, computed.
 use Rattle.std.specs.Prelude.{◌≡◌, ℕ, zero, suc, List, [], ◌∷◌, ◌++◌, replicate, Ok, Err, None, refl, codes}
 use Rattle.pfl_base.specs.declared.addr.Addr.TheVariants.{V4}
 use Rattle.pfl_base.specs.declared.direction.Dir.TheVariants.{Inbound}
@@ -22,14 +22,14 @@ use Rattle.pfl_lines.specs.declared.fault.LineFault.TheVariants.{Unknown, Missin
 use Rattle.pfl_lines.specs.declared.search.ScriptLine.{ScriptLine}
 use Rattle.pfl_lines.specs.declared.search.ScriptLine.TheVariants as script
 use Rattle.pfl_lines.specs.Addresses.{end_of, v4_end, v4_of}
-use Rattle.pfl_lines.specs.Commands.{event_at, flush_at, packet_at, bare_frame_event_at, command_of, command_at, past_at, why_at, step_at, whole_step, parsed}
+use Rattle.pfl_lines.specs.Commands.{event_at, flush_at, packet_at, bare_frame_event_at, command_of, command_at, past_at, why_event_at, why_place_at, why_at, frame_at, step_at, whole_step, whole_why, parsed}
 use Rattle.pfl_lines.specs.Numbers.{number_of}
 use Rattle.pfl_lines.specs.Packets.{fields_at, plain_at}
 use Rattle.pfl_lines.specs.Search.{parsed_script, script_of, search_of, choices_of, each_choice, choice_of, move_of, move_at, given_at, any_frame_at, any_cut_at, goal_of, goal_at, question_at, passed_at, unpassed_at, judged_at}
 
 -- what events and commands need to compute on literals
 unfoldable of_commands : ℕ
-unfolding number_of v4_of v4_end end_of plain_at fields_at packet_at flush_at bare_frame_event_at event_at step_at past_at why_at command_at whole_step command_of
+unfolding number_of v4_of v4_end end_of plain_at fields_at packet_at flush_at bare_frame_event_at event_at step_at past_at why_event_at why_place_at why_at frame_at command_at whole_step whole_why command_of
 of_commands = 0
 
 -- what goals need
@@ -188,3 +188,58 @@ why_no_place = refl
 why_left_over : parsed (codes "why main 3 2") ≡ Err Extra
 unfolding computing parsed
 why_left_over = refl
+
+why_no_number : parsed (codes "why main x") ≡ Err Number
+unfolding computing parsed
+why_no_number = refl
+
+why_event : parsed_script (codes "why main flush a") ≡ Ok (script.Command (command.WhyStep main_name (event.Flush A)))
+unfolding computing
+why_event = refl
+
+why_event_packet : parsed (codes "why main packet b in udp 192.0.2.9:53 10.0.0.1:1000 80") ≡ Ok (command.WhyStep main_name (event.At B (own.Packet Inbound query)))
+unfolding computing parsed query
+why_event_packet = refl
+
+why_event_no_packet : parsed (codes "why main packet b in icmp 10.0.0.1:1 10.0.0.2:2 80") ≡ Err (Packet Ports)
+unfolding computing parsed
+why_event_no_packet = refl
+
+-- a word left over comes before a packet that is none
+why_event_left_over : parsed (codes "why main packet b in icmp 10.0.0.1:1 10.0.0.2:2 80 80") ≡ Err Extra
+unfolding computing parsed
+why_event_left_over = refl
+
+why_event_no_node : parsed (codes "why main flush") ≡ Err Missing
+unfolding computing parsed
+why_event_no_node = refl
+
+why_event_no_event : parsed (codes "why main flushes a") ≡ Err Number
+unfolding computing parsed
+why_event_no_event = refl
+
+why_event_no_branch : parsed (codes "why flush a") ≡ Err Number
+unfolding computing parsed
+why_event_no_branch = refl
+
+-- ---- a frame
+
+frame_script : parsed_script (codes "frame main 7") ≡ Ok (script.Command (command.Frame main_name 7))
+unfolding computing
+frame_script = refl
+
+frame_greatest : parsed (codes "frame main 4294967295") ≡ Ok (command.Frame main_name 4294967295)
+unfolding computing parsed
+frame_greatest = refl
+
+frame_too_great : parsed (codes "frame main 4294967296") ≡ Err Number
+unfolding computing parsed
+frame_too_great = refl
+
+frame_no_ticket : parsed (codes "frame main") ≡ Err Missing
+unfolding computing parsed
+frame_no_ticket = refl
+
+frame_left_over : parsed (codes "frame main 7 8") ≡ Err Extra
+unfolding computing parsed
+frame_left_over = refl

@@ -1,19 +1,25 @@
--- The line that steps an event is read as that command.
+-- The lines that step an event, and that ask why of one, are read as those commands.
 use Rattle.std.proofs.Common.{◌≡◌, ℕ, ◌<◌, ◌≤◌, Bool, true, false, ◌&&◌, ◌||◌, List, [], ◌∷◌, ◌++◌, length, refl, ◌∙◌, ap, sym, arith, append_assoc, le-ltb, le-leb, leb-true, eqb-true}
-use Rattle.std.specs.Prelude.{Option, Some, None, Ok, nat_le, ◌==◌, codes}
-use Rattle.std.specs.List.{list_all, join_with_byte}
+use Rattle.std.specs.Prelude.{Option, Some, None, Ok, Err, nat_le, ◌==◌, bytes_eq, codes}
+use Rattle.std.specs.List.{AllByRecursion, list_all, list_any, join_with_byte}
+use Rattle.std.proofs.lemmas.Slice.Eq.{bytes_eq-Decides}
+use Rattle.pfl_base.specs.Numbers.{greatest}
 use Rattle.pfl_base.specs.declared.proto.Proto.{Proto}
 use Rattle.pfl_base.specs.declared.proto.Proto.TheVariants.{Tcp, Udp, Icmp, Other}
 use Rattle.pfl_language.specs.declared.event.Event.{Event}
 use Rattle.pfl_language.specs.declared.node_event.NodeEvent.TheVariants as own
 use Rattle.pfl_language.specs.declared.event.Event.TheVariants as events
 use Rattle.pfl_language.specs.declared.event.FrameEvent.TheVariants as frame
+use Rattle.pfl_language.specs.declared.command.Command.{Command}
 use Rattle.pfl_language.specs.declared.command.Command.TheVariants as commands
 use Rattle.pfl_language.specs.BranchWords.{is_letter, is_name_byte, is_branch_name}
-use Rattle.pfl_lines.specs.Commands.{step_at, command_at, command_of, whole_step, parsed}
-use Rattle.pfl_lines.specs.Laws.{IsTypedEvent, StepsReadBack}
+use Rattle.pfl_lines.specs.Commands.{begins_event, step_at, why_at, why_event_at, command_at, command_of, whole_step, whole_why, parsed}
+use Rattle.pfl_lines.specs.declared.fault.LineFault.TheVariants.{Number}
+use Rattle.pfl_lines.specs.EventWords.{words_of_events}
+use Rattle.pfl_lines.specs.Numbers.{number_of}
+use Rattle.pfl_lines.specs.Laws.{EventWordsAreNoNumbers, IsTypedEvent, StepsReadBack, WhysReadBack}
 use Rattle.pfl_lines.specs.Parts.{branch_at}
-use Rattle.pfl_lines.specs.Written.{event_words, event_text, step_text}
+use Rattle.pfl_lines.specs.Written.{event_words, event_text, step_text, why_text}
 use Rattle.pfl_lines.proofs.WrittenNumbers.{and-first, and-second, and-both, all_weaker}
 use Rattle.pfl_lines.proofs.WrittenWords.{is_mark, IsPlain, ArePlain, room, words-joined, checked-joined}
 use Rattle.pfl_lines.proofs.WrittenPackets.{plain-is, segment_bounds}
@@ -73,13 +79,20 @@ some_words (events.Restart node) = omega arith
 some_words (events.At node own.BulkTurn) = omega arith
 some_words (events.At node own.BulkRetry) = omega arith
 
-abbrev step_words : List ℕ → Event → List (List ℕ)
-step_words name e = codes "step" ∷ name ∷ event_words e
+-- a command's word, a branch and an event
+abbrev line_words : List ℕ → List ℕ → Event → List (List ℕ)
+line_words word name e = word ∷ name ∷ event_words e
 
-step-joined : (name : List ℕ) (e : Event) → step_text name e ≡ join_with_byte 32 (step_words name e)
+rest-joined : (name : List ℕ) (e : Event) → (name ++ codes " ") ++ join_with_byte 32 (event_words e) ≡ join_with_byte 32 (name ∷ event_words e)
+rest-joined name e = append_assoc name (codes " ") (join_with_byte 32 (event_words e)) ∙ sym (join-next name (event_words e) (some_words e))
+
+step-joined : (name : List ℕ) (e : Event) → step_text name e ≡ join_with_byte 32 (line_words (codes "step") name e)
 unfolding event_text
-step-joined name e =
-    ap (λ rest. codes "step " ++ rest) (append_assoc name (codes " ") (join_with_byte 32 (event_words e)) ∙ sym (join-next name (event_words e) (some_words e)))
+step-joined name e = ap (λ rest. codes "step " ++ rest) (rest-joined name e)
+
+why-joined : (name : List ℕ) (e : Event) → why_text name e ≡ join_with_byte 32 (line_words (codes "why") name e)
+unfolding event_text
+why-joined name e = ap (λ rest. codes "why " ++ rest) (rest-joined name e)
 
 -- ---- the line has room
 
@@ -106,19 +119,66 @@ event_room (events.Restart node) = omega arith
 event_room (events.At node own.BulkTurn) = omega arith
 event_room (events.At node own.BulkRetry) = omega arith
 
--- ---- the command
+-- ---- the commands
 
-command-reads : (name : List ℕ) (e : Event) → length name ≤ 16 → IsTypedEvent e → command_of (step_words name e) ≡ Ok (commands.Step name e)
+begins : (e : Event) → begins_event (event_words e) ≡ true
+begins (events.At node (own.Packet dir p)) = refl
+begins (events.Flush node) = refl
+begins (events.Of ticket frame.Deliver) = refl
+begins (events.Of ticket frame.Lose) = refl
+begins (events.Of ticket frame.Repeat) = refl
+begins (events.Of ticket (frame.Cut len)) = refl
+begins (events.At node (own.Tick ms)) = refl
+begins (events.At node own.Purge) = refl
+begins (events.At node own.Release) = refl
+begins (events.At node (own.Kill name)) = refl
+begins (events.At node own.Clear) = refl
+begins (events.Restart node) = refl
+begins (events.At node own.BulkTurn) = refl
+begins (events.At node own.BulkRetry) = refl
+
+step-reads : (name : List ℕ) (e : Event) → length name ≤ 16 → IsTypedEvent e → command_of (line_words (codes "step") name e) ≡ Ok (commands.Step name e)
 unfolding command_of command_at step_at whole_step
-command-reads name e short is = rw (branch-reads name (event_words e) short, event-reads e is, whole-reads e is) refl
+step-reads name e short is = rw (branch-reads name (event_words e) short, event-reads e is, whole-reads e is) refl
+
+why-reads : (name : List ℕ) (e : Event) → length name ≤ 16 → IsTypedEvent e → command_of (line_words (codes "why") name e) ≡ Ok (commands.WhyStep name e)
+unfolding command_of command_at why_at why_event_at whole_why
+why-reads name e short is = rw (branch-reads name (event_words e) short, begins e, event-reads e is, whole-reads e is) refl
+
+-- a line of a word, a branch and an event says what these words say
+line-reads : (word name : List ℕ) (e : Event) (command : Command) → IsPlain 4 word → is_branch_name name ≡ true → IsTypedEvent e →
+    (length name ≤ 16 → command_of (line_words word name e) ≡ Ok command) → parsed (join_with_byte 32 (line_words word name e)) ≡ Ok command
+unfolding parsed
+line-reads word name e command first named is reads =
+    let plain : IsPlain 16 name = branch-plain name named in
+    let bounds : List ℕ = 4 ∷ 16 ∷ event_bounds e in
+    let all : ArePlain bounds (line_words word name e) = (first, (plain, event-plain e is)) in
+    let fits : room bounds ≤ 512 = omega (arith, event_room e) in
+    rw (checked-joined bounds (line_words word name e) all fits, words-joined bounds (line_words word name e) all) (reads plain.short)
 
 pub steps-read : StepsReadBack
-unfolding parsed
 steps-read name e named is =
-    let plain : IsPlain 16 name = branch-plain name named in
-    let short : length name ≤ 16 = plain.short in
-    let bounds : List ℕ = 4 ∷ 16 ∷ event_bounds e in
-    let all : ArePlain bounds (step_words name e) = (plain-is 4 (codes "step") refl, (plain, event-plain e is)) in
-    let fits : room bounds ≤ 512 = omega (arith, event_room e) in
     ap parsed (step-joined name e)
-    ∙ rw (checked-joined bounds (step_words name e) all fits, words-joined bounds (step_words name e) all) (command-reads name e short is)
+    ∙ line-reads (codes "step") name e (commands.Step name e) (plain-is 4 (codes "step") refl) named is (λ short. step-reads name e short is)
+
+pub whys-read : WhysReadBack
+whys-read name e named is =
+    ap parsed (why-joined name e)
+    ∙ line-reads (codes "why") name e (commands.WhyStep name e) (plain-is 4 (codes "why") refl) named is (λ short. why-reads name e short is)
+
+-- ---- the words of events
+
+-- a word that is one of these, none of which is a number
+no_number : (word : List ℕ) (ws : List (List ℕ)) → AllByRecursion (λ w. number_of greatest w ≡ Err Number) ws → list_any (bytes_eq word) ws ≡ true
+    → number_of greatest word ≡ Err Number
+no_number word [] none is = cc
+no_number word (w ∷ ws) none is =
+    elim (bytes_eq word w) as (λ t. bytes_eq word w ≡ t → (t || list_any (bytes_eq word) ws) ≡ true → number_of greatest word ≡ Err Number) [
+      | true ↦ λ here _. rw ((bytes_eq-Decides word w).0 here) none.0
+      | false ↦ λ _ later. no_number word ws none.1 later
+    ] refl is
+
+pub event_words_are_no_numbers : EventWordsAreNoNumbers
+unfolding number_of
+event_words_are_no_numbers word is =
+    no_number word words_of_events (refl, (refl, (refl, (refl, (refl, (refl, (refl, (refl, (refl, (refl, (refl, (refl, (refl, (refl, tt)))))))))))))) is

@@ -1,5 +1,5 @@
 -- How commands and their events are written (this project's profile).
-use Rattle.std.specs.Prelude.{ℕ, Bool, ◌&&◌, ◌||◌, ◌==◌, nat_le, nat_lt, List, [], ◌∷◌, length, codes, bytes_eq, if◌then◌else◌, Option, Some, None, Result, Ok, Err}
+use Rattle.std.specs.Prelude.{ℕ, Bool, false, ◌&&◌, ◌||◌, ◌==◌, nat_le, nat_lt, List, [], ◌∷◌, length, codes, bytes_eq, if◌then◌else◌, Option, Some, None, Result, Ok, Err}
 use Rattle.std.specs.List.{list_all}
 use Rattle.std.specs.Option.{option_map_or}
 use Rattle.pfl_base.specs.declared.direction.Dir.{Dir}
@@ -22,7 +22,7 @@ use Rattle.pfl_lines.specs.declared.draft.EventDraft.{EventDraft}
 use Rattle.pfl_lines.specs.declared.draft.EventDraft.TheVariants as event_draft
 use Rattle.pfl_lines.specs.declared.draft.CommandDraft.{CommandDraft}
 use Rattle.pfl_lines.specs.declared.draft.CommandDraft.TheVariants as draft
-use Rattle.pfl_lines.specs.EventWords.{bare_frame_event, bare_node_event}
+use Rattle.pfl_lines.specs.EventWords.{bare_frame_event, bare_node_event, is_event_word}
 use Rattle.pfl_lines.specs.Words.{words}
 use Rattle.pfl_lines.specs.Readings.{◌>>=◌, Reading, word_at}
 use Rattle.pfl_lines.specs.Parts.{number_at, node_at, dir_at, name_at, branch_at}
@@ -163,12 +163,35 @@ past_at ws = do
   place ← number_at greatest branch.1
   Ok (draft.Whole (commands.Past branch.0 place.0), place.1)
 
--- BR K
+-- the words begin with an event's
+abbrev pub begins_event : List (List ℕ) → Bool
+begins_event [] = false
+begins_event (word ∷ ws) = is_event_word word
+
+-- EVENT, asked about on the branch
+unfoldable pub why_event_at : List ℕ → List (List ℕ) → Reading CommandDraft
+why_event_at branch ws = do
+  event ← event_at ws
+  Ok (draft.WhyStep branch event.0, event.1)
+
+-- K, asked about on the branch
+unfoldable pub why_place_at : List ℕ → List (List ℕ) → Reading CommandDraft
+why_place_at branch ws = do
+  place ← number_at greatest ws
+  Ok (draft.Whole (commands.Why branch place.0), place.1)
+
+-- BR EVENT where an event's word comes after the branch, and BR K where none does
 unfoldable pub why_at : List (List ℕ) → Reading CommandDraft
 why_at ws = do
   branch ← branch_at ws
-  place ← number_at greatest branch.1
-  Ok (draft.Whole (commands.Why branch.0 place.0), place.1)
+  if begins_event branch.1 then why_event_at branch.0 branch.1 else why_place_at branch.0 branch.1
+
+-- BR TICKET
+unfoldable pub frame_at : List (List ℕ) → Reading CommandDraft
+frame_at ws = do
+  branch ← branch_at ws
+  ticket ← ticket_at branch.1
+  Ok (draft.Whole (commands.Frame branch.0 ticket.0), ticket.1)
 
 -- BR K
 unfoldable pub excise_at : List (List ℕ) → Reading CommandDraft
@@ -204,6 +227,7 @@ command_by word ws =
     if bytes_eq word (codes "show") then show_at ws else
     if bytes_eq word (codes "past") then past_at ws else
     if bytes_eq word (codes "why") then why_at ws else
+    if bytes_eq word (codes "frame") then frame_at ws else
     if bytes_eq word (codes "names") then names_at ws else
     if bytes_eq word (codes "excise") then excise_at ws else
     if bytes_eq word (codes "restore") then restore_at ws else
@@ -238,9 +262,16 @@ whole_step branch event = do
   whole ← whole_event event
   Ok (commands.Step branch whole)
 
+-- an event that is asked about on a branch
+unfoldable pub whole_why : List ℕ → EventDraft → Result Command LineFault
+whole_why branch event = do
+  whole ← whole_event event
+  Ok (commands.WhyStep branch whole)
+
 -- the command, once its packet is judged
 abbrev pub whole_command : CommandDraft → Result Command LineFault
 whole_command (draft.Step branch event) = whole_step branch event
+whole_command (draft.WhyStep branch event) = whole_why branch event
 whole_command (draft.Whole command) = Ok command
 
 -- what words say: words left over come before a packet that is none

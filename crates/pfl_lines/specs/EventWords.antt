@@ -1,5 +1,6 @@
 -- The words of events (this project's profile).
-use Rattle.std.specs.Prelude.{ℕ, List, [], ◌∷◌, find, bytes_eq, codes, Option}
+use Rattle.std.specs.Prelude.{ℕ, Bool, List, [], ◌∷◌, find, bytes_eq, codes, Option}
+use Rattle.std.specs.List.{list_any}
 use Rattle.pfl_language.specs.declared.node_event.NodeEvent.{NodeEvent}
 use Rattle.pfl_language.specs.declared.node_event.NodeEvent.TheVariants as own
 use Rattle.pfl_language.specs.declared.event.FrameEvent.{FrameEvent}
@@ -38,3 +39,13 @@ bare_frame_events = frame.Deliver ∷ frame.Lose ∷ frame.Repeat ∷ []
 -- the one of them with the word, if there is one
 abbrev pub bare_frame_event : List ℕ → Option FrameEvent
 bare_frame_event word = find (λ e. bytes_eq (frame_event_word e) word) bare_frame_events
+
+-- the words of all events
+abbrev pub words_of_events : List (List ℕ)
+words_of_events =
+    codes "packet" ∷ codes "tick" ∷ codes "purge" ∷ codes "release" ∷ codes "kill" ∷ codes "clear" ∷ codes "turn" ∷ codes "retry" ∷
+    codes "flush" ∷ codes "restart" ∷ codes "deliver" ∷ codes "lose" ∷ codes "repeat" ∷ codes "cut" ∷ []
+
+-- the word is an event's
+abbrev pub is_event_word : List ℕ → Bool
+is_event_word word = list_any (bytes_eq word) words_of_events

@@ -1,5 +1,5 @@
 -- Laws of lines, in their own words (this project's profile).
-use Rattle.std.specs.Prelude.{⊤, ◌≡◌, ◌<◌, ◌≤◌, ◌^◌, ℕ, List, IsTrue, Ok}
+use Rattle.std.specs.Prelude.{⊤, ◌≡◌, ◌<◌, ◌≤◌, ◌^◌, ℕ, List, IsTrue, Ok, Err}
 use Rattle.pfl_base.specs.declared.addr.Addr.{Addr}
 use Rattle.pfl_base.specs.declared.addr.Addr.TheVariants.{V4, V6}
 use Rattle.pfl_base.specs.declared.addr.End.{End}
@@ -16,8 +16,11 @@ use Rattle.pfl_language.specs.declared.event.FrameEvent.{FrameEvent}
 use Rattle.pfl_language.specs.declared.event.FrameEvent.TheVariants as frame
 use Rattle.pfl_language.specs.declared.command.Command.TheVariants as commands
 use Rattle.pfl_language.specs.BranchWords.{is_branch_name}
+use Rattle.pfl_lines.specs.declared.fault.LineFault.TheVariants.{Number}
 use Rattle.pfl_lines.specs.Commands.{parsed}
-use Rattle.pfl_lines.specs.Written.{step_text}
+use Rattle.pfl_lines.specs.EventWords.{is_event_word}
+use Rattle.pfl_lines.specs.Numbers.{number_of}
+use Rattle.pfl_lines.specs.Written.{step_text, why_text}
 
 -- ---- which events there are: each number is one of its type's, and a packet is one
 
@@ -70,3 +73,11 @@ IsTypedEvent _ = ⊤
 -- the line that steps an event is read as that command
 abbrev pub StepsReadBack : Type 0
 StepsReadBack = (name : List ℕ) (e : Event) → IsTrue (is_branch_name name) → IsTypedEvent e → parsed (step_text name e) ≡ Ok (commands.Step name e)
+
+-- the line that asks why of an event is read as that command
+abbrev pub WhysReadBack : Type 0
+WhysReadBack = (name : List ℕ) (e : Event) → IsTrue (is_branch_name name) → IsTypedEvent e → parsed (why_text name e) ≡ Ok (commands.WhyStep name e)
+
+-- no event's word is a number: a line that asks why of a place asks of no event
+abbrev pub EventWordsAreNoNumbers : Type 0
+EventWordsAreNoNumbers = (word : List ℕ) → IsTrue (is_event_word word) → number_of greatest word ≡ Err Number

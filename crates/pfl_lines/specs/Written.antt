@@ -77,3 +77,7 @@ event_text e = join_with_byte 32 (event_words e)
 -- the command that steps an event on a branch
 abbrev pub step_text : List ℕ → Event → List ℕ
 step_text name e = codes "step " ++ name ++ codes " " ++ event_text e
+
+-- the command that asks what would come of an event on a branch, and why
+abbrev pub why_text : List ℕ → Event → List ℕ
+why_text name e = codes "why " ++ name ++ codes " " ++ event_text e

@@ -4,10 +4,10 @@ ghost use Rattle.std.specs.Prelude.{◌≡◌, false, bytes_eq, codes};
 ghost use Rattle.std.specs.List.{list_all};
 ghost use Rattle.pfl_lines.specs.Words.{words};
 ghost use Rattle.pfl_lines.specs.inner.Readings.{Gives};
-ghost use Rattle.pfl_lines.specs.Commands.{packet_at, tick_at, kill_at, bare_node_event_at, flush_at, restart_at, ticket_at, cut_event_at, bare_frame_event_at, node_event_by, frame_event_by, event_by, event_at, step_at, back_at, forward_at, fork_at, drop_at, show_at, past_at, why_at, excise_at, restore_at, log_at, names_at, command_by, command_at, finished, whole_event, whole_step, whole_command, command_of, is_text, checked, parsed};
+ghost use Rattle.pfl_lines.specs.Commands.{packet_at, tick_at, kill_at, bare_node_event_at, flush_at, restart_at, ticket_at, cut_event_at, bare_frame_event_at, node_event_by, frame_event_by, event_by, event_at, step_at, back_at, forward_at, fork_at, drop_at, show_at, past_at, begins_event, why_event_at, why_place_at, why_at, frame_at, excise_at, restore_at, log_at, names_at, command_by, command_at, finished, whole_event, whole_step, whole_why, whole_command, command_of, is_text, checked, parsed};
 
 use crate::draft::{CommandDraft, EventDraft};
-use crate::event_words::{bare_frame_event, bare_node_event};
+use crate::event_words::{bare_frame_event, bare_node_event, is_event_word};
 use crate::fault::LineFault;
 use crate::packets::fields_at;
 use crate::parts::{branch_at, dir_at, name_at, node_at, number_at};
@@ -237,15 +237,55 @@ fn past_at(line: &[u8]) -> Result<(CommandDraft, &[u8]), LineFault>
     Ok((CommandDraft::Whole(Command::Past { branch, place }), rest))
 }
 
-/// `BR K`.
+/// Whether the line begins with an event's word.
+fn begins_event(line: &[u8]) -> bool
+    ensures { result ≡ begins_event (words line.now) }
+{
+    match word_at(line) {
+        Ok((word, _)) => is_event_word(word),
+        Err(_) => false,
+    }
+}
+
+/// `EVENT`, asked about on the branch.
+#[tactic(auto, unfolding(crate::specs::Commands::why_event_at))]
+fn why_event_at(branch: BranchWord, line: &[u8]) -> Result<(CommandDraft, &[u8]), LineFault>
+    ensures { Gives (λ x. (x.0, words x.1.now)) result (why_event_at branch (words line.now)) }
+{
+    let (event, rest) = try_read!(event_at(line));
+    Ok((CommandDraft::WhyStep { branch, event }, rest))
+}
+
+/// `K`, asked about on the branch.
+#[tactic(auto, unfolding(crate::specs::Commands::why_place_at))]
+fn why_place_at(branch: BranchWord, line: &[u8]) -> Result<(CommandDraft, &[u8]), LineFault>
+    ensures { Gives (λ x. (x.0, words x.1.now)) result (why_place_at branch (words line.now)) }
+{
+    let (place, rest) = number_at(line, GREATEST_NUMBER)?;
+    let place = place as u32;
+    Ok((CommandDraft::Whole(Command::Why { branch, place }), rest))
+}
+
+/// `BR EVENT` or `BR K`: an event's word is no number.
 #[tactic(auto, unfolding(crate::specs::Commands::why_at))]
 fn why_at(line: &[u8]) -> Result<(CommandDraft, &[u8]), LineFault>
     ensures { Gives (λ x. (x.0, words x.1.now)) result (why_at (words line.now)) }
 {
     let (branch, rest) = try_read!(branch_at(line));
-    let (place, rest) = number_at(rest, GREATEST_NUMBER)?;
-    let place = place as u32;
-    Ok((CommandDraft::Whole(Command::Why { branch, place }), rest))
+    if begins_event(rest) {
+        return why_event_at(branch, rest);
+    }
+    why_place_at(branch, rest)
+}
+
+/// `BR TICKET`.
+#[tactic(auto, unfolding(crate::specs::Commands::frame_at))]
+fn frame_at(line: &[u8]) -> Result<(CommandDraft, &[u8]), LineFault>
+    ensures { Gives (λ x. (x.0, words x.1.now)) result (frame_at (words line.now)) }
+{
+    let (branch, rest) = try_read!(branch_at(line));
+    let (ticket, rest) = ticket_at(rest)?;
+    Ok((CommandDraft::Whole(Command::Frame { branch, ticket }), rest))
 }
 
 /// `BR K`.
@@ -312,6 +352,9 @@ fn command_by<'a>(word: &[u8], line: &'a [u8]) -> Result<(CommandDraft, &'a [u8]
     if is_word(word, "why") {
         return why_at(line);
     }
+    if is_word(word, "frame") {
+        return frame_at(line);
+    }
     if is_word(word, "names") {
         return names_at(line);
     }
@@ -361,12 +404,22 @@ fn whole_step(branch: BranchWord, event: EventDraft) -> Result<Command, LineFaul
     Ok(Command::Step { branch, event })
 }
 
+/// An event that is asked about on a branch.
+#[tactic(auto, unfolding(crate::specs::Commands::whole_why))]
+fn whole_why(branch: BranchWord, event: EventDraft) -> Result<Command, LineFault>
+    ensures { result ≡ whole_why branch event }
+{
+    let event = whole_event(event)?;
+    Ok(Command::WhyStep { branch, event })
+}
+
 /// The command, once its packet is judged.
 fn whole_command(draft: CommandDraft) -> Result<Command, LineFault>
     ensures { result ≡ whole_command draft }
 {
     match draft {
         CommandDraft::Step { branch, event } => whole_step(branch, event),
+        CommandDraft::WhyStep { branch, event } => whole_why(branch, event),
         CommandDraft::Whole(command) => Ok(command),
     }
 }

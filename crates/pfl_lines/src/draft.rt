@@ -32,5 +32,9 @@ pub enum CommandDraft {
         branch: BranchWord,
         event: EventDraft,
     },
+    WhyStep {
+        branch: BranchWord,
+        event: EventDraft,
+    },
     Whole(Command),
 }

@@ -3,7 +3,14 @@
 ghost use Rattle.std.specs.Prelude.{◌≡◌};
 ghost use Rattle.pfl_lines.specs.EventWords as meant;
 
+use crate::words::is_word;
 use pfl_language::{FrameEvent, NodeEvent};
+
+/// The words of all events.
+const EVENT_WORDS: [&str; 14] = [
+    "packet", "tick", "purge", "release", "kill", "clear", "turn", "retry", "flush", "restart",
+    "deliver", "lose", "repeat", "cut",
+];
 
 /// The events of a node whose line says nothing but their word and the node.
 const BARE_NODE_EVENTS: [NodeEvent; 5] = [
@@ -67,4 +74,11 @@ pub(crate) fn bare_frame_event(word: &[u8]) -> Option<FrameEvent>
         .iter()
         .copied()
         .find(|event| frame_event_word(*event).as_bytes() == word)
+}
+
+/// Whether the word is an event's.
+pub(crate) fn is_event_word(word: &[u8]) -> bool
+    ensures { result ≡ meant.is_event_word word.now }
+{
+    EVENT_WORDS.iter().any(|event| is_word(word, event))
 }

@@ -1,4 +1,4 @@
--- The outcome of an event follows from its explanation.
+-- The outcome of an event follows from its explanation, and the numbers that are shown do stand against one that is refused.
 use Rattle.std.specs.Prelude.{◌≡◌, ℕ, suc, Bool, true, false, not, ◌&&◌, ◌||◌, nat_le, List, [], ◌∷◌, length, map, filter, Option, Some, None, is_some, unwrap_or, Result, Ok, Err, refl}
 use Rattle.std.specs.Option.{option_map_or}
 use Rattle.std.proofs.Common.{cond, ◌∙◌, ap, sym, subst, inl, inr}
@@ -6,9 +6,10 @@ use Rattle.pfl_base.specs.declared.direction.Dir.{Dir}
 use Rattle.pfl_base.specs.declared.node_id.NodeId.{NodeId}
 use Rattle.pfl_base.specs.declared.packet.Packet.{Packet}
 use Rattle.pfl_base.specs.declared.refusal.Refusal.{Refusal}
-use Rattle.pfl_base.specs.declared.refusal.Refusal.TheVariants.{NoSuchFrame}
+use Rattle.pfl_base.specs.declared.refusal.Refusal.TheVariants.{CountFull, LinkFull, NoSuchFrame}
 use Rattle.pfl_base.specs.Keys.{key}
 use Rattle.pfl_base.specs.Lists.{in_order, put_before}
+use Rattle.pfl_base.specs.Numbers.{greatest}
 use Rattle.pfl_base.specs.Packets.{is_request, is_tcp}
 use Rattle.pfl_edits.specs.Maps as maps
 use Rattle.pfl_rules.specs.declared.rule.Rule.{Rule}
@@ -22,6 +23,7 @@ use Rattle.pfl_track.specs.Edges.{TestsAgree, is_met, window_test}
 use Rattle.pfl_track.specs.Keys.{wire_key}
 use Rattle.pfl_track.specs.Tracking.{is_closed, moved, receiver, sender, tracked, tracked_other}
 use Rattle.pfl_track.specs.Windows.{begun, is_inside, receiver_after, sender_after}
+use Rattle.pfl_language.specs.declared.event.Event.{Event}
 use Rattle.pfl_language.specs.declared.event.Event.TheVariants as event
 use Rattle.pfl_language.specs.declared.event.FrameEvent.{FrameEvent}
 use Rattle.pfl_language.specs.declared.event.FrameEvent.TheVariants as frame
@@ -31,18 +33,18 @@ use Rattle.pfl_language.specs.declared.node_event.NodeEvent.{NodeEvent}
 use Rattle.pfl_language.specs.declared.node_event.NodeEvent.TheVariants as own
 use Rattle.pfl_language.specs.declared.outcome.Outcome.{Outcome}
 use Rattle.pfl_language.specs.declared.outcome.Outcome.TheVariants as outcome
-use Rattle.pfl_link.specs.Links.{InFlight}
+use Rattle.pfl_link.specs.Links.{InFlight, cut_to, is_counted_out, is_full, sent, with_frame}
 use Rattle.pfl_wire.specs.declared.fault.BadFrame.{BadFrame}
 use Rattle.pfl_wire.specs.declared.message.Message.{Message}
 use Rattle.pfl_wire.specs.Frames.{Frame, records_of}
 use Rattle.pfl_wire.specs.Reading.{reading}
 use Rattle.pfl_world.proofs.ForCallers.track.{Stays, tracked-stays}
 use Rattle.pfl_world.specs.desk.Changes.{deleted, mark}
-use Rattle.pfl_world.specs.desk.Nodes.{Node, unless_refused}
+use Rattle.pfl_world.specs.desk.Nodes.{Node, refused_by, unless_refused}
 use Rattle.pfl_world.specs.node.Packets.{followed, handled, handled_by}
 use Rattle.pfl_world.specs.node.Purging.{expires_before, expired_states}
 use Rattle.pfl_world.specs.node.Starting.{Handled, announced, by_rule, drop, hold, is_at_max, is_deferred, judged, new_state, next_name, pass, started, with_new, with_room}
-use Rattle.pfl_world.specs.node.Stepping.{NodeStepped, node_step}
+use Rattle.pfl_world.specs.node.Stepping.{NodeStepped, node_after, node_step}
 use Rattle.pfl_world.specs.receive.Delivering.{same_rules}
 use Rattle.pfl_world.specs.receive.Receiving.{taken}
 use Rattle.pfl_world.specs.table.Tables.{by_stack, by_wire, count_of_rule, found, key_in_use}
@@ -50,14 +52,17 @@ use Rattle.pfl_world.specs.queue.declared.Kind.TheVariants.{Insert}
 use Rattle.pfl_world.specs.AtNodes.{from_node}
 use Rattle.pfl_world.specs.Delivering.{deliver_step, read_taken}
 use Rattle.pfl_world.specs.Events.{frame_event, step}
+use Rattle.pfl_world.specs.Flushing.{flush_refusal, flush_step, sent_frame}
 use Rattle.pfl_world.specs.Meanings.{Stepped}
-use Rattle.pfl_world.specs.Tickets.{without_ticket}
-use Rattle.pfl_world.specs.Worlds.{World, node_at}
+use Rattle.pfl_world.specs.Restarting.{restart_step}
+use Rattle.pfl_world.specs.Tickets.{cut_step, lose_step, repeat_step, step_unless, without_ticket}
+use Rattle.pfl_world.specs.Worlds.{World, node_at, with_link}
 use Rattle.pfl_reasons.specs.declared.packet_reason.Judged.TheVariants as made
-use Rattle.pfl_reasons.specs.Explaining.{FollowsFrom, Packet as OfPacket, Plain, ReasonsAgree, explained, explained_at, explained_frame, explained_of_frame}
+use Rattle.pfl_reasons.specs.Explaining.{AgreesWith, FollowsFrom, Packet as OfPacket, Plain, ReasonsAgree, explained, explained_at, explained_by, explained_frame, explained_of_frame, explained_outcome}
 use Rattle.pfl_reasons.specs.Packets.{HandledSo, JudgedSo, by_found, by_keys, by_tracked, judged_reason, packet_reason, rule_reason, start_reason, tested}
 use Rattle.pfl_reasons.specs.Purges.{expiries, expiry_of, is_due}
 use Rattle.pfl_reasons.specs.Records.{fates}
+use Rattle.pfl_reasons.proofs.Refusing.{numbers-stand}
 
 -- ---- a packet that no state takes
 
@@ -200,6 +205,11 @@ accepted-at : (w : World) (id : NodeId) (o : Option Refusal) (t : NodeStepped) (
 accepted-at w id None t s is = accepted-outcome None _ (outcome.At t.outcome) s is
 accepted-at w id (Some r) t s is = absurd (cc)
 
+-- of an event that needs no reason
+plain-at : (w : World) (id : NodeId) (e : NodeEvent) (s : Stepped) → FollowsFrom Plain (outcome.At (node_after (node_at w id) e).outcome)
+    → from_node w id (node_step (node_at w id) e) ≡ Ok s → FollowsFrom Plain s.outcome
+plain-at w id e s so is = subst (FollowsFrom Plain) (accepted-at w id _ _ s is) so
+
 at_node-so : TestsAgree → (w : World) (id : NodeId) (e : NodeEvent) (s : Stepped) → from_node w id (node_step (node_at w id) e) ≡ Ok s → FollowsFrom (explained_at (node_at w id) e) s.outcome
 at_node-so agree w id (own.Packet dir p) s is =
     let n = node_at w id in
@@ -207,12 +217,12 @@ at_node-so agree w id (own.Packet dir p) s is =
 at_node-so agree w id own.Purge s is =
     let n = node_at w id in
     subst (FollowsFrom (explained_at n own.Purge)) (accepted-at w id _ _ s is) (purged-so n)
-at_node-so agree w id (own.Tick ms) s is = tt
-at_node-so agree w id own.Release s is = tt
-at_node-so agree w id (own.Kill name) s is = tt
-at_node-so agree w id own.Clear s is = tt
-at_node-so agree w id own.BulkTurn s is = tt
-at_node-so agree w id own.BulkRetry s is = tt
+at_node-so agree w id (own.Tick ms) s is = plain-at w id (own.Tick ms) s tt is
+at_node-so agree w id own.Release s is = plain-at w id own.Release s tt is
+at_node-so agree w id (own.Kill name) s is = plain-at w id (own.Kill name) s tt is
+at_node-so agree w id own.Clear s is = plain-at w id own.Clear s tt is
+at_node-so agree w id own.BulkTurn s is = plain-at w id own.BulkTurn s tt is
+at_node-so agree w id own.BulkRetry s is = plain-at w id own.BulkRetry s tt is
 
 delivered-so : (w : World) (ticket : ℕ) (o : Option InFlight) (s : Stepped)
     → option_map_or (λ f. read_taken (without_ticket w ticket) f.to (node_at w f.to) (reading f.bytes)) o (Err NoSuchFrame) ≡ Ok s
@@ -225,19 +235,37 @@ delivered-so w ticket (Some f) s is = by (reading f.bytes) is
 
     by : (r : Result Frame BadFrame) → read_taken (without_ticket w ticket) f.to n r ≡ Ok s → FollowsFrom (explained_frame n r) s.outcome
     by (Ok g) is = subst (FollowsFrom (explained_frame n (Ok g))) (accepted-outcome _ _ _ s is) (fates-length (same_rules n g) n (records_of g))
-    by (Err why) is = tt
+    by (Err why) is = subst (FollowsFrom Plain) (accepted-outcome _ _ (outcome.Broken why) s is) tt
+
+-- an event of a frame in flight that needs no reason
+plain-of : (tests : List (Bool × Refusal)) (after : InFlight → World) (gives : InFlight → Outcome) → ((f : InFlight) → FollowsFrom Plain (gives f)) → (o : Option InFlight) (s : Stepped)
+    → option_map_or (λ f. step_unless tests (after f) (gives f)) o (Err NoSuchFrame) ≡ Ok s → FollowsFrom Plain s.outcome
+plain-of tests after gives so None s is = absurd (cc)
+plain-of tests after gives so (Some f) s is = subst (FollowsFrom Plain) (accepted-outcome (refused_by tests) (after f) (gives f) s is) (so f)
 
 of_frame-so : (w : World) (ticket : ℕ) (e : FrameEvent) (s : Stepped) → frame_event w ticket e ≡ Ok s → FollowsFrom (explained_of_frame w ticket e) s.outcome
-unfolding deliver_step
+unfolding deliver_step lose_step repeat_step cut_step
 of_frame-so w ticket frame.Deliver s is = delivered-so w ticket (maps.get w.link.frames ticket) s is
-of_frame-so w ticket frame.Lose s is = tt
-of_frame-so w ticket frame.Repeat s is = tt
-of_frame-so w ticket (frame.Cut len) s is = tt
+of_frame-so w ticket frame.Lose s is = plain-of [] (λ f. without_ticket w ticket) (λ f. outcome.Lost) (λ f. tt) (maps.get w.link.frames ticket) s is
+of_frame-so w ticket frame.Repeat s is =
+    plain-of ((is_full w.link, LinkFull) ∷ (is_counted_out w.link, CountFull) ∷ [])
+    (λ f. with_link w (sent w.link f)) (λ f. outcome.Sent w.link.next (length f.bytes)) (λ f. tt) (maps.get w.link.frames ticket) s is
+of_frame-so w ticket (frame.Cut len) s is =
+    plain-of [] (λ f. with_link w (with_frame w.link ticket (cut_to f len))) (λ f. outcome.CutTo (length (cut_to f len).bytes)) (λ f. tt) (maps.get w.link.frames ticket) s is
 
 -- an event that is accepted has the outcome that follows from its explanation
-pub outcomes-follow : TestsAgree → ReasonsAgree
-unfolding step explained
+outcomes-follow : TestsAgree → (w : World) (e : Event) (s : Stepped) → step w e ≡ Ok s → FollowsFrom (explained_outcome w e) s.outcome
+unfolding step flush_step restart_step
 outcomes-follow agree w (event.At id e) s is = at_node-so agree w id e s is
 outcomes-follow agree w (event.Of ticket e) s is = of_frame-so w ticket e s is
-outcomes-follow agree w (event.Flush id) s is = tt
-outcomes-follow agree w (event.Restart id) s is = tt
+outcomes-follow agree w (event.Flush id) s is = subst (FollowsFrom Plain) (accepted-outcome (flush_refusal w id) _ (outcome.Sent w.link.next (length (sent_frame w id).bytes)) s is) tt
+outcomes-follow agree w (event.Restart id) s is = subst (FollowsFrom Plain) (accepted-outcome (refused_by ((nat_le greatest w.next_boot, CountFull) ∷ [])) _ (outcome.Boot w.next_boot) s is) tt
+
+-- each event agrees with its explanation
+pub events-agree : TestsAgree → ReasonsAgree
+unfolding explained
+events-agree tests w e = by (step w e) refl
+  where
+    by : (r : Result Stepped Refusal) → step w e ≡ r → AgreesWith e (explained_by w e r) r
+    by (Ok s) is = outcomes-follow tests w e s is
+    by (Err why) is = numbers-stand w e why is

@@ -14,7 +14,7 @@ use Rattle.pfl_language.specs.declared.node_event.NodeEvent.TheVariants as own
 use Rattle.pfl_world.specs.desk.Nodes.{Node}
 use Rattle.pfl_world.specs.Worlds.{World, node_at}
 use Rattle.pfl_reasons.specs.declared.explained.Explained.{Explained as Given}
-use Rattle.pfl_reasons.specs.Explaining.{Explained, Plain, explained, explained_at, explained_of, explained_of_frame}
+use Rattle.pfl_reasons.specs.Explaining.{Explained, Plain, explained_at, explained_of, explained_of_frame, explained_outcome}
 
 -- the same is explained
 pub as_same : {M X : Type 0} (result : Result (Given M) X) (a b : Explained) → a ≡ b → IfOk result (λ r. explained_of r ≡ a) → IfOk result (λ r. explained_of r ≡ b)
@@ -36,17 +36,14 @@ plain_of_frame w ticket frame.Lose deliver = refl
 plain_of_frame w ticket frame.Repeat deliver = refl
 plain_of_frame w ticket (frame.Cut len) deliver = refl
 
-pub plain_of : (w : World) (e : Event) → ((id : NodeId) (x : NodeEvent) → e ≢ event.At id x) → ((ticket : ℕ) (x : FrameEvent) → e ≢ event.Of ticket x) → Plain ≡ explained w e
-unfolding explained
+pub plain_of : (w : World) (e : Event) → ((id : NodeId) (x : NodeEvent) → e ≢ event.At id x) → ((ticket : ℕ) (x : FrameEvent) → e ≢ event.Of ticket x) → Plain ≡ explained_outcome w e
 plain_of w (event.At id x) at of = absurd (at id x refl)
 plain_of w (event.Of ticket x) at of = absurd (of ticket x refl)
 plain_of w (event.Flush id) at of = refl
 plain_of w (event.Restart id) at of = refl
 
-pub at_node : (w : World) (e : Event) (id : NodeId) (x : NodeEvent) → e ≡ event.At id x → explained_at (node_at w id) x ≡ explained w e
-unfolding explained
-at_node w e id x is = ap (explained w) (sym is)
+pub at_node : (w : World) (e : Event) (id : NodeId) (x : NodeEvent) → e ≡ event.At id x → explained_at (node_at w id) x ≡ explained_outcome w e
+at_node w e id x is = ap (explained_outcome w) (sym is)
 
-pub of_frame : (w : World) (e : Event) (ticket : ℕ) (x : FrameEvent) → e ≡ event.Of ticket x → explained_of_frame w ticket x ≡ explained w e
-unfolding explained
-of_frame w e ticket x is = ap (explained w) (sym is)
+pub of_frame : (w : World) (e : Event) (ticket : ℕ) (x : FrameEvent) → e ≡ event.Of ticket x → explained_of_frame w ticket x ≡ explained_outcome w e
+of_frame w e ticket x is = ap (explained_outcome w) (sym is)

@@ -5,11 +5,12 @@ use Rattle.pfl_base.specs.declared.addr.End.{End}
 use Rattle.pfl_base.specs.declared.class.Class.TheVariants.{UdpFirst}
 use Rattle.pfl_base.specs.declared.direction.Dir.{Dir}
 use Rattle.pfl_base.specs.declared.direction.Dir.TheVariants.{Inbound, Outbound}
-use Rattle.pfl_base.specs.declared.node_id.NodeId.TheVariants.{A}
+use Rattle.pfl_base.specs.declared.node_id.NodeId.TheVariants.{A, B}
 use Rattle.pfl_base.specs.declared.packet.Packet.{Packet}
 use Rattle.pfl_base.specs.declared.proto.Proto.TheVariants.{Tcp}
 use Rattle.pfl_language.specs.declared.event.Event.{Event}
 use Rattle.pfl_language.specs.declared.event.Event.TheVariants as event
+use Rattle.pfl_language.specs.declared.event.FrameEvent.TheVariants as frame
 use Rattle.pfl_language.specs.declared.limits.Limits.{Limits}
 use Rattle.pfl_language.specs.declared.node_event.NodeEvent.TheVariants as own
 use Rattle.pfl_rules.specs.declared.action.Action.TheVariants.{Block, Pass}
@@ -18,17 +19,20 @@ use Rattle.pfl_rules.specs.declared.rule_dir.RuleDir.TheVariants.{Any, Out}
 use Rattle.pfl_track.specs.Edges.{tested_by}
 use Rattle.pfl_world.proofs.ForCallers.{computing as of_worlds, limits, name, u1, u2, u3}
 use Rattle.pfl_world.specs.Runs.{run}
-use Rattle.pfl_world.specs.Worlds.{World, new_world}
+use Rattle.pfl_world.specs.Worlds.{World, new_world, new_world_at}
+use Rattle.pfl_reasons.specs.declared.against.Against.{Against}
+use Rattle.pfl_reasons.specs.declared.against.Against.TheVariants.{Clock, Due, Frames, Nothing, Pending, Ticket}
 use Rattle.pfl_reasons.specs.declared.expiry.Expiry.{Expiry}
 use Rattle.pfl_reasons.specs.declared.packet_reason.Judged.{Judged}
 use Rattle.pfl_reasons.specs.declared.packet_reason.Judged.TheVariants.{AtMax, Blocked, Full, Makes, StackInUse, Unmatched, WireInUse}
 use Rattle.pfl_reasons.specs.declared.packet_reason.PacketReason.TheVariants.{ByRules, OfState}
-use Rattle.pfl_reasons.specs.Explaining.{Explained, Expiries, Packet as OfPacket, Plain, explained}
+use Rattle.pfl_reasons.specs.Explaining.{Explained, Expiries, Packet as OfPacket, Plain, Stopped, explained}
+use Rattle.pfl_reasons.specs.Against.{against}
 use Rattle.pfl_reasons.specs.Packets.{judged_reason, packet_reason}
 use Rattle.pfl_reasons.specs.Purges.{expiries}
 
 unfoldable computing : ℕ
-unfolding of_worlds explained expiries judged_reason packet_reason tested_by
+unfolding of_worlds against explained expiries judged_reason packet_reason tested_by
 computing = 0
 
 abbrev pass : Rule
@@ -171,3 +175,70 @@ one_is_due = refl
 outcome_says_all : explained two_states (event.At A own.Clear) ≡ Plain
 unfolding computing
 outcome_says_all = refl
+
+-- ---- what stands against an event that is refused
+
+abbrev stands : World → Event → Against → Type 0
+stands w e numbers = explained w e ≡ Stopped numbers
+
+-- nothing is in flight, and two frames were sent
+abbrev none_in_flight : World
+none_in_flight = after (pair limits (pass ∷ [])) (packet Outbound u1 ∷ event.Flush A ∷ event.Of 1 frame.Repeat ∷ event.Of 1 frame.Lose ∷ event.Of 2 frame.Lose ∷ [])
+
+next_ticket : stands none_in_flight (event.Of 1 frame.Lose) (Ticket 3)
+unfolding computing
+next_ticket = refl
+
+frames_in_flight : stands (after (pair (record limits { frames = 1 }) (pass ∷ [])) (packet Outbound u1 ∷ event.Flush A ∷ [])) (event.Of 1 frame.Repeat) (Frames 1 1)
+unfolding computing
+frames_in_flight = refl
+
+-- room for one
+abbrev little_queue : World
+little_queue = pair (record limits { queue = 1 }) (pass ∷ [])
+
+own_queue : stands (after little_queue (packet Outbound u1 ∷ [])) (packet Outbound u2) (Pending 1 1)
+unfolding computing
+own_queue = refl
+
+-- the request of a node that begins anew comes to a node that has something pending
+receivers_queue : stands (after little_queue (event.Restart A ∷ event.Flush A ∷ event.At B (own.Packet Outbound u1) ∷ [])) (event.Of 1 frame.Deliver) (Pending 1 1)
+unfolding computing
+receivers_queue = refl
+
+clock_ends : stands (after (pair limits []) (event.At A (own.Tick 7) ∷ [])) (event.At A (own.Tick 1000000000000)) (Clock 7 1000000000000)
+unfolding computing
+clock_ends = refl
+
+-- two packets are held since 3 and since 10, each for 20 milliseconds
+abbrev two_held : World
+two_held = after (pair (record limits { defer = true }) (pass ∷ [])) (event.At A (own.Tick 3) ∷ packet Outbound u1 ∷ event.At A (own.Tick 7) ∷ packet Outbound u2 ∷ [])
+
+oldest_is_due : stands two_held (event.At A own.Release) (Due 10 23)
+unfolding computing
+oldest_is_due = refl
+
+-- a node that began anew at 5 asked then
+client_is_due : stands (after (pair limits []) (event.At B (own.Tick 5) ∷ event.Restart B ∷ event.At B (own.Tick 1) ∷ [])) (event.At B own.BulkRetry) (Due 6 10005)
+unfolding computing
+client_is_due = refl
+
+nothing_pending : stands (pair limits []) (event.Flush A) Nothing
+unfolding computing
+nothing_pending = refl
+
+nothing_held : stands (pair limits []) (event.At A own.Release) Nothing
+unfolding computing
+nothing_held = refl
+
+no_such_state : stands (pair limits []) (event.At A (own.Kill (name 1 1))) Nothing
+unfolding computing
+no_such_state = refl
+
+not_syncing : stands (pair limits []) (event.At A own.BulkRetry) Nothing
+unfolding computing
+not_syncing = refl
+
+count_full : stands (new_world_at limits (record { list = []; print = replicate 16 7 }) (record { list = []; print = replicate 16 7 }) 4294967295) (event.Restart A) Nothing
+unfolding computing
+count_full = refl

@@ -6,12 +6,14 @@ use Rattle.pfl_base.specs.declared.direction.Dir.TheVariants.{Outbound}
 use Rattle.pfl_base.specs.declared.class.Class.TheVariants.{UdpFirst}
 use Rattle.pfl_base.specs.declared.flow.Key.{Key}
 use Rattle.pfl_base.specs.declared.state_name.StateName.{StateName}
+use Rattle.pfl_bulk.specs.declared.BulkClient.TheVariants as client
 use Rattle.pfl_edits.proofs.ForCallers as map_lemmas
 use Rattle.pfl_language.specs.Limits.{default_limits}
 use Rattle.pfl_track.specs.declared.peer.Peer.{Peer}
 use Rattle.pfl_track.specs.Tracking.{silent}
+use Rattle.pfl_wire.specs.declared.message.BulkStatus.TheVariants.{Start, End as Finish}
 use Rattle.pfl_wire.specs.declared.message.Message.{Message}
-use Rattle.pfl_wire.specs.declared.message.Message.TheVariants.{Insert, InsertAck, UpdateShort, UpdateRequest, DeleteShort, Clear}
+use Rattle.pfl_wire.specs.declared.message.Message.TheVariants.{Bulk, Insert, InsertAck, UpdateShort, UpdateRequest, DeleteShort, Clear}
 use Rattle.pfl_world.specs.desk.Changes as changes
 use Rattle.pfl_world.specs.desk.Nodes.{Node, new_node}
 use Rattle.pfl_world.specs.receive.Receiving as receiving
@@ -72,7 +74,7 @@ asked_for : become (update (name 2 1) heard ∷ []) ≡ fate.Asked ∷ []
 unfolding computing
 asked_for = refl
 
--- an end that is further is taken, and then the former one is behind
+-- an end that is further is taken, and then the former one is older
 merged : become (insertion (name 2 1) ∷ update (name 2 1) heard ∷ update (name 2 1) silent ∷ []) ≡ fate.Imported 30000 ∷ fate.Merged false false 20000 ∷ fate.Merged true false 20000 ∷ []
 unfolding computing
 merged = refl
@@ -87,3 +89,8 @@ asked_and_deleted = refl
 cleared : become (insertion (name 2 5) ∷ Clear 2 4 ∷ Clear 2 5 ∷ InsertAck (name 2 5) ∷ []) ≡ fate.Imported 30000 ∷ fate.Cleared 0 ∷ fate.Cleared 1 ∷ fate.Nothing ∷ []
 unfolding computing
 cleared = refl
+
+-- a bulk status is heard by a client that waits, which the end makes idle; an idle one does not hear it
+status_heard : map (λ t. t.fate) (fates (record fresh { client = client.Waiting 1 60000 }) true (Bulk 2 Start ∷ Bulk 2 Finish ∷ Bulk 2 Start ∷ [])) ≡ fate.Heard ∷ fate.Heard ∷ fate.Nothing ∷ []
+unfolding computing
+status_heard = refl

@@ -3,6 +3,7 @@ use Rattle.std.specs.Prelude.{◌≡◌, ℕ, List, length, filter, Result, Ok, 
 use Rattle.std.specs.Option.{option_map_or}
 use Rattle.pfl_edits.specs.Maps as maps
 use Rattle.pfl_rules.specs.declared.adaptive.Adaptive.{Adaptive}
+use Rattle.pfl_base.specs.declared.refusal.Refusal.{Refusal}
 use Rattle.pfl_language.specs.declared.event.Event.{Event}
 use Rattle.pfl_language.specs.declared.event.Event.TheVariants as event
 use Rattle.pfl_language.specs.declared.event.FrameEvent.{FrameEvent}
@@ -22,11 +23,13 @@ use Rattle.pfl_world.specs.receive.Delivering.{same_rules}
 use Rattle.pfl_world.specs.Events.{step}
 use Rattle.pfl_world.specs.Meanings.{Stepped}
 use Rattle.pfl_world.specs.Worlds.{World, node_at}
+use Rattle.pfl_reasons.specs.declared.against.Against.{Against}
 use Rattle.pfl_reasons.specs.declared.expiry.Expiry.{Expiry}
 use Rattle.pfl_reasons.specs.declared.explained.Explained.{Explained as GivenExplained}
 use Rattle.pfl_reasons.specs.declared.explained.Explained.TheVariants as given
 use Rattle.pfl_reasons.specs.declared.packet_reason.PacketReason.{PacketReason}
 use Rattle.pfl_reasons.specs.declared.record_fate.TakenRecord.{TakenRecord}
+use Rattle.pfl_reasons.specs.Against.{StandsAgainst, against}
 use Rattle.pfl_reasons.specs.Packets.{HandledSo, packet_reason}
 use Rattle.pfl_reasons.specs.Purges.{expiries, is_due}
 use Rattle.pfl_reasons.specs.Records.{fates}
@@ -37,6 +40,7 @@ pub data Explained : Type 0 where
   Records : List TakenRecord → Explained
   Expiries : ℕ → ℕ → Adaptive → List Expiry → Explained
   Plain : Explained
+  Stopped : Against → Explained
 
 -- what an explanation of the code shows
 abbrev pub explained_of : {M : Type 0} → GivenExplained M → Explained
@@ -44,6 +48,7 @@ explained_of (given.Packet why) = Packet why
 explained_of (given.Records list) = Records list.items
 explained_of (given.Expiries clock states between list) = Expiries clock states between list.items
 explained_of given.Plain = Plain
+explained_of (given.Stopped against) = Stopped against
 
 -- of an event at a node by itself
 abbrev pub explained_at : Node → NodeEvent → Explained
@@ -61,22 +66,45 @@ abbrev pub explained_of_frame : World → ℕ → FrameEvent → Explained
 explained_of_frame w ticket frame.Deliver = option_map_or (λ (f : InFlight). explained_frame (node_at w f.to) (reading f.bytes)) (maps.get w.link.frames ticket) Plain
 explained_of_frame w ticket other = Plain
 
--- why the event has its outcome
+-- of an event that is accepted
+abbrev pub explained_outcome : World → Event → Explained
+explained_outcome w (event.At node e) = explained_at (node_at w node) e
+explained_outcome w (event.Of ticket e) = explained_of_frame w ticket e
+explained_outcome w other = Plain
+
+-- of an event with what it gives: why it has its outcome, or what stands against it
+abbrev pub explained_by : World → Event → Result Stepped Refusal → Explained
+explained_by w e (Ok s) = explained_outcome w e
+explained_by w e (Err why) = Stopped (against w e why)
+
+-- why the event is accepted with its outcome, or refused
 unfoldable pub explained : World → Event → Explained
-explained w (event.At node e) = explained_at (node_at w node) e
-explained w (event.Of ticket e) = explained_of_frame w ticket e
-explained w other = Plain
+explained w e = explained_by w e (step w e)
+
+-- what comes of an event: its outcome, or its refusal
+abbrev pub came_of : Result Stepped Refusal → Result Outcome Refusal
+came_of (Ok s) = Ok s.outcome
+came_of (Err why) = Err why
 
 -- ---- the outcome that follows
 
--- of an explanation: the packet's fate, the number of records, the number of states that are due
+-- of an explanation: the packet's fate, the number of records, the number of states that are due; without one, none of these
 abbrev pub FollowsFrom : Explained → Outcome → Type 0
 FollowsFrom (Packet why) (At (Handled f)) = HandledSo why f
 FollowsFrom (Records list) (Taken n) = n ≡ length list
 FollowsFrom (Expiries clock states between list) (At (Purged n)) = n ≡ length (filter (is_due clock) list)
+FollowsFrom Plain (At (Handled f)) = ⊥
+FollowsFrom Plain (At (Purged n)) = ⊥
+FollowsFrom Plain (Taken n) = ⊥
 FollowsFrom Plain outcome = Unit {0}
 FollowsFrom _ _ = ⊥
 
--- an event that is accepted has the outcome that follows from its explanation
+-- of an event with what it gives: its outcome follows from the explanation, or the numbers in that stand against it
+abbrev pub AgreesWith : Event → Explained → Result Stepped Refusal → Type 0
+AgreesWith e why (Ok s) = FollowsFrom why s.outcome
+AgreesWith e (Stopped numbers) (Err why) = StandsAgainst e numbers why
+AgreesWith e _ (Err why) = ⊥
+
+-- each event agrees with its explanation
 abbrev pub ReasonsAgree : Type 0
-ReasonsAgree = (w : World) (e : Event) (s : Stepped) → step w e ≡ Ok s → FollowsFrom (explained w e) s.outcome
+ReasonsAgree = (w : World) (e : Event) → AgreesWith e (explained w e) (step w e)

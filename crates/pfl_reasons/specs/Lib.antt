@@ -1,3 +1,6 @@
+pub mod Against
+pub mod Frames
+pub mod Senders
 pub mod Packets
 pub mod Records
 pub mod Purges

@@ -48,7 +48,7 @@ pub(crate) fn expiries<A: Allocator, B: Allocator>(
 {
     node.known();
     let states = node.states().len();
-    let mut list = Vec::new(alloc);
+    let mut list = Vec::with_capacity(alloc, states)?;
     let mut rows = node.states().iter();
     while let Some(row) = rows.next() {
         list.reserve(1)?;

@@ -3,6 +3,7 @@
 ghost use Rattle.std.specs.Prelude.{◌≡◌, IfOk};
 ghost use Rattle.pfl_reasons.specs.Explaining.{explained_of};
 
+use crate::against::Against;
 use crate::expiry::Expiry;
 use crate::packet_reason::PacketReason;
 use crate::record_fate::TakenRecord;
@@ -25,8 +26,10 @@ pub enum Explained<A: Allocator> {
         adaptive: Adaptive,
         list: Vec<Expiry, A>,
     },
-    /// Of any other event: its outcome says it.
+    /// Of any other event that is accepted: its outcome says it.
     Plain,
+    /// Of an event that is refused.
+    Stopped(Against),
 }
 
 impl<A: Allocator + Copy> Explained<A> {
@@ -51,6 +54,7 @@ impl<A: Allocator + Copy> Explained<A> {
                 list: Vec::from_slice(alloc, list.as_slice())?,
             },
             Explained::Plain => Explained::Plain,
+            Explained::Stopped(against) => Explained::Stopped(*against),
         })
     }
 }

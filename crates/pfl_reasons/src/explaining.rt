@@ -1,12 +1,13 @@
 //! Explanations of events.
 
-ghost use Rattle.std.specs.Prelude.{◌≡◌, Ok, IfOk, IfErr};
-ghost use Rattle.pfl_world.specs.Events.{step, IsEventRefusal};
-ghost use Rattle.pfl_world.specs.Worlds.{World as Pair, node_at};
-ghost use Rattle.pfl_reasons.specs.Explaining.{explained, explained_at, explained_of, explained_of_frame};
+ghost use Rattle.std.specs.Prelude.{◌≡◌, IfOk, IsOk, OnErr};
+ghost use Rattle.pfl_world.specs.Events.{step};
+ghost use Rattle.pfl_world.specs.Worlds.{node_at};
+ghost use Rattle.pfl_reasons.specs.Explaining.{came_of, explained, explained_at, explained_of, explained_of_frame, explained_outcome};
 ghost use Rattle.pfl_language.specs.declared.event.FrameEvent.TheVariants as frame;
 ghost use Rattle.pfl_language.specs.declared.node_event.NodeEvent.TheVariants as at_node;
 
+use crate::against::against_of;
 use crate::expiry::expiries;
 use crate::explained::Explained;
 use crate::packet::packet_reason;
@@ -18,23 +19,28 @@ use pfl_wire::FrameBytes;
 use pfl_world::{Node, World};
 use std::alloc::Allocator;
 
-/// The outcome that an event would have, and why. Where it would be refused, the refusal is given; the world stays as it is, whatever the
-/// answer. `alloc` lends memory.
+/// What would come of an event, its outcome or its refusal, and why. The world stays as it is, whatever the answer. `alloc` lends
+/// memory, which an event that is refused does not need.
 pub fn explain<A: Allocator + Copy>(
     alloc: A,
     world: &mut World<A>,
     event: &Event,
-) -> Result<(Outcome, Explained<A>), Refusal>
-    ensures refused { IfErr result (IsEventRefusal world.old event.now) }
-    ensures outcome { IfOk result (λ r. (after : Pair) × (step world.old event.now ≡ Ok (record { world = after; outcome = r.0 }))) }
+) -> Result<(Result<Outcome, Refusal>, Explained<A>), NoMemory>
+    ensures came { IfOk result (λ r. r.0 ≡ came_of (step world.old event.now)) }
     ensures explained { IfOk result (λ r. explained_of r.1 ≡ explained world.old event.now) }
+    ensures memory { OnErr result (IsOk (step world.old event.now)) }
     ensures still { world.new ≡ world.old }
 {
-    let (outcome, change) = world.apply(event)?;
-    world.revert(change);
-    match reason_of(alloc, world, event) {
-        Ok(reason) => Ok((outcome, reason)),
-        Err(NoMemory) => Err(Refusal::NoMemory),
+    match world.apply(event) {
+        Ok((outcome, change)) => {
+            world.revert(change);
+            let reason = reason_of(alloc, world, event)?;
+            Ok((Ok(outcome), reason))
+        }
+        Err(why) => match why {
+            Refusal::NoMemory => Err(NoMemory),
+            _ => Ok((Err(why), Explained::Stopped(against_of(world, event, why)))),
+        },
     }
 }
 
@@ -44,7 +50,7 @@ fn reason_of<A: Allocator + Copy>(
     world: &mut World<A>,
     event: &Event,
 ) -> Result<Explained<A>, NoMemory>
-    ensures explained { IfOk result (λ r. explained_of r ≡ explained world.old event.now) }
+    ensures explained { IfOk result (λ r. explained_of r ≡ explained_outcome world.old event.now) }
     ensures still { world.new ≡ world.old }
 {
     match event {
@@ -116,7 +122,7 @@ fn reason_of_delivery<A: Allocator + Copy>(
     let Some(frame) = world.link().get(ticket) else {
         return Ok(Explained::Plain);
     };
-    // The receiver takes the records for a while, so the bytes are copied.
+    // The receiver takes the records until that is undone, so the bytes are copied.
     let to = frame.to();
     let bytes = Vec::from_slice(alloc, frame.bytes().as_slice())?;
     match FrameBytes::read(bytes.as_slice()) {

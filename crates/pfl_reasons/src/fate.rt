@@ -39,7 +39,7 @@ pub(crate) fn record_fate<A: Allocator>(
         Message::UpdateRequest(name) => request_fate(node, *name),
         Message::Delete(sent) => delete_fate(node, sent.name),
         Message::DeleteShort(name) => delete_fate(node, *name),
-        Message::Bulk { .. } => RecordFate::Heard,
+        Message::Bulk { .. } => status_fate(node),
     }
 }
 
@@ -85,14 +85,11 @@ fn is_not_given<A: Allocator>(node: &Node<A>, name: StateName) -> bool
     name.creator == node.creator() && node.next_id() <= name.id
 }
 
-/// A deletion is still to be told.
+/// A deletion is still to be sent.
 fn is_deletion(kind: Option<Kind>) -> bool
     ensures { result ≡ receiving.is_delete kind }
 {
-    match kind {
-        Some(Kind::Delete) => true,
-        _ => false,
-    }
+    matches!(kind, Some(Kind::Delete))
 }
 
 /// The state that has a key of the record's, the wire key first, or else the limit.
@@ -177,7 +174,7 @@ fn short_fate<A: Allocator>(node: &Node<A>, sent: &UpdateRecord) -> RecordFate
     }
 }
 
-/// What is told of a state of the node is merged.
+/// What the peer sends of a state of the node is merged.
 fn merge_fate<A: Allocator>(node: &Node<A>, state: &State, received: &Received) -> RecordFate
     ensures { result ≡ meant.merge_fate node.now state.now received.now }
 {
@@ -190,7 +187,7 @@ fn merge_fate<A: Allocator>(node: &Node<A>, state: &State, received: &Received) 
     }
 }
 
-/// What a whole record tells of a known state.
+/// What a whole record has of a known state.
 fn of_state(sent: &StateRecord) -> Received
     ensures { result ≡ receiving.of_state sent.now }
 {
@@ -202,7 +199,7 @@ fn of_state(sent: &StateRecord) -> Received
     }
 }
 
-/// What a short record tells of it.
+/// What a short record has of it.
 fn of_update(sent: &UpdateRecord) -> Received
     ensures { result ≡ receiving.of_update sent.now }
 {
@@ -229,7 +226,7 @@ fn request_fate<A: Allocator>(node: &Node<A>, name: StateName) -> RecordFate
     }
 }
 
-/// A state that is asked for is queued, unless it may not be told, or is to be told whole already.
+/// A state that is asked for is queued, unless it may not be sent, or is to be sent whole already.
 fn answer_fate<A: Allocator>(node: &Node<A>, state: &State) -> RecordFate
     ensures { result ≡ meant.answer_fate node.now state.now }
 {
@@ -240,7 +237,7 @@ fn answer_fate<A: Allocator>(node: &Node<A>, state: &State) -> RecordFate
     }
 }
 
-/// On no queue, or on one that tells less than the whole state.
+/// On no queue, or on one that sends less than the whole state.
 fn is_partly_told(kind: Option<Kind>) -> bool
     ensures { result ≡ receiving.is_partly_told kind }
 {
@@ -258,5 +255,16 @@ fn delete_fate<A: Allocator>(node: &Node<A>, name: StateName) -> RecordFate
         RecordFate::Deleted
     } else {
         RecordFate::Bad(BadRecord::Unknown)
+    }
+}
+
+/// A bulk status is heard by a client that waits.
+fn status_fate<A: Allocator>(node: &Node<A>) -> RecordFate
+    ensures { result ≡ meant.status_fate node.now }
+{
+    if node.client().is_waiting() {
+        RecordFate::Heard
+    } else {
+        RecordFate::Nothing
     }
 }

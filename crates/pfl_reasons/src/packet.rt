@@ -58,7 +58,7 @@ fn tested(state: &State, packet: &Packet, dir: Dir) -> Option<WindowTest>
     }
 }
 
-/// A new connection over a closed one: the rules decide as if that had been killed, which it is for a while.
+/// A new connection over a closed one: the rules decide as if that had been killed, so it is killed, and then this is undone.
 fn reuse_reason<A: Allocator + Copy>(
     world: &mut World<A>,
     id: NodeId,

@@ -12,7 +12,7 @@ pub enum BadRecord {
     Known,
     /// The node itself gives the name, and has not yet.
     NotGiven,
-    /// The node has still to tell the peer that it deleted the state.
+    /// The node deleted the state, and the peer does not know that yet.
     Deleting,
     /// This state has its wire key.
     WireInUse(StateName),
@@ -31,7 +31,7 @@ pub enum RecordFate {
     Imported {
         last: Millis,
     },
-    /// It is merged into the node's state: which ends are behind those of the node, and when the state counts as last used then.
+    /// It is merged into the node's state: which ends are older than those of the node, and when the state counts as last used then.
     Merged {
         stale_src: bool,
         stale_dst: bool,
@@ -51,7 +51,7 @@ pub enum RecordFate {
     Deleted,
     /// As many states are deleted.
     Cleared(usize),
-    /// The client of a bulk update heard of its start or its end.
+    /// The client that waits for a bulk update heard of its start or its end.
     Heard,
     /// Nothing changes.
     Nothing,

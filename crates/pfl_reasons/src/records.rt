@@ -18,8 +18,8 @@ use pfl_wire::{FrameBytes, Message};
 use pfl_world::{Node, World, WorldTape, records_leave_the_rest};
 use std::alloc::Allocator;
 
-/// The records of a frame that comes to a node, each with what becomes of it. The node takes them for a while: then the world is as it
-/// was.
+/// The records of a frame that comes to a node, each with what becomes of it. The node takes them, and then this is undone: the world
+/// is as it was.
 pub(crate) fn fates_of<A: Allocator + Copy>(
     alloc: A,
     world: &mut World<A>,

@@ -2,4 +2,4 @@
 
 /// The release, the sum of its sources, and the logic that proves them.
 pub(crate) const VERSION: &str =
-    "release 10, sources 8838587fd3f51ac19968e6c09090ac0777440620637dd4089fbecf9ca0e3efb7, logic dac8208d650f15bf";
+    "release 11, sources 614ac74f31a37013b123ac7371746e2636b2ac314bd635a3f54af1b8c0a39a4c, logic dac8208d650f15bf";

@@ -1,4 +1,4 @@
--- A command whose reply takes memory changes nothing: such a reply lists branches or events, shows a branch, or explains an event.
+-- A command whose reply takes memory changes nothing: such a reply lists branches or events, shows a branch or a frame, or explains an event.
 use Rattle.std.specs.Prelude.{◌≡◌, ◌-◌, ◌+◌, true, [], ◌∷◌, ◌++◌, filter, not, length, take, nat_lt, nat_le, Option, Some, None, Result, Ok, Err, refl}
 use Rattle.std.specs.Option.{option_map_or}
 use Rattle.std.proofs.Common.{sym, ◌∙◌, ap, subst}
@@ -13,7 +13,7 @@ use Rattle.pfl_timeline.specs.desk.Nodes.{refused_by}
 use Rattle.pfl_timeline.specs.world.Events.{step}
 use Rattle.pfl_timeline.specs.world.Meanings.{Stepped}
 use Rattle.pfl_timeline.specs.world.Runs.{run}
-use Rattle.pfl_timeline.specs.Commands.{replied, reply_unless, with_changed, undone, at_cursor, step_answered, step_reply, back_reply, forward_reply, first_events, fork_refusal, fork_reply, drop_reply, show_reply, past_reply, why_reply, excise_reply, restore_reply, step_command, back_command, forward_command, fork_command, drop_command, show_command, past_command, why_command, excise_command, restore_command, log_reply, log_command, names_command, command_step}
+use Rattle.pfl_timeline.specs.Commands.{replied, reply_unless, with_changed, undone, at_cursor, step_answered, step_reply, back_reply, forward_reply, first_events, fork_refusal, fork_reply, drop_reply, show_reply, past_reply, why_reply, why_step_reply, explanation, frame_reply, excise_reply, restore_reply, step_command, back_command, forward_command, fork_command, drop_command, show_command, past_command, why_command, why_step_command, frame_command, excise_command, restore_command, log_reply, log_command, names_command, command_step}
 use Rattle.pfl_timeline.specs.Excisions.{has_event, excised, fallen_places, restored}
 use Rattle.pfl_timeline.specs.Replies.{Reply, Replied, Forked, Removed, Shown, Excised, Restored, Refused as Refusing}
 use Rattle.pfl_timeline.specs.Timelines.{Branch, Timeline, branch_of, world_of}
@@ -38,7 +38,7 @@ step_keeps t b e (Ok s) = λ is. cc
 step_keeps t b e (Err why) = λ _. refl
 
 keeps : (t : Timeline) (c : Command) → Keeps t (command_step t c)
-unfolding command_step step_command back_command forward_command fork_command drop_command show_command past_command why_command excise_command restore_command names_command log_command
+unfolding command_step step_command back_command forward_command fork_command drop_command show_command past_command why_command why_step_command frame_command excise_command restore_command names_command log_command
 keeps t (command.Step name e) = found_keeps t (branch_of t name) (step_reply t e) refused.NoBranch (λ b. found_keeps t (world_of t b) (λ w. step_answered t b e (step w e)) refused.NoBranch (λ w. step_keeps t b e (step w e)))
 keeps t (command.Back name n) = found_keeps t (branch_of t name) (back_reply t n) refused.NoBranch (λ b. refused_keeps t (refused_by ((nat_lt b.cursor n, refused.TooFarBack) ∷ [])) (at_cursor t b (b.cursor - n)) (λ is. cc))
 keeps t (command.Forward name n) = found_keeps t (branch_of t name) (forward_reply t n) refused.NoBranch (λ b. refused_keeps t (refused_by ((nat_lt (undone b) n, refused.NothingForward) ∷ [])) (at_cursor t b (b.cursor + n)) (λ is. cc))
@@ -47,6 +47,8 @@ keeps t (command.Drop name) = found_keeps t (branch_of t name) (drop_reply t) re
 keeps t (command.Show name) = found_keeps t (branch_of t name) (show_reply t) refused.NoBranch (λ b. found_keeps t (world_of t b) (λ w. replied t (Shown b.name (length b.events) b.cursor w)) refused.NoBranch (λ w _. refl))
 keeps t (command.Past name k) = found_keeps t (branch_of t name) (past_reply t k) refused.NoBranch (λ b. refused_keeps t (refused_by ((nat_lt (length b.events) k, refused.NothingForward) ∷ [])) _ (found_keeps t (run t.opening (take k b.events)) (λ w. replied t (Shown b.name (length b.events) k w)) refused.NoBranch (λ w _. refl)))
 keeps t (command.Why name k) = found_keeps t (branch_of t name) (why_reply t k) refused.NoBranch (λ b _. refl)
+keeps t (command.WhyStep name e) = found_keeps t (branch_of t name) (why_step_reply t e) refused.NoBranch (λ b. found_keeps t (world_of t b) (λ w. replied t (explanation b.name (b.cursor + 1) w e)) refused.NoBranch (λ w _. refl))
+keeps t (command.Frame name ticket) = found_keeps t (branch_of t name) (frame_reply t ticket) refused.NoBranch (λ b _. refl)
 keeps t command.Names = λ _. refl
 keeps t (command.Excise name k) = found_keeps t (branch_of t name) (excise_reply t k) refused.NoBranch (λ b. refused_keeps t (refused_by ((not (has_event k b), refused.NoEvent) ∷ [])) (replied (with_changed t (excised t.opening k b)) (Excised (fallen_places t.opening k b))) (λ is. cc))
 keeps t (command.Restore name) = found_keeps t (branch_of t name) (restore_reply t) refused.NoBranch (λ b. found_keeps t b.former (λ f. replied (with_changed t (restored b f)) (Restored f.cursor)) refused.NothingExcised (λ f is. cc))

@@ -42,6 +42,12 @@ pushed_five first a b c d e one two three four five h i j k l =
     pushed_two first (((a ++ b) ++ c) ++ d) e four five
     (pushed_two first ((a ++ b) ++ c) d three four (pushed_two first (a ++ b) c two three (pushed_two first a b one two h i) j) k) l
 
+-- six parts
+pub pushed_six : (first a b c d e f one two three four five six : List ℕ) →
+    one ≡ first ++ a → two ≡ one ++ b → three ≡ two ++ c → four ≡ three ++ d → five ≡ four ++ e → six ≡ five ++ f → six ≡ first ++ (((((a ++ b) ++ c) ++ d) ++ e) ++ f)
+pushed_six first a b c d e f one two three four five six h i j k l m =
+    pushed_two first ((((a ++ b) ++ c) ++ d) ++ e) f five six (pushed_five first a b c d e one two three four five h i j k l) m
+
 -- a name behind a space
 pub pushed_name : (space name text with_space now : List ℕ) → space ≡ 32 ∷ [] → with_space ≡ text ++ space → now ≡ with_space ++ name → now ≡ text ++ 32 ∷ name
 pushed_name space name text with_space now is one two = two ∙ ap (λ t. t ++ name) (one ∙ ap (λ s. text ++ s) is) ∙ append_assoc text (32 ∷ []) name

@@ -3,6 +3,7 @@ pub mod Texts
 pub mod Shows
 pub mod Logs
 pub mod Reasons
+pub mod Frames
 pub mod Searches
 pub mod Replies
 pub mod Answers

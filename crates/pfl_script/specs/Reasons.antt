@@ -1,10 +1,12 @@
--- The lines that show why an event has its outcome (this project's profile).
-use Rattle.std.specs.Prelude.{ℕ, Bool, true, false, List, [], ◌++◌, codes}
+-- The lines that show what comes of an event, and why (this project's profile).
+use Rattle.std.specs.Prelude.{ℕ, Bool, true, false, List, [], ◌++◌, codes, Result, Ok, Err}
 use Rattle.std.specs.List.{flat_map}
 use Rattle.std.specs.Option.{option_map_or}
 use Rattle.std.specs.Fmt.{decimal}
+use Rattle.pfl_base.specs.declared.refusal.Refusal.{Refusal}
 use Rattle.pfl_base.specs.declared.state_name.StateName.{StateName}
-use Rattle.pfl_base.specs.Texts.{name_text, class_text}
+use Rattle.pfl_base.specs.Refusals.{refusal_number}
+use Rattle.pfl_base.specs.Texts.{name_text, class_text, refusal_text}
 use Rattle.pfl_rules.specs.declared.adaptive.Adaptive.{Adaptive}
 use Rattle.pfl_track.specs.declared.edges.AckTest.{AckTest}
 use Rattle.pfl_track.specs.declared.edges.EdgeTest.{EdgeTest}
@@ -14,6 +16,8 @@ use Rattle.pfl_wire.specs.declared.message.Message.TheVariants.{Clear, Insert, I
 use Rattle.pfl_wire.specs.Spelling.{status_byte}
 use Rattle.pfl_language.specs.declared.event.Event.{Event}
 use Rattle.pfl_language.specs.declared.outcome.Outcome.{Outcome}
+use Rattle.pfl_timeline.specs.reasons.declared.against.Against.{Against}
+use Rattle.pfl_timeline.specs.reasons.declared.against.Against.TheVariants as against
 use Rattle.pfl_timeline.specs.reasons.declared.expiry.Expiry.{Expiry}
 use Rattle.pfl_timeline.specs.reasons.declared.packet_reason.Judged.{Judged}
 use Rattle.pfl_timeline.specs.reasons.declared.packet_reason.Judged.TheVariants.{Unmatched, Blocked, AtMax, Full, WireInUse, StackInUse, Makes}
@@ -24,7 +28,7 @@ use Rattle.pfl_timeline.specs.reasons.declared.record_fate.BadRecord.TheVariants
 use Rattle.pfl_timeline.specs.reasons.declared.record_fate.RecordFate.{RecordFate}
 use Rattle.pfl_timeline.specs.reasons.declared.record_fate.RecordFate.TheVariants as fate
 use Rattle.pfl_timeline.specs.reasons.declared.record_fate.TakenRecord.{TakenRecord}
-use Rattle.pfl_timeline.specs.reasons.Explaining.{Explained, Packet, Records, Expiries, Plain}
+use Rattle.pfl_timeline.specs.reasons.Explaining.{Explained, Packet, Records, Expiries, Plain, Stopped}
 use Rattle.pfl_script.specs.Texts.{or_dash, outcome_text}
 use Rattle.pfl_script.specs.Logs.{logged_line}
 
@@ -128,24 +132,41 @@ expiry_line e =
     codes "expiry " ++ name_text e.name ++ codes " " ++ class_text e.class ++ codes " " ++ decimal e.timeout ++ codes " "
     ++ decimal e.scaled ++ codes " " ++ decimal e.expires ++ codes "\n"
 
+-- ---- an event that is refused
+
+-- the numbers that stand against it, where there are some
+abbrev pub against_line : Against → List ℕ
+against_line (against.Ticket next) = codes "ticket " ++ decimal next ++ codes "\n"
+against_line (against.Frames limit frames) = codes "frames " ++ decimal limit ++ codes " " ++ decimal frames ++ codes "\n"
+against_line (against.Pending limit pending) = codes "pending " ++ decimal limit ++ codes " " ++ decimal pending ++ codes "\n"
+against_line (against.Clock clock last) = codes "clock " ++ decimal clock ++ codes " " ++ decimal last ++ codes "\n"
+against_line (against.Due clock due) = codes "due " ++ decimal clock ++ codes " " ++ decimal due ++ codes "\n"
+against_line against.Nothing = []
+
 -- ---- an event
 
--- why it has its outcome
+-- why it has its outcome, or what stands against it
 abbrev pub reason_lines : Explained → List ℕ
 reason_lines (Packet why) = packet_lines why
 reason_lines (Records list) = flat_map record_line list
 reason_lines (Expiries clock states between list) = scaling_lines clock states between ++ flat_map expiry_line list
 reason_lines Plain = []
+reason_lines (Stopped numbers) = against_line numbers
 
 -- the branch and the place of the event
 abbrev pub why_line : List ℕ → ℕ → List ℕ
 why_line name place = codes "why " ++ name ++ codes " " ++ decimal place ++ codes "\n"
 
--- what came of it
+-- its outcome
 abbrev pub outcome_line : Outcome → List ℕ
 outcome_line outcome = codes "outcome " ++ outcome_text outcome ++ codes "\n"
 
--- the event with its place, its outcome, and why
-unfoldable pub explained_text : List ℕ → ℕ → Event → Outcome → Explained → List ℕ
-explained_text name place e outcome why =
-    why_line name place ++ logged_line name place e ++ outcome_line outcome ++ reason_lines why ++ codes "end\n"
+-- what comes of it: its outcome, or the number and the word of its refusal
+abbrev pub came_line : Result Outcome Refusal → List ℕ
+came_line (Ok outcome) = outcome_line outcome
+came_line (Err why) = codes "refused " ++ decimal (refusal_number why) ++ codes " " ++ refusal_text why ++ codes "\n"
+
+-- the event with its place, what comes of it, and why
+unfoldable pub explained_text : List ℕ → ℕ → Event → Result Outcome Refusal → Explained → List ℕ
+explained_text name place e came why =
+    why_line name place ++ logged_line name place e ++ came_line came ++ reason_lines why ++ codes "end\n"

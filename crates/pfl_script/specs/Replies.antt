@@ -2,8 +2,9 @@
 use Rattle.std.specs.Prelude.{ℕ, Bool, true, false, List, ◌∷◌, ◌++◌, codes}
 use Rattle.std.specs.List.{flat_map}
 use Rattle.std.specs.Fmt.{decimal}
-use Rattle.pfl_timeline.specs.Replies.{Reply, Stepped, At, Forked, Removed, Shown, Names, Excised, Restored, Logged, Explained, Refused}
+use Rattle.pfl_timeline.specs.Replies.{Reply, Stepped, At, Forked, Removed, Shown, Names, Excised, Restored, Logged, Explained, Traced, Refused}
 use Rattle.pfl_script.specs.Texts.{outcome_text, refused_text}
+use Rattle.pfl_script.specs.Frames.{traced_text}
 use Rattle.pfl_script.specs.Logs.{log_text}
 use Rattle.pfl_script.specs.Reasons.{explained_text}
 use Rattle.pfl_script.specs.Shows.{show_text}
@@ -27,7 +28,8 @@ reply_text (Names names) = codes "names" ++ flat_map named names ++ codes "\n"
 reply_text (Excised places) = codes "excised" ++ flat_map placed places ++ codes "\n"
 reply_text (Restored cursor) = codes "restored " ++ decimal cursor ++ codes "\n"
 reply_text (Logged name events cursor) = log_text name events cursor
-reply_text (Explained name place event outcome why) = explained_text name place event outcome why
+reply_text (Explained name place event came why) = explained_text name place event came why
+reply_text (Traced name ticket trace) = traced_text name ticket trace
 reply_text (Refused why) = codes "refused " ++ refused_text why ++ codes "\n"
 
 -- the text of the reply takes memory, since it is made at one time and no number bounds its length; a command that has such a
@@ -36,5 +38,6 @@ abbrev pub takes_memory : Reply → Bool
 takes_memory (Shown name events cursor world) = true
 takes_memory (Names names) = true
 takes_memory (Logged name events cursor) = true
-takes_memory (Explained name place event outcome why) = true
+takes_memory (Explained name place event came why) = true
+takes_memory (Traced name ticket trace) = true
 takes_memory _ = false

@@ -81,3 +81,4 @@ refused_text refused.BranchesFull = codes "7 BranchesFull"
 refused_text (refused.Event r) = codes "8 Event " ++ decimal (refusal_number r) ++ codes " " ++ refusal_text r
 refused_text refused.NoEvent = codes "9 NoEvent"
 refused_text refused.NothingExcised = codes "10 NothingExcised"
+refused_text refused.NoFrame = codes "11 NoFrame"

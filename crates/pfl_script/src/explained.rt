@@ -1,12 +1,13 @@
-//! An event with its outcome and why it has it, line by line.
+//! An event with what comes of it, and why, line by line.
 
 ghost use Rattle.std.specs.Prelude.{◌≡◌, ◌++◌, IfOk, OnOk};
 ghost use Rattle.std.specs.List.{flat_map};
 ghost use Rattle.pfl_timeline.specs.reasons.Explaining.{explained_of};
 ghost use Rattle.pfl_timeline.specs.Replies.{explanation_of};
-ghost use Rattle.pfl_script.specs.Reasons.{record_line, expiry_line, reason_lines, why_line, outcome_line};
+ghost use Rattle.pfl_script.specs.Reasons.{record_line, expiry_line, reason_lines, why_line, outcome_line, came_line};
 ghost use Rattle.pfl_script.specs.Replies.{reply_text};
 
+use crate::against_lines::AgainstLine;
 use crate::expiry_lines::{ExpiryLine, ScalingLines};
 use crate::listed::push_shown;
 use crate::logged::push_event;
@@ -14,6 +15,7 @@ use crate::outcomes::push_outcome;
 use crate::packet_lines::PacketLines;
 use crate::record_lines::RecordLine;
 use crate::short_line::plain_line;
+use pfl_base::Refusal;
 use pfl_edits::NoMemory;
 use pfl_language::Outcome;
 use pfl_timeline::{Expiry, Explained, Explanation, TakenRecord};
@@ -42,7 +44,7 @@ fn push_expiries<A: Allocator>(text: &mut Vec<u8, A>, states: &[Expiry]) -> Resu
     Ok(())
 }
 
-/// Puts the lines that show why an event has its outcome after a text.
+/// Puts the lines that show why an event has its outcome, or is refused, after a text.
 fn push_reason<A: Allocator, B: Allocator>(
     text: &mut Vec<u8, A>,
     why: &Explained<B>,
@@ -67,6 +69,7 @@ fn push_reason<A: Allocator, B: Allocator>(
             push_expiries(text, list.as_slice())
         }
         Explained::Plain => Ok(()),
+        Explained::Stopped(against) => push_shown(text, AgainstLine(*against)),
     }
 }
 
@@ -79,8 +82,11 @@ fn push_why<A: Allocator>(text: &mut Vec<u8, A>, name: &[u8], place: usize) -> R
     push_shown(text, format_args!(" {place}\n"))
 }
 
-/// Puts the line of what came of an event after a text.
-fn push_came<A: Allocator>(text: &mut Vec<u8, A>, outcome: Outcome) -> Result<(), NoMemory>
+/// Puts the line of an event's outcome after a text.
+pub(crate) fn push_outcome_line<A: Allocator>(
+    text: &mut Vec<u8, A>,
+    outcome: Outcome,
+) -> Result<(), NoMemory>
     ensures { OnOk result (text.new.items ≡ text.old.items ++ outcome_line outcome) }
 {
     let mut line = plain_line("outcome ");
@@ -89,7 +95,24 @@ fn push_came<A: Allocator>(text: &mut Vec<u8, A>, outcome: Outcome) -> Result<()
     Ok(text.extend_from_slice(line.as_str().as_bytes())?)
 }
 
-/// The text that reports what came of an event, and why.
+/// Puts the line of what comes of an event after a text.
+fn push_came<A: Allocator>(
+    text: &mut Vec<u8, A>,
+    came: Result<Outcome, Refusal>,
+) -> Result<(), NoMemory>
+    ensures { OnOk result (text.new.items ≡ text.old.items ++ came_line came) }
+{
+    match came {
+        Ok(outcome) => push_outcome_line(text, outcome),
+        Err(why) => {
+            let number = why.number();
+            let word = why.word();
+            push_shown(text, format_args!("refused {number} {word}\n"))
+        }
+    }
+}
+
+/// The text that reports what comes of an event, and why.
 pub fn explained_text<A: Allocator, B: Allocator>(
     alloc: A,
     explanation: &Explanation<B>,
@@ -101,7 +124,7 @@ pub fn explained_text<A: Allocator, B: Allocator>(
     let mut text = Vec::new(alloc);
     push_why(&mut text, name, place)?;
     push_event(&mut text, name, place, &explanation.event)?;
-    push_came(&mut text, explanation.outcome)?;
+    push_came(&mut text, explanation.came)?;
     push_reason(&mut text, &explanation.why)?;
     text.extend_from_slice(b"end\n")?;
     Ok(text)

@@ -1,6 +1,7 @@
 //! Lines that are read and executed: setups, commands, and the text of their replies.
 #![tactic(auto)]
 
+mod against_lines;
 mod answer;
 mod check;
 mod engine;
@@ -8,6 +9,7 @@ mod expiry_lines;
 mod explained;
 mod fault;
 mod found;
+mod frame_lines;
 mod link_lines;
 mod listed;
 mod logged;
@@ -27,6 +29,7 @@ mod setup_fault;
 mod short_line;
 mod shown;
 mod state_lines;
+mod traced;
 
 pub use check::{Checked, check_lines};
 pub use engine::{Ended, run_lines};

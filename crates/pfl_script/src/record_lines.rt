@@ -9,7 +9,7 @@ use std::fmt;
 
 /// A record, by its kind and its name.
 #[derive(Clone, Copy)]
-struct RecordWords<'a>(&'a Message);
+pub(crate) struct RecordWords<'a>(pub(crate) &'a Message);
 
 impl fmt::Display for RecordWords<'_> {
     ghost output = { λ w. Some (record_text w.0.now) };

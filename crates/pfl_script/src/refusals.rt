@@ -37,5 +37,6 @@ pub fn push_refused(line: &mut ShortLine, why: Refused)
         Refused::Event(refusal) => push_refusal(line, refusal),
         Refused::NoEvent => line.push_str("9 NoEvent"),
         Refused::NothingExcised => line.push_str("10 NothingExcised"),
+        Refused::NoFrame => line.push_str("11 NoFrame"),
     }
 }

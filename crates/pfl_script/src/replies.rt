@@ -16,6 +16,7 @@ use crate::refusals::push_refused;
 use crate::reply_text::ReplyText;
 use crate::short_line::{ShortLine, plain_line, push_number};
 use crate::shown::shown_text;
+use crate::traced::traced_text;
 use pfl_edits::NoMemory;
 use pfl_language::{BranchWord, Outcome, Refused};
 use pfl_lines::LineFault;
@@ -110,8 +111,8 @@ fn names_line<A: Allocator>(alloc: A, names: &[BranchWord]) -> Result<Vec<u8, A>
     Ok(text)
 }
 
-/// The text of a reply. Memory is taken only for one that lists branches or events, shows a branch, or explains an event: no such
-/// reply is that of a command which changes something.
+/// The text of a reply. Memory is taken only for one that lists branches or events, shows a branch or a frame, or explains an event:
+/// no such reply is that of a command which changes something.
 pub fn reply_text<'a, A: Allocator, B: Allocator + Copy>(
     alloc: A,
     reply: &'a Reply<B>,
@@ -139,6 +140,7 @@ pub fn reply_text<'a, A: Allocator, B: Allocator + Copy>(
             cursor,
         } => ReplyText::Long(logged_text(alloc, name.bytes(), events.as_slice(), *cursor)?),
         Reply::Explained(explanation) => ReplyText::Long(explained_text(alloc, explanation)?),
+        Reply::Traced(trace) => ReplyText::Long(traced_text(alloc, trace)?),
         Reply::Refused(why) => ReplyText::Short(refused_line(*why)),
     })
 }

@@ -13,7 +13,7 @@ use Rattle.pfl_timeline.specs.desk.Nodes.{refused_by}
 use Rattle.pfl_timeline.specs.world.Events.{step}
 use Rattle.pfl_timeline.specs.world.Runs.{run}
 use Rattle.pfl_timeline.specs.world.Worlds.{World}
-use Rattle.pfl_timeline.specs.Commands.{replied, reply_unless, with_branch, with_changed, extended, undone, at_cursor, step_answered, step_reply, back_reply, forward_reply, first_events, fork_refusal, fork_reply, drop_reply, show_reply, past_reply, why_reply, excise_reply, restore_reply, step_command, back_command, forward_command, fork_command, drop_command, show_command, past_command, why_command, excise_command, restore_command, log_reply, log_command, names_command, command_step}
+use Rattle.pfl_timeline.specs.Commands.{replied, reply_unless, with_branch, with_changed, extended, undone, at_cursor, step_answered, step_reply, back_reply, forward_reply, first_events, fork_refusal, fork_reply, drop_reply, show_reply, past_reply, why_reply, explanation, why_step_reply, frame_reply, excise_reply, restore_reply, step_command, back_command, forward_command, fork_command, drop_command, show_command, past_command, why_command, why_step_command, frame_command, excise_command, restore_command, log_reply, log_command, names_command, command_step}
 use Rattle.pfl_timeline.specs.Excisions.{has_event, excised, fallen_places, restored}
 use Rattle.pfl_timeline.specs.Replies.{Reply, Replied, Forked, Removed, Shown, Excised, Restored, Refused as Refusing}
 use Rattle.pfl_timeline.specs.Timelines.{Branch, Former, Timeline, branch_of, world_of}
@@ -121,6 +121,13 @@ module _ (t : Timeline) (n : ℕ) (few : HasFewEvents n t) where
         | Some w ↦ roomy
       ])
 
+  why_step_grown : (e : Event) (b : Branch) → Grown (why_step_reply t e b)
+  why_step_grown e b =
+      elim (world_of t b) as (λ o. Grown (option_map_or (λ w. replied t (explanation b.name (b.cursor + 1) w e)) o (replied t (Refusing refused.NoBranch)))) [
+        | None ↦ roomy
+        | Some w ↦ roomy
+      ]
+
   moved_grown : (b : Branch) (cursor : ℕ) → HasFew n b → Grown (at_cursor t b cursor)
   moved_grown b cursor is = changed (record b { cursor = cursor }) (more_here n (n + 1) b (omega arith) is)
 
@@ -137,7 +144,7 @@ module _ (t : Timeline) (n : ℕ) (few : HasFewEvents n t) where
       ] is.1
 
   pub command-grows : (c : Command) → HasFewEvents (n + 1) (command_step t c).timeline
-  unfolding command_step step_command back_command forward_command fork_command drop_command show_command past_command why_command excise_command restore_command names_command log_command
+  unfolding command_step step_command back_command forward_command fork_command drop_command show_command past_command why_command why_step_command frame_command excise_command restore_command names_command log_command
   command-grows (command.Step name e) = named_grown name (step_reply t e) (step_grown e)
   command-grows (command.Back name k) = named_grown name (back_reply t k) (λ b is. answered_grown (refused_by ((nat_lt b.cursor k, refused.TooFarBack) ∷ [])) (at_cursor t b (b.cursor - k)) (moved_grown b (b.cursor - k) is))
   command-grows (command.Forward name k) = named_grown name (forward_reply t k) (λ b is. answered_grown (refused_by ((nat_lt (undone b) k, refused.NothingForward) ∷ [])) (at_cursor t b (b.cursor + k)) (moved_grown b (b.cursor + k) is))
@@ -148,6 +155,8 @@ module _ (t : Timeline) (n : ℕ) (few : HasFewEvents n t) where
   command-grows (command.Show name) = named_grown name (show_reply t) (λ b _. show_grown b)
   command-grows (command.Past name k) = named_grown name (past_reply t k) (λ b _. past_grown k b)
   command-grows (command.Why name k) = named_grown name (why_reply t k) (λ b _. roomy)
+  command-grows (command.WhyStep name e) = named_grown name (why_step_reply t e) (λ b _. why_step_grown e b)
+  command-grows (command.Frame name ticket) = named_grown name (frame_reply t ticket) (λ b _. roomy)
   command-grows command.Names = roomy
   command-grows (command.Excise name k) = named_grown name (excise_reply t k) (excise_grown k)
   command-grows (command.Restore name) = named_grown name (restore_reply t) restore_grown

@@ -1,4 +1,5 @@
--- A command whose reply shows a branch or tells its events, or names the branches, changes nothing.
+-- A command whose reply shows a branch, lists its events, explains an event, shows what became of a frame, or names the branches, changes
+-- nothing.
 use Rattle.std.specs.Prelude.{◌≡◌, ℕ, ◌-◌, ◌+◌, false, List, [], ◌∷◌, ◌++◌, filter, not, length, take, nat_lt, nat_le, Option, Some, None, Ok, Err, IsTrue, refl}
 use Rattle.std.specs.Option.{option_map_or}
 use Rattle.std.proofs.Common.{sym, ◌∙◌, ap, subst}
@@ -13,7 +14,7 @@ use Rattle.pfl_timeline.specs.desk.Nodes.{refused_by}
 use Rattle.pfl_timeline.specs.world.Events.{step}
 use Rattle.pfl_timeline.specs.world.Runs.{run}
 use Rattle.pfl_timeline.specs.world.Worlds.{World}
-use Rattle.pfl_timeline.specs.Commands.{replied, reply_unless, with_branch, with_changed, undone, at_cursor, step_answered, step_reply, back_reply, forward_reply, first_events, fork_refusal, fork_reply, drop_reply, show_reply, past_reply, why_reply, excise_reply, restore_reply, step_command, back_command, forward_command, fork_command, drop_command, show_command, past_command, why_command, excise_command, restore_command, log_reply, log_command, names_command, command_step}
+use Rattle.pfl_timeline.specs.Commands.{replied, reply_unless, with_branch, with_changed, undone, at_cursor, step_answered, step_reply, back_reply, forward_reply, first_events, fork_refusal, fork_reply, drop_reply, show_reply, past_reply, why_reply, explanation, why_step_reply, frame_reply, excise_reply, restore_reply, step_command, back_command, forward_command, fork_command, drop_command, show_command, past_command, why_command, why_step_command, frame_command, excise_command, restore_command, log_reply, log_command, names_command, command_step}
 use Rattle.pfl_timeline.specs.Excisions.{has_event, excised, fallen_places, restored}
 use Rattle.pfl_timeline.specs.Replies.{Reply, Replied, Forked, Removed, Shown, Excised, Restored, Refused as Refusing}
 use Rattle.pfl_timeline.specs.Timelines.{Branch, Timeline, branch_of, world_of}
@@ -62,6 +63,13 @@ past_keeps t k b =
       | Some w ↦ λ _. refl
     ])
 
+why_step_keeps : (t : Timeline) (e : Event) (b : Branch) → Keeps t (why_step_reply t e b)
+why_step_keeps t e b =
+    elim (world_of t b) as (λ o. Keeps t (option_map_or (λ w. replied t (explanation b.name (b.cursor + 1) w e)) o (replied t (Refusing refused.NoBranch)))) [
+      | None ↦ λ _. refl
+      | Some w ↦ λ _. refl
+    ]
+
 restore_keeps : (t : Timeline) (b : Branch) → Keeps t (restore_reply t b)
 restore_keeps t b =
     elim b.former as (λ o. Keeps t (option_map_or (λ f. replied (with_changed t (restored b f)) (Restored f.cursor)) o (replied t (Refusing refused.NothingExcised)))) [
@@ -70,7 +78,7 @@ restore_keeps t b =
     ]
 
 keeps : (t : Timeline) (c : Command) → Keeps t (command_step t c)
-unfolding command_step step_command back_command forward_command fork_command drop_command show_command past_command why_command excise_command restore_command names_command log_command
+unfolding command_step step_command back_command forward_command fork_command drop_command show_command past_command why_command why_step_command frame_command excise_command restore_command names_command log_command
 keeps t (command.Step name e) = named_keeps t name (step_reply t e) (step_keeps t e)
 keeps t (command.Back name n) = named_keeps t name (back_reply t n) (λ b. answered_keeps t (refused_by ((nat_lt b.cursor n, refused.TooFarBack) ∷ [])) (at_cursor t b (b.cursor - n)) (λ is. absurd (both_ways false refl is)))
 keeps t (command.Forward name n) = named_keeps t name (forward_reply t n) (λ b. answered_keeps t (refused_by ((nat_lt (undone b) n, refused.NothingForward) ∷ [])) (at_cursor t b (b.cursor + n)) (λ is. absurd (both_ways false refl is)))
@@ -79,6 +87,8 @@ keeps t (command.Drop name) = named_keeps t name (drop_reply t) (λ b. answered_
 keeps t (command.Show name) = named_keeps t name (show_reply t) (show_keeps t)
 keeps t (command.Past name k) = named_keeps t name (past_reply t k) (past_keeps t k)
 keeps t (command.Why name k) = named_keeps t name (why_reply t k) (λ b _. refl)
+keeps t (command.WhyStep name e) = named_keeps t name (why_step_reply t e) (why_step_keeps t e)
+keeps t (command.Frame name ticket) = named_keeps t name (frame_reply t ticket) (λ b _. refl)
 keeps t command.Names = λ _. refl
 keeps t (command.Excise name k) = named_keeps t name (excise_reply t k) (λ b. answered_keeps t (refused_by ((not (has_event k b), refused.NoEvent) ∷ [])) (replied (with_changed t (excised t.opening k b)) (Excised (fallen_places t.opening k b))) (λ is. absurd (both_ways false refl is)))
 keeps t (command.Restore name) = named_keeps t name (restore_reply t) (restore_keeps t)

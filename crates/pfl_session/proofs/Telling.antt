@@ -1,5 +1,5 @@
 -- No reply tells more places than its command's branch has events.
-use Rattle.std.specs.Prelude.{◌≡◌, ◌≤◌, ◌<◌, ℕ, zero, suc, ◌+◌, ◌-◌, Bool, List, [], ◌∷◌, ◌++◌, length, get_or, map, filter, find, take, drop, not, nat_lt, nat_le, Option, Some, None, Result, Ok, Err, refl}
+use Rattle.std.specs.Prelude.{◌≡◌, ◌≤◌, ◌<◌, ℕ, zero, suc, ◌+◌, ◌-◌, Bool, List, [], ◌∷◌, ◌++◌, length, get_or, map, filter, find, take, drop, not, nat_lt, nat_le, Option, Some, None, Ok, Err, refl}
 use Rattle.std.specs.Option.{option_map, option_map_or}
 use Rattle.std.proofs.Common.{true, false, cond, sym, ◌∙◌, ap, arith, drop_of_length-le}
 use Rattle.pfl_language.specs.declared.event.Event.{Event}
@@ -9,14 +9,13 @@ use Rattle.pfl_language.specs.declared.refused.Refused.{Refused}
 use Rattle.pfl_language.specs.declared.refused.Refused.TheVariants as refused
 use Rattle.pfl_language.specs.BranchWords.{same_name}
 use Rattle.pfl_timeline.specs.desk.Nodes.{refused_by}
-use Rattle.pfl_timeline.specs.base.declared.refusal.Refusal.{Refusal}
 use Rattle.pfl_timeline.specs.world.Events.{step}
-use Rattle.pfl_timeline.specs.world.Meanings.{Stepped}
 use Rattle.pfl_timeline.specs.world.Runs.{run}
 use Rattle.pfl_timeline.specs.world.Worlds.{World}
-use Rattle.pfl_timeline.specs.Commands.{replied, reply_unless, with_branch, with_changed, undone, at_cursor, step_answered, step_reply, back_reply, forward_reply, first_events, fork_refusal, fork_reply, drop_reply, show_reply, past_reply, event_at, explanation, why_answer, why_reply, excise_reply, restore_reply, step_command, back_command, forward_command, fork_command, drop_command, show_command, past_command, why_command, excise_command, restore_command, log_reply, log_command, names_command, command_step}
+use Rattle.pfl_timeline.specs.reasons.Frames.{traced}
+use Rattle.pfl_timeline.specs.Commands.{replied, reply_unless, with_branch, with_changed, undone, at_cursor, step_answered, step_reply, back_reply, forward_reply, first_events, fork_refusal, fork_reply, drop_reply, show_reply, past_reply, event_at, explanation, why_answer, why_reply, why_step_reply, frame_reply, excise_reply, restore_reply, step_command, back_command, forward_command, fork_command, drop_command, show_command, past_command, why_command, why_step_command, frame_command, excise_command, restore_command, log_reply, log_command, names_command, command_step}
 use Rattle.pfl_timeline.specs.Excisions.{has_event, excised, fallen_places, restored}
-use Rattle.pfl_timeline.specs.Replies.{Reply, Replied, Forked, Removed, Shown, Excised, Restored, Refused as Refusing}
+use Rattle.pfl_timeline.specs.Replies.{Reply, Replied, Forked, Removed, Shown, Excised, Restored, Traced, Refused as Refusing}
 use Rattle.pfl_timeline.specs.Rooted.{Rooted}
 use Rattle.pfl_timeline.specs.Timelines.{Branch, Timeline, branch_of, world_of}
 use Rattle.pfl_session.specs.Listings.{places_in, most_places}
@@ -65,20 +64,29 @@ past_tells t k b =
       | Some w ↦ omega arith
     ])
 
--- an explanation tells no place
-no_places : (name : List ℕ) (k : ℕ) (w : World) (e : Event) (at : Result Stepped Refusal) → length (places_in (explanation name k w e at)) ≤ 0
-no_places name k w e (Ok s) = omega arith
-no_places name k w e (Err why) = omega arith
-
 why_tells : (t : Timeline) (k : ℕ) (b : Branch) → Tells 0 (why_reply t k b)
 why_tells t k b =
     let before = run t.opening (take (k - 1) b.events) in
-    elim (event_at k b) as (λ o. length (places_in (option_map_or (λ e. option_map_or (λ w. explanation b.name k w e (step w e)) before (Refusing refused.NoBranch)) o (Refusing refused.NoEvent))) ≤ 0) [
+    elim (event_at k b) as (λ o. length (places_in (option_map_or (λ e. option_map_or (λ w. explanation b.name k w e) before (Refusing refused.NoBranch)) o (Refusing refused.NoEvent))) ≤ 0) [
       | None ↦ omega arith
-      | Some e ↦ elim before as (λ o. length (places_in (option_map_or (λ w. explanation b.name k w e (step w e)) o (Refusing refused.NoBranch))) ≤ 0) [
+      | Some e ↦ elim before as (λ o. length (places_in (option_map_or (λ w. explanation b.name k w e) o (Refusing refused.NoBranch))) ≤ 0) [
         | None ↦ omega arith
-        | Some w ↦ no_places b.name k w e (step w e)
+        | Some w ↦ omega arith
       ]
+    ]
+
+why_step_tells : (t : Timeline) (e : Event) (b : Branch) → Tells 0 (why_step_reply t e b)
+why_step_tells t e b =
+    elim (world_of t b) as (λ o. Tells 0 (option_map_or (λ w. replied t (explanation b.name (b.cursor + 1) w e)) o (replied t (Refusing refused.NoBranch)))) [
+      | None ↦ omega arith
+      | Some w ↦ omega arith
+    ]
+
+frame_tells : (t : Timeline) (ticket : ℕ) (b : Branch) → Tells 0 (frame_reply t ticket b)
+frame_tells t ticket b =
+    elim (traced t.opening b.events ticket) as (λ o. length (places_in (option_map_or (Traced b.name ticket) o (Refusing refused.NoFrame))) ≤ 0) [
+      | None ↦ omega arith
+      | Some trace ↦ omega arith
     ]
 
 restore_tells : (t : Timeline) (b : Branch) → Tells 0 (restore_reply t b)
@@ -94,7 +102,7 @@ excise_tells t k b =
     (fallen-few t.opening k b)
 
 tells : (t : Timeline) (c : Command) → Tells (most_places t c) (command_step t c)
-unfolding command_step step_command back_command forward_command fork_command drop_command show_command past_command why_command excise_command restore_command names_command log_command
+unfolding command_step step_command back_command forward_command fork_command drop_command show_command past_command why_command why_step_command frame_command excise_command restore_command names_command log_command
 tells t (command.Step name e) = named_tells t name (step_reply t e) (step_tells t e)
 tells t (command.Back name n) = named_tells t name (back_reply t n) (λ b. answered_tells 0 t (refused_by ((nat_lt b.cursor n, refused.TooFarBack) ∷ [])) (at_cursor t b (b.cursor - n)) (omega arith))
 tells t (command.Forward name n) = named_tells t name (forward_reply t n) (λ b. answered_tells 0 t (refused_by ((nat_lt (undone b) n, refused.NothingForward) ∷ [])) (at_cursor t b (b.cursor + n)) (omega arith))
@@ -103,6 +111,8 @@ tells t (command.Drop name) = named_tells t name (drop_reply t) (λ b. answered_
 tells t (command.Show name) = named_tells t name (show_reply t) (show_tells t)
 tells t (command.Past name k) = named_tells t name (past_reply t k) (past_tells t k)
 tells t (command.Why name k) = named_tells t name (why_reply t k) (why_tells t k)
+tells t (command.WhyStep name e) = named_tells t name (why_step_reply t e) (why_step_tells t e)
+tells t (command.Frame name ticket) = named_tells t name (frame_reply t ticket) (frame_tells t ticket)
 tells t command.Names = omega arith
 tells t (command.Excise name k) =
     elim (branch_of t name) as (λ o. Tells (option_map_or (λ b. length b.events) o 0) (option_map_or (excise_reply t k) o (replied t (Refusing refused.NoBranch)))) [

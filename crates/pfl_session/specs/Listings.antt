@@ -3,15 +3,16 @@ use Rattle.std.specs.Prelude.{ℕ, Bool, true, false, List, [], length}
 use Rattle.std.specs.Option.{option_map_or}
 use Rattle.pfl_language.specs.declared.command.Command.{Command}
 use Rattle.pfl_language.specs.declared.command.Command.TheVariants as command
-use Rattle.pfl_timeline.specs.Replies.{Reply, Shown, Names, Excised, Logged, Explained}
+use Rattle.pfl_timeline.specs.Replies.{Reply, Shown, Names, Excised, Logged, Explained, Traced}
 use Rattle.pfl_timeline.specs.Timelines.{Timeline, branch_of}
 
--- the reply shows a branch, tells its events or explains one of them, or names the branches
+-- the reply shows a branch, lists its events, explains an event or shows what became of a frame, or names the branches
 abbrev pub is_listing : Reply → Bool
 is_listing (Shown name events cursor w) = true
 is_listing (Names names) = true
 is_listing (Logged name events cursor) = true
-is_listing (Explained name k e outcome why) = true
+is_listing (Explained name k e came why) = true
+is_listing (Traced name ticket trace) = true
 is_listing _ = false
 
 -- the places that the reply tells

@@ -12,8 +12,8 @@ use pfl_language::Command;
 use pfl_timeline::{Reply, Timeline, boxed_copy};
 use std::alloc::Allocator;
 
-/// An equal reply, whose places are in the room that was made for them. It wants memory only for what shows a branch, tells its
-/// events or explains one of them, or names the branches.
+/// An equal reply, whose places are in the room that was made for them. It wants memory only for what shows a branch, lists its
+/// events, explains an event or shows what became of a frame, or names the branches.
 fn copy_reply<A: Allocator + Copy>(
     reply: &Reply<A>,
     room: Vec<usize, A>,
@@ -57,6 +57,10 @@ fn copy_reply<A: Allocator + Copy>(
         Reply::Explained(explanation) => {
             let alloc = *room.allocator();
             explanation.copy(alloc)?.reply(alloc)?
+        }
+        Reply::Traced(trace) => {
+            let alloc = *room.allocator();
+            trace.copy(alloc)?.reply(alloc)?
         }
         Reply::Refused(why) => Reply::Refused(*why),
     })

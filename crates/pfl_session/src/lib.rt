@@ -31,5 +31,8 @@ pub use mark::Mark;
 pub use opened::Opened;
 pub use pass::Pass;
 pub use pfl_publish::{Overtaken, Revision};
-pub use pfl_timeline::{Branch, Explained, Explanation, Node, Reply, Timeline, World};
+pub use pfl_timeline::{
+    Against, Branch, Explained, Explanation, FrameStep, FrameTrace, InFlight, Node, Reply,
+    Timeline, World,
+};
 pub use which::Which;

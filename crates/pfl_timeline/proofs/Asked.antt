@@ -1,5 +1,5 @@
 -- What a branch answers, and which command asks for it.
-use Rattle.std.specs.Prelude.{◌≡◌, ◌≢◌, ℕ, Bool, true, false, not, nat_lt, take, List, [], ◌∷◌, length, map, Option, Some, None, Result, Ok, Err, IfOk, IfErr, IsSomeAnd, OnErr, OnOk, refl, if◌then◌else◌}
+use Rattle.std.specs.Prelude.{◌≡◌, ◌≢◌, ℕ, ◌+◌, Bool, true, false, not, nat_lt, take, List, [], ◌∷◌, length, map, Option, Some, None, Result, Ok, Err, IfOk, IfErr, IsSomeAnd, OnErr, OnOk, refl, if◌then◌else◌}
 use Rattle.std.specs.Option.{option_map, option_map_or}
 use Rattle.std.proofs.Common.{sym, ◌∙◌, ap, subst}
 use Rattle.pfl_base.specs.declared.refusal.Refusal.{Refusal}
@@ -14,7 +14,7 @@ use Rattle.pfl_search.specs.world.desk.Nodes.{refused_by}
 use Rattle.pfl_search.specs.world.Events.{step, IsEventRefusal}
 use Rattle.pfl_search.specs.world.Runs.{run}
 use Rattle.pfl_search.specs.world.Worlds.{World}
-use Rattle.pfl_timeline.specs.Commands.{replied, reply_unless, with_branch, with_changed, extended, undone, at_cursor, step_answered, step_reply, back_reply, forward_reply, fork_reply, drop_reply, show_reply, past_reply, why_answer, why_reply, step_command, back_command, forward_command, fork_command, drop_command, show_command, past_command, why_command, names_command, excise_reply, restore_reply, excise_command, restore_command, log_reply, log_command, command_step}
+use Rattle.pfl_timeline.specs.Commands.{replied, reply_unless, with_branch, with_changed, extended, undone, at_cursor, step_answered, step_reply, back_reply, forward_reply, fork_reply, drop_reply, show_reply, past_reply, explanation, why_answer, why_reply, why_step_reply, frame_answer, frame_reply, step_command, back_command, forward_command, fork_command, drop_command, show_command, past_command, why_command, why_step_command, frame_command, names_command, excise_reply, restore_reply, excise_command, restore_command, log_reply, log_command, command_step}
 use Rattle.pfl_timeline.specs.Excisions.{has_event, excised, fallen_places, restored}
 use Rattle.pfl_timeline.specs.Replies.{Reply, Replied, Stepped as StepReply, At, Shown, Names, Excised, Restored, Logged, Refused as Refusing}
 use Rattle.pfl_timeline.specs.inner.Replies.{moved, fell_out, brought_back}
@@ -199,6 +199,28 @@ told-why r k reply is = record {
       ∙ same_branch r t reply stands;
 }
 
+-- the explanation of an event that has not happened
+pub told-why_step : (r : Rooted) (e : Event) (w : World) (reply : Reply) → shown r ≡ Some w → reply ≡ explanation r.branch.name (r.branch.cursor + 1) w e → IsReplyOf (λ t b. why_step_reply t e b) r r reply
+told-why_step r e w reply here is = record {
+  opening = refl;
+  name = refl;
+  told = λ t stands.
+      asked_of (λ v. replied t (explanation r.branch.name (r.branch.cursor + 1) v e)) r w t here stands
+      ∙ ap (replied t) (sym is)
+      ∙ same_branch r t reply stands;
+}
+
+-- the trace of a frame
+pub told-frame : (r : Rooted) (ticket : ℕ) (reply : Reply) → reply ≡ frame_answer r.opening ticket r.branch → IsReplyOf (λ t b. frame_reply t ticket b) r r reply
+told-frame r ticket reply is = record {
+  opening = refl;
+  name = refl;
+  told = λ t stands.
+      ap (λ (o : World). replied t (frame_answer o ticket r.branch)) stands.opening
+      ∙ ap (replied t) (sym is)
+      ∙ same_branch r t reply stands;
+}
+
 -- a world is shown, of which this is true
 pub some-shown : {o : Option World} (P : World → Type 0) (w : World) → o ≡ Some w → P w → IsSomeAnd o P
 some-shown P w here is = subst (λ (x : Option World). IsSomeAnd x P) (sym here) is
@@ -344,6 +366,22 @@ why-asks t name k = refl
 pub is-why : (t : Timeline) (c : Command) (name : List ℕ) (k : ℕ) → c ≡ command.Why name k → command_step t c ≡ why_command t name k
 unfolding command_step
 is-why t c name k is = ap (command_step t) is
+
+pub why_step-asks : (t : Timeline) (name : List ℕ) (e : Event) → why_step_command t name e ≡ with_branch t name (λ b. why_step_reply t e b)
+unfolding why_step_command
+why_step-asks t name e = refl
+
+pub is-why_step : (t : Timeline) (c : Command) (name : List ℕ) (e : Event) → c ≡ command.WhyStep name e → command_step t c ≡ why_step_command t name e
+unfolding command_step
+is-why_step t c name e is = ap (command_step t) is
+
+pub frame-asks : (t : Timeline) (name : List ℕ) (ticket : ℕ) → frame_command t name ticket ≡ with_branch t name (λ b. frame_reply t ticket b)
+unfolding frame_command
+frame-asks t name ticket = refl
+
+pub is-frame : (t : Timeline) (c : Command) (name : List ℕ) (ticket : ℕ) → c ≡ command.Frame name ticket → command_step t c ≡ frame_command t name ticket
+unfolding command_step
+is-frame t c name ticket is = ap (command_step t) is
 
 pub log-asks : (t : Timeline) (name : List ℕ) → log_command t name ≡ with_branch t name (λ b. log_reply t b)
 unfolding log_command

@@ -18,7 +18,7 @@ use Rattle.pfl_search.specs.world.Events.{step}
 use Rattle.pfl_search.specs.world.Meanings.{Stepped}
 use Rattle.pfl_search.specs.world.Runs.{run, world_after}
 use Rattle.pfl_search.specs.world.Worlds.{World}
-use Rattle.pfl_timeline.specs.Commands.{replied, reply_unless, with_branch, with_changed, extended, undone, at_cursor, step_answered, step_reply, back_reply, forward_reply, first_events, fork_refusal, fork_reply, drop_reply, show_reply, past_reply, why_reply, step_command, back_command, forward_command, fork_command, drop_command, show_command, past_command, why_command, names_command, excise_reply, restore_reply, excise_command, restore_command, log_reply, log_command, command_step, replayed}
+use Rattle.pfl_timeline.specs.Commands.{replied, reply_unless, with_branch, with_changed, extended, undone, at_cursor, step_answered, step_reply, back_reply, forward_reply, first_events, fork_refusal, fork_reply, drop_reply, show_reply, past_reply, explanation, why_reply, why_step_reply, frame_reply, step_command, back_command, forward_command, fork_command, drop_command, show_command, past_command, why_command, why_step_command, frame_command, names_command, excise_reply, restore_reply, excise_command, restore_command, log_reply, log_command, command_step, replayed}
 use Rattle.pfl_timeline.specs.Excisions.{has_event, excised, fallen_places, restored}
 use Rattle.pfl_timeline.specs.Laws.{CommandsKeepTimelines, BranchesShowWorlds}
 use Rattle.pfl_timeline.specs.Replies.{Replied, Forked, Removed, Shown, Excised, Restored, Refused as Refusing}
@@ -230,6 +230,13 @@ past_keeps t k b is =
       ])
     ]
 
+why_step_keeps : (t : Timeline) (e : Event) (b : Branch) → IsTimeline t → IsTimeline (why_step_reply t e b).timeline
+why_step_keeps t e b is =
+    elim (world_of t b) as (λ o. IsTimeline (option_map_or (λ w. replied t (explanation b.name (b.cursor + 1) w e)) o (replied t (Refusing refused.NoBranch))).timeline) [
+      | None ↦ is
+      | Some w ↦ is
+    ]
+
 -- an event taken out
 excise_keeps : (t : Timeline) (k : ℕ) (b : Branch) → IsTimeline t → IsBranch t.opening b → IsTimeline (excise_reply t k b).timeline
 excise_keeps t k b is branch =
@@ -260,7 +267,7 @@ named_keeps t name done is keep =
     ] refl
 
 pub command_keeps : (t : Timeline) (c : Command) → IsTimeline t → IsTimeline (command_step t c).timeline
-unfolding command_step step_command back_command forward_command fork_command drop_command show_command past_command why_command names_command excise_command restore_command log_command
+unfolding command_step step_command back_command forward_command fork_command drop_command show_command past_command why_command why_step_command frame_command names_command excise_command restore_command log_command
 command_keeps t (command.Step name e) is = named_keeps t name (step_reply t e) is (λ b _ branch. step_keeps t e b is branch)
 command_keeps t (command.Back name n) is = named_keeps t name (back_reply t n) is (λ b _ branch. back_keeps t n b is branch)
 command_keeps t (command.Forward name n) is = named_keeps t name (forward_reply t n) is (λ b _ branch. forward_keeps t n b is branch)
@@ -269,6 +276,8 @@ command_keeps t (command.Drop name) is = named_keeps t name (drop_reply t) is (�
 command_keeps t (command.Show name) is = named_keeps t name (show_reply t) is (λ b _ branch. show_keeps t b is)
 command_keeps t (command.Past name k) is = named_keeps t name (past_reply t k) is (λ b _ branch. past_keeps t k b is)
 command_keeps t (command.Why name k) is = named_keeps t name (why_reply t k) is (λ _ _ _. is)
+command_keeps t (command.WhyStep name e) is = named_keeps t name (why_step_reply t e) is (λ b _ _. why_step_keeps t e b is)
+command_keeps t (command.Frame name ticket) is = named_keeps t name (frame_reply t ticket) is (λ _ _ _. is)
 command_keeps t command.Names is = is
 command_keeps t (command.Excise name k) is = named_keeps t name (excise_reply t k) is (λ b _ branch. excise_keeps t k b is branch)
 command_keeps t (command.Restore name) is = named_keeps t name (restore_reply t) is (λ b _ branch. restore_keeps t b is branch)

@@ -18,6 +18,7 @@ pub mod Excised
 pub mod Pasts
 pub mod Keeping
 pub mod Whys
+pub mod Traces
 pub mod Forking
 pub mod Stepped
 pub mod Searched

@@ -12,7 +12,7 @@ use Rattle.pfl_language.specs.BranchWords.{same_name}
 use Rattle.pfl_search.specs.world.desk.Nodes.{refused_by}
 use Rattle.pfl_search.specs.world.Events.{step}
 use Rattle.pfl_search.specs.world.Runs.{run}
-use Rattle.pfl_timeline.specs.Commands.{replied, reply_unless, with_branch, with_changed, extended, undone, step_answered, step_reply, back_reply, forward_reply, first_events, fork_refusal, fork_reply, drop_reply, show_reply, past_reply, why_reply, step_command, back_command, forward_command, fork_command, drop_command, show_command, past_command, why_command, names_command, excise_reply, restore_reply, excise_command, restore_command, log_reply, log_command, command_step}
+use Rattle.pfl_timeline.specs.Commands.{replied, reply_unless, with_branch, with_changed, extended, undone, step_answered, step_reply, back_reply, forward_reply, first_events, fork_refusal, fork_reply, drop_reply, show_reply, past_reply, explanation, why_reply, why_step_reply, frame_reply, step_command, back_command, forward_command, fork_command, drop_command, show_command, past_command, why_command, why_step_command, frame_command, names_command, excise_reply, restore_reply, excise_command, restore_command, log_reply, log_command, command_step}
 use Rattle.pfl_timeline.specs.Excisions.{has_event, excised, restored}
 use Rattle.pfl_timeline.specs.Laws.{CommandsLeaveOthers}
 use Rattle.pfl_timeline.specs.Replies.{Replied, Shown, Restored, Refused as Refusing}
@@ -110,6 +110,13 @@ leaves_past t k name b =
       | Some w ↦ refl
     ])
 
+leaves_why_step : (t : Timeline) (e : Event) (name : List ℕ) (b : Branch) → Leaves t name (why_step_reply t e b)
+leaves_why_step t e name b =
+    elim (world_of t b) as (λ o. Leaves t name (option_map_or (λ w. replied t (explanation b.name (b.cursor + 1) w e)) o (replied t (Refusing refused.NoBranch)))) [
+      | None ↦ refl
+      | Some w ↦ refl
+    ]
+
 -- ---- a branch more, or less
 
 -- a branch of another name behind all
@@ -134,7 +141,7 @@ leaves_drop t of name apart b has =
     leaves_answered t name (refused_by ((nat_le (length t.branches) 1, refused.LastBranch) ∷ [])) _ (find_others b.name name (other t of name apart b has) t.branches)
 
 pub others-stay : CommandsLeaveOthers
-unfolding command_step step_command back_command forward_command fork_command drop_command show_command past_command why_command names_command excise_command restore_command log_command
+unfolding command_step step_command back_command forward_command fork_command drop_command show_command past_command why_command why_step_command frame_command names_command excise_command restore_command log_command
 others-stay t (command.Step of e) name apart = leaves_named t of name (step_reply t e) (leaves_step t of name apart e)
 others-stay t (command.Back of n) name apart = leaves_named t of name (back_reply t n) (leaves_back t of name apart n)
 others-stay t (command.Forward of n) name apart = leaves_named t of name (forward_reply t n) (leaves_forward t of name apart n)
@@ -143,6 +150,8 @@ others-stay t (command.Drop of) name apart = leaves_named t of name (drop_reply 
 others-stay t (command.Show of) name apart = leaves_named t of name (show_reply t) (λ b _. leaves_show t name b)
 others-stay t (command.Past of k) name apart = leaves_named t of name (past_reply t k) (λ b _. leaves_past t k name b)
 others-stay t (command.Why of k) name apart = leaves_named t of name (why_reply t k) (λ b _. refl)
+others-stay t (command.WhyStep of e) name apart = leaves_named t of name (why_step_reply t e) (λ b _. leaves_why_step t e name b)
+others-stay t (command.Frame of ticket) name apart = leaves_named t of name (frame_reply t ticket) (λ b _. refl)
 others-stay t command.Names name apart = refl
 others-stay t (command.Excise of k) name apart = leaves_named t of name (excise_reply t k) (leaves_excise t of name apart k)
 others-stay t (command.Restore of) name apart = leaves_named t of name (restore_reply t) (leaves_restore t of name apart)

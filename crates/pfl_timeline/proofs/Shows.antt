@@ -1,5 +1,5 @@
 -- Each branch shows the run of the events before its cursor.
-use Rattle.std.specs.Prelude.{◌≡◌, ℕ, false, not, nat_lt, nat_le, List, [], ◌∷◌, length, map, find, take, Option, Some, None, is_some, IsTrue, Ok, Err, refl}
+use Rattle.std.specs.Prelude.{◌≡◌, ℕ, ◌+◌, false, not, nat_lt, nat_le, List, [], ◌∷◌, length, map, find, take, Option, Some, None, is_some, IsTrue, Ok, Err, refl}
 use Rattle.std.specs.List.{AllByRecursion, IsDistinct}
 use Rattle.std.specs.Option.{option_map_or}
 use Rattle.std.proofs.Common.{cond, sym, ◌∙◌, ap}
@@ -14,7 +14,7 @@ use Rattle.pfl_search.specs.world.desk.Nodes.{refused_by}
 use Rattle.pfl_search.specs.world.Events.{step}
 use Rattle.pfl_search.specs.world.Runs.{run}
 use Rattle.pfl_search.specs.world.Worlds.{World}
-use Rattle.pfl_timeline.specs.Commands.{replied, reply_unless, with_branch, with_changed, undone, step_answered, step_reply, back_reply, forward_reply, fork_refusal, fork_reply, drop_reply, show_reply, past_reply, why_reply, step_command, back_command, forward_command, fork_command, drop_command, show_command, past_command, why_command, names_command, excise_reply, restore_reply, excise_command, restore_command, log_reply, log_command, command_step, replayed}
+use Rattle.pfl_timeline.specs.Commands.{replied, reply_unless, with_branch, with_changed, undone, step_answered, step_reply, back_reply, forward_reply, fork_refusal, fork_reply, drop_reply, show_reply, past_reply, explanation, why_reply, why_step_reply, frame_reply, step_command, back_command, forward_command, fork_command, drop_command, show_command, past_command, why_command, why_step_command, frame_command, names_command, excise_reply, restore_reply, excise_command, restore_command, log_reply, log_command, command_step, replayed}
 use Rattle.pfl_timeline.specs.Excisions.{has_event, restored}
 use Rattle.pfl_timeline.specs.Laws.{ShowsItsRun, BranchesShowTheirRuns}
 use Rattle.pfl_timeline.specs.Replies.{Replied, Shown, Restored, Logged, Refused as Refusing}
@@ -63,6 +63,13 @@ begins_past t k b =
       | Some w ↦ refl
     ])
 
+begins_why_step : (t : Timeline) (e : Event) (b : Branch) → Begins t (why_step_reply t e b)
+begins_why_step t e b =
+    elim (world_of t b) as (λ o. Begins t (option_map_or (λ w. replied t (explanation b.name (b.cursor + 1) w e)) o (replied t (Refusing refused.NoBranch)))) [
+      | None ↦ refl
+      | Some w ↦ refl
+    ]
+
 begins_restore : (t : Timeline) (b : Branch) → Begins t (restore_reply t b)
 begins_restore t b =
     elim b.former as (λ o. Begins t (option_map_or (λ f. replied (with_changed t (restored b f)) (Restored f.cursor)) o (replied t (Refusing refused.NothingExcised)))) [
@@ -71,7 +78,7 @@ begins_restore t b =
     ]
 
 opening_kept : (t : Timeline) (c : Command) → Begins t (command_step t c)
-unfolding command_step step_command back_command forward_command fork_command drop_command show_command past_command why_command names_command excise_command restore_command log_command
+unfolding command_step step_command back_command forward_command fork_command drop_command show_command past_command why_command why_step_command frame_command names_command excise_command restore_command log_command
 opening_kept t (command.Step of e) = begins_named t of (step_reply t e) (begins_step t e)
 opening_kept t (command.Back of n) = begins_named t of (back_reply t n) (λ b. begins_answered t (refused_by ((nat_lt b.cursor n, refused.TooFarBack) ∷ [])) _ refl)
 opening_kept t (command.Forward of n) = begins_named t of (forward_reply t n) (λ b. begins_answered t (refused_by ((nat_lt (undone b) n, refused.NothingForward) ∷ [])) _ refl)
@@ -80,6 +87,8 @@ opening_kept t (command.Drop of) = begins_named t of (drop_reply t) (λ b. begin
 opening_kept t (command.Show of) = begins_named t of (show_reply t) (begins_show t)
 opening_kept t (command.Past of k) = begins_named t of (past_reply t k) (begins_past t k)
 opening_kept t (command.Why of k) = begins_named t of (why_reply t k) (λ b. refl)
+opening_kept t (command.WhyStep of e) = begins_named t of (why_step_reply t e) (begins_why_step t e)
+opening_kept t (command.Frame of ticket) = begins_named t of (frame_reply t ticket) (λ b. refl)
 opening_kept t command.Names = refl
 opening_kept t (command.Excise of k) = begins_named t of (excise_reply t k) (λ b. begins_answered t (refused_by ((not (has_event k b), refused.NoEvent) ∷ [])) _ refl)
 opening_kept t (command.Restore of) = begins_named t of (restore_reply t) (begins_restore t)

@@ -46,15 +46,16 @@ use Rattle.pfl_search.specs.world.Delivering.{read_taken, deliver_step}
 use Rattle.pfl_search.specs.world.Flushing.{flush_step}
 use Rattle.pfl_search.specs.world.Restarting.{restart_step}
 use Rattle.pfl_search.specs.world.Worlds.{World, node_at}
-use Rattle.pfl_timeline.specs.Commands.{replied, reply_unless, with_branch, with_changed, undone, at_cursor, step_answered, step_reply, back_reply, forward_reply, first_events, fork_reply, drop_reply, show_reply, past_reply, event_at, explanation, why_answer, why_reply, step_command, back_command, forward_command, fork_command, drop_command, show_command, past_command, why_command, names_command, excise_reply, restore_reply, excise_command, restore_command, log_reply, log_command, command_step}
+use Rattle.pfl_reasons.specs.Frames.{traced}
+use Rattle.pfl_timeline.specs.Commands.{replied, reply_unless, with_branch, with_changed, undone, at_cursor, step_answered, step_reply, back_reply, forward_reply, first_events, fork_reply, drop_reply, show_reply, past_reply, event_at, explanation, why_answer, why_reply, why_step_reply, frame_answer, frame_reply, step_command, back_command, forward_command, fork_command, drop_command, show_command, past_command, why_command, why_step_command, frame_command, names_command, excise_reply, restore_reply, excise_command, restore_command, log_reply, log_command, command_step}
 use Rattle.pfl_timeline.specs.Excisions.{has_event, excised, fallen_places, restored}
 use Rattle.pfl_timeline.specs.Laws.{NoReplyTellsWantOfMemory}
 use Rattle.pfl_timeline.specs.Memory.{is_refusal, IsAccepted, makes_something, MayWantMemory}
-use Rattle.pfl_timeline.specs.Replies.{Reply, Replied, Forked, Removed, Shown, Excised, Restored, Refused as Refusing}
+use Rattle.pfl_timeline.specs.Replies.{Reply, Replied, Forked, Removed, Shown, Excised, Restored, Traced, Refused as Refusing}
 use Rattle.pfl_timeline.specs.Rooted.{Rooted, shown}
 use Rattle.pfl_timeline.proofs.Rooted.{Accepts}
 use Rattle.pfl_timeline.specs.Timelines.{IsBranch, Branch, Timeline, branch_of, world_of}
-use Rattle.pfl_timeline.proofs.Asked.{asked_of, is-step, is-forward, is-fork, is-show, is-past, is-why, is-names, is-excise, is-log}
+use Rattle.pfl_timeline.proofs.Asked.{asked_of, is-step, is-forward, is-fork, is-show, is-past, is-why, is-why_step, is-frame, is-names, is-excise, is-log}
 
 -- ---- no event is refused for want of memory
 
@@ -180,6 +181,18 @@ past-still t name k =
 pub why_accepts : (r : Rooted) (k : ℕ) → is_refusal (why_answer r.opening k r.branch) ≡ false → Accepts (λ t b. why_reply t k b) r
 why_accepts r k accepted = λ t stands. ap (λ (o : World). is_refusal (why_answer o k r.branch)) stands.opening ∙ accepted
 
+-- an event is explained wherever a branch stands
+pub why_step_accepts : (r : Rooted) (e : Event) → IsBranch r.opening r.branch → Accepts (λ t b. why_step_reply t e b) r
+why_step_accepts r e is = λ t stands.
+    let k = r.branch.cursor in
+    let runs = run-front r.opening (take k r.branch.events) (drop k r.branch.events) (subst (λ (es : List Event). IsTrue (is_some (run r.opening es))) (sym (take-append-drop k r.branch.events)) is.runs) in
+    let here : (w : World) × (shown r ≡ Some w) = the_world _ runs in
+    ap (λ (done : Replied). is_refusal done.reply) (asked_of (λ v. replied t (explanation r.branch.name (k + 1) v e)) r here.0 t here.1 stands)
+
+-- a frame that is shown is shown in each of its timelines
+pub frame_accepts : (r : Rooted) (ticket : ℕ) → is_refusal (frame_answer r.opening ticket r.branch) ≡ false → Accepts (λ t b. frame_reply t ticket b) r
+frame_accepts r ticket accepted = λ t stands. ap (λ (o : World). is_refusal (frame_answer o ticket r.branch)) stands.opening ∙ accepted
+
 -- a way forward that is not too far
 pub forward_accepts : (r : Rooted) (n : ℕ) → nat_lt (undone r.branch) n ≡ false → Accepts (λ t b. forward_reply t n b) r
 forward_accepts r n near = λ t stands.
@@ -216,6 +229,12 @@ past_wants t c name k is accepted = record { makes = ap makes_something is; not_
 
 pub why_wants : (t : Timeline) (c : Command) (name : List ℕ) (k : ℕ) → c ≡ command.Why name k → IsAccepted (why_command t name k) → MayWantMemory t c
 why_wants t c name k is accepted = record { makes = ap makes_something is; not_refused = subst IsAccepted (sym (is-why t c name k is)) accepted }
+
+pub why_step_wants : (t : Timeline) (c : Command) (name : List ℕ) (e : Event) → c ≡ command.WhyStep name e → IsAccepted (why_step_command t name e) → MayWantMemory t c
+why_step_wants t c name e is accepted = record { makes = ap makes_something is; not_refused = subst IsAccepted (sym (is-why_step t c name e is)) accepted }
+
+pub frame_wants : (t : Timeline) (c : Command) (name : List ℕ) (ticket : ℕ) → c ≡ command.Frame name ticket → IsAccepted (frame_command t name ticket) → MayWantMemory t c
+frame_wants t c name ticket is accepted = record { makes = ap makes_something is; not_refused = subst IsAccepted (sym (is-frame t c name ticket is)) accepted }
 
 pub log_wants : (t : Timeline) (c : Command) (name : List ℕ) → c ≡ command.Log name → IsAccepted (log_command t name) → MayWantMemory t c
 log_wants t c name is accepted = record { makes = ap makes_something is; not_refused = subst IsAccepted (sym (is-log t c name is)) accepted }
@@ -289,19 +308,29 @@ past_tells t k b =
       ])
     ]
 
-explained_tells : (name : List ℕ) (k : ℕ) (w : World) (e : Event) (at : Result Stepped Refusal) → (at ≡ Err NoMemory → ⊥) → explanation name k w e at ≡ wanted → ⊥
-explained_tells name k w e (Ok s) other is = cc
-explained_tells name k w e (Err why) other is = let same : why ≡ NoMemory = cc in other (ap Err same)
-
 why_tells : (t : Timeline) (k : ℕ) (b : Branch) → (why_reply t k b).reply ≡ wanted → ⊥
 why_tells t k b =
     let before : Option World = run t.opening (take (k - 1) b.events) in
-    elim (event_at k b) as (λ o. option_map_or (λ e. option_map_or (λ w. explanation b.name k w e (step w e)) before (Refusing refused.NoBranch)) o (Refusing refused.NoEvent) ≡ wanted → ⊥) [
+    elim (event_at k b) as (λ o. option_map_or (λ e. option_map_or (λ w. explanation b.name k w e) before (Refusing refused.NoBranch)) o (Refusing refused.NoEvent) ≡ wanted → ⊥) [
       | None ↦ λ is. cc
-      | Some e ↦ (elim before as (λ o. option_map_or (λ w. explanation b.name k w e (step w e)) o (Refusing refused.NoBranch) ≡ wanted → ⊥) [
+      | Some e ↦ (elim before as (λ o. option_map_or (λ w. explanation b.name k w e) o (Refusing refused.NoBranch) ≡ wanted → ⊥) [
         | None ↦ λ is. cc
-        | Some w ↦ λ is. explained_tells b.name k w e (step w e) (step_is_other w e) is
+        | Some w ↦ λ is. cc
       ])
+    ]
+
+why_step_tells : (t : Timeline) (e : Event) (b : Branch) → (why_step_reply t e b).reply ≡ wanted → ⊥
+why_step_tells t e b =
+    elim (world_of t b) as (λ o. (option_map_or (λ w. replied t (explanation b.name (b.cursor + 1) w e)) o (replied t (Refusing refused.NoBranch))).reply ≡ wanted → ⊥) [
+      | None ↦ λ is. cc
+      | Some w ↦ λ is. cc
+    ]
+
+frame_tells : (t : Timeline) (ticket : ℕ) (b : Branch) → (frame_reply t ticket b).reply ≡ wanted → ⊥
+frame_tells t ticket b =
+    elim (traced t.opening b.events ticket) as (λ o. option_map_or (Traced b.name ticket) o (Refusing refused.NoFrame) ≡ wanted → ⊥) [
+      | None ↦ λ is. cc
+      | Some trace ↦ λ is. cc
     ]
 
 excise_tells : (t : Timeline) (k : ℕ) (b : Branch) → (excise_reply t k b).reply ≡ wanted → ⊥
@@ -326,7 +355,7 @@ named_tells t name done tells =
     ]
 
 pub no_reply-tells : NoReplyTellsWantOfMemory
-unfolding command_step step_command back_command forward_command fork_command drop_command show_command past_command why_command names_command excise_command restore_command log_command
+unfolding command_step step_command back_command forward_command fork_command drop_command show_command past_command why_command why_step_command frame_command names_command excise_command restore_command log_command
 no_reply-tells t (command.Step name e) = named_tells t name (step_reply t e) (step_tells t e)
 no_reply-tells t (command.Back name n) = named_tells t name (back_reply t n) (back_tells t n)
 no_reply-tells t (command.Forward name n) = named_tells t name (forward_reply t n) (forward_tells t n)
@@ -335,6 +364,8 @@ no_reply-tells t (command.Drop name) = named_tells t name (drop_reply t) (drop_t
 no_reply-tells t (command.Show name) = named_tells t name (show_reply t) (show_tells t)
 no_reply-tells t (command.Past name k) = named_tells t name (past_reply t k) (past_tells t k)
 no_reply-tells t (command.Why name k) = named_tells t name (why_reply t k) (why_tells t k)
+no_reply-tells t (command.WhyStep name e) = named_tells t name (why_step_reply t e) (why_step_tells t e)
+no_reply-tells t (command.Frame name ticket) = named_tells t name (frame_reply t ticket) (frame_tells t ticket)
 no_reply-tells t command.Names = λ is. cc
 no_reply-tells t (command.Excise name k) = named_tells t name (excise_reply t k) (excise_tells t k)
 no_reply-tells t (command.Restore name) = named_tells t name (restore_reply t) (restore_tells t)

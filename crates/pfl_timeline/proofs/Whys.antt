@@ -1,5 +1,5 @@
--- What is reported of an event of a branch is what a step of it replies where the branch stands before it.
-use Rattle.std.specs.Prelude.{◌≡◌, ℕ, zero, suc, ◌+◌, ◌-◌, ◌<◌, ◌≤◌, Bool, true, false, ◌&&◌, nat_le, List, [], ◌∷◌, ◌++◌, length, take, drop, slice_get, Option, Some, None, is_some, IsTrue, Result, IfOk, refl, if◌then◌else◌}
+-- What is reported of an event of a branch, and of one that has not happened, is what a step of it replies where the branch stands.
+use Rattle.std.specs.Prelude.{◌≡◌, ℕ, zero, suc, ◌+◌, ◌-◌, ◌<◌, ◌≤◌, Bool, true, false, ◌&&◌, nat_le, List, [], ◌∷◌, ◌++◌, length, take, drop, slice_get, Option, Some, None, is_some, IsTrue, Result, Ok, Err, IfOk, refl, if◌then◌else◌}
 use Rattle.std.specs.Option.{option_map_or}
 use Rattle.std.proofs.Common.{sym, ◌∙◌, ap, subst, arith}
 use Rattle.std.proofs.lemmas.Bool.{leb-true}
@@ -14,21 +14,22 @@ use Rattle.pfl_search.specs.world.Events.{step}
 use Rattle.pfl_search.specs.world.Meanings.{Stepped}
 use Rattle.pfl_search.specs.world.Runs.{run}
 use Rattle.pfl_search.specs.world.Worlds.{World}
-use Rattle.pfl_reasons.specs.Explaining.{explained}
-use Rattle.pfl_timeline.specs.Commands.{replied, event_at, explanation, why_answer, why_reply, show_reply, step_answered, step_reply, step_command, show_command, why_command}
+use Rattle.pfl_reasons.specs.Explaining.{came_of, explained}
+use Rattle.pfl_timeline.specs.Commands.{replied, event_at, explanation, why_answer, why_reply, why_step_reply, show_reply, step_answered, step_reply, step_command, show_command, why_command, why_step_command}
 use Rattle.pfl_timeline.specs.Excisions.{has_event}
-use Rattle.pfl_timeline.specs.Laws.{WhysAreSteps, IsExplained, standing_before}
+use Rattle.pfl_timeline.specs.Laws.{WhysAreSteps, IsExplained, standing_before, WhysForetellSteps, step_told}
 use Rattle.pfl_timeline.specs.Memory.{is_refusal}
 use Rattle.pfl_timeline.specs.declared.reply.Reply.{Reply as GivenReply}
 use Rattle.pfl_timeline.specs.Replies.{Reply, Stepped as StepReply, Shown, Explained, Refused as Refusing, reply_of}
 use Rattle.pfl_timeline.specs.Timelines.{Branch, Timeline, IsBranch, IsTimeline, branch_of, world_of}
 use Rattle.pfl_timeline.specs.inner.Looking.{IsSeen, explained_there}
 use Rattle.pfl_timeline.proofs.Excised.{changed_there}
-use Rattle.pfl_timeline.proofs.Keeping.{found_is}
+use Rattle.pfl_timeline.proofs.Keeping.{found_is, branches-show}
 use Rattle.pfl_timeline.proofs.Prefixes.{run-front, Accepted, last_accepted}
+use Rattle.pfl_timeline.proofs.Shows.{the_world}
 use Rattle.pfl_timeline.specs.Histories.{History}
 use Rattle.pfl_timeline.specs.Kept.{rooted}
-use Rattle.pfl_timeline.specs.Rooted.{Rooted}
+use Rattle.pfl_timeline.specs.Rooted.{Rooted, shown}
 
 -- ---- the event
 
@@ -71,18 +72,18 @@ module _ (k : ℕ) (b : Branch) (has : has_event k b ≡ true) where
 
   -- ---- its explanation
 
-  explained_as : (opening : World) (e : Event) (w : World) → slice_get b.events (k - 1) ≡ Some e → run opening (take (k - 1) b.events) ≡ Some w → why_answer opening k b ≡ explanation b.name k w e (step w e)
+  explained_as : (opening : World) (e : Event) (w : World) → slice_get b.events (k - 1) ≡ Some e → run opening (take (k - 1) b.events) ≡ Some w → why_answer opening k b ≡ explanation b.name k w e
   explained_as opening e w is before =
       let there : event_at k b ≡ Some e = ap (λ t. if t then slice_get b.events (k - 1) else None) has ∙ is in
-      ap (λ (o : Option Event). option_map_or (λ f. option_map_or (λ v. explanation b.name k v f (step v f)) (run opening (take (k - 1) b.events)) (Refusing refused.NoBranch)) o (Refusing refused.NoEvent)) there
-      ∙ ap (λ (o : Option World). option_map_or (λ v. explanation b.name k v e (step v e)) o (Refusing refused.NoBranch)) before
+      ap (λ (o : Option Event). option_map_or (λ f. option_map_or (λ v. explanation b.name k v f) (run opening (take (k - 1) b.events)) (Refusing refused.NoBranch)) o (Refusing refused.NoEvent)) there
+      ∙ ap (λ (o : Option World). option_map_or (λ v. explanation b.name k v e) o (Refusing refused.NoBranch)) before
 
-  -- it was accepted, so nothing refuses its explanation
+  -- it was accepted, so its explanation is no refusal
   pub explained-is : (opening : World) → IsBranch opening b → is_refusal (why_answer opening k b) ≡ false
   explained-is opening branch =
       let e = the_event in
       let a : Accepted opening (take (k - 1) b.events) e.0 = accepted_there opening branch e.0 e.1 in
-      ap is_refusal (explained_as opening e.0 a.before e.1 a.here ∙ ap (explanation b.name k a.before e.0) a.stepped)
+      ap is_refusal (explained_as opening e.0 a.before e.1 a.here)
 
   -- what is seen of it where the events before it have happened
   explained_seen : {M N W : Type 0} (opening : World) (e : Event) → slice_get b.events (k - 1) ≡ Some e → (old new : W) (seen : Result (GivenReply M) N)
@@ -98,6 +99,15 @@ explained-by k r name h looked former view is has e there old new seen saw =
     explained_seen k r.branch has r.opening e there old new seen
     (subst (λ (q : Rooted). IsSeen (Explains k e) q.branch.name q.opening q.branch.events (k - 1) old new seen) view
     (subst (λ (g : History). IsSeen (Explains k e) name g.opening g.events (k - 1) old new seen) is saw))
+
+-- an event is explained where a branch stands
+pub explained-here : {M N W : Type 0} (r : Rooted) (name : List ℕ) (h looked : History) (former : Option History) → rooted name h former ≡ r → looked ≡ h
+    → (k : ℕ) → k ≡ h.cursor + 1 → (e : Event) (old new : W) (seen : Result (GivenReply M) N) → IsSeen (Explains k e) name looked.opening looked.events looked.cursor old new seen
+    → IfOk seen (λ reply. (w : World) × (shown r ≡ Some w) × (reply_of reply ≡ explanation r.branch.name (r.branch.cursor + 1) w e))
+explained-here r name h looked former view is k next e old new seen saw =
+    let there = subst (λ (g : History). IsSeen (Explains k e) name g.opening g.events g.cursor old new seen) is saw in
+    subst (λ (q : Rooted). IfOk seen (λ reply. (w : World) × (shown q ≡ Some w) × (reply_of reply ≡ explanation q.branch.name (q.branch.cursor + 1) w e))) view
+    (IfOk-weaker seen _ _ (λ reply told. (there.world, there.run_to, told ∙ ap (λ n. explanation name n there.world e) next)) there.sees_it)
 
 -- ---- a step of it
 
@@ -125,11 +135,11 @@ module _ (t : Timeline) (name : List ℕ) (k : ℕ) (b : Branch) (is : IsTimelin
         ∙ ap (λ (o : Option World). (option_map_or (λ w. step_answered moved before e (step w e)) o (replied moved (Refusing refused.NoBranch))).reply) accepted.here
         ∙ ap (λ (r : Result Stepped Refusal). (step_answered moved before e r).reply) accepted.stepped
 
-    reported : slice_get b.events (k - 1) ≡ Some e → why_command t name k ≡ replied t (Explained b.name k e accepted.gives.outcome (explained accepted.before e))
+    reported : slice_get b.events (k - 1) ≡ Some e → why_command t name k ≡ replied t (Explained b.name k e (Ok accepted.gives.outcome) (explained accepted.before e))
     unfolding why_command
     reported there =
         ap (λ (o : Option Branch). option_map_or (why_reply t k) o (replied t (Refusing refused.NoBranch))) here
-        ∙ ap (replied t) (explained_as k b has t.opening e accepted.before there accepted.here ∙ ap (explanation b.name k accepted.before e) accepted.stepped)
+        ∙ ap (replied t) (explained_as k b has t.opening e accepted.before there accepted.here ∙ ap (λ (at : Result Stepped Refusal). Explained b.name k e (came_of at) (explained accepted.before e)) accepted.stepped)
 
   pub why-stepped : IsExplained t name k b
   why-stepped =
@@ -148,3 +158,44 @@ module _ (t : Timeline) (name : List ℕ) (k : ℕ) (b : Branch) (is : IsTimelin
 
 pub whys-are-steps : WhysAreSteps
 whys-are-steps = why-stepped
+
+-- ---- a step that has not happened
+
+module _ (t : Timeline) (name : List ℕ) (e : Event) (b : Branch) (here : branch_of t name ≡ Some b) (w : World) (there : world_of t b ≡ Some w) where
+  shown_now : (show_command t name).reply ≡ Shown b.name (length b.events) b.cursor w
+  unfolding show_command
+  shown_now =
+      ap (λ (o : Option Branch). (option_map_or (show_reply t) o (replied t (Refusing refused.NoBranch))).reply) here
+      ∙ ap (λ (o : Option World). (option_map_or (λ v. replied t (Shown b.name (length b.events) b.cursor v)) o (replied t (Refusing refused.NoBranch))).reply) there
+
+  told_of : (at : Result Stepped Refusal) → (step_answered t b e at).reply ≡ step_told (length b.events - b.cursor) (came_of at)
+  told_of (Ok s) = refl
+  told_of (Err why) = refl
+
+  stepped_now : (step_command t name e).reply ≡ step_told (length b.events - b.cursor) (came_of (step w e))
+  unfolding step_command
+  stepped_now =
+      ap (λ (o : Option Branch). (option_map_or (step_reply t e) o (replied t (Refusing refused.NoBranch))).reply) here
+      ∙ ap (λ (o : Option World). (option_map_or (λ v. step_answered t b e (step v e)) o (replied t (Refusing refused.NoBranch))).reply) there
+      ∙ told_of (step w e)
+
+  reported_now : why_step_command t name e ≡ replied t (Explained b.name (b.cursor + 1) e (came_of (step w e)) (explained w e))
+  unfolding why_step_command
+  reported_now =
+      ap (λ (o : Option Branch). option_map_or (why_step_reply t e) o (replied t (Refusing refused.NoBranch))) here
+      ∙ ap (λ (o : Option World). option_map_or (λ v. replied t (explanation b.name (b.cursor + 1) v e)) o (replied t (Refusing refused.NoBranch))) there
+
+-- each branch shows a world
+its_world : (t : Timeline) (name : List ℕ) (b : Branch) → IsTimeline t → branch_of t name ≡ Some b → (w : World) × (world_of t b ≡ Some w)
+its_world t name b is here = the_world (world_of t b) (found_is (λ c. IsTrue (is_some (world_of t c))) (λ c. same_name c.name name) t.branches b (branches-show t is) here)
+
+pub whys-foretell-steps : WhysForetellSteps
+whys-foretell-steps t name e b is here =
+    let w : (w : World) × (world_of t b ≡ Some w) = its_world t name b is here in
+    record {
+      world = w.0;
+      came = came_of (step w.0 e);
+      shown = shown_now t name e b here w.0 w.1;
+      stepped = stepped_now t name e b here w.0 w.1;
+      reported = reported_now t name e b here w.0 w.1;
+    }

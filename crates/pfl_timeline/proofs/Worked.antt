@@ -1,8 +1,10 @@
 -- Worked cases of timelines, computed.
-use Rattle.std.specs.Prelude.{◌≡◌, ℕ, List, [], ◌∷◌, Some, refl, codes}
+use Rattle.std.specs.Prelude.{◌≡◌, ℕ, List, [], ◌∷◌, map, Option, Some, None, Result, Ok, Err, refl, codes}
+use Rattle.pfl_edits.specs.Maps as maps
 use Rattle.pfl_base.specs.declared.direction.Dir.TheVariants.{Outbound}
 use Rattle.pfl_base.specs.declared.node_id.NodeId.TheVariants.{A}
 use Rattle.pfl_base.specs.declared.packet.Packet.{Packet}
+use Rattle.pfl_base.specs.declared.refusal.Refusal.{Refusal}
 use Rattle.pfl_base.specs.declared.refusal.Refusal.TheVariants as refusal
 use Rattle.pfl_language.specs.declared.event.Event.{Event}
 use Rattle.pfl_language.specs.declared.node_event.NodeEvent.TheVariants as own
@@ -10,13 +12,17 @@ use Rattle.pfl_language.specs.declared.node_event.NodeOutcome.TheVariants as giv
 use Rattle.pfl_language.specs.declared.fate.Fate.TheVariants as fate
 use Rattle.pfl_language.specs.declared.event.Event.TheVariants as event
 use Rattle.pfl_language.specs.declared.event.FrameEvent.TheVariants as frame
+use Rattle.pfl_language.specs.declared.outcome.Outcome.{Outcome}
 use Rattle.pfl_language.specs.declared.outcome.Outcome.TheVariants as outcome
 use Rattle.pfl_language.specs.declared.command.Command.{Command}
 use Rattle.pfl_language.specs.declared.command.Command.TheVariants as command
 use Rattle.pfl_language.specs.declared.refused.Refused.TheVariants as refused
 use Rattle.pfl_language.specs.BranchWords.{main_name}
 use Rattle.pfl_search.proofs.ForCallers.world.{limits, opening, u1, u2, u3, name, computing as of_worlds}
+use Rattle.pfl_search.specs.world.link.Links.{InFlight}
 use Rattle.pfl_reasons.specs.Explaining.{explained}
+use Rattle.pfl_reasons.specs.Frames as frames
+use Rattle.pfl_reasons.specs.declared.frame_step.FrameStep.{FrameStep}
 use Rattle.pfl_timeline.specs.Timelines.{Timeline, new_timeline}
 use Rattle.pfl_timeline.specs.Timelines as timelines
 use Rattle.pfl_timeline.specs.Commands as commands
@@ -52,6 +58,12 @@ past of k = command.Past of k
 abbrev why : List ℕ → ℕ → Command
 why of k = command.Why of k
 
+abbrev why_step : Event → Command
+why_step e = command.WhyStep main_name e
+
+abbrev frame_of : List ℕ → ℕ → Command
+frame_of of ticket = command.Frame of ticket
+
 abbrev names : Command
 names = command.Names
 
@@ -81,7 +93,7 @@ final t [] = t
 final t (c ∷ cs) = final (command_step t c).timeline cs
 
 unfoldable computing : ℕ
-unfolding of_worlds replies final commands.command_step timelines.world_of commands.step_command commands.back_command commands.forward_command commands.fork_command commands.drop_command commands.show_command commands.past_command commands.why_command commands.names_command commands.excise_command commands.restore_command commands.log_command excisions.sieve summary
+unfolding of_worlds replies final commands.command_step timelines.world_of commands.step_command commands.back_command commands.forward_command commands.fork_command commands.drop_command commands.show_command commands.past_command commands.why_command commands.why_step_command commands.frame_command frames.done frames.traced commands.names_command commands.excise_command commands.restore_command commands.log_command excisions.sieve summary
 computing = 0
 
 abbrev t : Timeline
@@ -173,12 +185,65 @@ seen_there = refl
 abbrev first_explained : Reply
 first_explained =
     let e = event.At A (own.Packet Outbound u1) in
-    reply.Explained main_name 1 e (outcome.At (given.Handled (fate.Pass (Some (name 1 1))))) (explained (opening limits) e)
+    reply.Explained main_name 1 e (Ok (outcome.At (given.Handled (fate.Pass (Some (name 1 1)))))) (explained (opening limits) e)
 
 why_there : asked_then (why main_name 1 ∷ back 4 ∷ why main_name 1 ∷ why main_name 0 ∷ why main_name 5 ∷ why (codes "x") 0 ∷ forward 4 ∷ [])
     ≡ first_explained ∷ reply.At 0 ∷ first_explained ∷ reply.Refused refused.NoEvent ∷ reply.Refused refused.NoEvent ∷ reply.Refused refused.NoBranch ∷ reply.At 4 ∷ []
 unfolding computing
 why_there = refl
+
+-- an event that has not happened is explained where the branch stands, one that would be refused too, and nothing moves
+abbrev no_flush : Reply
+no_flush = reply.Explained main_name 1 (event.Flush A) (Err refusal.NothingPending) (explained (opening limits) (event.Flush A))
+
+foretold : asked_then (back 4 ∷ why_step (event.Flush A) ∷ why_step (event.At A (own.Packet Outbound u1)) ∷ forward 4 ∷ command.WhyStep (codes "x") (event.Flush A) ∷ [])
+    ≡ reply.At 0 ∷ no_flush ∷ first_explained ∷ reply.At 4 ∷ reply.Refused refused.NoBranch ∷ []
+unfolding computing
+foretold = refl
+
+-- at which place what would come
+abbrev came_shown : Reply → Option (ℕ × Result Outcome Refusal)
+came_shown (reply.Explained of k e came why) = Some (k, came)
+came_shown other = None
+
+-- a flush, where the packet has happened, and where its frame was sent already
+flush_foretold : map came_shown (asked_then (back 3 ∷ why_step (event.Flush A) ∷ forward 1 ∷ why_step (event.Flush A) ∷ []))
+    ≡ None ∷ Some (2, Ok (outcome.Sent 1 148)) ∷ None ∷ Some (3, Err refusal.NothingPending) ∷ []
+unfolding computing
+flush_foretold = refl
+
+-- ---- frames
+
+-- the event that sent the frame, and those that befell it
+abbrev steps_shown : Reply → List FrameStep
+steps_shown (reply.Traced of ticket trace) = trace.first ∷ trace.later
+steps_shown other = []
+
+-- the frame of the ticket 1
+abbrev first_frame : Reply → Option InFlight
+first_frame (reply.Traced of ticket trace) = Some trace.frame
+first_frame (reply.Shown of events place w) = maps.get w.link.frames 1
+first_frame other = None
+
+-- a flush sent it, and it came to its receiver
+abbrev sent_and_taken : List FrameStep
+sent_and_taken =
+    record { place = 2; event = event.Flush A; outcome = outcome.Sent 1 148 }
+    ∷ record { place = 3; event = event.Of 1 frame.Deliver; outcome = outcome.Taken 1 } ∷ []
+
+-- so it is shown wherever the branch stands
+frame_shown : map steps_shown (asked_then (frame_of main_name 1 ∷ back 4 ∷ frame_of main_name 1 ∷ forward 4 ∷ [])) ≡ sent_and_taken ∷ [] ∷ sent_and_taken ∷ [] ∷ []
+unfolding computing
+frame_shown = refl
+
+-- the frame is the one that is in flight after the event that sent it
+frame_as_sent : map first_frame (asked_then (frame_of main_name 1 ∷ [])) ≡ map first_frame (asked_then (past main_name 2 ∷ []))
+unfolding computing
+frame_as_sent = refl
+
+no_frame : asked_then (frame_of main_name 0 ∷ frame_of main_name 2 ∷ frame_of (codes "x") 1 ∷ []) ≡ reply.Refused refused.NoFrame ∷ reply.Refused refused.NoFrame ∷ reply.Refused refused.NoBranch ∷ []
+unfolding computing
+no_frame = refl
 
 -- the former list and cursor are not counted
 counted_without : summary (final after_four (excise 1 ∷ [])) 5 ≡ 5 ∷ 1 ∷ 1 ∷ 1 ∷ 1 ∷ 0 ∷ 0 ∷ 1 ∷ []

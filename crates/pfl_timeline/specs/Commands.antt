@@ -14,9 +14,10 @@ use Rattle.pfl_search.specs.world.Meanings.{Stepped}
 use Rattle.pfl_search.specs.world.Events.{step}
 use Rattle.pfl_search.specs.world.Runs.{run}
 use Rattle.pfl_search.specs.world.Worlds.{World}
-use Rattle.pfl_reasons.specs.Explaining.{explained}
+use Rattle.pfl_reasons.specs.Explaining.{came_of, explained}
+use Rattle.pfl_reasons.specs.Frames.{traced}
 use Rattle.pfl_timeline.specs.Excisions.{has_event, excised, fallen_places, restored}
-use Rattle.pfl_timeline.specs.Replies.{Reply, Stepped as StepReply, At, Forked, Removed, Shown, Names, Excised, Restored, Logged, Explained, Refused as Refusing, Replied}
+use Rattle.pfl_timeline.specs.Replies.{Reply, Stepped as StepReply, At, Forked, Removed, Shown, Names, Excised, Restored, Logged, Explained, Traced, Refused as Refusing, Replied}
 use Rattle.pfl_timeline.specs.Timelines.{Branch, Timeline, branch_of, standing, world_of}
 
 -- the timeline with a reply
@@ -104,21 +105,32 @@ past_reply t k b =
 abbrev pub event_at : ℕ → Branch → Option Event
 event_at k b = if has_event k b then slice_get b.events (k - 1) else None
 
--- the k-th event of the branch of the name, its outcome in the world before it, and why it has that
-abbrev pub explanation : List ℕ → ℕ → World → Event → Result Stepped Refusal → Reply
-explanation name k w e (Ok s) = Explained name k e s.outcome (explained w e)
-explanation name k w e (Err why) = Refusing (refused.Event why)
+-- an event at a place of the branch of the name: what comes of it in the world before it, and why
+abbrev pub explanation : List ℕ → ℕ → World → Event → Reply
+explanation name k w e = Explained name k e (came_of (step w e)) (explained w e)
 
 -- the explanation of the branch's k-th event, those after the cursor too; it was accepted in the world that the events before it give
 abbrev pub why_answer : World → ℕ → Branch → Reply
 why_answer opening k b =
     option_map_or
-    (λ e. option_map_or (λ w. explanation b.name k w e (step w e)) (run opening (take (k - 1) b.events)) (Refusing refused.NoBranch))
+    (λ e. option_map_or (λ w. explanation b.name k w e) (run opening (take (k - 1) b.events)) (Refusing refused.NoBranch))
     (event_at k b) (Refusing refused.NoEvent)
 
 -- the branch's k-th event explained; nothing changes
 abbrev pub why_reply : Timeline → ℕ → Branch → Replied
 why_reply t k b = replied t (why_answer t.opening k b)
+
+-- what would come of the event where the branch stands, and why; nothing changes
+abbrev pub why_step_reply : Timeline → Event → Branch → Replied
+why_step_reply t e b = option_map_or (λ w. replied t (explanation b.name (b.cursor + 1) w e)) (world_of t b) (replied t (Refusing refused.NoBranch))
+
+-- the frame that one of the branch's events sent under the ticket, those after the cursor too, and what became of it
+abbrev pub frame_answer : World → ℕ → Branch → Reply
+frame_answer opening ticket b = option_map_or (Traced b.name ticket) (traced opening b.events ticket) (Refusing refused.NoFrame)
+
+-- the frame of the branch's ticket; nothing changes
+abbrev pub frame_reply : Timeline → ℕ → Branch → Replied
+frame_reply t ticket b = replied t (frame_answer t.opening ticket b)
 
 -- the k-th event taken out, and what is refused then left out
 abbrev pub excise_reply : Timeline → ℕ → Branch → Replied
@@ -168,6 +180,14 @@ past_command t name k = with_branch t name (past_reply t k)
 unfoldable pub why_command : Timeline → List ℕ → ℕ → Replied
 why_command t name k = with_branch t name (why_reply t k)
 
+-- an event explained that has not happened
+unfoldable pub why_step_command : Timeline → List ℕ → Event → Replied
+why_step_command t name e = with_branch t name (why_step_reply t e)
+
+-- a frame that a branch sent, and what became of it
+unfoldable pub frame_command : Timeline → List ℕ → ℕ → Replied
+frame_command t name ticket = with_branch t name (frame_reply t ticket)
+
 -- an event taken out of the middle
 unfoldable pub excise_command : Timeline → List ℕ → ℕ → Replied
 excise_command t name k = with_branch t name (excise_reply t k)
@@ -194,6 +214,8 @@ command_step t (command.Drop name) = drop_command t name
 command_step t (command.Show name) = show_command t name
 command_step t (command.Past name k) = past_command t name k
 command_step t (command.Why name k) = why_command t name k
+command_step t (command.WhyStep name e) = why_step_command t name e
+command_step t (command.Frame name ticket) = frame_command t name ticket
 command_step t command.Names = names_command t
 command_step t (command.Excise name k) = excise_command t name k
 command_step t (command.Restore name) = restore_command t name

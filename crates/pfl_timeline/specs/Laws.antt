@@ -15,9 +15,10 @@ use Rattle.pfl_search.specs.world.Meanings.{Stepped}
 use Rattle.pfl_search.specs.world.Runs.{run}
 use Rattle.pfl_search.specs.world.Worlds.{World, IsWorld}
 use Rattle.pfl_reasons.specs.Explaining.{explained}
-use Rattle.pfl_timeline.specs.Commands.{replied, with_changed, step_command, show_command, past_command, why_command, log_command, command_step, replayed}
+use Rattle.pfl_timeline.specs.Commands.{replied, with_changed, step_command, show_command, past_command, why_command, why_step_command, log_command, command_step, replayed}
 use Rattle.pfl_timeline.specs.Excisions.{without, has_event}
 use Rattle.pfl_timeline.specs.Replies as reply
+use Rattle.pfl_timeline.specs.Replies.{Reply}
 use Rattle.pfl_timeline.specs.Timelines.{Branch, Timeline, IsTimeline, branch_of, new_timeline, standing, world_of}
 
 -- the one branch `main` over a world is a timeline
@@ -63,6 +64,8 @@ touches (command.Drop of) name = same_name of name
 touches (command.Show of) name = false
 touches (command.Past of k) name = false
 touches (command.Why of k) name = false
+touches (command.WhyStep of e) name = false
+touches (command.Frame of ticket) name = false
 touches command.Names name = false
 touches (command.Excise of k) name = same_name of name
 touches (command.Restore of) name = same_name of name
@@ -104,11 +107,28 @@ pub record IsExplained (t : Timeline) (name : List ℕ) (k : ℕ) (b : Branch) :
   pub there : slice_get b.events (k - 1) ≡ Some event
   pub shown : (show_command (standing_before k b t) name).reply ≡ reply.Shown b.name (length b.events) (k - 1) world
   pub stepped : (step_command (standing_before k b t) name event).reply ≡ reply.Stepped outcome (length b.events - (k - 1))
-  pub reported : why_command t name k ≡ replied t (reply.Explained b.name k event outcome (explained world event))
+  pub reported : why_command t name k ≡ replied t (reply.Explained b.name k event (Ok outcome) (explained world event))
 
 -- what is reported of an event of a branch is what a step of it replies where the branch stands before it
 abbrev pub WhysAreSteps : Type 0
 WhysAreSteps = (t : Timeline) (name : List ℕ) (k : ℕ) (b : Branch) → IsTimeline t → branch_of t name ≡ Some b → IsTrue (has_event k b) → IsExplained t name k b
+
+-- the reply to a step that comes to this, where this number of events had been undone
+abbrev pub step_told : ℕ → Result Outcome Refusal → Reply
+step_told dropped (Ok outcome) = reply.Stepped outcome dropped
+step_told dropped (Err why) = reply.Refused (refused.Event why)
+
+-- the world that the branch shows, and what a step of the event comes to there: it is reported, and why
+pub record IsForetold (t : Timeline) (name : List ℕ) (e : Event) (b : Branch) : Type 0 where
+  pub world : World
+  pub came : Result Outcome Refusal
+  pub shown : (show_command t name).reply ≡ reply.Shown b.name (length b.events) b.cursor world
+  pub stepped : (step_command t name e).reply ≡ step_told (length b.events - b.cursor) came
+  pub reported : why_step_command t name e ≡ replied t (reply.Explained b.name (b.cursor + 1) e came (explained world e))
+
+-- what is reported of an event that has not happened is what a step of it replies
+abbrev pub WhysForetellSteps : Type 0
+WhysForetellSteps = (t : Timeline) (name : List ℕ) (e : Event) (b : Branch) → IsTimeline t → branch_of t name ≡ Some b → IsForetold t name e b
 
 -- ---- an event taken out of the middle
 

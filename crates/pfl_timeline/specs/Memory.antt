@@ -17,7 +17,7 @@ abbrev pub IsAccepted : Replied → Type 0
 IsAccepted done = IsFalse (is_refusal done.reply)
 
 -- a step and a way forward make changes, a fork a branch, a show a copy of a world, at another place too, an explanation what it
--- says, the names and a log a list, and an excision a branch beside the one that it takes the place of; a way back, a drop and a
+-- says, a frame's trace a copy of the frame, the names and a log a list, and an excision a branch beside the one that it takes the place of; a way back, a drop and a
 -- restoration make nothing
 abbrev pub makes_something : Command → Bool
 makes_something (command.Step name e) = true
@@ -28,6 +28,8 @@ makes_something (command.Drop name) = false
 makes_something (command.Show name) = true
 makes_something (command.Past name k) = true
 makes_something (command.Why name k) = true
+makes_something (command.WhyStep name e) = true
+makes_something (command.Frame name ticket) = true
 makes_something command.Names = true
 makes_something (command.Excise name k) = true
 makes_something (command.Restore name) = false

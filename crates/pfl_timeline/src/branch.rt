@@ -1,11 +1,12 @@
 //! Branches.
 
-ghost use Rattle.std.specs.Prelude.{◌≡◌, ◌+◌, ◌-◌, ◌≤◌, true, false, nat_lt, [], length, Ok, Some, None, IfErr, IfOk, OnErr, OnOk, IsTrue, if◌then◌else◌};
+ghost use Rattle.std.specs.Prelude.{◌≡◌, ◌+◌, ◌-◌, ◌≤◌, true, false, nat_lt, [], length, Ok, Some, None, IfErr, IfOk, IfSome, OnErr, OnOk, IsTrue, if◌then◌else◌};
 ghost use Rattle.std.specs.Option.{option_map, option_map_or};
 ghost use Rattle.pfl_language.specs.BranchWords.{is_branch_name};
 ghost use Rattle.pfl_search.specs.world.Events.{step, IsEventRefusal};
-ghost use Rattle.pfl_search.specs.world.Worlds.{World as Pair};
-ghost use Rattle.pfl_timeline.specs.Commands.{extended, undone, first_events, why_answer};
+ghost use Rattle.pfl_search.specs.world.Worlds.{World as Pair, IsWorld};
+ghost use Rattle.pfl_reasons.specs.Senders as meant;
+ghost use Rattle.pfl_timeline.specs.Commands.{extended, undone, first_events, explanation, why_answer, frame_answer};
 ghost use Rattle.pfl_timeline.specs.Excisions.{has_event, excised, fallen_places};
 ghost use Rattle.pfl_timeline.specs.Memory.{is_refusal};
 ghost use Rattle.pfl_timeline.specs.Replies.{reply_of};
@@ -17,11 +18,12 @@ ghost use Rattle.pfl_timeline.specs.Timelines.{IsBranch};
 
 use crate::finding::{Finding, found, stopped};
 use crate::history::History;
-use crate::look::{Explaining, Look};
-use crate::reply::Reply;
+use crate::look::{Explaining, Look, SentFrame};
+use crate::reply::{FrameTrace, Reply};
 use pfl_base::Refusal;
 use pfl_edits::NoMemory;
 use pfl_language::{BranchWord, Choice, Event, Goal, Outcome, Refused};
+use pfl_reasons::{FrameStep, count_senders, frame_steps, frames_are_counted, sending_place};
 use pfl_search::World;
 use std::alloc::{AllocError, Allocator};
 use std::marker::Model;
@@ -103,6 +105,7 @@ impl<A: Allocator> Branch<A> {
     /// Tells a proof what is true of each branch. It does nothing.
     pub fn known(&self)
         ensures branch { IsBranch self.now.opening self.now.branch }
+        ensures opening { IsWorld self.now.opening }
     {
         self.history.known();
         if let Some(former) = &self.former {
@@ -253,6 +256,83 @@ impl<A: Allocator + Copy> Branch<A> {
             event: self.events()[place - 1],
         };
         self.history.look_at(&self.name, place - 1, &look, &mut ())?
+    }
+
+    /// What would come of the event where it stands, and why. Nothing changes, whatever the answer.
+    pub(crate) fn why_step(&mut self, event: &Event) -> Result<Reply<A>, NoMemory>
+        ensures answer { IfOk result (λ reply. (w : Pair) × (shown self.old ≡ Some w)
+            × (reply_of reply ≡ explanation self.old.branch.name (self.old.branch.cursor + 1) w event.now)) }
+        ensures unchanged { self.new ≡ self.old }
+    {
+        let look = Explaining {
+            alloc: *Box::allocator(&self.history),
+            place: self.history.next_place(),
+            event: *event,
+        };
+        self.history.look_here(&self.name, &look, &mut ())
+    }
+
+    /// The place of its event that sent the frame of the ticket, those after the cursor too, if one did.
+    fn sending_place(&self, ticket: u32) -> Option<usize>
+        ensures place { result ≡ meant.sending_place self.now.opening.link.next ticket self.now.branch.events }
+        ensures within { IfSome result (λ k. (1 ≤ k) × (k ≤ length self.now.branch.events)) }
+    {
+        self.known();
+        frames_are_counted();
+        // The pair that it shows is at hand, and the opening is not: since that, each frame sent took a ticket.
+        let events = self.events();
+        let sent = count_senders(&events[..self.cursor()]);
+        let first = self.world().link().next() - sent as u32;
+        sending_place(first, ticket, events)
+    }
+
+    /// The trace of the frame that the event at the place sent under the ticket.
+    fn trace(&mut self, ticket: u32, place: usize) -> Result<Reply<A>, NoMemory>
+        requires some { 1 ≤ place }
+        requires within { place ≤ length self.old.branch.events }
+        requires sent { meant.sending_place self.old.opening.link.next ticket self.old.branch.events ≡ Some place }
+        ensures answer { IfOk result (λ reply. reply_of reply ≡ frame_answer self.old.opening ticket self.old.branch) }
+        ensures unchanged { self.new ≡ self.old }
+    {
+        self.known();
+        frames_are_counted();
+        let look = SentFrame { ticket };
+        let seen = self.history.look_at(&self.name, place, &look, &mut ())??;
+        let Some(frame) = seen else {
+            return Ok(Reply::Refused(Refused::NoFrame));
+        };
+        let alloc = *Box::allocator(&self.history);
+        let events = self.events();
+        let len = frame.bytes().len();
+        let first = FrameStep {
+            place,
+            event: events[place - 1],
+            outcome: Outcome::Sent { ticket, len },
+        };
+        let later = frame_steps(alloc, ticket, place, &frame, events)?;
+        let trace = FrameTrace {
+            name: self.name,
+            ticket,
+            first,
+            frame,
+            later,
+        };
+        trace.reply(alloc)
+    }
+
+    /// The frame that one of its events sent under the ticket, those after the cursor too, and what befell it. Nothing changes,
+    /// whatever the answer.
+    pub(crate) fn frame(&mut self, ticket: u32) -> Result<Reply<A>, NoMemory>
+        ensures answer { IfOk result (λ reply. reply_of reply ≡ frame_answer self.old.opening ticket self.old.branch) }
+        ensures memory { OnErr result (is_refusal (frame_answer self.old.opening ticket self.old.branch) ≡ false) }
+        ensures unchanged { self.new ≡ self.old }
+    {
+        self.known();
+        frames_are_counted();
+        match self.sending_place(ticket) {
+            Some(place) => self.trace(ticket, place),
+            None => Ok(Reply::Refused(Refused::NoFrame)),
+        }
     }
 
     /// Searches for a shortest run of the choices from where it stands to the goal. Nothing changes, whatever the answer.

@@ -121,6 +121,13 @@ impl<A: Allocator> History<A> {
         self.marks.len()
     }
 
+    /// The place, counted from 1, that an event would have that happened after those that stand.
+    pub fn next_place(&self) -> usize
+        ensures place { result ≡ self.now.cursor + 1 }
+    {
+        self.marks.len() + 1
+    }
+
     /// The world that those that stand give.
     pub fn world(&self) -> &World<A>
         ensures world { reached self.now ≡ Some result.now }
@@ -253,7 +260,7 @@ impl<A: Allocator + Copy> History<A> {
     }
 
     /// Looks at the world that those that stand give.
-    fn look_here<L: Look<A, W>, W>(
+    pub fn look_here<L: Look<A, W>, W>(
         &mut self,
         name: &BranchWord,
         look: &L,

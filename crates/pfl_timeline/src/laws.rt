@@ -1,6 +1,6 @@
 //! Laws of timelines. They have no code: each is a theorem over the definitions, which a function's contract names.
 
-ghost use Rattle.pfl_timeline.specs.Laws.{NewTimelinesAreTimelines, CommandsKeepTimelines, BranchesShowWorlds, BranchesShowTheirRuns, CommandsLeaveOthers, PastsAreShown, WhysAreSteps, ExcisionsAreRunsWithout, ExcisionsLeaveStanding, ExcisionsTellTheRefused, NothingElseFallsOut, RestorationsTakeBack, NoReplyTellsWantOfMemory, StepsAreRuns};
+ghost use Rattle.pfl_timeline.specs.Laws.{NewTimelinesAreTimelines, CommandsKeepTimelines, BranchesShowWorlds, BranchesShowTheirRuns, CommandsLeaveOthers, PastsAreShown, WhysAreSteps, WhysForetellSteps, ExcisionsAreRunsWithout, ExcisionsLeaveStanding, ExcisionsTellTheRefused, NothingElseFallsOut, RestorationsTakeBack, NoReplyTellsWantOfMemory, StepsAreRuns};
 
 /// The timeline that opens over a world keeps all that is true of each timeline.
 pub fn new_timelines_are_timelines()
@@ -26,6 +26,11 @@ pub fn pasts_are_shown()
 /// What is reported of an event of a branch is what a step of it replies where the branch stands before it.
 pub fn whys_are_steps()
     ensures { WhysAreSteps }
+{}
+
+/// What is reported of an event that has not happened is what a step of it replies.
+pub fn whys_foretell_steps()
+    ensures { WhysForetellSteps }
 {}
 
 /// A command leaves every branch but the one that it changes as it was.

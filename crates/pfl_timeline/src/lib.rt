@@ -15,11 +15,13 @@ pub use laws::{
     branches_show_their_runs, commands_keep_timelines, commands_leave_others,
     excisions_are_runs_without_the_event, new_timelines_are_timelines,
     no_reply_tells_want_of_memory, pasts_are_shown, steps_are_runs, whys_are_steps,
+    whys_foretell_steps,
 };
 pub use look::{Look, NotSeen, Sight};
 pub use pfl_reasons::{
-    BadRecord, Expiry, Explained, Judged, PacketReason, RecordFate, TakenRecord,
+    Against, BadRecord, Expiry, Explained, FrameStep, InFlight, Judged, PacketReason, RecordFate,
+    TakenRecord,
 };
 pub use pfl_search::{Counters, Node, World, WorldFault};
-pub use reply::{Explanation, Reply, boxed_copy};
+pub use reply::{Explanation, FrameTrace, Reply, boxed_copy};
 pub use timeline::Timeline;

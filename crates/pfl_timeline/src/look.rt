@@ -3,7 +3,7 @@
 use crate::reply::{Explanation, Reply, boxed_copy};
 use pfl_edits::NoMemory;
 use pfl_language::{BranchWord, Event, Refused};
-use pfl_reasons::explain;
+use pfl_reasons::{InFlight, explain};
 use pfl_search::World;
 use std::alloc::Allocator;
 
@@ -85,7 +85,7 @@ impl<A: Allocator + Copy> Look<A, ()> for CopiedSight<A> {
     }
 }
 
-/// Explains the event at a place of a branch, where the events before it have happened.
+/// Explains an event at a place of a branch, where the events before it have happened.
 #[derive(Clone, Copy, Debug)]
 pub(crate) struct Explaining<A: Allocator + Copy> {
     pub(crate) alloc: A,
@@ -111,19 +111,45 @@ impl<A: Allocator + Copy> Look<A, ()> for Explaining<A> {
         ensures sees { IfOk result (λ reply. reply_of reply ≡ explained_there self.now.place self.now.event (Shown sight.now.name.now sight.now.events sight.now.cursor world.old)) }
         ensures still { world.new ≡ world.old }
     {
-        match explain(self.alloc, world, &self.event) {
-            Ok((outcome, why)) => {
-                let explanation = Explanation {
-                    name: *sight.name,
-                    place: self.place,
-                    event: self.event,
-                    outcome,
-                    why,
-                };
-                explanation.reply(self.alloc)
-            }
-            // The events of a branch were accepted where they stand, so only memory can be wanting.
-            Err(_) => Err(NoMemory),
+        let (came, why) = explain(self.alloc, world, &self.event)?;
+        let explanation = Explanation {
+            name: *sight.name,
+            place: self.place,
+            event: self.event,
+            came,
+            why,
+        };
+        explanation.reply(self.alloc)
+    }
+}
+
+/// Copies the frame that is in flight under a ticket, if there is one.
+#[derive(Clone, Copy, Debug)]
+pub(crate) struct SentFrame {
+    pub(crate) ticket: u32,
+}
+
+impl<A: Allocator + Copy> Look<A, ()> for SentFrame {
+    ghost use Rattle.std.specs.Prelude.{◌≡◌, IfOk};
+    ghost use Rattle.pfl_timeline.specs.Replies.{Shown};
+    ghost use Rattle.pfl_timeline.specs.inner.Looking.{frame_there};
+
+    type Seen = Result<Option<InFlight<A>>, NoMemory>;
+
+    ghost sees = { λ self told old new seen. IfOk seen (λ frame. frame ≡ frame_there self.ticket told) };
+
+    fn look(
+        &self,
+        sight: &Sight<'_>,
+        world: &mut World<A>,
+        _nothing: &mut (),
+    ) -> Result<Option<InFlight<A>>, NoMemory>
+        ensures sees { IfOk result (λ frame. frame ≡ frame_there self.now.ticket (Shown sight.now.name.now sight.now.events sight.now.cursor world.old)) }
+        ensures still { world.new ≡ world.old }
+    {
+        match world.link().get(self.ticket) {
+            Some(frame) => Ok(Some(frame.copy()?)),
+            None => Ok(None),
         }
     }
 }

@@ -1,22 +1,23 @@
 //! Replies.
 
 ghost use Rattle.std.specs.Prelude.{◌≡◌, IfOk};
-ghost use Rattle.pfl_timeline.specs.Replies.{explanation_of, reply_of};
+ghost use Rattle.pfl_timeline.specs.Replies.{explanation_of, reply_of, trace_of};
 
+use pfl_base::Refusal;
 use pfl_edits::NoMemory;
 use pfl_language::{BranchWord, Event, Outcome, Refused};
-use pfl_reasons::Explained;
+use pfl_reasons::{Explained, FrameStep, InFlight};
 use pfl_search::World;
 use std::alloc::{AllocError, Allocator};
 
-/// What came of an event of a branch, and why: the branch's name, the event and its place, counted from 1, its outcome, and the
-/// reason for that. Clauses say by `explanation_of` what it tells.
+/// What comes of an event of a branch, and why: the branch's name, the event and its place, counted from 1, its outcome or its
+/// refusal, and the reason for that. Clauses say by `explanation_of` what it tells.
 #[derive(Drop)]
 pub struct Explanation<A: Allocator> {
     pub name: BranchWord,
     pub place: usize,
     pub event: Event,
-    pub outcome: Outcome,
+    pub came: Result<Outcome, Refusal>,
     pub why: Explained<A>,
 }
 
@@ -40,14 +41,52 @@ impl<A: Allocator + Copy> Explanation<A> {
             name: self.name,
             place: self.place,
             event: self.event,
-            outcome: self.outcome,
+            came: self.came,
             why,
         })
     }
 }
 
-/// The reply to a command. Clauses say by `reply_of` what it tells. The world that one shows is in a box, and so is an explanation,
-/// so that the others are small.
+/// A frame that an event of a branch sent: the branch's name, the frame's ticket, the event that sent it, the frame as it was sent,
+/// and the events that befell it. Clauses say by `trace_of` what it tells.
+#[derive(Drop)]
+pub struct FrameTrace<A: Allocator> {
+    pub name: BranchWord,
+    pub ticket: u32,
+    pub first: FrameStep,
+    pub frame: InFlight<A>,
+    pub later: Vec<FrameStep, A>,
+}
+
+impl<A: Allocator> FrameTrace<A> {
+    /// The reply that it is, in a box.
+    pub fn reply(self, alloc: A) -> Result<Reply<A>, NoMemory>
+        ensures { IfOk result (λ reply. reply_of reply ≡ trace_of self) }
+    {
+        let boxed = Box::new(alloc, self).map_err(AllocError::from)?;
+        Ok(Reply::Traced(boxed))
+    }
+}
+
+impl<A: Allocator + Copy> FrameTrace<A> {
+    /// An equal one, in memory of its own.
+    pub fn copy(&self, alloc: A) -> Result<FrameTrace<A>, NoMemory>
+        ensures { IfOk result (λ copied. trace_of copied ≡ trace_of self.now) }
+    {
+        let frame = self.frame.copy()?;
+        let later = Vec::from_slice(alloc, self.later.as_slice())?;
+        Ok(FrameTrace {
+            name: self.name,
+            ticket: self.ticket,
+            first: self.first,
+            frame,
+            later,
+        })
+    }
+}
+
+/// The reply to a command. Clauses say by `reply_of` what it tells. The world that one shows is in a box, and so are an
+/// explanation and the trace of a frame, so that the others are small.
 #[derive(Drop)]
 pub enum Reply<A: Allocator> {
     /// The event happened, and so many events that had been undone were cut.
@@ -80,8 +119,10 @@ pub enum Reply<A: Allocator> {
         events: Vec<Event, A>,
         cursor: usize,
     },
-    /// What came of an event, and why.
+    /// What comes of an event, and why.
     Explained(Box<Explanation<A>, A>),
+    /// A frame, and what became of it.
+    Traced(Box<FrameTrace<A>, A>),
     /// The command is refused.
     Refused(Refused),
 }

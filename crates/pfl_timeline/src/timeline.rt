@@ -3,7 +3,7 @@
 ghost use Rattle.std.specs.Prelude.{◌≡◌, ◌≢◌, length, map, Some, is_some, IfOk, IfErr, IsSomeAnd, IsTrue, OnErr, OnOk};
 ghost use Rattle.std.specs.List.{AllByRecursion};
 ghost use Rattle.std.specs.Option.{option_map};
-ghost use Rattle.pfl_timeline.specs.Commands.{replied, step_command, back_command, forward_command, fork_refusal, fork_command, drop_command, show_command, past_command, why_command, names_command, excise_command, restore_command, log_command, command_step};
+ghost use Rattle.pfl_timeline.specs.Commands.{replied, step_command, back_command, forward_command, fork_refusal, fork_command, drop_command, show_command, past_command, why_command, why_step_command, frame_command, names_command, excise_command, restore_command, log_command, command_step};
 ghost use Rattle.pfl_timeline.specs.Memory.{IsAccepted, MayWantMemory};
 ghost use Rattle.pfl_timeline.specs.Looks.{IsNotSeen};
 ghost use Rattle.pfl_timeline.specs.Replies.{reply_of, Reply as Replying, Refused as Refusing, Shown};
@@ -359,6 +359,36 @@ impl<A: Allocator + Copy> Timeline<A> {
         explained
     }
 
+    /// What would come of the event where the branch stands, and why. It happens for a while. No pair is copied, and the timeline stays
+    /// as it was, whatever the answer.
+    pub fn why_step(&mut self, name: &BranchWord, event: &Event) -> Result<Reply<A>, NoMemory>
+        ensures step { IfOk result (λ reply. why_step_command self.old name.now event.now ≡ replied self.new (reply_of reply)) }
+        ensures memory { OnErr result (IsAccepted (why_step_command self.old name.now event.now)) }
+        ensures unchanged { self.new ≡ self.old }
+    {
+        let Some(branch) = self.branches.get_mut(name) else {
+            return Ok(Reply::Refused(Refused::NoBranch));
+        };
+        let explained = branch.why_step(event);
+        branch.known();
+        explained
+    }
+
+    /// The frame that one of the branch's events sent under the ticket, those after the cursor too, and what befell it. The branch stands
+    /// after that event for a while. No pair is copied, and the timeline stays as it was, whatever the answer.
+    pub fn frame(&mut self, name: &BranchWord, ticket: u32) -> Result<Reply<A>, NoMemory>
+        ensures step { IfOk result (λ reply. frame_command self.old name.now ticket ≡ replied self.new (reply_of reply)) }
+        ensures memory { OnErr result (IsAccepted (frame_command self.old name.now ticket)) }
+        ensures unchanged { self.new ≡ self.old }
+    {
+        let Some(branch) = self.branches.get_mut(name) else {
+            return Ok(Reply::Refused(Refused::NoBranch));
+        };
+        let traced = branch.frame(ticket);
+        branch.known();
+        traced
+    }
+
     /// The branch's events, those behind the cursor too, in memory of their own, and its cursor. No pair is copied.
     fn log(&self, name: &BranchWord) -> Result<Reply<A>, NoMemory>
         ensures step { IfOk result (λ reply. log_command self.now name.now ≡ replied self.now (reply_of reply)) }
@@ -417,6 +447,8 @@ impl<A: Allocator + Copy> Timeline<A> {
             Command::Show { branch } => self.show(&branch),
             Command::Past { branch, place } => self.past_copied(&branch, place),
             Command::Why { branch, place } => self.why(&branch, place),
+            Command::WhyStep { branch, event } => self.why_step(&branch, &event),
+            Command::Frame { branch, ticket } => self.frame(&branch, ticket),
             Command::Names => self.names(),
             Command::Excise { branch, place } => self.excise(&branch, place),
             Command::Restore { branch } => Ok(self.restore(&branch)),

@@ -73,11 +73,14 @@ impl Trial {
         reply.lines().eq(wanted)
     }
 
-    /// The line of the script with the number is refused, or faulty.
+    /// The line of the script with the number is refused, or faulty: its reply begins so. One that explains a refused event has the
+    /// refusal further down.
     pub fn is_refused(&self, number: usize) -> bool {
         let mut answered = self.replies.as_str().lines().zip(self.lines.iter());
-        answered.any(|(text, line)| *line == number
-            && (text.starts_with("refused ") || text.starts_with("bad ")))
+        match answered.find(|(_, line)| **line == number) {
+            Some((text, _)) => text.starts_with("refused ") || text.starts_with("bad "),
+            None => false,
+        }
     }
 
     /// How many lines of the text answer lines of the script above the one with the number.

@@ -52,15 +52,20 @@ impl Dice {
         }
     }
 
+    /// The ticket of the last frame that came about, mostly, or one of the first.
+    fn ticket(&mut self, last: u32) -> u32 {
+        if self.below(4) == 0 {
+            self.below(40)
+        } else {
+            last
+        }
+    }
+
     /// A packet, mostly; a frame that is sent; the last one that came about or one of the first, which arrives or is
     /// lost; a clock that goes on; or what has expired, which is deleted.
     fn event(&mut self, last: u32) -> Option<Event> {
         let node = self.node();
-        let ticket = if self.below(4) == 0 {
-            self.below(40)
-        } else {
-            last
-        };
+        let ticket = self.ticket(last);
         match self.below(20) {
             0..=9 => {
                 let (dir, packet) = self.packet()?;
@@ -118,9 +123,17 @@ impl Dice {
     pub(super) fn command(&mut self, last: u32) -> Option<Command> {
         let branch = self.branch()?;
         match self.below(100) {
-            0..=66 => {
+            0..=63 => {
                 let event = self.event(last)?;
                 Some(Command::Step { branch, event })
+            }
+            64 => {
+                let event = self.event(last)?;
+                Some(Command::WhyStep { branch, event })
+            }
+            65 | 66 => {
+                let ticket = self.ticket(last);
+                Some(Command::Frame { branch, ticket })
             }
             67..=76 => {
                 let n = self.below(16);

@@ -122,6 +122,18 @@ fn why(place: u32) -> Command {
     Command::Why { branch, place }
 }
 
+/// What would come of an event on `main` where it stands, and why.
+fn why_step(event: Event) -> Command {
+    let branch = BranchWord::main();
+    Command::WhyStep { branch, event }
+}
+
+/// What became of a frame of `main`.
+fn frame(ticket: u32) -> Command {
+    let branch = BranchWord::main();
+    Command::Frame { branch, ticket }
+}
+
 /// The branch is shown so, with state 1.1 at node A and no other.
 fn shown(events: usize, cursor: usize) -> Answer {
     Answer::Shown {
@@ -142,7 +154,7 @@ fn fork(place: u32) -> Option<Command> {
 }
 
 /// The calls whose requests are refused.
-fn trials() -> Option<[Trial; 17]> {
+fn trials() -> Option<[Trial; 22]> {
     let branch = BranchWord::main();
     let node = NodeId::A;
     let logged = Answer::Logged {
@@ -150,6 +162,15 @@ fn trials() -> Option<[Trial; 17]> {
         cursor: 4,
     };
     let no_event = Answer::Refused(Refused::NoEvent);
+    let no_frame = Answer::Refused(Refused::NoFrame);
+    let traced = Answer::Traced {
+        ticket: 1,
+        later: 1,
+    };
+    let lose = Event::Of {
+        ticket: 1,
+        event: FrameEvent::Lose,
+    };
     Some([
         once_answered(step(SECOND_HOST)?, Answer::Stepped, 0)?,
         // The list of what is pending is made at one go where that much memory is there, and else it grows.
@@ -161,6 +182,12 @@ fn trials() -> Option<[Trial; 17]> {
         once_undone(past(3), shown(3, 3))?,
         once_answered(why(1), Answer::Explained(1), 0)?,
         once_undone(why(3), Answer::Explained(3))?,
+        once_answered(why_step(Event::Flush { node }), Answer::Explained(5), 1)?,
+        // The frame has come to its receiver, so it cannot be lost.
+        once_answered(why_step(lose), Answer::Explained(5), 0)?,
+        once_answered(frame(1), traced, 0)?,
+        once_undone(frame(1), traced)?,
+        once_answered(frame(2), no_frame, 0)?,
         once_answered(Command::Names, Answer::Names(1), 0)?,
         once_answered(Command::Log { branch }, logged, 0)?,
         once_answered(excise(1), Answer::Excised(Some([2, 3])), 0)?,

@@ -35,6 +35,11 @@ pub(super) enum Answer {
     },
     /// The event at this place is explained.
     Explained(usize),
+    /// What became of the frame of this ticket: so many events befell it.
+    Traced {
+        ticket: u32,
+        later: usize,
+    },
     /// The command is refused.
     Refused(Refused),
 }
@@ -88,6 +93,9 @@ pub(super) fn is_wanted<A: Allocator>(wanted: Answer, reply: &Reply<A>) -> bool 
         }
         Answer::Explained(place) => {
             matches!(reply, Reply::Explained(explanation) if explanation.place == place)
+        }
+        Answer::Traced { ticket, later } => {
+            matches!(reply, Reply::Traced(trace) if (trace.ticket, trace.later.len()) == (ticket, later))
         }
         Answer::Refused(why) => matches!(reply, Reply::Refused(other) if *other == why),
     }

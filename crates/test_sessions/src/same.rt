@@ -3,7 +3,10 @@
 use super::lab::opening;
 use pfl_base::NodeId;
 use pfl_language::{BranchWord, Command, Limits};
-use pfl_session::{Branch, Closed, Entry, Explained, Explanation, Node, Reply, Timeline, World};
+use pfl_session::{
+    Branch, Closed, Entry, Explained, Explanation, FrameTrace, InFlight, Node, Reply, Timeline,
+    World,
+};
 use std::alloc::Allocator;
 
 /// The same word.
@@ -85,13 +88,25 @@ fn same_reason<A: Allocator>(one: &Explained<A>, two: &Explained<A>) -> bool {
             matches!(two, Explained::Expiries { clock: c, states: s, list: other, .. } if c == clock && s == states && **other == **list)
         }
         Explained::Plain => matches!(two, Explained::Plain),
+        Explained::Stopped(against) => matches!(two, Explained::Stopped(other) if other == against),
     }
 }
 
-/// The same event at the same place, with the same outcome for the same reason.
+/// The same event at the same place, with the same outcome or refusal for the same reason.
 fn same_explanation<A: Allocator>(one: &Explanation<A>, two: &Explanation<A>) -> bool {
-    let event = one.place == two.place && one.event == two.event && one.outcome == two.outcome;
+    let event = one.place == two.place && one.event == two.event && one.came == two.came;
     same_name(&one.name, &two.name) && event && same_reason(&one.why, &two.why)
+}
+
+/// The same bytes to the same node.
+fn same_frame<A: Allocator>(one: &InFlight<A>, two: &InFlight<A>) -> bool {
+    one.to() == two.to() && one.bytes().as_slice() == two.bytes().as_slice()
+}
+
+/// The same frame, sent by the same event, with the same events that befell it.
+fn same_trace<A: Allocator>(one: &FrameTrace<A>, two: &FrameTrace<A>) -> bool {
+    let sent = one.ticket == two.ticket && one.first == two.first && *one.later == *two.later;
+    same_name(&one.name, &two.name) && sent && same_frame(&one.frame, &two.frame)
 }
 
 /// The same reply.
@@ -130,6 +145,7 @@ pub(super) fn same_reply<A: Allocator>(one: &Reply<A>, two: &Reply<A>) -> bool {
         Reply::Explained(explanation) => {
             matches!(two, Reply::Explained(other) if same_explanation(explanation, other))
         }
+        Reply::Traced(trace) => { matches!(two, Reply::Traced(other) if same_trace(trace, other)) }
         Reply::Refused(why) => matches!(two, Reply::Refused(other) if other == why),
     }
 }
@@ -160,6 +176,12 @@ pub(super) fn same_command(one: &Command, two: &Command) -> bool {
         }
         Command::Why { branch, place } => {
             matches!(two, Command::Why { branch: b, place: p } if same_name(branch, b) && place == p)
+        }
+        Command::WhyStep { branch, event } => {
+            matches!(two, Command::WhyStep { branch: b, event: e } if same_name(branch, b) && event == e)
+        }
+        Command::Frame { branch, ticket } => {
+            matches!(two, Command::Frame { branch: b, ticket: t } if same_name(branch, b) && ticket == t)
         }
         Command::Names => matches!(two, Command::Names),
         Command::Excise { branch, place } => {

@@ -9,7 +9,7 @@ loop-row-init g c =
     let n = c.args.node.now in
     let rows = c.iter-rows.result in
     record {
-      listed = ap (λ es. es ++ rows_expiries c.len-states.result n rows) c.new-list.ensures.items;
+      listed = ap (λ es. es ++ rows_expiries c.len-states.result n rows) c.in_ok-list.ensures.items;
       past = listed-past n rows c.known.ensures.node.parts (c.iter-rows.ensures.states ∙ ap (λ (m : States). maps.values m) c.states-2.ensures.states);
     }
 

@@ -1,5 +1,5 @@
-use Rattle.pfl_reasons.proofs.Agreeing.{outcomes-follow}
+use Rattle.pfl_reasons.proofs.Agreeing.{events-agree}
 use Rattle.pfl_reasons.proofs.laws.reasons_agree.Goals as goal
 
 pub returns : goal.returns
-returns c = outcomes-follow c.tests_agree.ensures
+returns c = events-agree c.tests_agree.ensures

@@ -1,7 +1,7 @@
 use Rattle.std.proofs.Common.{◌∙◌}
 use Rattle.std.proofs.lemmas.Result.{IfOk-weaker, on_err_weaker}
-use Rattle.pfl_timeline.proofs.Asked.{is-step, is-back, is-forward, is-fork, is-drop, is-show, is-past, is-why, is-names, is-excise, is-restore, is-log, anyway}
-use Rattle.pfl_timeline.proofs.Wants.{step_wants, forward_wants, fork_wants, show_wants, past_wants, why_wants, names_wants, excise_wants, log_wants}
+use Rattle.pfl_timeline.proofs.Asked.{is-step, is-back, is-forward, is-fork, is-drop, is-show, is-past, is-why, is-why_step, is-frame, is-names, is-excise, is-restore, is-log, anyway}
+use Rattle.pfl_timeline.proofs.Wants.{step_wants, forward_wants, fork_wants, show_wants, past_wants, why_wants, why_step_wants, frame_wants, names_wants, excise_wants, log_wants}
 use Rattle.pfl_timeline.proofs.timeline.Timeline.command.Goals as goal
 
 pub returns-in-Step-clause-step : goal.returns-in-Step-clause-step
@@ -27,6 +27,12 @@ returns-in-Past-clause-step g c = IfOk-weaker c.past_copied.result _ _ (λ reply
 
 pub returns-in-Why-clause-step : goal.returns-in-Why-clause-step
 returns-in-Why-clause-step g c = IfOk-weaker c.why.result _ _ (λ reply h. is-why _ _ _ _ c.in-Why.is ∙ h) c.why.ensures.step
+
+pub returns-in-WhyStep-clause-step : goal.returns-in-WhyStep-clause-step
+returns-in-WhyStep-clause-step g c = IfOk-weaker c.why_step.result _ _ (λ reply h. is-why_step _ _ _ _ c.in-WhyStep.is ∙ h) c.why_step.ensures.step
+
+pub returns-in-Frame-clause-step : goal.returns-in-Frame-clause-step
+returns-in-Frame-clause-step g c = IfOk-weaker c.frame.result _ _ (λ reply h. is-frame _ _ _ _ c.in-Frame.is ∙ h) c.frame.ensures.step
 
 pub returns-in-Names-clause-step : goal.returns-in-Names-clause-step
 returns-in-Names-clause-step g c = IfOk-weaker c.names.result _ _ (λ reply h. is-names _ _ c.in-Names.is ∙ h) c.names.ensures.step
@@ -57,6 +63,12 @@ returns-in-Past-clause-memory g c = on_err_weaker c.past_copied.result (λ accep
 
 pub returns-in-Why-clause-memory : goal.returns-in-Why-clause-memory
 returns-in-Why-clause-memory g c = on_err_weaker c.why.result (λ accepted. why_wants _ _ _ _ c.in-Why.is accepted) c.why.ensures.memory
+
+pub returns-in-WhyStep-clause-memory : goal.returns-in-WhyStep-clause-memory
+returns-in-WhyStep-clause-memory g c = on_err_weaker c.why_step.result (λ accepted. why_step_wants _ _ _ _ c.in-WhyStep.is accepted) c.why_step.ensures.memory
+
+pub returns-in-Frame-clause-memory : goal.returns-in-Frame-clause-memory
+returns-in-Frame-clause-memory g c = on_err_weaker c.frame.result (λ accepted. frame_wants _ _ _ _ c.in-Frame.is accepted) c.frame.ensures.memory
 
 pub returns-in-Names-clause-memory : goal.returns-in-Names-clause-memory
 returns-in-Names-clause-memory g c = anyway c.names.result (names_wants _ _ c.in-Names.is)

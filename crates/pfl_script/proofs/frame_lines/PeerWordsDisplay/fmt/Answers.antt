@@ -1,0 +1,9 @@
+use Rattle.std.proofs.Common.{refl, append_assoc}
+use Rattle.std.proofs.Output.{has_written_of_eq}
+use Rattle.pfl_script.specs.Shows.{peer_text}
+use Rattle.pfl_script.proofs.frame_lines.PeerWordsDisplay.fmt.Goals as goal
+
+pub returns-clause-writes : goal.returns-clause-writes
+unfolding peer_text
+returns-clause-writes g c plain done =
+    has_written_of_eq _ _ _ _ _ (rw (c.of_u8-scale.ensures, c.fields-level.ensures.fields) (simp append_assoc refl)) (c.write.ensures.writes plain done)
