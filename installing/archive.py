@@ -13,12 +13,12 @@ MODE = 0o100644
 UNIX = 3
 
 
-def archive(package: Path, start: str) -> bytes:
-    """A package without its tests, and a module that is run at its start, as a file in the form of Python's `zipapp`."""
+def archive(package: Path, data: Path, start: str) -> bytes:
+    """A package without its tests, one of data, and a module that is run at its start, as a file in the form of Python's `zipapp`."""
     out = io.BytesIO()
     out.write(FIRST_LINE)
     with zipfile.ZipFile(out, "w", zipfile.ZIP_STORED) as its:
-        for name, content in sorted({"__main__.py": start.encode(), **modules(package)}.items()):
+        for name, content in sorted({"__main__.py": start.encode(), **modules(package), **contents(data)}.items()):
             entry = zipfile.ZipInfo(name, TIME)
             entry.create_system, entry.external_attr = UNIX, MODE << 16
             its.writestr(entry, content)
@@ -29,3 +29,9 @@ def modules(package: Path) -> Dict[str, bytes]:
     """The modules of a package by their names in an archive; its tests are left out."""
     found = (it for it in package.rglob("*.py") if "tests" not in it.relative_to(package).parts)
     return {f"{package.name}/{it.relative_to(package).as_posix()}": it.read_bytes() for it in found}
+
+
+def contents(package: Path) -> Dict[str, bytes]:
+    """The files of a package of data by their names in an archive."""
+    found = (it for it in package.iterdir() if it.is_file())
+    return {f"{package.name}/{it.name}": it.read_bytes() for it in found}

@@ -14,8 +14,9 @@ RUNNABLE, READABLE = 0o755, 0o644
 # What examples say of the checkout's commands, and what stands for it where there is no checkout.
 INSTALLED_WORDS = (
     *((f"./lab {word}", f"pfl_lab {word}") for word in ("run", "check", "serve")),
-    *((f"./lab {word}", f"pfl_shell {word}") for word in ("shell", "verify", "annotate", "chart")),
+    *((f"./lab {word}", f"pfl_shell {word}") for word in ("shell", "verify", "annotate", "chart", "page")),
     ("[docs/FORMATS.md](../docs/FORMATS.md)", "pfl_lab(1)"),
+    ("[page](../docs/PAGE.md)", "page"),
 )
 
 
@@ -31,7 +32,7 @@ def files(program: str) -> List[File]:
     """All that is installed where this is the proved program."""
     return [
         File("bin/pfl_lab", RUNNABLE, Path(program).read_bytes()),
-        File("bin/pfl_shell", RUNNABLE, archive(TOP / "shell", START)),
+        File("bin/pfl_shell", RUNNABLE, archive(TOP / "shell", TOP / "page", START)),
         *(File(f"share/man/man1/{it}.1", READABLE, (TOP / f"docs/man/{it}.1").read_bytes()) for it in COMMANDS),
         *completions(),
         *examples(),
@@ -47,9 +48,9 @@ def completions() -> Iterator[File]:
 
 
 def examples() -> Iterator[File]:
-    """The examples with their pictures and the page about them, in the words of the installed commands."""
+    """The examples with their pictures and pages, and what is said about them, in the words of the installed commands."""
     for path in sorted((TOP / "examples").iterdir()):
-        if path.suffix in (".pfl", ".md", ".svg"):
+        if path.suffix in (".pfl", ".md", ".svg", ".html"):
             text = path.read_text(encoding="utf-8")
             for old, new in INSTALLED_WORDS:
                 text = text.replace(old, new)

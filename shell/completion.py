@@ -5,7 +5,8 @@ import glob
 import re
 from typing import Callable, Dict, Iterable, List, Sequence, Tuple
 
-from .helps import SHELL, WORDS
+from .charts.windows import FLOW, WINDOW_WORDS
+from .helps import CHART, SHELL, WORDS
 from .laboratory import Laboratory
 from .language.commands import COMMANDS, FRAME, RULE, SETUP, STEP, TYPED, WHY
 from .language.events import EVENTS
@@ -55,6 +56,8 @@ def candidates(lab: Laboratory, before: Sequence[str], begun: str) -> List[str]:
         return _matching(WORDS, begun)
     if words[0] == SEARCH:
         return _search(lab, words, begun)
+    if words[0] == CHART:
+        return _matching(_chart(lab, words, begun), begun)
     # An event follows the branch, which `why` may be without.
     places = {STEP.word: (2,), WHY.word: (1, 2)}.get(words[0], ())
     part = next((words[at:] for at in places if words[at:] and words[at] in EVENTS), words)
@@ -81,6 +84,18 @@ def _values(word: str) -> List[Tuple[str, Sequence[str]]]:
     row = EVENTS.get(word) or TYPED.get(word) or SETUP.get(word)
     values = (NODE, ACTION, RULE_DIRECTION) if row is RULE else row.values if row else ()
     return [(it.name, it.words) for it in values]
+
+
+def _chart(lab: Laboratory, words: Sequence[str], begun: str) -> Iterable[str]:
+    """What can follow the words of a chart: a branch, parts of it in their order, and a file."""
+    if words[-1] == FLOW:
+        branch = words[1] if words[1] in lab.names() else lab.in_use
+        return sorted({str(it) for node in lab.show(branch).nodes.values() for it in node.states})
+    if words[-1] in WINDOW_WORDS:
+        return ()
+    said = [WINDOW_WORDS.index(it) for it in words if it in WINDOW_WORDS]
+    branches = _branches(lab, words) if len(words) == 1 else ()
+    return [*branches, *WINDOW_WORDS[max(said, default=-1) + 1 :], *glob.glob(glob.escape(begun) + "*")]
 
 
 def _options(word: str) -> Iterable[str]:

@@ -70,6 +70,8 @@ def _changed(where: str, what: str, before: Dict[str, str], after: Dict[str, str
 def _moved(where: str, what: str, before: Sequence[Item], after: Sequence[Item]) -> List[Difference]:
     """What differs between two lists, whose order counts: an entry in another place is gone and new."""
     found: List[Difference] = []
+    if before == after:
+        return found
     for tag, first, end, other_first, other_end in SequenceMatcher(None, before, after, autojunk=False).get_opcodes():
         if tag != "equal":
             found += [Difference(where, what, it, text, "") for it, text in before[first:end]]
@@ -107,7 +109,8 @@ def _of_states(where: str, before: Node, after: Node) -> List[Difference]:
 # ---- nodes
 
 
-def _numbers(node: Node) -> Dict[str, str]:
+def node_numbers(node: Node) -> Dict[str, str]:
+    """What a node has but for its tables and lists, each with its name."""
     return {
         "clock": seconds(node.clock),
         "boot": str(node.boot),
@@ -137,7 +140,9 @@ def _held(node: Node) -> List[Item]:
 
 
 def _of_node(where: str, before: Node, after: Node) -> List[Difference]:
-    old, new = _numbers(before), _numbers(after)
+    if before == after:
+        return []
+    old, new = node_numbers(before), node_numbers(after)
     found = [Difference(where, what, "", old[what], new[what]) for what in old if old[what] != new[what]]
     found += _changed(where, "counter", _counters(before), _counters(after))
     found += _of_states(where, before, after)

@@ -3,7 +3,7 @@ from __future__ import annotations
 
 from dataclasses import dataclass, field
 from itertools import groupby, zip_longest
-from typing import Dict, List, Optional
+from typing import Dict, List, NamedTuple, Optional, Tuple
 
 from .branches import Branch
 from .checksums import rules_checksum
@@ -31,6 +31,8 @@ from .words import (
 
 # What nodes that agree may have apart: each uses a state at its own times, and keeps for itself what it has to tell of it.
 NOT_SHARED = ("last use", "flags", "update count", "last change by the peer")
+# The field that means the same at both nodes only where their rules are the same.
+RULE = ("rule",)
 
 
 # ---- node a against node b
@@ -52,7 +54,9 @@ class Compared:
 def between_nodes(pair: Pair, setup: Optional[Setup], paint: Paint) -> List[str]:
     """Whether both nodes have the same states, what is on its way between them, and each difference."""
     compared = _compare(pair, setup)
-    lines = [_answer(pair, compared, paint), *_circumstances(pair, setup, paint)]
+    only, twice = compared.only, sum(bool(_names_of_flow(pair.b, it)) for it in compared.only["a"])
+    counts = Counts(len(only["a"]), len(only["b"]), len(compared.differing), len(compared.agreeing), twice)
+    lines = [counts.answer(paint), *circumstances(pair, setup, paint)]
     if setup is None:
         lines.append(paint.note(UNKNOWN_SETUP))
     for node, states in compared.only.items():
@@ -71,12 +75,12 @@ def _compare(pair: Pair, setup: Optional[Setup]) -> Compared:
         for name, state in sorted(node.states.items()):
             if name not in pair.nodes[other(node.id)].states:
                 (compared.unsynchronised if state.flags == "n" else compared.only)[node.id].append(state)
-    one_rule_set = _is_one_rule_set(setup)
+    one_rule_set = is_one_rule_set(setup)
     for name in sorted(it for it in pair.a.states if it in pair.b.states):
-        parts = _parts(pair.a.states[name], pair.b.states[name])
-        rule = parts.pop("rule", "")
-        apart = [*([rule] if rule and not one_rule_set else []), *_times_apart(pair, name, setup)]
-        differing = [*parts.values(), *([rule] if rule and one_rule_set else [])]
+        parts = unequal_fields(pair.a.states[name], pair.b.states[name])
+        rule = {} if one_rule_set else {it: parts.pop(it) for it in RULE if it in parts}
+        apart = [*_both(rule), *_times_apart(pair, name, setup)]
+        differing = _both(parts)
         if apart:
             compared.apart[name] = apart
         if differing:
@@ -86,16 +90,19 @@ def _compare(pair: Pair, setup: Optional[Setup]) -> Compared:
     return compared
 
 
-def _is_one_rule_set(setup: Optional[Setup]) -> bool:
+def is_one_rule_set(setup: Optional[Setup]) -> bool:
     """Whether both nodes are known to have the same rules: only then a rule's number means the same at both."""
     return setup is not None and rules_checksum(setup.rules["a"]) == rules_checksum(setup.rules["b"])
 
 
-def _parts(one: State, two: State) -> Dict[str, str]:
-    """The fields of two states that are not the same, each with both texts."""
+def unequal_fields(one: State, two: State) -> Dict[str, Tuple[str, str]]:
+    """The fields of two states that are not the same, each with both texts; but for those that need not be."""
     first, second = state_fields(one), state_fields(two)
-    unequal = (it for it in first if it not in NOT_SHARED and first[it] != second[it])
-    return {it: f"{it} {first[it]} | {second[it]}" for it in unequal}
+    return {it: (first[it], second[it]) for it in first if it not in NOT_SHARED and first[it] != second[it]}
+
+
+def _both(parts: Dict[str, Tuple[str, str]]) -> List[str]:
+    return [f"{it} {first} | {second}" for it, (first, second) in parts.items()]
 
 
 def _times_apart(pair: Pair, name: Name, setup: Optional[Setup]) -> List[str]:
@@ -115,18 +122,29 @@ def _only_apart(compared: Compared) -> List[str]:
     return [f"agree, but apart: {', '.join(those)}  {apart}" for apart, those in names.items()]
 
 
-def _answer(pair: Pair, compared: Compared, paint: Paint) -> str:
-    only_a, only_b, differ = len(compared.only["a"]), len(compared.only["b"]), len(compared.differing)
-    if not only_a + only_b + differ:
-        shared = len(compared.agreeing)
-        return paint.good("a and b agree") + f" in {counted(shared, 'state')}" * (shared > 0)
-    answer = paint.bad(f"a and b differ in {counted(only_a + only_b + differ, 'state')}")
-    answer += f": {only_a} only on a, {only_b} only on b, {differ} differ"
-    twice = sum(bool(_names_of_flow(pair.b, it)) for it in compared.only["a"])
-    return answer + (paint.note(f"; {counted(twice, 'flow has', 'flows have')} two names") if twice else "")
+class Counts(NamedTuple):
+    """How many states are only on a, only on b, on both and differ, and on both and agree; and how many flows have two names."""
+
+    only_a: int
+    only_b: int
+    differ: int
+    agree: int
+    twice: int
+
+    @property
+    def apart(self) -> int:
+        return self.only_a + self.only_b + self.differ
+
+    def answer(self, paint: Paint) -> str:
+        """Whether the nodes agree, in a sentence."""
+        if not self.apart:
+            return paint.good("a and b agree") + f" in {counted(self.agree, 'state')}" * (self.agree > 0)
+        answer = paint.bad(f"a and b differ in {counted(self.apart, 'state')}")
+        answer += f": {self.only_a} only on a, {self.only_b} only on b, {self.differ} differ"
+        return answer + (paint.note(f"; {counted(self.twice, 'flow has', 'flows have')} two names") if self.twice else "")
 
 
-def _circumstances(pair: Pair, setup: Optional[Setup], paint: Paint) -> List[str]:
+def circumstances(pair: Pair, setup: Optional[Setup], paint: Paint) -> List[str]:
     """What explains why the nodes are apart, or may still make them agree."""
     lines: List[str] = []
     if pair.a.pending + pair.b.pending + len(pair.frames):
@@ -140,7 +158,7 @@ def _circumstances(pair: Pair, setup: Optional[Setup], paint: Paint) -> List[str
             lines.append(f"{node.id} serves a bulk update, {bulk_server(node.serve)}")
         if node.sync != "-":
             lines.append(f"{node.id} {bulk_client(node.sync)}")
-    if setup and not _is_one_rule_set(setup):
+    if setup and not is_one_rule_set(setup):
         lines.append("rules: those of a and b differ, so neither keeps the other's rule numbers")
     return [paint.note(it) for it in lines]
 

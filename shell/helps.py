@@ -20,6 +20,7 @@ class Help(NamedTuple):
     more: str = ""
 
 
+CHART = "chart"
 # The names in forms that the help writes out.
 _WRITTEN_OUT = {"SRC": "SOURCE", "DST": "DESTINATION", "LEN": "LENGTH"}
 
@@ -101,8 +102,11 @@ SHELL: Dict[str, Help] = {
         "steps what the last search found, on a new branch",
         "The branch NAME (`found`, then `found-2`, .. if it is left out) is forked from the one that was searched, and is in use then.",
     ),
-    "chart": Help(
-        "chart [BRANCH] [FILE.svg]", "draws what happened: two lanes, frames as arrows; as text, or as a picture into a file"
+    CHART: Help(
+        f"{CHART} [BRANCH] [from K] [to L] [flow NAME] [FILE.svg]",
+        "draws what happened: two lanes, frames as arrows; as text, or as a picture into a file",
+        "With K and L it draws the events from the K-th to the L-th; with NAME only what is about this state: packets of its flow, "
+        "frames with a record about it, and what takes it from a node.",
     ),
     "summary": Help("summary", "asks a server for a few numbers of all branches, which is no command and waits for nobody"),
     "use": Help("use BRANCH", "makes a branch the one that events and questions without a branch are meant of"),

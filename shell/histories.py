@@ -4,10 +4,12 @@ from __future__ import annotations
 
 from dataclasses import replace
 from functools import lru_cache, partial
-from typing import Iterator, Sequence
+from typing import Callable, Iterator, Sequence
 
+from .explanations import Explanation
 from .flights import Flight
 from .laboratory import Laboratory
+from .pair import Pair
 
 
 class History:
@@ -16,13 +18,13 @@ class History:
     def __init__(self, lab: Laboratory, branch: str, lines: Sequence[str]):
         self.lab, self.lines = lab, lines
         # What came of an event and why, and the pair after it, by its place.
-        self.explained = lru_cache(maxsize=None)(partial(lab.explanation, branch))
-        self.pair = lru_cache(maxsize=None)(partial(lab.past, branch))
-        self._sent = lru_cache(maxsize=None)(partial(lab.flight, branch))
+        self.explained: Callable[[int], Explanation] = lru_cache(maxsize=None)(partial(lab.explanation, branch))
+        self.pair: Callable[[int], Pair] = lru_cache(maxsize=None)(partial(lab.past, branch))
+        self.sent: Callable[[int], Flight] = lru_cache(maxsize=None)(partial(lab.flight, branch))
 
     def flight(self, ticket: int) -> Flight:
         """A frame that an event of the branch sent, and what these events did to it."""
-        it = self._sent(ticket)
+        it = self.sent(ticket)
         return replace(it, later=[one for one in it.later if one.number <= len(self.lines)])
 
     def newest_flights(self) -> Iterator[Flight]:

@@ -44,8 +44,14 @@ def _cursor(branch: Branch, width: int) -> str:
     return f"{'>':>{width + 2}}  cursor at {branch.cursor}"
 
 
-def _painted(outcome: str, paint: Paint) -> str:
+def tone(outcome: str) -> str:
+    """How an outcome is painted: `good`, `bad` or not at all."""
     first = outcome.partition(" ")[0]
     if first in (DROPPED.word, BROKEN.word, LOST.word, "refused", "bad"):
-        return paint.bad(outcome)
-    return paint.good(outcome) if first in (PASS.word, HELD_BACK.word) else outcome
+        return "bad"
+    return "good" if first in (PASS.word, HELD_BACK.word) else ""
+
+
+def _painted(outcome: str, paint: Paint) -> str:
+    paints = {"bad": paint.bad, "good": paint.good}
+    return paints[tone(outcome)](outcome) if tone(outcome) else outcome

@@ -1,22 +1,30 @@
-"""The words that need the shell, of `./lab` and of the installed `pfl_shell`: shell, verify, annotate and chart."""
+"""The words that need the shell, of `./lab` and of the installed `pfl_shell`: shell, verify, annotate, chart and page."""
 from __future__ import annotations
 
 import argparse
 import io
 import os
 import sys
+from contextlib import closing
 from typing import Iterator, List, Optional, Sequence
 
 from . import scripts
-from .charts.chart import Chart, chart as chart_of
+from .charts.chart import NO_TEXTS, chart as chart_of
 from .charts.picture import draw
+from .charts.rows import Chart
 from .charts.text import text as chart_text
+from .charts.windows import WHOLE, Window, read_flow, read_place
 from .colours import PLAIN, Paint
 from .laboratory import Laboratory, Unknown
 from .language.lines import has_word, lines_of, opens
+from .language.names import Name
+from .pages.live import OPENING, begun, joined, serve
+from .pages.packing import NotPacked, page as page_of
+from .pages.runs import run_of
 from .programs import Client, Ended, SetupFault, check_setup, run_lines, setup_fault
 from .setups import Setup
 from .shell import STRICT_STATUS, Shell, Stopped
+from .stories import story_of
 
 HISTORY = "~/.pfl_lab_history"
 INTERRUPTED_STATUS = 130
@@ -35,7 +43,14 @@ class Words(argparse.Namespace):
     strict: bool
     file: str
     picture: Optional[str]
+    script: Optional[str]
+    page: str
+    serve: Optional[int]
     branch: str
+    first: int
+    last: Optional[int]
+    flow: Optional[Name]
+    notes: bool
 
 
 def parser(name: str = "./lab") -> argparse.ArgumentParser:
@@ -65,14 +80,52 @@ def parser(name: str = "./lab") -> argparse.ArgumentParser:
     chart.add_argument(
         "picture", nargs="?", type=picture, metavar="FILE.svg", help="the picture's file; without it the chart comes as text"
     )
-    chart.add_argument("--branch", default="main", metavar="BRANCH")
+    chart.add_argument("--branch", default="main", metavar="BRANCH", help="draws this branch in place of `main`")
+    chart.add_argument("--from", dest="first", type=event, default=1, metavar="K", help="draws from the K-th event on")
+    chart.add_argument("--to", dest="last", type=event, metavar="L", help="draws up to the L-th event")
+    chart.add_argument("--flow", type=flow, metavar="NAME", help="draws what is about the state NAME alone, as 1.3")
+    chart.add_argument("--notes", action="store_true", help="draws the script's comments, too, each above its event")
+    page = kinds.add_parser(
+        "page",
+        help="shows what happens in a script as a page for a browser",
+        usage=f"{name} page SCRIPT OUT.html\n       {name} page --serve PORT [SCRIPT | --port P --setup FILE]",
+        description="Writes what happens in a script as a page, which is one file and needs nothing else; or serves a page that"
+        " shows a pair as it goes on, and steps it, to the browsers of this machine.",
+    )
+    page.add_argument("script", nargs="?", metavar="SCRIPT", help="the script; a served page goes on after it")
+    page.add_argument("page", nargs="?", type=page_name, metavar="OUT.html", help="the page's file")
+    page.add_argument("--serve", type=port, metavar="PORT", help="serves the page at this port of 127.0.0.1, and prints its addresses")
+    page.add_argument("--port", type=port, metavar="P", help="with --serve: a session of the server at this port, and no pair of its own")
+    page.add_argument("--setup", metavar="FILE", help="with --port: the setup that the server read")
     return words
+
+
+def event(word: str) -> int:
+    """The place of an event in its branch."""
+    try:
+        return read_place(word)
+    except Unknown as why:
+        raise argparse.ArgumentTypeError(str(why)) from why
+
+
+def flow(word: str) -> Name:
+    """The name of a state."""
+    try:
+        return read_flow(word)
+    except Unknown as why:
+        raise argparse.ArgumentTypeError(str(why)) from why
 
 
 def port(word: str) -> int:
     if not word.isdecimal() or len(word) > 5 or not 1 <= int(word) <= 65535:
         raise argparse.ArgumentTypeError("a port is a number from 1 to 65535")
     return int(word)
+
+
+def page_name(word: str) -> str:
+    if not word.endswith((".html", ".htm")):
+        raise argparse.ArgumentTypeError(f"{word}: the name of a page ends in .html")
+    return word
 
 
 def picture(word: str) -> str:
@@ -87,12 +140,14 @@ def main(arguments: Sequence[str], name: str = "./lab") -> int:
     words = kinds.parse_args(arguments, Words())
     if words.word == "shell" and words.setup and not words.port:
         kinds.error("--setup tells what a server read, and goes with --port; a pair of your own has its setup from lines")
+    if words.word == "page" and page_fault(words):
+        kinds.error(page_fault(words))
     for stream in (sys.stdin, sys.stdout):
         if isinstance(stream, io.TextIOWrapper):
             # A line has whatever bytes it has: the program judges them.
             stream.reconfigure(errors="surrogateescape")
     try:
-        return {"shell": shell, "verify": verify, "annotate": annotate, "chart": chart}[words.word](words)
+        return {"shell": shell, "verify": verify, "annotate": annotate, "chart": chart, "page": page}[words.word](words)
     except KeyboardInterrupt:
         return INTERRUPTED_STATUS
     except BrokenPipeError:
@@ -103,7 +158,7 @@ def main(arguments: Sequence[str], name: str = "./lab") -> int:
         say(words, f"{error.filename}: {error.strerror}" if error.filename else error)
     except SetupFault as fault:
         say(words, f"setup line {fault.line}: {fault.words}")
-    except (Ended, Unknown, scripts.NotWritten) as why:
+    except (Ended, Unknown, NotPacked, scripts.NotWritten) as why:
         say(words, why)
     return 1
 
@@ -127,18 +182,51 @@ def annotate(words: Words) -> int:
 
 def chart(words: Words) -> int:
     script = lines_of(scripts.read(words.file))
-    faulty = list(faulty_lines(words.program, script))
-    for line in faulty:
-        say(words, f"{words.file}:{line}")
-    if faulty:
+    if says_faults(words, words.file, script):
         return 1
-    drawn = drawn_from(words.program, script, words.branch)
+    drawn = drawn_from(words.program, script, words.branch, Window(words.first, words.last, words.flow), words.notes)
     if words.picture:
         with open(words.picture, "w", encoding="utf-8") as it:
-            it.write(draw(drawn, title_of(script) or os.path.basename(words.file)))
+            it.write(draw(drawn, scripts.title_of(script) or os.path.basename(words.file)))
     else:
         print("\n".join(chart_text(drawn, paint(sys.stdout.isatty()))))
     return 0
+
+
+def page(words: Words) -> int:
+    """Writes a script's run as a page, or serves the page of a pair."""
+    script: Sequence[str] = lines_of(scripts.read(words.script)) if words.script else OPENING
+    if words.script and says_faults(words, words.script, script):
+        return 1
+    name = os.path.basename(words.script) if words.script else "A pair of firewalls"
+    if words.serve:
+        setup = setup_from(words.program, words.setup) if words.setup else None
+        pair = joined(words.port, setup, sys.stdout) if words.port else begun(words.program, script, name)
+        serve(words.program, words.serve, pair, sys.stdout)
+    with closing(run_of(words.program, script, name)) as run:
+        text = page_of(run.as_data())
+    with open(words.page, "w", encoding="utf-8") as it:
+        it.write(text)
+    return 0
+
+
+def says_faults(words: Words, path: str, script: Sequence[str]) -> bool:
+    """Says what the program finds faulty in a script: whether there is something."""
+    faulty = list(faulty_lines(words.program, script))
+    for line in faulty:
+        say(words, f"{path}:{line}")
+    return bool(faulty)
+
+
+def page_fault(words: Words) -> str:
+    """What is wrong with the words of a page, which do not all go together; empty where nothing is."""
+    if not words.serve:
+        return "a page needs SCRIPT and OUT.html, or --serve PORT" if not words.page or words.port or words.setup else ""
+    if words.page:
+        return "a page that is served is not written"
+    if words.port and (words.script or not words.setup):
+        return "--port joins a server that has its pair, and goes with --setup and without a script"
+    return "--setup tells what a server read, and goes with --port" if words.setup and not words.port else ""
 
 
 def faulty_lines(program: str, script: Sequence[str]) -> Iterator[str]:
@@ -153,23 +241,15 @@ def faulty_lines(program: str, script: Sequence[str]) -> Iterator[str]:
             yield f"{words[1]}: {' '.join(words[2:])}"
 
 
-def drawn_from(program: str, script: Sequence[str], branch: str) -> Chart:
-    """What a script makes of a branch, as a chart."""
+def drawn_from(program: str, script: Sequence[str], branch: str, window: Window = WHOLE, with_notes: bool = False) -> Chart:
+    """What a script makes of a branch, as a chart, with its comments if they are wanted."""
     lab = Laboratory(program)
-    for line in script:
-        if lab.is_open:
-            lab.ask(line)
-        elif has_word(line):
-            lab.tell_setup(line)
-    drawn = chart_of(lab, lab.branch(branch))
-    lab.close()
-    return drawn
-
-
-def title_of(script: Sequence[str]) -> str:
-    """The first sentence of a script's first line, where that is a comment."""
-    first = script[0] if script else ""
-    return first.lstrip("# ").partition(". ")[0].rstrip(".").replace("`", "") if first.startswith("#") else ""
+    try:
+        story = story_of(lab, script)
+        notes = story.branches[branch].above if with_notes and branch in story.branches else NO_TEXTS
+        return chart_of(lab, lab.branch(branch), notes, story.forks(branch), window)
+    finally:
+        lab.close()
 
 
 def paint(is_terminal: bool) -> Paint:

@@ -47,7 +47,7 @@ def read_reply(lines: Iterator[str]) -> List[str]:
     reply = [first.rstrip("\n")]
     if reply[0].split(" ")[0] in MANY_LINES:
         for line in lines:
-            reply.append(line.rstrip("\n"))
+            reply.append(line[:-1] if line.endswith("\n") else line)
             if reply[-1] == "end":
                 break
     return reply
@@ -78,15 +78,23 @@ class Session:
 
     def ask_freely(self, line: str) -> List[str]:
         """The reply to a line that has one; after an interrupt the session is of no more use."""
+        return self._ask([line])[0]
+
+    def ask_together(self, lines: Sequence[str]) -> List[List[str]]:
+        """The replies to a few lines that have one, which are sent together: that is quicker than one after another."""
+        with uninterrupted():
+            return self._ask(lines)
+
+    def _ask(self, lines: Sequence[str]) -> List[List[str]]:
         try:
-            self._to.write(f"{line}\n")
+            self._to.write("".join(f"{line}\n" for line in lines))
             self._to.flush()
-            reply = read_reply(self._replies)
+            replies = [read_reply(self._replies) for _ in lines]
         except OSError as error:
             raise Ended(self.gone) from error
-        if not reply:
+        if not all(replies):
             raise Ended(self.gone)
-        return reply
+        return replies
 
     def close(self) -> None:
         try:

@@ -5,14 +5,29 @@ import os
 import re
 import tempfile
 from dataclasses import dataclass, field
+from itertools import takewhile
 from typing import Dict, Iterator, List, Sequence, Tuple
 
 from .language.lines import content_of, has_word, lines_of, opens
 from .programs import run_lines
 
 REPLY, FAULT, CHECKED, STATUS = "#> ", "#! ", "#? ", "#= "
+LONGEST_TITLE = 120
 # A line that somebody wrote as one of these, and that is a comment.
 LIKE_A_MARK = re.compile(r"\s*#[>!?=]")
+
+
+def is_mark(line: str) -> bool:
+    """Whether a line is a reply, a fault or a status, or looks like one."""
+    return LIKE_A_MARK.match(line) is not None
+
+
+def title_of(script: Sequence[str]) -> str:
+    """The first sentence of the comment that a script begins with, if it does and the sentence is short enough for a title."""
+    begin = takewhile(lambda line: line.startswith("#") and line.strip("# \t\r"), script)
+    text = " ".join(line.strip("# \t\r") for line in begin)
+    title = re.split(r"(?<=[.?!]) ", text)[0].rstrip(".").replace("`", "")
+    return title if len(title) <= LONGEST_TITLE else ""
 
 
 class NotWritten(Exception):
@@ -59,7 +74,7 @@ class Script:
                 script._expect(number, line[len(REPLY) :])
             elif line[:3] in script.marked:
                 script.marked[line[:3]].append((number, line[3:]))
-            elif LIKE_A_MARK.match(line):
+            elif is_mark(line):
                 script.unread.append((number, line))
             elif has_word(line) and is_open:
                 script.commands.append(Command(number))

@@ -69,6 +69,11 @@ class Setup:
     lines: List[str] = field(default_factory=list)
     limits: Dict[Limit, int] = field(default_factory=lambda: {it: it.default for it in LIMITS.values() if not it.fifths})
     rules: Dict[str, List[Rule]] = field(default_factory=lambda: {node: [] for node in NODES})
+    # Between which numbers of states timeouts shrink.
+    adaptive: Adaptive = field(init=False)
+
+    def __post_init__(self) -> None:
+        self._adapt()
 
     @classmethod
     def of(cls, lines: Sequence[str]) -> "Setup":
@@ -82,6 +87,7 @@ class Setup:
         words = line.split()
         if words[0] == SET.word:
             self.limits[LIMITS[words[1]]] = int(words[2])
+            self._adapt()
         else:
             self.rules[words[1]].append(Rule(tuple(words[2:])))
         self.lines.append(line)
@@ -91,10 +97,8 @@ class Setup:
         rules = self.rules[node]
         return rules[number] if number is not None and number < len(rules) else None
 
-    @property
-    def adaptive(self) -> Adaptive:
-        """Between which numbers of states timeouts shrink."""
-        return Adaptive(*(self.limits.get(it, self.limits[STATES] * it.fifths // 5) for it in (ASTART, AEND)))
+    def _adapt(self) -> None:
+        self.adaptive = Adaptive(*(self.limits.get(it, self.limits[STATES] * it.fifths // 5) for it in (ASTART, AEND)))
 
     def seconds(self, node: str, number: Optional[int], timeout_class: str) -> int:
         """The timeout of a state's class under its rule, in seconds, where no number of states shortens it."""

@@ -9,9 +9,10 @@ from typing import IO, Any, Iterable, List, Sequence, Tuple
 
 from . import changes, diffs, helps, logs, macros, scripts, views
 from .branches import Branch
-from .charts.chart import chart
+from .charts.chart import NO_TEXTS, chart
 from .charts.picture import draw
 from .charts.text import text as chart_text
+from .charts.windows import read_asked
 from .colours import Paint
 from .completion import candidates
 from .laboratory import Laboratory, Unknown, event_of
@@ -25,6 +26,7 @@ from .programs import Ended, SetupFault
 from .reasons.faults import explain_fault
 from .reasons.why import why_ahead, why_event, why_last
 from .searches.finder import Finder
+from .stories import Story
 
 STRICT_STATUS = 4
 BAD_WORDS = ("bad", "refused")
@@ -263,17 +265,25 @@ class Shell(cmd.Cmd):
         self.finder.take(words.split())
 
     def do_chart(self, words: str) -> None:
-        names = words.split()
-        path = names.pop() if names and names[-1].endswith(".svg") else ""
-        if len(names) > 1:
+        asked = read_asked(words.split())
+        if asked is None:
             raise Unknown(f"usage: {helps.SHELL['chart'].form}")
-        drawn = chart(self.lab, self.branch(names[0] if names else ""))
+        branch, path = self.branch(asked.branch), asked.file
+        drawn = chart(self.lab, branch, NO_TEXTS, self.story().forks(branch.name), asked.window)
         if not path:
             self.tell(chart_text(drawn, self.paint))
             return
         with open(path, "w", encoding="utf-8") as it:
             it.write(draw(drawn, os.path.splitext(os.path.basename(path))[0]))
         self.tell([f"written: {path}"])
+
+    def story(self) -> Story:
+        """What this dialogue tells of its branches; on a server they are not its own."""
+        story = Story()
+        for line, reply in self.lines if self.lab.port is None else ():
+            if reply:
+                story.command(line, reply)
+        return story
 
     # ---- the shell itself
 

@@ -64,7 +64,7 @@ def _node(node: Node, setup: Optional[Setup], paint: Paint) -> List[str]:
         lines += _state(node.states[name], node, setup, paint)
     lines.append(_counters(node))
     lines += _to_be_told(node, paint)
-    lines += [_held(it, node, setup, paint) for it in node.held]
+    lines += [paint.note(f"  {held_packet(it, node, setup)}") for it in node.held]
     return lines + _bulk_update(node, setup, paint)
 
 
@@ -119,11 +119,12 @@ def _to_be_told(node: Node, paint: Paint) -> List[str]:
     return [paint.note(("  " if at == 0 else "    ") + it) for at, it in enumerate(lines)]
 
 
-def _held(it: Held, node: Node, setup: Optional[Setup], paint: Paint) -> str:
+def held_packet(it: Held, node: Node, setup: Optional[Setup]) -> str:
+    """A held packet with its state, and when it is due."""
     due = it.since + (setup or Setup()).limits[DEFER_MS]
     when = f"due since {seconds(due)}" if due <= node.clock else f"due at {seconds(due)}"
     packet = f" ({it.packet})" if it.packet else ""
-    return paint.note(f"  held packet of {it.name}{packet}: since {seconds(it.since)}, {when}")
+    return f"held packet of {it.name}{packet}: since {seconds(it.since)}, {when}"
 
 
 def _bulk_update(node: Node, setup: Optional[Setup], paint: Paint) -> List[str]:
@@ -159,10 +160,15 @@ def flight(it: Flight, cursor: int, setup: Optional[Setup], paint: Paint) -> Lis
 
 def _frame(frame: Frame, setup: Optional[Setup], paint: Paint) -> List[str]:
     """A frame in flight, and its records one a line."""
-    head = f"  frame {frame.ticket} to {frame.to}, {counted(len(frame.data), 'byte')}{_rules(frame, setup)}"
+    head = f"  {frame_head(frame, setup)}"
     if frame.broken:
         return [f"{head}: {paint.bad(frame.summary)}"]
     return [f"{head}: {frame.summary}", *(f"    {record_line(it)}" for it in frame.records)]
+
+
+def frame_head(frame: Frame, setup: Optional[Setup]) -> str:
+    """A frame with its receiver, its size, and whose rules its checksum is of."""
+    return f"frame {frame.ticket} to {frame.to}, {counted(len(frame.data), 'byte')}{_rules(frame, setup)}"
 
 
 def _rules(frame: Frame, setup: Optional[Setup]) -> str:

@@ -4,115 +4,56 @@ What was undone is not drawn. A chart shows one run, in which each frame ends on
 frame as lost that is in flight. The heading tells how many events were undone, and `log` lists them."""
 from __future__ import annotations
 
-import ipaddress
-import re
-from dataclasses import dataclass, field, replace
+from bisect import bisect_left
+from dataclasses import replace
 from itertools import accumulate
-from typing import Callable, Dict, Iterable, Iterator, List, Optional, Sequence, Tuple
+from typing import Container, Iterator, Mapping, Optional, Sequence, Tuple
 
 from ..branches import Branch, Happened
 from ..explanations import Explanation, read_explanation
 from ..flights import Flight, read_flight
-from .frames import beside, record_words
 from ..laboratory import Laboratory
-from ..language.events import BROKEN, CUT, DELIVER, FLUSH, HELD_BACK, LOSE, OF_FRAME, PACKET, PASS, REPEAT, RESTART, TICK
-from ..language.faults import FRAME_FAULTS
-from ..words import counted, seconds
+from ..language.events import CUT, DELIVER, FLUSH, LOSE, OF_FRAME, PACKET, REPEAT, RESTART, TICK
+from .marks import Mark, PacketMarks, delivery_mark, node_mark
+from .rows import Chart, Row
+from .windows import WHOLE, Concern, Window
+
+__all__ = ["NO_TEXTS", "Chart", "Step", "Texts", "chart", "drawn", "explained"]
+
+# Texts by the number of events that stand where they belong: paragraphs of a story, or names of branches that begin there.
+Texts = Mapping[int, Sequence[str]]
+NO_TEXTS: Texts = {}
+# An event, and the frame that it sent, if it did.
+Step = Tuple[Explanation, Optional[Flight]]
 
 
-@dataclass(frozen=True)
-class Mark:
-    """What a row has at a lane: words that may stand on lines of their own, and what became of it. The tone is good, bad, note
-    or nothing."""
-
-    node: str
-    kind: str
-    words: Tuple[str, ...]
-    fate: str = ""
-    tone: str = ""
+def chart(lab: Laboratory, branch: Branch, notes: Texts = NO_TEXTS, forks: Texts = NO_TEXTS, window: Window = WHOLE) -> Chart:
+    """The chart of the events of a branch that stand, or of a part of them."""
+    window.within(branch.name, branch.cursor)
+    return drawn(branch.name, [*explained(lab, branch)], len(branch.events) - branch.cursor, notes, forks, window)
 
 
-@dataclass(frozen=True)
-class Row:
-    """One event, or a few that are one thing to look at; and the frame that begins, changes or ends in it."""
-
-    first: int
-    last: int
-    kind: str
-    marks: Tuple[Mark, ...] = ()
-    ticket: Optional[int] = None
-
-
-@dataclass
-class Chart:
-    """A branch to be drawn."""
-
-    branch: str
-    events: int
-    undone: int
-    rows: List[Row] = field(default_factory=list)
-    # Of each event the place of its row, from 0 on.
-    places: Dict[int, int] = field(default_factory=dict)
-    flights: Dict[int, Flight] = field(default_factory=dict)
-    boots: Dict[str, int] = field(default_factory=lambda: {"a": 1, "b": 2})
-
-    def sent(self, flight: Flight) -> int:
-        """The place of the row where a frame is sent."""
-        return self.places[flight.sent.number]
-
-    def ended(self, flight: Flight) -> Optional[int]:
-        """The place of the row where a frame's way ends, if it does."""
-        return self.places[flight.ended.number] if flight.ended else None
-
-    @property
-    def in_flight(self) -> List[Flight]:
-        """The frames that have not ended."""
-        return [it for it in self.flights.values() if it.ended is None]
-
-    def frame_words(self, row: Row, flight: Flight) -> Tuple[str, Tuple[str, ...]]:
-        """What the link tells of a frame in a row: which frame it is, and what it has or what happens to it."""
-        frame = f"#{flight.ticket}"
-        if row.kind == FLUSH.word:
-            records = record_words(flight.frame.records)
-            return f"{frame}:", tuple(f"{it}{',' * (it != records[-1])}" for it in records)
-        if row.kind == REPEAT.word:
-            return f"{frame}:", (f"copy of #{flight.origin}",)
-        if row.kind == CUT.word:
-            return f"{frame}:", (f"cut to {next(it.outcome[1] for it in flight.cuts if it.number == row.first)} bytes",)
-        return frame, ()
-
-    @property
-    def heading(self) -> str:
-        undone = f", {self.undone} undone and not drawn" if self.undone else ""
-        # Frames are told by their tickets: in 80 columns there is no room for the word.
-        legend = "; #N is frame N" if self.flights else ""
-        return f"{self.branch}, {counted(self.events, 'event')}{undone}{legend}"
+def drawn(
+    name: str,
+    events: Sequence[Step],
+    undone: int,
+    notes: Texts = NO_TEXTS,
+    forks: Texts = NO_TEXTS,
+    window: Window = WHOLE,
+) -> Chart:
+    """The chart of a branch by the events that stand, each explained and with the frame that it sent, if it did, and by how many
+    were undone. What befell a frame is taken from these events alone. Events between which there are texts have rows of their
+    own."""
+    part = window.within(name, len(events))
+    concern = Concern(name, part.flow, [it for it, _ in events]) if part.flow else None
+    growing = _Growing(Chart(name, len(events), undone, part), concern, {*notes, *forks})
+    for it, flight in events:
+        growing.event(it, flight)
+    growing.finish(notes, forks)
+    return growing.chart
 
 
-def broken(text: str, fits: Callable[[str], bool]) -> List[str]:
-    """A text in parts that fit, broken at spaces and after colons."""
-    parts: List[str] = [""]
-    for word in re.findall(r"[^ :]*[ :]|[^ :]+", text):
-        if parts[-1] and not fits((parts[-1] + word).rstrip()):
-            parts.append("")
-        parts[-1] += word
-    return [it.strip() for it in parts]
-
-
-def duration(milliseconds: int) -> str:
-    """A time on a clock: in seconds, but for less than one."""
-    return f"{milliseconds} ms" if 0 < milliseconds < 1000 else seconds(milliseconds)
-
-
-def chart(lab: Laboratory, branch: Branch) -> Chart:
-    """The chart of the events of a branch that stand."""
-    drawing = _Drawing(Chart(branch.name, branch.cursor, len(branch.events) - branch.cursor))
-    for it, flight in _explained(lab, branch):
-        drawing.event(it, flight)
-    return drawing.chart
-
-
-def _explained(lab: Laboratory, branch: Branch) -> Iterator[Tuple[Explanation, Optional[Flight]]]:
+def explained(lab: Laboratory, branch: Branch) -> Iterator[Step]:
     """Each event that stands, explained, and the frame that it sent, if it did: tickets are counted from 1."""
     events = branch.events[: branch.cursor]
     sends = [it.split()[0] in (FLUSH.word, REPEAT.word) for it in events]
@@ -130,86 +71,90 @@ def _explained(lab: Laboratory, branch: Branch) -> Iterator[Tuple[Explanation, O
         yield read_explanation(next(replies)), read_flight(next(replies)) if is_sent else None
 
 
-# ---- marks at a lane
+class _Growing:
+    """A chart that grows event by event. Nothing is drawn as one between whose events there are breaks."""
 
+    def __init__(self, chart: Chart, concern: Optional[Concern], breaks: Container[int]):
+        self.chart, self.concern, self.breaks = chart, concern, breaks
+        self.packets = PacketMarks()
+        # The newest event that is drawn.
+        self.newest: Optional[Happened] = None
 
-def end_words(end: str) -> str:
-    """An end of a flow; an IPv6 address in the short form."""
-    if not end.startswith("["):
-        return end
-    address, _, port = end[1:].partition("]")
-    return f"[{ipaddress.IPv6Address(address).compressed}]{port}"
-
-
-def _packet(words: Sequence[str], outcome: Sequence[str]) -> Mark:
-    node, direction, protocol, source, target = words[1:6]
-    what = [f"{protocol} [{words[6]}]" if protocol == "tcp" else protocol, f"{end_words(source)} ->", end_words(target)]
-    if outcome[-1] == "window":
-        what += [f"seq {words[7]},", f"ack {words[8]},", f"length {words[10]}"]
-    tone = {PASS.word: "good", HELD_BACK.word: "note"}.get(outcome[0], "bad")
-    fate = "pass, no state" if outcome[-1] == "-" else " ".join(outcome)
-    return Mark(node, direction, tuple(what), fate, tone)
-
-
-def _of_node(it: Happened) -> Mark:
-    """The mark of an event at one node that is no packet."""
-    number = int(it.outcome[1]) if len(it.outcome) > 1 else 0
-    counts = {"states": counted(number, "state"), "packets": counted(number, "held packet"), "clock": duration(number)}
-    fate = it.kind.outcome_of(it.outcome).drawn.format(n=number, **counts)
-    what = it.kind.drawn.format(duration(int(it.words[2])) if it.kind is TICK else it.words[-1])
-    return Mark(it.words[1], it.kind.word, (what,), fate, "note" if it.kind is RESTART else "")
-
-
-class _Drawing:
-    """A chart that grows event by event."""
-
-    def __init__(self, drawn: Chart):
-        self.chart = drawn
-
-    def event(self, explained: Explanation, flight: Optional[Flight]) -> None:
-        it = explained.event
-        if flight:
+    def event(self, it: Explanation, flight: Optional[Flight]) -> None:
+        event, (first, last, _) = it.event, self.chart.window
+        is_meant = self.concern is None or self.concern.has(it, flight)
+        if flight and is_meant:
             # (what befalls it follows, if that stands)
             self.chart.flights[flight.ticket] = replace(flight, later=[])
-        if it.words[0] in OF_FRAME:
-            self.chart.flights[int(it.words[1])].later.append(it)
+        if event.words[0] in OF_FRAME and int(event.words[1]) in self.chart.flights:
+            self.chart.flights[int(event.words[1])].later.append(event)
+        if event.number < first and event.kind is RESTART:
+            self.chart.boots[event.words[1]] = int(event.outcome[1])
+        elif is_meant and first <= event.number <= (last or 0):
+            self._draw(it)
+            self.newest = event
+
+    def finish(self, notes: Texts, forks: Texts) -> None:
+        """Leaves out the frames that are not seen, and puts texts above the rows where they belong."""
+        chart, (first, last, _) = self.chart, self.chart.window
+        for ticket, flight in [*chart.flights.items()]:
+            if flight.sent.number > (last or 0) or (flight.ended and flight.ended.number < first):
+                del chart.flights[ticket]
+        firsts = [it.first for it in chart.rows]
+        for stand in sorted(notes):
+            if stand + 1 in chart.places or stand == last == chart.events:
+                chart.notes[bisect_left(firsts, stand + 1)] = [*notes[stand]]
+        for stand in sorted(it for it in forks if first - 1 <= it <= (last or 0)):
+            chart.forks.setdefault(bisect_left(firsts, stand + 1), []).extend(forks[stand])
+
+    # ---- rows
+
+    def _draw(self, explained: Explanation) -> None:
+        it = explained.event
         if it.kind in (DELIVER, LOSE):
             self._end(explained, self.chart.flights[int(it.words[1])])
         elif it.kind is PACKET:
-            self._row(it, (_packet(it.words, it.outcome),))
+            self._at_node(it, self.packets.mark(explained))
         elif it.kind in (FLUSH, REPEAT):
             self._row(it, (), int(it.outcome[1]))
         elif it.kind is CUT:
             self._row(it, (), int(it.words[1]))
         else:
-            self._at_node(it, _of_node(it))
+            self._at_node(it, node_mark(it))
 
-    def _row(self, it: Happened, marks: Iterable[Mark], ticket: Optional[int] = None) -> None:
+    def _row(self, it: Happened, marks: Sequence[Mark], ticket: Optional[int] = None) -> None:
+        if it.kind is RESTART:
+            self.chart.restarts[len(self.chart.rows)] = it.words[1], int(it.outcome[1])
         self.chart.places[it.number] = len(self.chart.rows)
         self.chart.rows.append(Row(it.number, it.number, it.kind.word, tuple(marks), ticket))
 
+    def _grow(self, it: Happened, marks: Sequence[Mark]) -> None:
+        """The newest row has an event more."""
+        self.chart.places[it.number] = len(self.chart.rows) - 1
+        self.chart.rows[-1] = replace(self.chart.rows[-1], last=it.number, marks=tuple(marks))
+
+    def _before(self, it: Happened) -> Optional[Row]:
+        """The row that an event may belong to, too: the newest one, if nothing lies between."""
+        row = self.chart.rows[-1] if self.chart.rows else None
+        return row if row and row.last == it.number - 1 and row.last not in self.breaks else None
+
     def _at_node(self, it: Happened, mark: Mark) -> None:
-        """An event of one node; the same tick of both is one row."""
-        last = self.chart.rows[-1] if self.chart.rows else None
-        if it.kind is TICK and last and last.kind == TICK.word and len(last.marks) == 1:
-            if last.marks[0].node != mark.node and last.marks[0].words == mark.words:
-                self.chart.rows[-1] = replace(last, last=it.number, marks=(*last.marks, mark))
+        """An event of one node. The same again is in one row with it, and so is the same tick of both."""
+        row, newest = self._before(it), self.newest
+        if row and newest and row.ticket is None and len(row.marks) == 1:
+            one = row.marks[0]
+            if one == mark or (newest.line, newest.came) == (it.line, it.came):
+                self._grow(it, row.marks)
+                return
+            if it.kind is TICK and row.kind == TICK.word and row.times == 1 and one.node != mark.node and one.words == mark.words:
+                self._grow(it, (one, mark))
                 return
         self._row(it, (mark,))
 
     def _end(self, explained: Explanation, flight: Flight) -> None:
         """A frame is delivered or lost: in the row where it was sent, if nothing lies between."""
-        it, marks = explained.event, () if flight.is_lost else (self._delivery(explained, flight),)
-        if self.chart.sent(flight) == len(self.chart.rows) - 1:
-            self.chart.places[it.number] = self.chart.sent(flight)
-            self.chart.rows[-1] = replace(self.chart.rows[-1], last=it.number, marks=marks)
+        it, marks = explained.event, () if flight.is_lost else (delivery_mark(explained, flight),)
+        if self._before(it) and self.chart.sent(flight) == len(self.chart.rows) - 1:
+            self._grow(it, marks)
         else:
             self._row(it, marks, flight.ticket)
-
-    def _delivery(self, explained: Explanation, flight: Flight) -> Mark:
-        how, number = explained.event.outcome
-        if how == BROKEN.word:
-            return Mark(flight.to, DELIVER.word, (), f"broken: {FRAME_FAULTS[int(number) - 1]}", "bad")
-        also = beside(explained.records)
-        words = (f"taken {number}:", also) if also else (f"taken {number}",)
-        return Mark(flight.to, DELIVER.word, words, "", "note" if also else "")

@@ -9,6 +9,9 @@ from ..language.names import ALL_STATES
 from ..language.records import BULK_STATUS, CLEAR, INSERT_ACK
 from ..words import bulk_status, counted
 
+# A space at which no line is broken.
+KEPT = "\u00a0"
+
 
 def beside(records: Sequence[TakenRecord]) -> str:
     """What a delivery did beside taking all records."""
@@ -42,9 +45,9 @@ def _group_words(records: Sequence[Record]) -> str:
     # (tcpdump(8) has a word that is shorter than the message's name)
     what = "insert ack" if kind is INSERT_ACK else kind.name
     if len(records) == 1:
-        return f"{what} {'0.0 (all)' if names == [str(ALL_STATES)] else names[0]}{' (wants ack)' if wanted else ''}"
+        return f"{what} {'0.0 (all)' if names == [str(ALL_STATES)] else names[0]}{f' (wants{KEPT}ack)' if wanted else ''}"
     told = f"{what}s {', '.join(names)}" if len(records) == 2 else f"{len(records)} {what}s"
-    return f"{told}{' (want ack)' if wanted else ''}"
+    return f"{told}{f' (want{KEPT}ack)' if wanted else ''}"
 
 
 def _names(names: Sequence[str]) -> str:

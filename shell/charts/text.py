@@ -4,7 +4,9 @@ from __future__ import annotations
 import sys
 from typing import Dict, List, NamedTuple, Optional, Sequence, Tuple
 
-from .chart import Chart, Mark, Row, broken
+from .frames import KEPT
+from .marks import Mark
+from .rows import Chart, Row, begins_here, broken
 from ..colours import Paint
 from ..flights import Flight
 from ..language.events import CUT, DELIVER, REPEAT, RESTART
@@ -40,6 +42,8 @@ NARROWEST = 72
 FRAME_STYLES = {REPEAT.word: "note", CUT.word: "bad"}
 # Between a lane and the words at its side: an arrow and a space.
 GUTTER = 4
+# How many rows there are from the heads of the lanes to the same again.
+ROWS = 40
 
 
 def glyphs_of(encoding: Optional[str]) -> Glyphs:
@@ -78,7 +82,7 @@ class _Line:
         self.styles = [""] * width
 
     def put(self, at: int, text: str, style: str = "") -> None:
-        for place, character in enumerate(text, at):
+        for place, character in enumerate(text.replace(KEPT, " "), at):
             if 0 <= place < len(self.characters):
                 self.characters[place], self.styles[place] = character, style
 
@@ -112,18 +116,48 @@ class _Drawing:
         self.lines: List[_Line] = []
 
     def drawn(self) -> List[_Line]:
-        head = self._new_line(False)
-        head.put(0, self.chart.heading, "head")
-        head = self._new_line(False)
-        for node, at in self.lanes.items():
-            words = f"{node} (boot {self.chart.boots[node]})"
-            head.put(at - len(words) // 2, words, "head")
+        self._lines(0, [(it, "head") for it in self.chart.heading.split()])
+        self._said(self.chart.sent_before, self.chart.entering)
+        self._heads(0)
         for place, row in enumerate(self.chart.rows):
+            self._above(place)
             self._row(place, row)
-        waiting = ", ".join(f"#{it.ticket} to {it.to}" for it in self.chart.in_flight)
-        for line in wrapped([(it, "note") for it in f"still in flight: {waiting}".split()], self.width) if waiting else ():
-            self._new_line(False).put_pieces(0, line)
+        self._above(len(self.chart.rows))
+        for words, flights in self.chart.left:
+            self._said(words, flights)
         return self.lines
+
+    def _said(self, words: str, flights: Sequence[Flight]) -> None:
+        """What is said of frames that enter or leave."""
+        if flights:
+            said = [*words.split(), *", ".join(f"#{it.ticket} to {it.to}" for it in flights).split()]
+            self._lines(0, [(it, "note") for it in said])
+
+    def _lines(self, at: int, pieces: Sequence[Piece]) -> None:
+        """Words on lines of their own, from a column on."""
+        for line in wrapped(pieces, self.width - at):
+            self._new_line(False).put_pieces(at, line)
+
+    def _heads(self, place: int) -> None:
+        """The heads of the lanes, above the row of a place."""
+        line = self._new_line(False)
+        for node, boot in self.chart.heads(place).items():
+            words = f"{node} ({boot})"
+            line.put(self.lanes[node] - len(words) // 2, words, "head")
+
+    def _above(self, place: int) -> None:
+        """What stands above a row: branches that begin there, the heads of the lanes again, and the story."""
+        if place in self.chart.forks:
+            before, names, after = begins_here(self.chart.forks[place])
+            self._lines(self.numbers, [(it, "note") for it in (before, *names, after)])
+        if place and place % ROWS == 0 and place < len(self.chart.rows):
+            self._heads(place)
+        for paragraph in self.chart.notes.get(place, []):
+            said = paragraph.encode("ascii", "replace").decode() if self.glyphs is ASCII else paragraph
+            self._new_line(False)
+            self._lines(self.numbers, [(it, "dim") for it in said.split()])
+        if place in self.chart.notes:
+            self._new_line(False)
 
     def _new_line(self, with_lanes: bool = True) -> _Line:
         self.lines.append(_Line(self.width))
@@ -135,12 +169,11 @@ class _Drawing:
         labels: List[List[Piece]] = [[]]
         if row.ticket is not None:
             labels = self._labels(place, row, self.chart.flights[row.ticket])
-        sides = {mark.node: wrapped(self._mark_pieces(mark), self.side) for mark in row.marks}
+        sides = {mark.node: wrapped(self._mark_pieces(row, mark), self.side) for mark in row.marks}
         first = len(self.lines) + len(labels) - 1
         for _ in range(len(labels) - 1 + max([1, *map(len, sides.values())])):
             self._new_line()
-        number = f"{row.first}-{row.last}" if row.last > row.first else str(row.first)
-        self.lines[first].put(0, f"{number:>{self.numbers - 1}}", "dim")
+        self.lines[first].put(0, f"{row.numbers('-'):>{self.numbers - 1}}", "dim")
         if row.ticket is not None:
             self._link(place, first, labels, self.chart.flights[row.ticket])
         for mark in row.marks:
@@ -148,11 +181,12 @@ class _Drawing:
 
     # ---- at a lane
 
-    def _mark_pieces(self, mark: Mark) -> List[Piece]:
+    def _mark_pieces(self, row: Row, mark: Mark) -> List[Piece]:
         pieces = [(it.replace("->", self.glyphs.to), "") for it in mark.words]
         if mark.kind == DELIVER.word and len(pieces) > 1:
             pieces[-1] = (pieces[-1][0], mark.tone)
-        return [*pieces, (mark.fate, mark.tone)] if mark.fate else pieces
+        pieces += [(mark.fate, mark.tone)] if mark.fate else []
+        return [*pieces, (f"x{row.times}", "head")] if row.times > 1 else pieces
 
     def _mark(self, first: int, mark: Mark, words: Sequence[Sequence[Piece]]) -> None:
         at = self.lanes[mark.node]

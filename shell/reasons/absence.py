@@ -8,6 +8,7 @@ from typing import Callable, Container, Iterable, Iterator, List, Optional, Sequ
 from ..branches import Happened
 from ..flights import Flight
 from ..language.events import BROKEN, CLEAR, DELIVER, EVENTS, HELD_BACK, KILL, PACKET, PASS, PURGE, RESTART, read_packet
+from ..language.forms import is_tcp
 from ..language.names import Name
 from ..language.packets import PacketEvent
 from ..language.records import INSERT, QUEUES, SHORT_UPDATE, UPDATE, RecordKind
@@ -59,7 +60,8 @@ def _names_of(question: Question) -> List[Name]:
     same far end where rules are known to translate the near one. A state that a frame brought was made by a packet too."""
     packet = question.packet
     translate = any(it.has(NAT) for rules in question.lab.setup.rules.values() for it in rules)
-    lines = (it for it in enumerate(question.history.lines, 1) if it[1].startswith(f"{PACKET.word} "))
+    # (a look at the text first: there can be many packets)
+    lines = (it for it in enumerate(question.history.lines, 1) if it[1].startswith(f"{PACKET.word} ") and packet.key.far in it[1])
     packets = ((number, read_packet(line)) for number, line in lines)
     made = (number for number, one in packets if _meets(one, packet) and (translate or one.key == packet.key))
     outcomes = (question.history.explained(it).event.outcome for it in made)
@@ -86,7 +88,7 @@ def _may_take(question: Question, number: int, names: Sequence[Name]) -> bool:
         return False
     if event is PACKET:
         # A new connection ends a closed one of the same ends.
-        return read_packet(line).is_request and _meets(read_packet(line), packet)
+        return is_tcp(words[3]) and read_packet(line).is_request and _meets(read_packet(line), packet)
     return event in (PURGE, CLEAR, RESTART) or event is KILL and Name.read(words[2]) in names
 
 

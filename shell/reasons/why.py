@@ -70,9 +70,13 @@ def why_last(lab: Laboratory, paint: Paint) -> List[str]:
 
 
 def _told(lab: Laboratory, branch: Branch, it: Explanation, paint: Paint) -> List[str]:
-    explain = _OF_OUTCOMES.get(it.event.outcome[0], explain_other)
     before = History(lab, branch.name, branch.events[: it.event.number - 1])
-    return [_head(it, paint), *_indented(explain(Question(before, it, paint)))]
+    return [_head(it, paint), *_indented(reasons(Question(before, it, paint)))]
+
+
+def reasons(question: Question) -> List[str]:
+    """The reason of an event's outcome, line by line."""
+    return _OF_OUTCOMES.get(question.outcome[0], explain_other)(question)
 
 
 def _head(it: Explanation, paint: Paint) -> str:

@@ -1,59 +1,19 @@
-"""Charts: their rows and frames, and the same as text and as a picture."""
+"""Charts: their rows, their marks and their frames."""
 from __future__ import annotations
 
-import re
 import unittest
-from functools import lru_cache
-from typing import List, NamedTuple
-from xml.etree import ElementTree
+from typing import List, Tuple
 
-from ..charts import picture as chart_svg, text as chart_text
-from ..charts.chart import Chart, chart, duration, end_words
-from ..charts.frames import record_words
-from ..colours import PLAIN, Paint
-from ..charts.svg import text_width
-from . import laboratory
+from ..charts.chart import drawn as drawn_of
+from ..charts.frames import KEPT, record_words
+from ..charts.marks import duration, end_words
+from ..charts.rows import Chart
+from ..charts.windows import WHOLE
+from .drawings import ANSWER, CROSSING, LOST_INSERTION, QUERY, RULES, drawn, happened, steps
 
-RULES = """
-rule a block any
-rule a pass out
-rule b block any
-rule b pass out
-open
-"""
-QUERY = "step main packet a out udp 10.0.0.1:1000 192.0.2.9:53 40\n"
-ANSWER = "udp 192.0.2.9:53 10.0.0.1:1000 80\n"
-LOST_INSERTION = (
-    f"{RULES}{QUERY}step main flush a\nstep main lose 1\nstep main packet a in {ANSWER}step main flush a\nstep main deliver 2\n"
-    f"step main packet b in {ANSWER}step main flush b\nstep main deliver 3\nstep main flush a\nstep main deliver 4\n"
-)
-LONG = "[2001:0db8:85a3:1234:1111:8a2e:0370:7334]:44321 [2001:0db8:85a3:1234:2222:8a2e:0370:7334]:65535"
-# Two insertions cross, the first is copied on its way, an update request is cut, and node b begins anew.
-CROSSING = f"""{RULES}{QUERY}
-step main flush a
-step main packet a out udp 10.0.0.2:1000 192.0.2.9:53 40
-step main flush a
-step main repeat 1
-step main deliver 2
-step main deliver 1
-step main deliver 3
-step main tick a 1500
-step main tick b 1500
-step main restart b
-step main flush b
-step main cut 4 30
-step main deliver 4
-"""
-
-
-@lru_cache(maxsize=None)
-def drawn(script: str) -> Chart:
-    """The chart of what a script leaves on main."""
-    lab = laboratory(script)
-    try:
-        return chart(lab, lab.branch("main"))
-    finally:
-        lab.close()
+FLOW = "tcp 10.0.0.1:1000 192.0.2.9:80"
+BACK = "tcp 192.0.2.9:80 10.0.0.1:1000"
+SYN = f"packet a out {FLOW} S 100 0 1000 0"
 
 
 class Models(unittest.TestCase):
@@ -93,14 +53,20 @@ class Models(unittest.TestCase):
     def test_what_was_undone_is_left_out(self) -> None:
         it = drawn(f"{LOST_INSERTION}back main 9\n")
         self.assertEqual((it.events, it.undone, it.heading), (2, 9, "main, 2 events, 9 undone and not drawn; #N is frame N"))
-        self.assertEqual([(way.ticket, way.ended) for way in it.in_flight], [(1, None)])
+        self.assertEqual([(way.ticket, way.ended) for way in it.leaving], [(1, None)])
+
+    def test_what_befalls_a_frame_later_does_not_matter(self) -> None:
+        events, _ = happened(LOST_INSERTION)
+        it = drawn_of("main", events[:2], 0)
+        self.assertEqual(([*it.flights], it.leaving[0].later), ([1], []))
+        self.assertEqual(it.rows[1].last, 2)
 
     def test_held_packets(self) -> None:
         frames = "step main flush a\nstep main deliver 1\nstep main flush b\nstep main deliver 2\n"
         it = drawn(f"set defer 1\n{RULES}{QUERY}{frames}")
         self.assertEqual((it.rows[0].marks[0].fate, it.rows[0].marks[0].tone), ("held 1.1", "note"))
         told = [record_words(way.frame.records) for way in it.flights.values()]
-        self.assertEqual(told, [("insert 1.1 (wants ack)",), ("insert ack 1.1",)])
+        self.assertEqual(told, [(f"insert 1.1 (wants{KEPT}ack)",), ("insert ack 1.1",)])
         self.assertEqual(it.rows[2].marks[0].words, ("taken 1:", "1 held let go"))
 
     def test_packets_outside_the_window_have_their_numbers(self) -> None:
@@ -112,7 +78,8 @@ class Models(unittest.TestCase):
         )
         self.assertEqual(it.rows[0].marks[0].words[0], "tcp [S]")
         mark = it.rows[2].marks[0]
-        self.assertEqual((mark.fate, mark.words[3:]), ("drop window", ("seq 900000,", "ack 501,", "length 10")))
+        self.assertEqual(mark.fate, "drop window")
+        self.assertEqual(mark.words, ("tcp [A]", "1.1 out,", f"seq{KEPT}900000 ack{KEPT}501 len{KEPT}10"))
 
     def test_words(self) -> None:
         self.assertEqual([duration(it) for it in (0, 20, 1000, 1500, 86400000)], ["0 s", "20 ms", "1 s", "1.5 s", "86400 s"])
@@ -120,124 +87,77 @@ class Models(unittest.TestCase):
         self.assertEqual(end_words("10.0.0.1:53"), "10.0.0.1:53")
 
 
-# At 80 columns the link has 26, and each side 19: `192.0.2.9:53 pass 1.1` is too long for a line.
-BOXES = """\
-main, 14 events; #N is frame N
-                        a (boot 1)                 b (boot 2)
-    1 udp 10.0.0.1:1000 → ◀──│                          │
-             192.0.2.9:53    │                          │
-                 pass 1.1    │                          │
-    2                        ├─ #1: insert 1.1 ───┄┄    │
-    3 udp 10.0.0.2:1000 → ◀──│                          │
-             192.0.2.9:53    │                          │
-                 pass 1.2    │                          │
-    4                        ├─ #2: insert 1.2 ───┄┄    │
-    5                        │ ┄┄ #3: copy of #1 ───┄┄  │
-    6                        │                ┄┄ #2 ───▶│    taken 1
-    7                        │                ┄┄ #1 ───▶│    taken 1
-    8                        │                ┄┄ #3 ───▶│    taken 1: 1 bad
- 9-10 +1.5 s, clock 1.5 s    ●                          ●    +1.5 s, clock 1.5 s
-   11                        │                          ╧    restart: boot 3
-                             │                          ╤
-                             │   #4: update request 0.0 │
-                             │                    (all) │
-   12                        │          ┄┄──────────────┤
-   13                        │┄┄─ #4: cut to 30 bytes ┄┄│
-   14      broken: Length    │◀─── #4 ┄┄                │
-"""
+def said(chart: Chart) -> List[str]:
+    """What the first mark of each row says."""
+    return [" ".join((*row.marks[0].words, row.marks[0].fate)).replace(KEPT, " ") for row in chart.rows]
 
 
-class Texts(unittest.TestCase):
-    maxDiff = None
+class Segments(unittest.TestCase):
+    def test_the_name_of_a_state_stands_for_ends_that_were_shown(self) -> None:
+        ways = (SYN, f"packet a in {BACK} SA 500 101 2000 0", "flush a", "deliver 1", f"packet b out {FLOW} PA 101 501 1000 40")
+        it = drawn(steps(*ways))
+        self.assertEqual(said(it)[0], "tcp [S] 10.0.0.1:1000 -> 192.0.2.9:80 seq 100 pass 1.1")
+        self.assertEqual(said(it)[1], "tcp [SA] 1.1 in, seq 500 ack 101 pass")
+        self.assertEqual(said(it)[3], "tcp [PA] 1.1 out, seq 101 ack 501 len 40 pass")
 
-    def test_boxes(self) -> None:
-        told = chart_text.text(drawn(CROSSING), PLAIN, 80, "utf-8")
-        self.assertEqual(told, BOXES.splitlines())
+    def test_ends_stand_where_no_state_is_met(self) -> None:
+        it = drawn(steps(SYN, f"packet b in {BACK} SA 500 101 2000 0", f"packet a out {FLOW} S 100 0 1000 0"))
+        self.assertEqual(said(it)[1], "tcp [SA] 192.0.2.9:80 -> 10.0.0.1:1000 seq 500 ack 101 drop block")
 
-    def test_ascii_where_boxes_cannot_be_written(self) -> None:
-        told = chart_text.text(drawn(LOST_INSERTION), PLAIN, 100, "ascii")
-        self.assertTrue("\n".join(told).isascii())
-        self.assertEqual(told[4], "  2-3                                |- #1: insert 1.1 ---X lost    |")
-        update = "  5-6                                |- #2: short update 1.1 ------>|    taken 1: asks for 1.1"
-        self.assertEqual(told[7], update)
+    def test_each_state_shows_its_ends_once(self) -> None:
+        other = "packet a out tcp 10.0.0.2:1000 192.0.2.9:80 S 7 0 1000 0"
+        it = drawn(steps(SYN, other, f"packet a in {BACK} SA 500 101 2000 0"))
+        self.assertEqual(said(it)[1], "tcp [S] 10.0.0.2:1000 -> 192.0.2.9:80 seq 7 pass 1.2")
+        self.assertEqual(said(it)[2], "tcp [SA] 1.1 in, seq 500 ack 101 pass")
+        # In a window it is the first packet there.
+        it = drawn(steps(SYN, other, f"packet a in {BACK} SA 500 101 2000 0"), WHOLE._replace(first=3))
+        self.assertEqual(said(it), ["tcp [SA] 192.0.2.9:80 -> 10.0.0.1:1000 seq 500 ack 101 pass 1.1"])
 
-    def test_lines_keep_the_width(self) -> None:
-        for width in (72, 80, 100, 140):
-            for script in (LOST_INSERTION, f"{CROSSING}step main packet a out udp {LONG} 40\n"):
-                self.assertTrue(all(len(it) <= width for it in chart_text.text(drawn(script), PLAIN, width, "utf-8")))
-
-    def test_long_numbers_have_room(self) -> None:
-        ticks = "step main tick a 1\nstep main tick b 1\n" * 60
-        told = chart_text.text(drawn(f"{RULES}{ticks}"), PLAIN, 80, "utf-8")
-        self.assertTrue(told[-1].startswith("119-120 +1 ms, clock 60 ms"), told[-1])
-
-    def test_colours_change_no_word(self) -> None:
-        it = drawn(CROSSING)
-        coloured = [re.sub("\033\\[[0-9]*m", "", line) for line in chart_text.text(it, Paint(True), 100, "utf-8")]
-        self.assertEqual(coloured, chart_text.text(it, PLAIN, 100, "utf-8"))
-        self.assertNotEqual(coloured, chart_text.text(it, Paint(True), 100, "utf-8"))
-
-    def test_a_frame_is_told_from_the_number_of_its_records(self) -> None:
-        seconds = "".join(f"step main packet a out udp 10.0.0.{it}:1000 192.0.2.9:53 40\n" for it in range(1, 6))
-        told = chart_text.text(drawn(f"{RULES}{seconds}step main flush a\nstep main deliver 1\n"), PLAIN, 80, "ascii")
-        self.assertTrue(told[-1].endswith("|- #1: 5 inserts --------->|    taken 5"), told[-1])
-        self.assertEqual(told[0], "main, 7 events; #N is frame N")
-
-    def test_what_is_in_flight_is_told(self) -> None:
-        told = chart_text.text(drawn(f"{RULES}{QUERY}step main flush a\n"), PLAIN, 100, "utf-8")
-        self.assertEqual(told[-1], "still in flight: #1 to b")
+    def test_translated_ends_are_shown_too(self) -> None:
+        rules = RULES.replace("rule a pass out\n", "rule a pass out nat 203.0.113.1:0\n")
+        answer = "packet a in tcp 192.0.2.9:80 203.0.113.1:{} SA 500 101 2000 0"
+        self.assertNotEqual(rules, RULES)
+        outs = [rules, f"step main {SYN}\n", *(f"step main {answer.format(port)}\n" for port in (1000, 1000))]
+        told_of = said(drawn("".join(outs)))
+        self.assertTrue(told_of[0].endswith("pass 1.1"), told_of)
 
 
-class Box(NamedTuple):
-    """The place of a text in a picture."""
+class Runs(unittest.TestCase):
+    def rows(self, *events: str) -> List[Tuple[int, int, int]]:
+        return [(it.first, it.last, it.times) for it in drawn(steps(*events)).rows]
 
-    left: float
-    right: float
-    top: float
-    bottom: float
-    words: str
+    def test_the_same_again_is_one_row(self) -> None:
+        query, answer = QUERY.strip()[len("step main ") :], f"packet b in {ANSWER.strip()}"
+        self.assertEqual(self.rows(query, query, query, answer, answer, query), [(1, 3, 3), (4, 5, 2), (6, 6, 1)])
+        self.assertEqual(self.rows("purge a", "purge a", "clear b", "clear b"), [(1, 2, 2), (3, 4, 2)])
+        # The first one shows the ends, and the second would say the name; from the third on the state drops it.
+        self.assertEqual(self.rows(SYN, SYN, SYN, SYN), [(1, 2, 2), (3, 4, 2)])
 
-    def meets(self, other: "Box") -> bool:
-        return self.left < other.right and other.left < self.right and self.top < other.bottom and other.top < self.bottom
+    def test_what_only_looks_equal_is_not(self) -> None:
+        query = QUERY.strip()[len("step main ") :]
+        self.assertEqual(self.rows("purge a", "purge b", "purge b"), [(1, 1, 1), (2, 3, 2)])
+        self.assertEqual(self.rows(query, query.replace("packet a out", "packet a in"), query), [(1, 1, 1), (2, 2, 1), (3, 3, 1)])
+        blocked, passed = f"packet b in {ANSWER.strip()}", f"packet b out {ANSWER.strip()}"
+        self.assertEqual(self.rows(blocked, passed, blocked), [(1, 1, 1), (2, 2, 1), (3, 3, 1)])
+        # Clocks go on, and so no two ticks say the same.
+        self.assertEqual(self.rows("tick a 5", "tick a 5"), [(1, 1, 1), (2, 2, 1)])
 
+    def test_ticks_of_both_are_no_run(self) -> None:
+        self.assertEqual(self.rows("tick a 5", "tick b 5", "tick a 5", "tick b 5"), [(1, 2, 1), (3, 4, 1)])
+        self.assertEqual(self.rows("tick a 0", "tick a 0", "tick b 0", "tick b 0"), [(1, 2, 2), (3, 4, 2)])
 
-def boxes(picture: str) -> List[Box]:
-    """The places of all texts in a picture."""
-    found: List[Box] = []
-    for it in ElementTree.fromstring(picture).iter("{http://www.w3.org/2000/svg}text"):
-        words, size = "".join(it.itertext()), float(it.attrib["font-size"])
-        wide, x, y = text_width(words, size), float(it.attrib["x"]), float(it.attrib["y"])
-        left = x - {"start": 0.0, "middle": wide / 2, "end": wide}[it.attrib["text-anchor"]]
-        found.append(Box(left, left + wide, y - size * 0.8, y + size * 0.25, words))
-    return found
+    def test_frames_are_rows_of_their_own(self) -> None:
+        query = QUERY.strip()[len("step main ") :]
+        rows = self.rows(query, "flush a", "repeat 1", "repeat 1", "lose 2", "lose 3", "lose 1")
+        self.assertEqual(rows, [(1, 1, 1), (2, 2, 1), (3, 3, 1), (4, 4, 1), (5, 5, 1), (6, 6, 1), (7, 7, 1)])
 
-
-class Pictures(unittest.TestCase):
-    def test_no_text_is_over_another_or_outside(self) -> None:
-        packets = f"step main packet a out udp {LONG} 40\nstep main flush a\nstep main packet b in tcp {LONG} SA 1 1 1 1\n"
-        waiting = f"{CROSSING}{packets}"
-        for script in (LOST_INSERTION, CROSSING, waiting):
-            picture = chart_svg.draw(drawn(script), "A chart")
-            found = boxes(picture)
-            for place, it in enumerate(found):
-                self.assertTrue(0 <= it.left and it.right <= chart_svg.WIDTH, it)
-                self.assertEqual([other for other in found[place + 1 :] if it.meets(other)], [], it)
-
-    def test_same_chart_same_bytes(self) -> None:
-        again = drawn.__wrapped__(CROSSING)
-        self.assertEqual(chart_svg.draw(again, "A chart"), chart_svg.draw(drawn(CROSSING), "A chart"))
-
-    def test_titles_are_escaped(self) -> None:
-        root = ElementTree.fromstring(chart_svg.draw(drawn(LOST_INSERTION), 'a < b & "c"'))
-        self.assertEqual(root.findtext("{http://www.w3.org/2000/svg}title"), 'a < b & "c"')
-
-    def test_what_happened_is_in_words(self) -> None:
-        words = [it.words for it in boxes(chart_svg.draw(drawn(LOST_INSERTION), "A chart"))]
-        for told in ("lost", "#1: insert 1.1", "udp 192.0.2.9:53 → 10.0.0.1:1000", "drop block", "taken 1: asks for 1.1"):
-            self.assertIn(told, words)
-
-    def test_a_chart_without_events(self) -> None:
-        self.assertIn("main, 0 events", chart_svg.draw(drawn(RULES), "Nothing yet"))
+    def test_texts_part_what_would_be_one_row(self) -> None:
+        query = QUERY.strip()[len("step main ") :]
+        script = steps("purge a", "purge a", "purge a", query, "flush a", "deliver 1", "tick a 1", "tick b 1")
+        it = drawn(script, WHOLE, {2: ["A note."], 5: ["Another."]}, {7: ["later"]})
+        self.assertEqual([(row.first, row.last) for row in it.rows], [(1, 2), (3, 3), (4, 4), (5, 5), (6, 6), (7, 7), (8, 8)])
+        self.assertEqual((it.notes, it.forks), ({1: ["A note."], 4: ["Another."]}, {6: ["later"]}))
+        self.assertEqual(len(drawn(script).rows), 4)
 
 
 if __name__ == "__main__":

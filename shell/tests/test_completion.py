@@ -45,6 +45,12 @@ class Offered(unittest.TestCase):
         self.offers("why lose ", "1")
         self.offers("frame ", "main", "other")
         self.offers("frame main ", "1")
+        self.offers("chart ot", "other")
+        self.offers("chart main flo", "flow")
+        self.offers("chart fr", "from")
+        self.offers("chart main from 1 fr")
+        self.offers("chart to ")
+        self.offers("chart flow ", "1.1")
 
 
 if __name__ == "__main__":

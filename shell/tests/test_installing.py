@@ -26,7 +26,7 @@ from . import TOP, program
 
 # What stands for the program where what it does is no matter.
 STAND_IN = "#!/bin/sh\necho 'stand-in' \"$@\"\n"
-FOLDERS = ("proving", "installing", "shell", "examples", "docs/man")
+FOLDERS = ("proving", "installing", "shell", "page", "examples", "docs/man")
 # A start of Python that lets no file grow beyond so many bytes, and then runs a program.
 LIMITED = """
 import resource, runpy, sys
@@ -118,12 +118,14 @@ class Installing(Room):
         shutil.copytree(f"{TOP}/shell", copy)
         for number, it in enumerate(sorted(copy.rglob("*"), reverse=True)):
             os.utime(it, (number * 1e7, number * 1e7))
-        made = archive(copy, "")
-        self.assertEqual(made, archive(Path(TOP, "shell"), ""))
+        page = Path(TOP, "page")
+        made = archive(copy, page, "")
+        self.assertEqual(made, archive(Path(TOP, "shell"), page, ""))
         with zipfile.ZipFile(io.BytesIO(made)) as its:
             names = its.namelist()
         self.assertEqual(names, sorted(names))
         self.assertNotIn("shell/tests/__init__.py", names)
+        self.assertIn("page/main.js", names)
 
     def test_modes_do_not_depend_on_the_mask(self) -> None:
         before = os.umask(0o077)

@@ -1,19 +1,23 @@
-"""The pages tell of the shell what is so: their dialogues, and the pictures beside the lessons."""
+"""The pages tell of the shell what is so: their dialogues, and the pictures and pages beside the lessons."""
 from __future__ import annotations
 
+import os
 import unittest
+from contextlib import closing
 from glob import glob
 
 from .. import helps, scripts
 from ..charts.picture import draw
-from ..main import drawn_from, title_of
+from ..main import drawn_from
 from ..language.lines import lines_of
+from ..pages.packing import page as page_of
+from ..pages.runs import run_of
 from . import TOP, program
 from .dialogues import dialogues, printed, typed
 
 
 def read(path: str) -> str:
-    with open(f"{TOP}/{path}", encoding="utf-8") as it:
+    with open(os.path.join(TOP, path), encoding="utf-8") as it:
         return it.read()
 
 
@@ -30,7 +34,16 @@ class Pages(unittest.TestCase):
         self.assertTrue(pictures)
         for it in pictures:
             script = lines_of(scripts.read(it.replace(".svg", ".pfl")))
-            self.assertEqual(scripts.read(it), draw(drawn_from(program(), script, "main"), title_of(script)), it)
+            self.assertEqual(scripts.read(it), draw(drawn_from(program(), script, "main"), scripts.title_of(script)), it)
+
+    def test_pages_of_the_lessons_are_those_of_the_scripts(self) -> None:
+        pages = glob(f"{TOP}/examples/*.html")
+        self.assertEqual(len(pages), 4)
+        for it in pages:
+            path = it.replace(".html", ".pfl")
+            with closing(run_of(program(), lines_of(scripts.read(path)), os.path.basename(path))) as run:
+                is_same = read(it) == page_of(run.as_data())
+            self.assertTrue(is_same, f"{it}: ./lab page writes it otherwise")
 
     def test_the_page_has_each_word_of_the_shell(self) -> None:
         page = read("docs/SHELL.md")

@@ -1,0 +1,125 @@
+import { byId, make, makeButton } from "./elements.js";
+
+/** The buttons of the branches, the slider over the events, and what plays. */
+
+/** How long an event is shown while it plays, in milliseconds. */
+const BEAT = 1000;
+
+/** The controls at the top of the page. */
+export class Controls {
+  constructor(viewer) {
+    this.viewer = viewer;
+    this.timer = null;
+    byId("first").addEventListener("click", () => this.go(0));
+    byId("back").addEventListener("click", () => this.go(viewer.place - 1));
+    byId("forward").addEventListener("click", () => this.go(viewer.place + 1));
+    byId("last").addEventListener("click", () => this.go(viewer.newest));
+    byId("play").addEventListener("click", () => this.turn());
+    byId("slider").addEventListener("input", () => this.go(Number(byId("slider").value)));
+    byId("copy").addEventListener("click", () => this.copy());
+    viewer.listen(() => this.show());
+  }
+
+  get isPlaying() {
+    return this.timer !== null;
+  }
+
+  /** Goes to a moment, which ends playing. */
+  go(place) {
+    this.pause();
+    this.viewer.go(place);
+  }
+
+  /** Plays, from the opening on where the end is reached; or pauses. */
+  turn() {
+    if (this.isPlaying) {
+      this.pause();
+      return;
+    }
+    if (this.viewer.isNewest) this.viewer.go(0);
+    this.timer = setInterval(() => this.beat(), BEAT);
+    this.showPlaying();
+  }
+
+  /** Goes to the next moment while it plays. */
+  beat() {
+    this.viewer.go(this.viewer.place + 1);
+    if (this.viewer.isNewest) this.pause();
+  }
+
+  /** Ends playing. */
+  pause() {
+    clearInterval(this.timer);
+    this.timer = null;
+    this.showPlaying();
+  }
+
+  /** Shows whether it plays. */
+  showPlaying() {
+    byId("play").classList.toggle("playing", this.isPlaying);
+    byId("play").setAttribute("aria-pressed", String(this.isPlaying));
+  }
+
+  /** Shows where the viewer stands. */
+  show() {
+    const { place, newest, moment, isNewest } = this.viewer;
+    const slider = byId("slider");
+    slider.max = String(newest);
+    slider.value = String(place);
+    const event = moment ? `event ${place} of ${newest}: ${moment.event}: ${moment.outcome}` : "the opening";
+    slider.setAttribute("aria-valuetext", event);
+    byId("place").textContent = `${place} / ${newest}`;
+    for (const id of ["first", "back"]) byId(id).setAttribute("aria-disabled", String(place === 0));
+    for (const id of ["forward", "last"]) byId(id).setAttribute("aria-disabled", String(isNewest));
+    this.showBranches();
+  }
+
+  /** Shows a button for each branch; runs that were undone stand apart. */
+  showBranches() {
+    const { run, branch } = this.viewer;
+    const names = run.branches.map((it) => `${it.name} ${it.former}`).join("\n");
+    if (names !== this.names) this.makeBranches(run.branches);
+    this.names = names;
+    for (const button of byId("branches").querySelectorAll("button")) {
+      const isShown = button.dataset.branch === branch.name;
+      button.setAttribute("aria-pressed", String(isShown));
+      if (isShown) this.bring(button);
+    }
+  }
+
+  /** Scrolls the branches, where they are too many for their room, so that a button is in sight. */
+  bring(button) {
+    const room = byId("branches");
+    const top = button.offsetTop - room.offsetTop;
+    const isSeen = top >= room.scrollTop && top + button.offsetHeight <= room.scrollTop + room.clientHeight;
+    if (!isSeen) room.scrollTop = top;
+  }
+
+  /** Makes the buttons of the branches. */
+  makeBranches(branches) {
+    const button = ({ name }) => makeButton(name, { "data-branch": name }, () => {
+      this.pause();
+      this.viewer.show(this.viewer.named(name), this.viewer.place);
+    });
+    const former = branches.filter((it) => it.former).map(button);
+    const group = make("span", { class: "group" }, ...branches.filter((it) => !it.former).map(button));
+    byId("branches").replaceChildren(group);
+    if (!former.length) return;
+    const label = make("span", { class: "label", id: "former" }, "before it was undone");
+    const aside = make("span", { class: "group", role: "group", "aria-labelledby": "former" }, label, ...former);
+    byId("branches").append(aside);
+  }
+
+  /** Copies the link to this moment, or shows it where the browser does not let the page copy. */
+  async copy() {
+    const button = byId("copy");
+    const text = button.textContent;
+    try {
+      await navigator.clipboard.writeText(location.href);
+      button.textContent = "Copied";
+    } catch {
+      button.textContent = "Copy it from the address bar";
+    }
+    setTimeout(() => { button.textContent = text; }, 2000);
+  }
+}

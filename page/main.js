@@ -1,0 +1,42 @@
+import { byId } from "./elements.js";
+import { Viewer } from "./viewer.js";
+import { Controls } from "./controls.js";
+import { Story } from "./story.js";
+import { ChartView } from "./chart.js";
+import { Tables } from "./tables.js";
+import { Panels } from "./panels.js";
+import { followAddress } from "./address.js";
+import { listenToKeys } from "./keyboard.js";
+import { prepareHandout } from "./handout.js";
+import { Live } from "./live.js";
+
+/** How much of the window the top may take at most to stay in sight. */
+const MOST_TOP = 0.4;
+
+/** Has the top stay in sight where it leaves room enough, and says how high it is. */
+function measureTop() {
+  const top = byId("top");
+  const isTall = top.offsetHeight > innerHeight * MOST_TOP;
+  top.classList.toggle("tall", isTall);
+  document.documentElement.style.setProperty("--top", isTall ? "0px" : `${top.offsetHeight}px`);
+}
+
+/** Begins: reads the data, and puts the parts of the page together. */
+function begin() {
+  const run = JSON.parse(byId("run").textContent);
+  const viewer = new Viewer(run);
+  byId("title").textContent = run.title;
+  const controls = new Controls(viewer);
+  new Story(viewer);
+  new ChartView(viewer);
+  new Tables(viewer);
+  new Panels(viewer);
+  listenToKeys(viewer, controls);
+  prepareHandout(viewer);
+  if (run.live) new Live(viewer, controls);
+  byId("skip").addEventListener("click", () => byId("moment").focus());
+  new ResizeObserver(measureTop).observe(byId("top"));
+  followAddress(viewer);
+}
+
+begin();

@@ -1,0 +1,83 @@
+import { byId, make, worded } from "./elements.js";
+
+/** Lines that are sent to the laboratory with the name of who sends them, and its replies at their places. */
+
+/** Where the name is kept from one visit to the next. */
+const KEPT_NAME = "pfl-lab-name";
+
+/** The name that was kept; empty where nothing can be kept. */
+function keptName() {
+  try {
+    return localStorage.getItem(KEPT_NAME) ?? "";
+  } catch {
+    return "";
+  }
+}
+
+/** Keeps a name, where that is allowed. */
+function keepName(name) {
+  try {
+    localStorage.setItem(KEPT_NAME, name);
+  } catch {
+    // (then it is asked for at the next visit)
+  }
+}
+
+/** The lines of a reason, without those that point with carets into the line above them, which is shown already. */
+function withoutPointers(why) {
+  const isPointer = (line) => line !== undefined && /^\s*\^+\s*$/.test(line);
+  return why.filter((line, at) => !isPointer(line) && !isPointer(why[at + 1]));
+}
+
+/** Shows a reply at a place, in the stead of the one before: how it went, and why. */
+export function tellReply(place, isDone, reply, why = []) {
+  clearReply(place);
+  const how = { class: `reply ${isDone ? "done" : "refused"}`, role: "status" };
+  const told = make("div", how, make("p", {}, make("code", {}, reply)));
+  const reasons = withoutPointers(why).map((line) => make("li", {}, ...worded(line.trim())));
+  if (reasons.length) told.append(make("ul", {}, ...reasons));
+  place.append(told);
+}
+
+/** Takes the reply away from a place. */
+export function clearReply(place) {
+  place.querySelector(":scope > .reply")?.remove();
+}
+
+/** Sends lines, one at a time. */
+export class Sender {
+  constructor() {
+    this.isBusy = false;
+    byId("name").value = keptName();
+    byId("name").addEventListener("change", () => keepName(byId("name").value.trim()));
+  }
+
+  /** Sends a line, and shows at a place why it was not taken: whether it was. */
+  async send(line, place) {
+    if (this.isBusy) return false;
+    this.isBusy = true;
+    document.documentElement.classList.add("sending");
+    try {
+      const { reply, why } = await this.post(line);
+      const isDone = !/^(?:refused|bad)\b/.test(reply[0] ?? "");
+      if (isDone && !why.length) clearReply(place);
+      else tellReply(place, isDone, `${isDone ? "" : `${line}: `}${reply.join("; ")}`, why);
+      return isDone;
+    } catch (error) {
+      const why = error instanceof TypeError ? "the laboratory cannot be reached" : error.message;
+      tellReply(place, false, `${line}: not sent`, [why]);
+      return false;
+    } finally {
+      this.isBusy = false;
+      document.documentElement.classList.remove("sending");
+    }
+  }
+
+  /** The laboratory's answer to a line. */
+  async post(line) {
+    const body = JSON.stringify({ name: byId("name").value.trim(), line });
+    const answer = await fetch("do", { method: "POST", headers: { "Content-Type": "application/json" }, body });
+    if (!answer.ok) throw new Error((await answer.text()).slice(0, 500) || `status ${answer.status}`);
+    return answer.json();
+  }
+}

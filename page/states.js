@@ -1,0 +1,58 @@
+import { make } from "./elements.js";
+
+/** A state of a node's table as a card, in the words of pfctl. */
+
+/** What is said of a state by its comparison with the other node. */
+const SAID = { same: "same on both", only: "only here", differ: "differs", "no-sync": "no-sync" };
+
+/** The class of a state by how it is apart from the other node's. */
+function kindOf(apart) {
+  if (!apart) return "same";
+  return apart.how === "differ" || apart.how === "no-sync" ? apart.how : "only";
+}
+
+/** Seconds between two times, whole ones, downwards. */
+function secondsBetween(from, to) {
+  return Math.floor((to - from) / 1000);
+}
+
+/** When a state expires, by its node's clock. */
+function expiry(state, clock) {
+  const left = secondsBetween(clock, state.expires);
+  return state.expires <= clock ? "expired" : `expires in ${left} s`;
+}
+
+/** What else is known of a state, in small words. */
+function details(state, clock) {
+  const said = [expiry(state, clock), `last used ${secondsBetween(state.last, clock)} s ago`, state.class];
+  if (state.flags) said.push(state.flags);
+  if (state.updates) said.push(`update count ${state.updates}`);
+  if (state.peer !== null) said.push(`changed by the peer ${secondsBetween(state.peer, clock)} s ago`);
+  return said;
+}
+
+/** A field that differs: what it is here, and what at the other node. */
+function differingField(node, [field, atA, atB]) {
+  const [here, there, other] = node === "a" ? [atA, atB, "b"] : [atB, atA, "a"];
+  return make("div", {}, make("dt", {}, field), " ",
+    make("dd", {}, "here ", make("b", {}, here), `, at ${other} `, make("b", {}, there)));
+}
+
+/** The card of a state. */
+export function stateCard(node, name, state, apart, clock, changedBy) {
+  const kind = kindOf(apart);
+  const card = make("li", { class: `state ${kind}${changedBy ? " changed" : ""}`, "data-state": name });
+  const marks = make("p", { class: "marks" }, make("span", { class: "sign" }, SAID[kind]));
+  if (changedBy) marks.append(make("span", { class: "change" }, `changed ${changedBy}`));
+  const offers = make("div", { class: "offers", "data-place": `${node}/state/${name}` });
+  const flow = make("p", { class: "flow" }, make("b", {}, name), " ", state.flow);
+  card.append(offers, marks, flow, make("p", { class: "levels" }, state.levels));
+  if (state.ends.length) card.append(make("p", { class: "ends" }, ...state.ends.map((end) => make("span", {}, end))));
+  if (apart?.parts.length) {
+    card.append(make("dl", { class: "parts" }, ...apart.parts.map((part) => differingField(node, part))));
+  }
+  const small = make("p", { class: "small" }, ...details(state, clock).map((text) => make("span", {}, text)));
+  if (state.expires <= clock) small.firstChild.className = "expired";
+  card.append(small, make("p", { class: "small rule" }, state.rule));
+  return card;
+}

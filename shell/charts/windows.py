@@ -1,0 +1,137 @@
+"""Parts of a branch to be drawn: from one event to another, and what is about one state."""
+from __future__ import annotations
+
+import re
+from typing import FrozenSet, NamedTuple, Optional, Sequence, Set, Tuple
+
+from ..explanations import Explanation, Judged, Purge
+from ..flights import Flight
+from ..frames import Record
+from ..language.events import CLEAR, HELD_BACK, KILL, PACKET, PURGE, RELEASE, RESTART
+from ..language.forms import NAME
+from ..language.names import ALL_STATES, Name
+from ..language.records import BULK_STATUS, CLEAR as CLEAR_RECORD
+from ..laboratory import Unknown
+from .marks import ends_of, state_of
+
+# How many states are named where one is not found.
+MOST_NAMES = 6
+
+
+class Window(NamedTuple):
+    """The events from the first to the last, the newest where there is none, and the state that alone is meant, if one is."""
+
+    first: int = 1
+    last: Optional[int] = None
+    flow: Optional[Name] = None
+
+    def within(self, branch: str, events: int) -> "Window":
+        """The same of a branch with this number of events that stand, or what is wrong with it."""
+        last = events if self.last is None else self.last
+        for number in (self.first, last) if self.last is not None or self.first > 1 else ():
+            if not 1 <= number <= events:
+                stand = f"those that stand are counted from 1 to {events}" if events else "none of its events stands"
+                raise Unknown(f"{branch} has no event {number} to draw: {stand}")
+        if self.first > last > 0:
+            raise Unknown(f"there is nothing to draw from event {self.first} to event {last}, which comes before it")
+        return self._replace(last=last)
+
+
+WHOLE = Window()
+# The words before the parts of a window, in a dialogue.
+FROM, TO, FLOW = "from", "to", "flow"
+WINDOW_WORDS = (FROM, TO, FLOW)
+
+
+class Asked(NamedTuple):
+    """The branch that is to be drawn, or nothing for the one in use, what of it, and the file of its picture, if it has one."""
+
+    branch: str
+    window: Window
+    file: str
+
+
+def read_asked(words: Sequence[str]) -> Optional[Asked]:
+    """What `[BRANCH] [from K] [to L] [flow NAME] [FILE.svg]` asks for; nothing where words have another form."""
+    rest = list(words)
+    file = rest.pop() if rest and rest[-1].endswith(".svg") else ""
+    branch = rest.pop(0) if len(rest) % 2 else ""
+    parts = dict(zip(rest[::2], rest[1::2]))
+    if [*parts] != [it for it in WINDOW_WORDS if it in parts] or 2 * len(parts) != len(rest):
+        return None
+    first = read_place(parts[FROM]) if FROM in parts else 1
+    last = read_place(parts[TO]) if TO in parts else None
+    return Asked(branch, Window(first, last, read_flow(parts[FLOW]) if FLOW in parts else None), file)
+
+
+def read_place(word: str) -> int:
+    """The place of an event in its branch."""
+    if not re.fullmatch("[0-9]{1,10}", word) or int(word) == 0:
+        raise Unknown(f"{word}: the events of a branch are counted from 1 on")
+    return int(word)
+
+
+def read_flow(word: str) -> Name:
+    """The name of a state."""
+    if NAME.wrong(word):
+        raise Unknown(f"{word}: a flow is meant by {NAME.what}, as 1.3")
+    return Name.read(word)
+
+
+class Concern:
+    """What of a branch is about one state: the packets that made or met it, and those of its ends that met none; the frames with a
+    record about it; and what takes states from a node."""
+
+    def __init__(self, branch: str, flow: Name, events: Sequence[Explanation]):
+        self.flow = flow
+        packets = [it for it in events if it.event.kind is PACKET]
+        self._ends: Set[Tuple[str, FrozenSet[str]]] = {_key(it) for it in packets if state_of(it) == flow}
+        if not self._ends:
+            raise Unknown(f"no packet of {branch} that stands made a state {flow}{_made(packets)}")
+        # The frames about it, by their tickets; and the nodes that hold a packet of it.
+        self._tickets: Set[int] = set()
+        self._holding: Set[str] = set()
+
+    def has(self, it: Explanation, flight: Optional[Flight]) -> bool:
+        """Whether the next event is about it."""
+        event = it.event
+        if flight:
+            return self._has_frame(flight)
+        if event.kind is PACKET:
+            return self._has_packet(it)
+        if event.kind is KILL:
+            return event.words[2] == str(self.flow)
+        if event.kind is PURGE:
+            return isinstance(it.reason, Purge) and any(due.name == self.flow for due in it.reason.due)
+        if event.kind is RELEASE:
+            return event.words[1] in self._holding
+        return event.kind in (CLEAR, RESTART) or (event.words[1].isdecimal() and int(event.words[1]) in self._tickets)
+
+    def _has_packet(self, it: Explanation) -> bool:
+        name = state_of(it)
+        if name == self.flow and it.event.outcome[0] == HELD_BACK.word:
+            self._holding.add(it.event.words[1])
+        met_none = isinstance(it.reason, Judged)
+        return name == self.flow or (met_none and _key(it) in self._ends)
+
+    def _has_frame(self, flight: Flight) -> bool:
+        """Whether a frame that is sent is about it; a copy is where the first one is."""
+        if flight.origin in self._tickets or any(map(self._has_record, flight.frame.records)):
+            self._tickets.add(flight.ticket)
+        return flight.ticket in self._tickets
+
+    def _has_record(self, it: Record) -> bool:
+        if it.kind is CLEAR_RECORD:
+            return self.flow.creator == int(it.about[0]) and self.flow.id <= int(it.about[1])
+        return it.kind is not BULK_STATUS and it.name in (self.flow, ALL_STATES)
+
+
+def _key(it: Explanation) -> Tuple[str, FrozenSet[str]]:
+    return it.event.words[3], ends_of(it.event)
+
+
+def _made(packets: Sequence[Explanation]) -> str:
+    """The states that packets made."""
+    names = [*dict.fromkeys(str(name) for name in map(state_of, packets) if name)]
+    more = [f"{len(names) - MOST_NAMES} more"] if len(names) > MOST_NAMES else []
+    return f"; made were {', '.join(names[:MOST_NAMES] + more)}" if names else ", nor any other"

@@ -1,0 +1,1 @@
+"""A run as a page: one file, or served to browsers of this machine."""

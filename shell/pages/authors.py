@@ -1,0 +1,44 @@
+"""Who stepped the events of a pair: also those that were undone, and those of branches that were forked."""
+from __future__ import annotations
+
+from typing import Dict, List, NamedTuple, Sequence
+
+from ..branches import Branch
+
+
+class Stepped(NamedTuple):
+    event: str
+    who: str
+
+
+class Authors:
+    """The name beside each event of each branch; an empty one where it is not known, as of a script."""
+
+    def __init__(self) -> None:
+        self._of: Dict[str, List[Stepped]] = {}
+        # Those of a branch before its newest excision.
+        self._excised: Dict[str, List[Stepped]] = {}
+
+    def follow(self, words: Sequence[str], reply: Sequence[str]) -> None:
+        """Takes a command after which events have another branch or another place."""
+        own = self._of.get("".join(words[1:2]), [])
+        if reply[0] == "forked":
+            self._of[words[3]] = own[: int(words[2])]
+        elif reply[0] == "excised":
+            gone = {int(words[2]), *map(int, reply[1:])}
+            self._excised[words[1]] = own
+            self._of[words[1]] = [it for place, it in enumerate(own, 1) if place not in gone]
+        elif reply[0] == "restored":
+            self._of[words[1]] = self._excised.pop(words[1], [])
+
+    def names(self, branch: Branch, who: str) -> List[str]:
+        """The names beside the events of a branch, of which this one stepped those that are new."""
+        own = self._of.get(branch.name, [])
+        same = common([it.event for it in own], branch.events)
+        self._of[branch.name] = own[:same] + [Stepped(event, who) for event in branch.events[same:]]
+        return [it.who for it in self._of[branch.name]]
+
+
+def common(one: Sequence[str], two: Sequence[str]) -> int:
+    """How many lines two lists begin with that are the same."""
+    return next((at for at, (its, other) in enumerate(zip(one, two)) if its != other), min(len(one), len(two)))

@@ -1,0 +1,213 @@
+"""The bridge between browsers and a server: one thread owns the session and the records of the branches, takes what browsers send,
+one line after another, and makes news of what changed."""
+from __future__ import annotations
+
+import time
+from concurrent.futures import Future, ThreadPoolExecutor, TimeoutError as TookTooLong
+from dataclasses import replace
+from typing import Callable, Dict, List, Sequence, Tuple, TypeVar
+
+from ..branches import Branch
+from ..colours import PLAIN
+from ..laboratory import Laboratory, Unknown
+from ..language.commands import EXCISE
+from ..pair import Pair
+from ..programs import Ended
+from ..reasons.commands import explain_command, explain_done
+from ..reasons.faults import explain_fault
+from ..reasons.why import why_ahead
+from ..setups import Setup
+from .authors import Authors, common
+from .change import Data, Shown, change
+from .news import News
+from .offers import offers
+from .packing import page
+from .record import Record
+from .runs import Run
+from .server import Branches
+from .typed import Typed
+
+# How often the server is asked whether something happened, and how long a browser waits for an answer, in seconds.
+PERIOD = 0.25
+PATIENCE = 60.0
+OTHERS = "another session"
+# What one may do who has the address for it.
+STEP, WATCH = "step", "watch"
+# How often branches are compared at the beginning that other sessions may be changing.
+TRIES = 3
+# The name of a branch in the laboratory of its record.
+MAIN = "main"
+
+A = TypeVar("A")
+T = TypeVar("T")
+
+
+class Known(Laboratory):
+    """The branches as they are known here, for reasons of refusals: a server keeps what it is asked, so it is not asked."""
+
+    def __init__(self, program: str, branches: Dict[str, Branch]):
+        super().__init__(program)
+        self.branches = branches
+
+    def names(self) -> List[str]:
+        return list(self.branches)
+
+    def show(self, branch: str) -> Pair:
+        it = self.branches[branch]
+        return Pair(it.name, len(it.events), it.cursor)
+
+
+class Bridge:
+    """The pair of a server, for pages."""
+
+    def __init__(self, program: str, run: Run, branches: Branches):
+        self.news = News()
+        self._program, self._run, self._branches = program, run, branches
+        self._records = {it.name: it for it in run.records if not it.former}
+        self._former: List[Data] = [dict(it.as_data(), offers=[]) for it in run.records if it.former]
+        self._authors = Authors()
+        # The branches as pages have them; and the newest page of each kind, with its version.
+        self._shown: Dict[str, Shown] = {}
+        self._pages: Dict[str, Tuple[int, bytes]] = {}
+        self._worker = ThreadPoolExecutor(1, "bridge")
+
+    # ---- for any thread
+
+    def begin(self) -> None:
+        """Reads what is there."""
+        self._submitted(self._begin).result()
+
+    def watch(self) -> None:
+        """Looks at what other sessions do, until the server ends."""
+        while True:
+            self._submitted(self._look).result()
+            time.sleep(PERIOD)
+
+    def do(self, typed: Typed) -> Data:
+        """Gives the server a line: its reply, the reasons where there is something to say, and the version after it."""
+        return self._awaited(self._do, typed)
+
+    def page_for(self, may: str) -> bytes:
+        """The page with all of now, for one who may do this."""
+        return self._awaited(self._page, may)
+
+    def close(self) -> None:
+        """Ends the work, which an end of the session hastens, and closes the records."""
+        self._worker.shutdown()
+        for it in self._records.values():
+            it.close()
+
+    def _awaited(self, task: Callable[[A], T], argument: A) -> T:
+        """What a task of the one thread gives, after those before it."""
+        try:
+            return self._submitted(task, argument).result(PATIENCE)
+        except TookTooLong as error:
+            raise Ended(f"the server did not answer in {PATIENCE:.0f} seconds") from error
+
+    def _submitted(self, task: Callable[..., T], *arguments: object) -> "Future[T]":
+        try:
+            return self._worker.submit(task, *arguments)
+        except RuntimeError as error:
+            raise Ended("the page is served no more") from error
+
+    # ---- for the one thread
+
+    def _begin(self) -> None:
+        """Reads what is there, more than once where other sessions change it meanwhile."""
+        for _ in range(TRIES):
+            self._branches.look()
+            self._changes("")
+            differing = [name for name in self._shown if self._differs(name)]
+            if not differing:
+                self._page(STEP)
+                return
+        raise Unknown(f"{differing[0]} is not here what it is at the server: the server's setup is another one")
+
+    def _differs(self, name: str) -> bool:
+        """Whether the server shows a branch otherwise than its record does."""
+        own, its = self._records[name].laboratory.show(MAIN), self._branches.shown(name)
+        return its is None or (own.nodes, own.frames) != (its.nodes, its.frames)
+
+    def _look(self) -> None:
+        self._branches.look()
+        self._publish(OTHERS, "", ())
+
+    def _do(self, typed: Typed) -> Data:
+        self._look()
+        reply = self._branches.ask(typed.line)
+        first, words = reply[0].split(), typed.line.split()
+        if first[0] not in ("bad", "refused"):
+            self._authors.follow(words, first)
+            self._publish(typed.name, typed.line, reply)
+        return {"reply": reply, "why": self._why(words, typed.line, reply[0]), "version": self.news.version}
+
+    def _page(self, may: str) -> bytes:
+        version, it = self._pages.get(may, (-1, b""))
+        if version != self.news.version:
+            it = page(self._all(may), served=True).encode()
+            self._pages[may] = (self.news.version, it)
+        return it
+
+    def _all(self, may: str) -> Data:
+        live = {"may": may, "version": self.news.version, "people": self.news.people}
+        branches = [dict(self._records[name].as_data(), offers=it.offers) for name, it in self._shown.items()]
+        its: Data = {"title": self._run.title, "intro": self._run.intro, "setup": self._run.setup.lines}
+        return {**its, "branches": [*branches, *self._former], "live": live}
+
+    def _publish(self, who: str, line: str, reply: Sequence[str]) -> None:
+        """Makes news of what changed, if something did."""
+        before = list(self._shown)
+        changes = self._changes(who)
+        names = list(self._shown)
+        if changes or names != before:
+            order = [*names, *(it["name"] for it in self._former)]
+            self.news.publish({"who": who, "line": line, "reply": list(reply), "order": order, "branches": changes})
+
+    def _changes(self, who: str) -> List[Data]:
+        """Brings the records to the branches: what changed of each."""
+        now, before = self._branches.by_name, self._shown
+        made = {it.name: self._changed(it, who) for it in now.values() if it.name not in before or it != before[it.name].branch}
+        for name in before.keys() - now.keys():
+            self._records.pop(name).close()
+        self._shown = {name: made[name][0] if name in made else before[name] for name in now}
+        return [its_change for _, its_change in made.values()]
+
+    def _changed(self, branch: Branch, who: str) -> Tuple[Shown, Data]:
+        """A branch as it is now, and what changed of it. A record that fails, as where its program is gone, is made anew once."""
+        names = self._authors.names(branch, who)
+        try:
+            return self._recorded(branch, names)
+        except Exception:
+            return self._recorded(branch, names)
+
+    def _recorded(self, branch: Branch, names: Sequence[str]) -> Tuple[Shown, Data]:
+        """Brings its record to a branch, whose events these people stepped."""
+        record = self._records.pop(branch.name, None) or Record(self._program, self._run.setup, branch.name)
+        old = self._shown.get(branch.name)
+        try:
+            # (what the script tells of events that are there no more is told no more)
+            same = common(old.branch.events, branch.events) if old else len(branch.events)
+            record.notes = {place: those for place, those in record.notes.items() if place <= same}
+            keep = record.sync(branch)
+            for moment, who in zip(record.moments[keep:], names[keep:]):
+                moment.who = who
+            new = Shown(branch, offers(record.laboratory, replace(branch, name=MAIN)), record.chart_as_data())
+            its_change = change(old, new, record, keep)
+        except Exception:
+            record.close()
+            raise
+        self._records[branch.name] = record
+        return new, its_change
+
+    def _why(self, words: Sequence[str], line: str, reply: str) -> List[str]:
+        """Why the program did not take a line; or what fell out with an event that was taken out."""
+        if reply.startswith("bad "):
+            return explain_fault(line, reply)
+        if not reply.startswith("refused "):
+            return explain_done(words, reply) if words[0] == EXCISE.word else []
+        try:
+            if "Event" in reply.split():
+                return why_ahead(self._records[words[1]].laboratory, MAIN, " ".join(words[2:]), PLAIN)
+            return explain_command(Known(self._program, self._branches.by_name), line, reply)
+        except (Unknown, Ended, KeyError):
+            return ["other sessions changed the branches since: what they are now does not show it"]

@@ -1,0 +1,32 @@
+"""A branch as pages show it already, and what changed of it since."""
+from __future__ import annotations
+
+from typing import Any, Dict, List, NamedTuple, Optional
+
+from ..branches import Branch
+from .offers import Offer
+from .record import Record
+
+Data = Dict[str, Any]
+
+
+class Shown(NamedTuple):
+    """A branch as pages have it, with what is offered where it stands, and its chart."""
+
+    branch: Branch
+    offers: List[Offer]
+    chart: Data
+
+
+def change(old: Optional[Shown], new: Shown, record: Record, keep: int) -> Data:
+    """The change of a branch of which pages keep the first moments; of a branch that is new, all of it."""
+    sheets = new.chart["sheets"]
+    chart = {**new.chart, "count": len(sheets), "sheets": _sheets(old.chart["sheets"] if old else [], sheets)}
+    its: Data = {"name": record.name, "keep": keep, "undone": record.undone, "moments": record.moments_as_data(keep)}
+    its.update(chart=chart, offers=new.offers)
+    return its if old else {**its, "opening": record.opening, "notes": list(record.notes.get(0, ()))}
+
+
+def _sheets(old: List[Data], new: List[Data]) -> Dict[str, Data]:
+    """The sheets of a chart that are not what they were, by their places."""
+    return {str(at): sheet for at, sheet in enumerate(new) if at >= len(old) or sheet != old[at]}

@@ -1,0 +1,90 @@
+"""The port of a live page: who may come in, and how many."""
+from __future__ import annotations
+
+import hmac
+import io
+import secrets
+import socket
+import socketserver
+import sys
+import threading
+import time
+from typing import Any, Callable, NamedTuple, Optional, Tuple
+
+from .bridge import STEP, WATCH, Bridge
+from .news import MOST_STREAMS
+
+HERE = "127.0.0.1"
+MOST_CONNECTIONS = MOST_STREAMS + 100
+
+
+class Tokens(NamedTuple):
+    """What an address has in it, for stepping and for watching alone."""
+
+    step: str
+    watch: str
+
+    @classmethod
+    def new(cls) -> "Tokens":
+        return cls(secrets.token_urlsafe(16), secrets.token_urlsafe(16))
+
+    def may(self, token: str) -> Optional[str]:
+        """What one with a token may do. How long it takes to know that says nothing of the tokens."""
+        steps, watches = (hmac.compare_digest(token.encode(errors="replace"), it.encode()) for it in self)
+        return STEP if steps else WATCH if watches else None
+
+
+class Door(socketserver.ThreadingTCPServer):
+    """A port of this machine alone. Each connection has a thread of its own, up to a limit."""
+
+    daemon_threads = allow_reuse_address = True
+    request_queue_size = 128
+    bridge: Bridge
+
+    def __init__(self, port: int, visit: Callable[..., socketserver.BaseRequestHandler]):
+        self.tokens = Tokens.new()
+        self._room = threading.Semaphore(MOST_CONNECTIONS)
+        super().__init__((HERE, port), visit)
+
+    @property
+    def port(self) -> int:
+        return int(self.server_address[1])
+
+    @property
+    def hosts(self) -> Tuple[str, str]:
+        """What browsers of this machine call this place. Where another name leads here, somebody else made it do so."""
+        return f"{HERE}:{self.port}", f"localhost:{self.port}"
+
+    def address(self, token: str) -> str:
+        return f"http://{HERE}:{self.port}/{token}/"
+
+    def process_request(self, request: Any, client_address: Any) -> None:
+        if self._room.acquire(blocking=False):
+            super().process_request(request, client_address)
+        else:
+            self.shutdown_request(request)
+
+    def process_request_thread(self, request: Any, client_address: Any) -> None:
+        try:
+            super().process_request_thread(request, client_address)
+        finally:
+            self._room.release()
+
+    def handle_error(self, request: Any, client_address: Any) -> None:
+        # (that somebody goes away, or does not read, is no fault)
+        if not isinstance(sys.exc_info()[1], (ConnectionError, socket.timeout)):
+            super().handle_error(request, client_address)
+
+
+class Within(io.RawIOBase):
+    """What comes over a connection within some seconds in all, however slowly."""
+
+    def __init__(self, connection: socket.socket, seconds: float):
+        self._connection, self._end = connection, time.monotonic() + seconds
+
+    def readable(self) -> bool:
+        return True
+
+    def readinto(self, buffer: Any) -> int:
+        self._connection.settimeout(max(0.001, self._end - time.monotonic()))
+        return self._connection.recv_into(buffer)

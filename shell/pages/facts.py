@@ -1,0 +1,137 @@
+"""The facts of a pair by key, as a page has them, and which of them an event changed."""
+from __future__ import annotations
+
+from typing import Callable, Collection, Dict, Iterator, List, NamedTuple, Sequence, Tuple
+
+from .looks import Eye, Seen
+from .standings import Standings
+from ..colours import PLAIN
+from ..differences import Difference, differences, node_numbers
+from ..diffs import circumstances, is_one_rule_set
+from ..frames import Frame
+from ..language.names import COUNTERS, NODES, Name
+from ..language.records import BULK_STATUS, CLEAR, QUEUES, UPDATE_REQUEST
+from ..pair import Node, Pair
+from ..records import record_line
+from ..setups import Setup
+from ..states import State
+from ..views import frame_head, held_packet
+from ..words import FLAGS, bulk_status, cleared, expires_at, flow, levels, near_and_far, request, rule_number, scaling, sequence
+
+# Values for JSON, by key. Among changes nothing stands for a key that is gone.
+Facts = Dict[str, object]
+Fact = Tuple[str, object]
+
+
+class Look(NamedTuple):
+    """What a look at a pair shows: the pair before and now, the facts that changed, and the differences for people."""
+
+    before: Pair
+    after: Pair
+    edits: Facts
+    differences: List[Difference]
+
+
+class Looker:
+    """Looks at one pair again and again."""
+
+    def __init__(self, setup: Setup, with_contents: Callable[[Pair], Pair]) -> None:
+        """The function adds what the lines of a shown pair do not have: the records of frames, and held packets."""
+        self.setup, self._with_contents = setup, with_contents
+        self.facts: Facts = {}
+        self._eye = Eye.new()
+        self._standings = Standings(is_one_rule_set(setup))
+
+    @property
+    def pair(self) -> Pair:
+        """The pair as it was seen last."""
+        return self._eye.pair
+
+    def take(self, shown: Sequence[str]) -> Look:
+        """Takes the lines of a shown pair: what changed."""
+        seen = self._eye.see(shown)
+        self._with_contents(seen.after)
+        edits = {key: value for key, value in self._facts(seen) if self.facts.get(key) != value}
+        self.facts.update(edits)
+        for key in (it for it, value in edits.items() if value is None):
+            del self.facts[key]
+        return Look(seen.before, seen.after, edits, differences(*seen.reduced))
+
+    def _facts(self, seen: Seen) -> Iterator[Fact]:
+        """All facts that may have changed."""
+        for name in (it for it in NODES if seen.before.nodes[it] != seen.after.nodes[it]):
+            yield from self._of_node(name, seen)
+        yield from self._apart(seen)
+        counts = self._standings.counts
+        lines = circumstances(seen.after, self.setup, PLAIN)
+        yield "pair", {"answer": counts.answer(PLAIN), "agree": not counts.apart, "lines": lines}
+        yield "link", [["next ticket", str(seen.after.next_ticket)], ["next boot", str(seen.after.next_boot)]]
+        for ticket in sorted({*seen.before.frames, *seen.after.frames}):
+            frame = seen.after.frames.get(ticket)
+            if frame != seen.before.frames.get(ticket):
+                yield f"frame/{ticket}", self._frame(frame) if frame else None
+
+    # ---- nodes
+
+    def _of_node(self, name: str, seen: Seen) -> Iterator[Fact]:
+        node, changed = seen.after.nodes[name], seen.changed[name]
+        queued = {it.name: QUEUES[it.kind] for it in node.queue if it.name in changed.queued}
+        yield name, self._numbers(node)
+        for state in sorted(self._rows(seen, name)):
+            yield f"{name}/state/{state}", self._row(node.states[state], node) if state in node.states else None
+        for state in sorted(changed.queued):
+            yield f"{name}/queue/{state}", queued.get(state)
+        yield f"{name}/told", list(_told(node)) or None
+        yield f"{name}/held", [held_packet(it, node, self.setup) for it in node.held] or None
+
+    def _rows(self, seen: Seen, name: str) -> Collection[Name]:
+        """The states whose rows may have changed: all of them where their number, which did, shortens timeouts."""
+        old, new = (pair.nodes[name].states for pair in (seen.before, seen.after))
+        adaptive = self.setup.adaptive
+        if len(old) != len(new) and (adaptive.shortens(len(old)) or adaptive.shortens(len(new))):
+            return {*old, *new}
+        return seen.changed[name].states
+
+    def _numbers(self, node: Node) -> Dict[str, object]:
+        return {
+            "clock": node.clock,
+            "numbers": [[name, text] for name, text in node_numbers(node).items()],
+            "counters": [[it.counts, node.counters[it.name]] for it in COUNTERS],
+            "scaling": scaling(self.setup, node),
+        }
+
+    def _row(self, state: State, node: Node) -> Dict[str, object]:
+        """A state in the words of pfctl; its times are those of the node's clock, in milliseconds."""
+        rule = self.setup.rule(node.id, state.rule)
+        return {
+            "flow": flow(state),
+            "levels": levels(state),
+            "ends": [sequence(it) for it in near_and_far(state)] if state.protocol == "tcp" else [],
+            "class": state.timeout_class,
+            "last": state.last,
+            "expires": expires_at(self.setup, node, state),
+            "peer": state.peer,
+            "updates": state.updates,
+            "flags": "" if state.flags == "-" else FLAGS.get(state.flags, state.flags),
+            "rule": rule_number(state.rule) + (f": {rule.text}" if rule else ""),
+        }
+
+    # ---- both nodes, and the link
+
+    def _apart(self, seen: Seen) -> Iterator[Fact]:
+        names = sorted(seen.changed["a"].states | seen.changed["b"].states)
+        for name in names:
+            was_at_b, one, two = (node.states.get(name) for node in (seen.before.b, seen.after.a, seen.after.b))
+            yield f"apart/{name}", self._standings.set_against(name, was_at_b, one, two)
+
+    def _frame(self, frame: Frame) -> Dict[str, object]:
+        records = [record_line(it) for it in frame.records]
+        head = f"{frame_head(frame, self.setup)}: {frame.summary}"
+        return {"to": frame.to, "head": head, "broken": bool(frame.broken), "records": [] if frame.broken else records}
+
+
+def _told(node: Node) -> Iterator[str]:
+    """What is to be told to the peer and is about no queued state."""
+    yield from (f"{UPDATE_REQUEST.name} {request(it)}" for it in node.asks)
+    yield from (f"{BULK_STATUS.name} {bulk_status(it)}" for it in node.statuses)
+    yield from (f"{CLEAR.name} {cleared(it)}" for it in node.clears)

@@ -1,0 +1,102 @@
+"""`page --serve`: a page that shows a pair as it goes on, to browsers of this machine."""
+from __future__ import annotations
+
+import contextlib
+import socket
+import threading
+from itertools import dropwhile
+from typing import ContextManager, Iterator, Optional, Sequence, TextIO, Tuple
+
+from ..laboratory import Unknown
+from ..language.commands import OPEN
+from ..language.lines import opens
+from ..programs import Client
+from ..setups import Setup
+from .bridge import Bridge
+from .door import HERE, Door
+from .runs import Run, run_of
+from .server import Branches, started
+from .serving import Visit
+from .typed import CHANGING
+
+# Without a script: a pair whose nodes let everything pass, and make states of it.
+OPENING = ("rule a pass any", "rule b pass any", OPEN.word)
+STOPPED = "the page is served no more: its bridge was stopped"
+# A session of a server, and the run behind it.
+Served = ContextManager[Tuple[Client, Run]]
+# How long the end waits for those who watch to hear of it, in seconds.
+GRACE = 2.0
+
+
+def serve(program: str, port: int, pair: Served, out: TextIO) -> None:
+    """Serves the page of a pair at a port until an interrupt, or until the server behind it ends: both are raised."""
+    with live(program, port, pair) as door:
+        print(f"{door.address(door.tokens.step)} steps\n{door.address(door.tokens.watch)} watches", file=out, flush=True)
+        watch(door.bridge)
+
+
+def watch(bridge: Bridge) -> None:
+    """Looks at what other sessions do until something ends it, which all who watch are told."""
+    try:
+        bridge.watch()
+    except BaseException as why:
+        bridge.news.end(STOPPED if isinstance(why, KeyboardInterrupt) else f"{why}")
+        bridge.news.everybody_left(GRACE)
+        raise
+
+
+@contextlib.contextmanager
+def live(program: str, port: int, pair: Served) -> Iterator[Door]:
+    """The page of a pair, at a port."""
+    with contextlib.ExitStack() as ends:
+        with at_port(port):
+            door = ends.enter_context(Door(port, Visit))
+        session, run = ends.enter_context(pair)
+        door.bridge = Bridge(program, run, Branches(session))
+        ends.callback(door.bridge.close)
+        ends.callback(cut_off, session)
+        door.bridge.begin()
+        threading.Thread(target=door.serve_forever, args=(0.1,), daemon=True).start()
+        ends.callback(door.shutdown)
+        yield door
+
+
+@contextlib.contextmanager
+def begun(program: str, script: Sequence[str], name: str) -> Iterator[Tuple[Client, Run]]:
+    """A server for a script, after its lines, and the script as its page has it."""
+    with contextlib.ExitStack() as ends:
+        run = ends.enter_context(contextlib.closing(run_of(program, script, name)))
+        server = ends.enter_context(contextlib.closing(started(program, run.setup.lines)))
+        session = ends.enter_context(contextlib.closing(Client(server.port)))
+        for line in dropwhile(lambda it: not opens(it), script):
+            if line.split()[:1] and line.split()[0] in CHANGING:
+                session.ask(line)
+        yield session, run
+
+
+@contextlib.contextmanager
+def joined(port: int, setup: Optional[Setup], out: TextIO) -> Iterator[Tuple[Client, Run]]:
+    """A session of a server that runs already."""
+    if setup is None:
+        raise Unknown("a page of a server needs the setup that the server read: --setup FILE")
+    with at_port(port):
+        session = Client(port)
+    with contextlib.closing(session):
+        print("connected; the server answers once all its sessions are", file=out, flush=True)
+        session.wait()
+        yield session, Run(title=f"The server at port {port}", intro=[], setup=setup, records=[])
+
+
+@contextlib.contextmanager
+def at_port(port: int) -> Iterator[None]:
+    """Has a fault of the network say at which port it is."""
+    try:
+        yield
+    except OSError as error:
+        raise OSError(error.errno, error.strerror, f"{HERE}:{port}") from error
+
+
+def cut_off(session: Client) -> None:
+    """Has a session end that may wait for a reply."""
+    with contextlib.suppress(OSError):
+        session.connection.shutdown(socket.SHUT_RDWR)

@@ -1,0 +1,82 @@
+"""Moments of a branch, as a page shows them: an event, what came of it and why, and what it changed."""
+from __future__ import annotations
+
+from dataclasses import dataclass, field
+from typing import Dict, List, Optional, Sequence, Tuple
+
+from .facts import Facts, Look
+from ..colours import PLAIN
+from ..differences import Difference
+from ..explanations import Explanation
+from ..flights import Flight
+from ..histories import History
+from ..laboratory import Laboratory
+from ..logs import tone
+from ..reasons.questions import Question
+from ..reasons.why import reasons
+from ..words import counted
+
+# A page shows the first of many reasons or changes, and how many more there are.
+MOST_LINES = 60
+
+
+@dataclass
+class Moment:
+    """An event and what came of it. There are no edits where the pair was not looked at afterwards."""
+
+    event: str
+    outcome: str
+    why: Sequence[str]
+    changes: Sequence[Tuple[str, str]] = ()
+    edits: Optional[Facts] = None
+    who: str = ""
+
+    def as_data(self, notes: Sequence[str]) -> Dict[str, object]:
+        """The moment for JSON, with the paragraphs of its story."""
+        told: Dict[str, object] = {"event": self.event, "outcome": self.outcome, "tone": tone(self.outcome)}
+        if self.who:
+            told["who"] = self.who
+        return {**told, "notes": list(notes), "why": list(self.why), "changes": [[*it] for it in self.changes], "edits": self.edits}
+
+
+@dataclass
+class Known:
+    """What is known of some events: their lines, what came of each and the frame that it sent, if it did, and all frames by ticket."""
+
+    lines: List[str] = field(default_factory=list)
+    explained: List[Tuple[Explanation, Optional[Flight]]] = field(default_factory=list)
+    flights: Dict[int, Flight] = field(default_factory=dict)
+
+    def history(self, lab: Laboratory, look: Look) -> History:
+        """The events before the newest one, of which nearly all that a reason is made of is at hand."""
+        number = len(self.lines)
+        history = History(lab, "main", self.lines[: number - 1])
+        pairs, past = {number - 1: look.before, number: look.after}, history.pair
+        history.explained = lambda place: self.explained[place - 1][0]
+        history.pair = lambda place: pairs[place] if place in pairs else past(place)
+        history.sent = self.flights.__getitem__
+        return history
+
+
+def moment(lab: Laboratory, known: Known, look: Look, who: str) -> Moment:
+    """The newest of some events, after which the pair was looked at, as it was before."""
+    it, before = known.explained[-1][0], known.history(lab, look)
+    why = [line.strip() for line in reasons(Question(before, it, PLAIN))]
+    changes = _first([(_tone(one), str(one)) for one in look.differences], "change")
+    return Moment(it.event.line, it.event.came, [line for _, line in _first([("", line) for line in why], "line")], changes, look.edits, who)
+
+
+def unseen(it: Explanation, look: Optional[Look], who: str) -> Moment:
+    """An event before which the pair was not looked at: its reason is in the words of the program."""
+    edits = look.edits if look else None
+    return Moment(it.event.line, it.event.came, [line for _, line in _first([("", line) for line in it.lines], "line")], (), edits, who)
+
+
+def _tone(it: Difference) -> str:
+    return "good" if it.is_new else "bad" if it.is_gone else ""
+
+
+def _first(lines: List[Tuple[str, str]], what: str) -> List[Tuple[str, str]]:
+    """The first of many lines, and how many more there are."""
+    more = len(lines) - MOST_LINES
+    return lines if more <= 1 else [*lines[:MOST_LINES], ("dim", f"and {counted(more, f'more {what}')}")]

@@ -1,0 +1,149 @@
+"""A branch moment by moment, kept by a run of the program of its own, in which the branch stands as it does in the pair."""
+from __future__ import annotations
+
+from dataclasses import replace
+from typing import Dict, List, Mapping, Sequence
+
+from .facts import Facts, Looker
+from .moments import Known, Moment, moment, unseen
+from ..branches import Branch
+from ..charts.chart import drawn
+from ..charts.picture import sheets
+from ..held import held_packets, tell_packets
+from ..laboratory import Laboratory, Unknown
+from ..explanations import read_explanation
+from ..flights import read_flight
+from ..language.commands import BACK, FRAME, SHOW, STEP, WHY
+from ..language.events import FLUSH, OF_FRAME, REPEAT
+from ..language.names import Name
+from ..pair import Pair
+from ..setups import Setup
+
+# How many lines of shown pairs are read for a branch at most. A longer run is not looked at after each of its events.
+MOST_SHOWN = 2_500_000
+
+
+class Record:
+    """A branch of a pair, moment by moment."""
+
+    def __init__(self, program: str, setup: Setup, name: str, former: bool = False) -> None:
+        """One without events. A former branch is what a branch was before its events were undone and others stepped."""
+        self.name, self.former, self.undone = name, former, 0
+        # Paragraphs of the story, and branches that begin, by how many events stood.
+        self.notes: Mapping[int, Sequence[str]] = {}
+        self.forks: Mapping[int, Sequence[str]] = {}
+        self.laboratory = Laboratory(program, setup=setup)
+        self.laboratory.open()
+        assert self.laboratory.session
+        self._session = self.laboratory.session
+        self.moments: List[Moment] = []
+        self._known = Known()
+        self._packets: Dict[Name, str] = {}
+        self._looker = Looker(setup, self._with_contents)
+        self._shown = 0
+        # The moment at which the pair was looked at last.
+        self._looked = 0
+        self.opening = self._looker.take(self._show()).edits
+
+    def sync(self, branch: Branch, who: str = "") -> int:
+        """Brings it to the events of a branch that stand: how many of its moments are as they were."""
+        events = branch.events[: branch.cursor]
+        both = zip(events, self.moments)
+        same = next((at for at, (event, it) in enumerate(both) if event != it.event), min(len(events), len(self.moments)))
+        kept = self._take_back(same) if same < len(self.moments) else same
+        for event in events[same:]:
+            self._step(event, len(events), who)
+        self.undone = len(branch.events) - branch.cursor
+        return kept
+
+    def close(self) -> None:
+        self.laboratory.close()
+
+    # ---- for a page
+
+    def as_data(self) -> Dict[str, object]:
+        """All of the branch, for JSON."""
+        told: Dict[str, object] = {"name": self.name, "former": self.former, "undone": self.undone, "opening": self.opening}
+        return {**told, "notes": list(self.notes.get(0, ())), "moments": self.moments_as_data(), "chart": self.chart_as_data()}
+
+    def moments_as_data(self, first: int = 0) -> List[Dict[str, object]]:
+        """The moments after the first ones."""
+        return [it.as_data(self.notes.get(number, ())) for number, it in enumerate(self.moments[first:], first + 1)]
+
+    def chart_as_data(self) -> Dict[str, object]:
+        """The chart of the events that stand."""
+        return sheets(drawn(self.name, self._known.explained, self.undone, forks=self.forks)).plain()
+
+    # ---- events
+
+    def _step(self, event: str, last: int, who: str) -> None:
+        """Lets an event happen, which is one of so many."""
+        number, sends = len(self.moments) + 1, event.split()[0] in (FLUSH.word, REPEAT.word)
+        is_seen, was_seen = self._affords(number, last), self._looked == number - 1
+        lines = [f"{STEP.word} main {event}", f"{WHY.word} main {number}"]
+        # (tickets are counted from 1)
+        lines += [f"{FRAME.word} main {len(self._known.flights) + 1}"] * sends + [f"{SHOW.word} main"] * is_seen
+        (stepped, *_), why, *replies = self._session.ask_together(lines)
+        if not stepped.startswith(STEP.word):
+            raise Unknown(f"`{event}` was answered `{stepped}` where {self.name} was played again")
+        it = read_explanation(why)
+        self._known.lines.append(event)
+        self._known.explained.append((it, read_flight(replies[0]) if sends else None))
+        self._remember(number)
+        look = self._looker.take(replies[-1]) if is_seen else None
+        if look:
+            self._looked = number
+            self._shown += len(replies[-1])
+        self.moments.append(moment(self.laboratory, self._known, look, who) if look and was_seen else unseen(it, look, who))
+
+    def _remember(self, number: int) -> None:
+        """Notes the frame that an event sent, or what befell one, and the packet that was held."""
+        it, flight = self._known.explained[number - 1]
+        self._packets.update(held_packets([it.event.line], [it.event.came]))
+        if flight:
+            self._known.flights[flight.ticket] = replace(flight, later=[])
+        if it.event.words[0] in OF_FRAME:
+            self._known.flights[int(it.event.words[1])].later.append(it.event)
+
+    def _affords(self, number: int, last: int) -> bool:
+        """Whether the pair is looked at after an event: always after the last one."""
+        return number == last or self._shown + len(self._looker.facts) <= MOST_SHOWN * number // last
+
+    def _take_back(self, number: int) -> int:
+        """Goes back to the first events: how many moments are as they were."""
+        self.laboratory.ask(f"{BACK.word} main {len(self.moments) - number}")
+        del self.moments[number:], self._known.lines[number:], self._known.explained[number:]
+        self._known.flights.clear()
+        self._packets.clear()
+        for place in range(number):
+            self._remember(place + 1)
+        self._looker.take(self._show())
+        self._looked = number
+        return self._mended(number)
+
+    def _mended(self, number: int) -> int:
+        """Has the newest moment show what was looked up now, where the pair was not looked at after it."""
+        facts = dict(self.opening)
+        for it in self.moments:
+            facts.update(it.edits or {})
+        old = {key: value for key, value in facts.items() if value is not None}
+        new = self._looker.facts
+        edits: Facts = {key: new.get(key) for key in sorted({*old, *new}) if old.get(key) != new.get(key)}
+        if not edits:
+            return number
+        newest = self.moments[-1]
+        newest.edits = {**(newest.edits or {}), **edits}
+        return number - 1
+
+    # ---- looks
+
+    def _show(self) -> List[str]:
+        shown = self.laboratory.ask(f"{SHOW.word} main")
+        self._shown += len(shown)
+        return shown
+
+    def _with_contents(self, pair: Pair) -> Pair:
+        """A pair with the records of its frames, and with the packets that its nodes hold."""
+        for ticket, it in pair.frames.items():
+            pair.frames[ticket] = it if it.broken else replace(it, records=self._known.flights[ticket].frame.records)
+        return tell_packets(pair, self._packets)

@@ -1,0 +1,192 @@
+"""The live page over HTTP: what is answered to a request, and what to a stranger's."""
+from __future__ import annotations
+
+import io
+import json
+import re
+import select
+import socket
+import time
+from http import HTTPStatus
+from http.server import BaseHTTPRequestHandler
+from typing import Any, Callable, Dict, List, Optional, Tuple, Union
+
+from ..programs import Ended
+from .bridge import STEP
+from .door import Door, Within
+from .news import Stream
+from .typed import NotTaken, read_typed
+
+# The seconds in which a request has to be there, those in which what is sent has to be taken, and those between signs of life.
+READ_SECONDS = WRITE_SECONDS = BEAT = 10.0
+# How soon a stream notices that nobody is there any more.
+LOOK = 1.0
+MOST_BODY = 64 << 10
+HTML, JSON, TEXT, EVENTS = "text/html; charset=utf-8", "application/json", "text/plain; charset=utf-8", "text/event-stream"
+HEADERS = {
+    "Cache-Control": "no-store",
+    "Referrer-Policy": "no-referrer",
+    "X-Content-Type-Options": "nosniff",
+    "X-Frame-Options": "DENY",
+    "Cross-Origin-Resource-Policy": "same-origin",
+    "Cross-Origin-Opener-Policy": "same-origin",
+    "Connection": "close",
+}
+# The page itself says in a <meta> which script and which style it has; who may frame it, only a header can say.
+POLICY = "frame-ancestors 'none'; base-uri 'none'; form-action 'none'"
+METHODS = {"": "GET", "events": "GET", "do": "POST"}
+_TARGET = re.compile(r"/([^/?]*)/([^/?]*)(?:\?(.*))?")
+
+
+class Refused(Exception):
+    """A request that is not answered with what it asks for, and why."""
+
+    def __init__(self, status: HTTPStatus, why: str = ""):
+        super().__init__(why or status.phrase)
+        self.status = status
+
+
+class Visit(BaseHTTPRequestHandler):
+    """A connection, which is for one request."""
+
+    server: Door
+    protocol_version = "HTTP/1.1"
+    disable_nagle_algorithm = True
+
+    # ---- what the standard library's has otherwise
+
+    def setup(self) -> None:
+        super().setup()
+        self.rfile.close()
+        self.rfile = io.BufferedReader(Within(self.connection, READ_SECONDS))
+
+    def version_string(self) -> str:
+        return "pfl_lab"
+
+    def log_message(self, format: str, *words: Any) -> None:
+        """Nothing is logged."""
+
+    def send_error(self, code: int, message: Optional[str] = None, explain: Optional[str] = None) -> None:
+        """Answers what is no request, or has a method that there is not."""
+        status = HTTPStatus.METHOD_NOT_ALLOWED if code == HTTPStatus.NOT_IMPLEMENTED else HTTPStatus(code)
+        self._answer(status, TEXT, status.phrase)
+
+    # ---- requests
+
+    def do_GET(self) -> None:
+        self._carry_out(self._get)
+
+    def do_POST(self) -> None:
+        self._carry_out(self._post)
+
+    def _carry_out(self, method: Callable[[], None]) -> None:
+        try:
+            method()
+        except Refused as why:
+            self._answer(why.status, TEXT, str(why))
+        except Ended as why:
+            self._answer(HTTPStatus.SERVICE_UNAVAILABLE, TEXT, str(why))
+
+    def _get(self) -> None:
+        may, path, query = self._target()
+        if path:
+            self._events(query)
+        else:
+            self._answer(HTTPStatus.OK, HTML, self.server.bridge.page_for(may))
+
+    def _post(self) -> None:
+        # (what is small is read before anything is refused: a connection that is closed before loses its answer)
+        body = self._body()
+        may, _, _ = self._target()
+        self._check_sender()
+        if may != STEP:
+            raise Refused(HTTPStatus.FORBIDDEN, "who has this address may watch, and not step")
+        try:
+            typed = read_typed(body)
+        except NotTaken as why:
+            raise Refused(HTTPStatus.BAD_REQUEST, str(why)) from why
+        self._answer(HTTPStatus.OK, JSON, json.dumps(self.server.bridge.do(typed)))
+
+    # ---- what a request has to have
+
+    def _target(self) -> Tuple[str, str, str]:
+        """What the sender may do, the path after the token, and the query; the method has to be that of the path."""
+        if self.headers.get_all("Host", []) not in [[it] for it in self.server.hosts]:
+            raise Refused(HTTPStatus.FORBIDDEN, "this host is not known here")
+        found = _TARGET.fullmatch(self.path)
+        may = self.server.tokens.may(found[1]) if found else None
+        if not found or not may or found[2] not in METHODS:
+            raise Refused(HTTPStatus.NOT_FOUND)
+        if METHODS[found[2]] != self.command:
+            raise Refused(HTTPStatus.METHOD_NOT_ALLOWED)
+        return may, found[2], found[3] or ""
+
+    def _body(self) -> bytes:
+        lengths: List[str] = self.headers.get_all("Content-Length", [])
+        if len(lengths) != 1 or "Transfer-Encoding" in self.headers:
+            raise Refused(HTTPStatus.LENGTH_REQUIRED)
+        if not re.fullmatch("[0-9]{1,18}", lengths[0]):
+            raise Refused(HTTPStatus.BAD_REQUEST)
+        if int(lengths[0]) > MOST_BODY:
+            raise Refused(HTTPStatus.REQUEST_ENTITY_TOO_LARGE)
+        return self.rfile.read(int(lengths[0]))
+
+    def _check_sender(self) -> None:
+        """Whether it is the page that sends this, and not a form or a script of another place."""
+        origins: List[str] = self.headers.get_all("Origin", [])
+        is_own = origins in [[f"http://{it}"] for it in self.server.hosts]
+        if not is_own and (origins or self.headers.get("Sec-Fetch-Site", "same-origin") != "same-origin"):
+            raise Refused(HTTPStatus.FORBIDDEN, "this was sent by another place than the page")
+        if self.headers.get_content_type() != JSON:
+            raise Refused(HTTPStatus.UNSUPPORTED_MEDIA_TYPE, f"the body has to be {JSON}")
+
+    # ---- answers
+
+    def _answer(self, status: HTTPStatus, kind: str, said: Union[str, bytes]) -> None:
+        body = said if isinstance(said, bytes) else f"{said}\n".encode()
+        self._begin(status, kind, {"Content-Length": str(len(body))})
+        if self.command != "HEAD":
+            self.wfile.write(body)
+
+    def _begin(self, status: HTTPStatus, kind: str, more: Dict[str, str]) -> None:
+        """Sends the head of an answer."""
+        self.connection.settimeout(WRITE_SECONDS)
+        self.send_response(status)
+        allowed = {"Allow": ", ".join(sorted({*METHODS.values()}))} if status is HTTPStatus.METHOD_NOT_ALLOWED else {}
+        policy = POLICY if kind == HTML else f"default-src 'none'; {POLICY}"
+        for name, value in {**HEADERS, "Content-Type": kind, "Content-Security-Policy": policy, **allowed, **more}.items():
+            self.send_header(name, value)
+        self.end_headers()
+
+    # ---- events
+
+    def _events(self, query: str) -> None:
+        # (a browser that connects again by itself says so by a header)
+        after = self.headers.get("Last-Event-ID") or (query[len("after=") :] if query.startswith("after=") else "")
+        if not re.fullmatch("[0-9]{1,15}", after):
+            raise Refused(HTTPStatus.BAD_REQUEST, "events?after=VERSION is wanted")
+        if not self.server.bridge.news.come():
+            raise Refused(HTTPStatus.SERVICE_UNAVAILABLE, "there are too many who watch")
+        try:
+            self._stream(Stream(int(after)))
+        finally:
+            self.server.bridge.news.go()
+
+    def _stream(self, stream: Stream) -> None:
+        """Sends what a watcher lacks as it comes, and signs of life. One who does not read holds up this thread alone."""
+        self._begin(HTTPStatus.OK, EVENTS, {})
+        self.wfile.write(b"retry: 1000\n\n")
+        sent = time.monotonic()
+        while not stream.is_over and not self._is_left():
+            messages = self.server.bridge.news.awaited(stream, LOOK)
+            if not messages and time.monotonic() >= sent + BEAT:
+                messages = [b": beat\n\n"]
+            if messages:
+                self.wfile.write(b"".join(messages))
+                sent = time.monotonic()
+
+    def _is_left(self) -> bool:
+        """Whether the watcher has closed the connection."""
+        poll = select.poll()
+        poll.register(self.connection, select.POLLIN)
+        return bool(poll.poll(0)) and not self.connection.recv(1, socket.MSG_PEEK)

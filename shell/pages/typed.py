@@ -1,0 +1,50 @@
+"""What a browser sends: a line of the language with the name of who sends it, taken from the body of a request, or refused."""
+from __future__ import annotations
+
+import json
+from typing import NamedTuple
+
+from ..language.commands import BACK, DROP, EXCISE, FORK, FORWARD, RESTORE, STEP
+
+CHANGING = tuple(it.word for it in (STEP, BACK, FORWARD, FORK, DROP, EXCISE, RESTORE))
+LONGEST_LINE = 4096
+LONGEST_NAME = 40
+NOBODY = "somebody"
+
+
+class NotTaken(ValueError):
+    """A body that is not given to the program, with the reason."""
+
+
+class Typed(NamedTuple):
+    """A line that changes the pair, and who sends it."""
+
+    name: str
+    line: str
+
+
+def read_typed(body: bytes) -> Typed:
+    """The line that a body has, and the name."""
+    try:
+        it = json.loads(body.decode())
+    except (ValueError, RecursionError):
+        raise NotTaken("the body is not JSON") from None
+    name, line = (it.get("name", ""), it.get("line")) if isinstance(it, dict) else ("", None)
+    if not isinstance(name, str) or not isinstance(line, str):
+        raise NotTaken('the body has to be {"name": "..", "line": ".."}')
+    _check(line)
+    return Typed(_cleaned(name), line.strip())
+
+
+def _check(line: str) -> None:
+    if len(line.encode(errors="replace")) > LONGEST_LINE:
+        raise NotTaken(f"the line is too long: {LONGEST_LINE} bytes are read at most")
+    if any(it < " " or "\x7f" <= it < "\xa0" or "\ud800" <= it < "\ue000" for it in line):
+        raise NotTaken("the line has a control character; one line is sent at a time")
+    if line.split()[:1] not in [[it] for it in CHANGING]:
+        raise NotTaken(f"a page sends only lines that change the pair: {', '.join(CHANGING)}")
+
+
+def _cleaned(name: str) -> str:
+    """A name as it is shown: what does not print, or turns the way of writing around, is left out."""
+    return "".join(it for it in name if it.isprintable())[:LONGEST_NAME].strip() or NOBODY

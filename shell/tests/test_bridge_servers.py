@@ -1,0 +1,206 @@
+"""The server behind a live page: one of its own, or one that others use too; and the end of either."""
+from __future__ import annotations
+
+import contextlib
+import io
+import signal
+import socket
+import subprocess
+import sys
+import time
+import unittest
+from typing import Iterator, List
+from unittest import mock
+
+from . import TOP, program
+from .bridges import PACKET, Bridged, Data, Watcher
+from ..laboratory import Unknown
+from ..pages.door import Door
+from ..pages.live import OPENING, begun, joined, serve
+from ..pages.runs import Run
+from ..pages.server import Branches, free_port
+from ..programs import Client, Run as ProgramRun
+from ..setups import Setup
+
+RULES = ["rule a pass any", "rule b pass any"]
+
+
+@contextlib.contextmanager
+def server(sessions: int) -> Iterator[int]:
+    """A server that others use too, by its port."""
+    port = free_port()
+    words = [program(), "serve", "--port", str(port), "--sessions", str(sessions)]
+    with subprocess.Popen(words, stdin=subprocess.PIPE, stdout=subprocess.PIPE, stderr=subprocess.DEVNULL, text=True) as its:
+        assert its.stdin and its.stdout
+        its.stdin.write("".join(f"{line}\n" for line in (*RULES, "open")))
+        its.stdin.close()
+        its.stdout.readline()
+        try:
+            yield port
+        finally:
+            its.kill()
+
+
+class Joined(Bridged):
+    def session(self, port: int) -> Client:
+        it = Client(port)
+        self.addCleanup(it.close)
+        return it
+
+    def joining(self, port: int, *rules: str) -> Door:
+        return self.served(joined(port, Setup.of(rules or RULES), io.StringIO()))
+
+    def test_what_another_session_steps_is_seen(self) -> None:
+        with server(2) as port:
+            shell = self.session(port)
+            door = self.joining(port)
+            watcher, begun = self.watcher(door), time.monotonic()
+            shell.ask(PACKET)
+            it = watcher.update()
+            self.assertLess(time.monotonic() - begun, 1)
+            self.assertEqual((it["version"], it["who"], it["line"], it["reply"]), (1, "another session", "", []))
+            self.assertEqual(it["branches"][0]["moments"][0]["outcome"], "pass 1.1")
+            self.assertEqual(self.step(door, "step main flush a")["reply"], ["step sent 1 148 dropped 0"])
+            self.assertEqual(shell.ask("names"), ["names main"])
+            self.assertEqual(watcher.update()["who"], "Ann")
+            shell.ask("fork main 1 other")
+            shell.ask("drop main")
+            self.assertEqual(self.order(watcher), ["other"])
+            self.assertEqual(self.step(door, "step main tick a 1")["reply"], ["refused 1 NoBranch"])
+            self.ends.close()
+
+    def order(self, watcher: Watcher) -> List[str]:
+        """The branches as the updates of two seconds leave them."""
+        order: List[str] = []
+        end = time.monotonic() + 2
+        while order != ["other"] and time.monotonic() < end:
+            order = watcher.update()["order"]
+        return order
+
+    def test_a_step_of_another_session_right_before_ours_is_seen(self) -> None:
+        with server(2) as port:
+            shell = self.session(port)
+            door = self.joining(port)
+            shell.ask("step main tick a 1")
+            self.step(door, "step main tick a 2")
+            moments = self.page(door)["branches"][0]["moments"]
+            self.assertEqual([(it["outcome"], it["who"]) for it in moments], [("clock 1", "another session"), ("clock 3", "Ann")])
+            self.ends.close()
+
+    def test_the_branches_are_those_of_the_log_whatever_comes_between(self) -> None:
+        with server(2) as port:
+            shell, own = self.session(port), Branches(self.session(port))
+            lines = ["step main tick a 1", "step  main tick a 007", PACKET, "back main 2", "forward main 1", "fork main 02 x"]
+            lines += ["step main tick b 1", "step x packet a in tcp 10.0.0.1:1000 192.0.2.9:80 S 100 0 1000 0 07"]
+            lines += ["excise main 1", "restore main", "excise x 1", "drop main"]
+            for line in lines:
+                own.look()
+                own.ask(line)
+                by_name = dict(own.by_name)
+                own.read()
+                self.assertEqual(own.by_name, by_name, line)
+                shell.ask("fork x 0 y" if line == "drop main" else "back main 0")
+                own.look()
+            own.read()
+            self.assertEqual([*own.by_name], ["x", "y"])
+
+    def test_two_pages_of_a_server_do_not_keep_each_other_busy(self) -> None:
+        with server(3) as port, mock.patch("shell.pages.bridge.PERIOD", 0.01):
+            shell = self.session(port)
+            session = self.session(port)
+            own = Branches(session)
+            door = self.joining(port)
+            own.look()
+            shell.ask(PACKET)
+            end = time.monotonic() + 1.5
+            while time.monotonic() < end:
+                own.look()
+                time.sleep(0.01)
+            commands = int(session.ask("view")[0].split()[1])
+            self.assertLess(commands, 30)
+            self.assertEqual(len(self.page(door)["branches"][0]["moments"]), 1)
+            self.ends.close()
+
+    def test_a_setup_that_is_not_the_servers_is_found(self) -> None:
+        with server(3) as port:
+            shell, own, again = (self.session(port) for _ in range(3))
+            shell.ask(PACKET)
+            run = Run("", [], Setup.of(["rule a block any"]), [])
+            with self.assertRaisesRegex(Unknown, "main is not here what it is at the server: the server's setup is another one"):
+                serve(program(), 0, contextlib.nullcontext((own, run)), io.StringIO())
+            shell.ask("step main flush a")
+            refused = "`flush a` was answered `refused 8 Event 2 NothingPending` where main was played again"
+            with self.assertRaisesRegex(Unknown, refused):
+                serve(program(), 0, contextlib.nullcontext((again, run)), io.StringIO())
+
+    def test_a_setup_is_needed(self) -> None:
+        with self.assertRaises(Unknown):
+            serve(program(), 0, joined(1, None, io.StringIO()), io.StringIO())
+
+
+class Ends(Bridged):
+    def test_the_end_of_the_server_comes_to_all(self) -> None:
+        with server(1) as port:
+            door = self.served(joined(port, Setup.of(RULES), io.StringIO()))
+            self.step(door, PACKET)
+            watchers = [self.watcher(door, 1) for _ in range(5)]
+        ended = {"ended": "the server has ended, or has ended this session"}
+        self.assertEqual([it.update() for it in watchers], [ended] * 5)
+        self.assertEqual([it.next() for it in watchers], [{}] * 5)
+        answer = self.asked(door, "POST", f"/{door.tokens.step}/do", '{"line": "back main 0"}')
+        self.assertEqual((answer.status, answer.body), (503, "the server has ended, or has ended this session\n"))
+        self.assertEqual(len(self.page(door)["branches"][0]["moments"]), 1)
+
+    def test_a_record_whose_program_is_gone_is_made_anew(self) -> None:
+        door = self.live(PACKET)
+        watcher = self.watcher(door)
+        session = door.bridge._records["main"].laboratory.session
+        assert isinstance(session, ProgramRun)
+        session.process.kill()
+        self.step(door, "step main flush a")
+        it: Data = watcher.update()["branches"][0]
+        self.assertEqual((it["keep"], [one["outcome"] for one in it["moments"]]), (0, ["pass 1.1", "sent 1 148"]))
+
+
+PROGRAM = """
+import sys
+sys.path.insert(0, {top!r})
+from shell.pages.live import OPENING, begun, serve
+
+try:
+    serve({program!r}, {port}, begun({program!r}, OPENING, "A pair"), sys.stdout)
+except KeyboardInterrupt:
+    sys.exit(130)
+"""
+
+
+class Processes(unittest.TestCase):
+    def serving(self, port: int = 0) -> "subprocess.Popen[str]":
+        words = [sys.executable, "-c", PROGRAM.format(top=TOP, program=program(), port=port)]
+        it = subprocess.Popen(words, stdout=subprocess.PIPE, stderr=subprocess.PIPE, text=True)
+        self.addCleanup(it.communicate)
+        self.addCleanup(it.kill)
+        return it
+
+    def test_an_interrupt_ends_the_page_and_its_server(self) -> None:
+        its = self.serving()
+        assert its.stdout
+        lines = [its.stdout.readline() for _ in range(2)]
+        self.assertRegex(lines[0], r"^http://127\.0\.0\.1:[0-9]+/[\w-]{22}/ steps$")
+        self.assertRegex(lines[1], r"^http://127\.0\.0\.1:[0-9]+/[\w-]{22}/ watches$")
+        its.send_signal(signal.SIGINT)
+        self.assertEqual((its.wait(5), its.communicate()[1]), (130, ""))
+
+    def test_a_port_in_use_is_named(self) -> None:
+        with socket.socket() as it:
+            it.bind(("127.0.0.1", 0))
+            it.listen()
+            port = it.getsockname()[1]
+            its = self.serving(port)
+            _, said = its.communicate(timeout=5)
+        self.assertIn(f"Address already in use: '127.0.0.1:{port}'", said.splitlines()[-1])
+
+    def test_a_program_that_is_missing_is_named(self) -> None:
+        with self.assertRaises(FileNotFoundError) as found:
+            serve("/nowhere/pfl_lab", 0, begun("/nowhere/pfl_lab", OPENING, ""), io.StringIO())
+        self.assertEqual(found.exception.filename, "/nowhere/pfl_lab")
