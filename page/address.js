@@ -43,7 +43,11 @@ class AddressWriter {
     const hash = `#${encodeURIComponent(branch.name)}/${place}`;
     if (location.hash === hash) return;
     this.times.push(Date.now());
-    history.replaceState(null, "", hash);
+    try {
+      history.replaceState(null, "", hash);
+    } catch {
+      // (a browser that does not allow it leaves the address as it is)
+    }
   }
 }
 

@@ -5,7 +5,7 @@ import { putDots } from "./motion.js";
 /** The chart of a branch in its scrolling box, where only the sheets near what is seen are in the document. */
 
 /** How wide a unit of the drawing is at least, in the sizes of letters: narrower boxes scroll. */
-const LEAST_UNIT = 0.041;
+const LEAST_UNIT = 0.0485;
 /** How far beyond the box sheets are kept, in heights of the box. */
 const NEAR = 1.5;
 

@@ -16,6 +16,7 @@ export class Controls {
     byId("last").addEventListener("click", () => this.go(viewer.newest));
     byId("play").addEventListener("click", () => this.turn());
     byId("slider").addEventListener("input", () => this.go(Number(byId("slider").value)));
+    this.copyLabel = byId("copy").textContent;
     byId("copy").addEventListener("click", () => this.copy());
     viewer.listen(() => this.show());
   }
@@ -74,7 +75,7 @@ export class Controls {
     this.showBranches();
   }
 
-  /** Shows a button for each branch; runs that were undone stand apart. */
+  /** Shows a button for each branch; earlier runs stand apart. */
   showBranches() {
     const { run, branch } = this.viewer;
     const names = run.branches.map((it) => `${it.name} ${it.former}`).join("\n");
@@ -105,7 +106,7 @@ export class Controls {
     const group = make("span", { class: "group" }, ...branches.filter((it) => !it.former).map(button));
     byId("branches").replaceChildren(group);
     if (!former.length) return;
-    const label = make("span", { class: "label", id: "former" }, "before it was undone");
+    const label = make("span", { class: "label", id: "former" }, "earlier runs");
     const aside = make("span", { class: "group", role: "group", "aria-labelledby": "former" }, label, ...former);
     byId("branches").append(aside);
   }
@@ -113,13 +114,13 @@ export class Controls {
   /** Copies the link to this moment, or shows it where the browser does not let the page copy. */
   async copy() {
     const button = byId("copy");
-    const text = button.textContent;
     try {
       await navigator.clipboard.writeText(location.href);
       button.textContent = "Copied";
     } catch {
       button.textContent = "Copy it from the address bar";
     }
-    setTimeout(() => { button.textContent = text; }, 2000);
+    clearTimeout(this.copied);
+    this.copied = setTimeout(() => { button.textContent = this.copyLabel; }, 2000);
   }
 }

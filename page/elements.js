@@ -22,15 +22,30 @@ export function makeButton(text, attributes, action) {
   return button;
 }
 
-/** A text as nodes, in which what stands between backticks is code. */
-export function worded(text) {
-  const parts = text.split(/`([^`]+)`/).map((part, at) => (at % 2 ? make("code", {}, part) : part));
-  return parts.filter((part) => part !== "");
+/** Code between backticks, or an event by its number. */
+const MARKED = /`([^`]+)`|\bevent (\d+)\b/g;
+
+/** A text as nodes, in which what stands between backticks is code, and an event a link if there is an address for it. */
+export function worded(text, addressOf = () => null) {
+  const nodes = [];
+  let end = 0;
+  for (const found of text.matchAll(MARKED)) {
+    nodes.push(text.slice(end, found.index), wordOf(found, addressOf));
+    end = found.index + found[0].length;
+  }
+  return [...nodes, text.slice(end)].filter((node) => node !== "");
 }
 
-/** A list of texts as items of a list, with code between backticks. */
-export function items(texts) {
-  return texts.map((text) => make("li", {}, ...worded(text)));
+/** The node of what was found. */
+function wordOf([text, code, number], addressOf) {
+  if (code !== undefined) return make("code", {}, code);
+  const address = addressOf(Number(number));
+  return address ? make("a", { href: address }, text) : text;
+}
+
+/** A list of texts as items of a list, in the same way. */
+export function items(texts, addressOf) {
+  return texts.map((text) => make("li", {}, ...worded(text, addressOf)));
 }
 
 /** Makes these the children of an element; those that are there already are not touched, so that focus stays. */

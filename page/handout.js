@@ -1,4 +1,4 @@
-import { byId, make } from "./elements.js";
+import { byId, items, make } from "./elements.js";
 import { laneHeads } from "./chart.js";
 import { drawnSlice } from "./drawing.js";
 import { paragraphs, setupOf, toneOf } from "./story.js";
@@ -7,6 +7,8 @@ import { paragraphs, setupOf, toneOf } from "./story.js";
 
 /** How high a slice of the chart may be, in units of its drawing: a page breaks between slices alone. */
 const SLICE = 160;
+/** How much of the drawing may be below the heads of its lanes before they stand there again. */
+const HEADED = 950;
 
 /** The heights at which a sheet is cut into slices: between rows, and at its ends. */
 function cutsOf(sheet) {
@@ -17,28 +19,38 @@ function cutsOf(sheet) {
   return [...cuts, sheet.height];
 }
 
-/** All of a chart, in slices. */
+/** All of a chart, in slices, with the heads of its lanes again and again. */
 function chartOf(chart) {
-  const slices = chart.sheets.flatMap((sheet) => {
+  const figure = make("figure", {});
+  let below = Infinity;
+  for (const sheet of chart.sheets) {
     const cuts = cutsOf(sheet);
-    return cuts.slice(1).map((bottom, at) => drawnSlice(sheet, chart.width, cuts[at], bottom));
-  });
-  return make("figure", {}, make("div", { class: "heads" }, ...laneHeads(chart)), ...slices);
+    for (let at = 1; at < cuts.length; at += 1) {
+      if (below > HEADED) {
+        figure.append(make("div", { class: "heads" }, ...laneHeads(chart)));
+        below = 0;
+      }
+      figure.append(drawnSlice(sheet, chart.width, cuts[at - 1], cuts[at]));
+      below += cuts[at] - cuts[at - 1];
+    }
+  }
+  return figure;
 }
 
-/** An event with its outcome, and the paragraphs that stand before it. */
+/** An event with its outcome, why it was dropped or lost if it was, and the paragraphs before and after it. */
 function told(moment, at) {
   const outcome = make("span", { class: toneOf(moment.tone) }, moment.outcome);
   const who = moment.who ? [make("span", { class: "who" }, ` by ${moment.who}`)] : [];
   const number = make("span", { class: "at" }, String(at + 1));
   const line = make("p", { class: "line" }, number, make("code", {}, moment.event), " ", outcome, ...who);
-  return make("div", { class: "told" }, ...paragraphs(moment.notes), line);
+  const why = moment.tone === "bad" ? [make("ul", { class: "why" }, ...items(moment.why))] : [];
+  return make("div", { class: "told" }, ...paragraphs(moment.notes), line, ...why, ...paragraphs(moment.after ?? []));
 }
 
 /** Fills the handout with the run, as the viewer has it. */
 function fill(viewer) {
   const { run, branch, place } = viewer;
-  const where = `${branch.name}${branch.former ? " (before it was undone)" : ""}: ${branch.moments.length} events`;
+  const where = `${branch.name}${branch.former ? " (an earlier run)" : ""}: ${branch.moments.length} events`;
   const now = place ? `The pair after event ${place}` : "The pair at the opening";
   byId("handout").replaceChildren(
     make("h1", {}, run.title), ...paragraphs(run.intro), ...paragraphs(branch.notes), ...setupOf(run),

@@ -2,8 +2,8 @@ import { Actions } from "./actions.js";
 import { byId, counted, make, makeButton } from "./elements.js";
 import { Offers } from "./offers.js";
 import { PacketForm } from "./packets.js";
-import { Sender } from "./sender.js";
-import { layUpdate } from "./updates.js";
+import { Sender, clearReply } from "./sender.js";
+import { happened, layUpdate } from "./updates.js";
 
 /** The live page: it hears what happens in the laboratory, and has it step. */
 
@@ -89,17 +89,18 @@ export class Live {
     if (word === "excise") this.excised.add(name);
     else if (["restore", "step", "drop"].includes(word)) this.excised.delete(name);
     const focused = document.activeElement;
-    const changes = layUpdate(this.viewer, update);
-    byId("said").textContent = [update.who, update.line, update.reply[0]].filter(Boolean).join(": ");
-    for (const change of changes) this.miss(change, update.who);
+    const { changes, gone } = layUpdate(this.viewer, update);
+    const what = update.line ? `${update.line}: ${update.reply[0]}` : happened(changes, gone);
+    if (changes.some((it) => !it.isFormer) || gone.length) byId("said").textContent = `${update.who}: ${what}`;
+    for (const change of changes.filter((it) => !it.isFormer)) this.miss(change, update.who);
     this.follow(this.wanted);
     this.tellMissed();
     if (!focused.isConnected) byId("happened").focus();
   }
 
   /** Notes what happened to a branch whose newest moment the viewer does not see. */
-  miss({ name, added, taken }, who) {
-    const missed = this.missed.get(name) ?? { added: 0, taken: 0, people: new Set() };
+  miss({ name, isNew, added, taken }, who) {
+    const missed = this.missed.get(name) ?? { isNew, added: 0, taken: 0, people: new Set() };
     missed.added = Math.max(0, missed.added - taken) + added;
     missed.taken += taken;
     missed.people.add(who);
@@ -123,7 +124,7 @@ export class Live {
   /** Sends a line: whether it was taken. */
   send(line, place) {
     this.controls.pause();
-    return this.sender.send(line, place);
+    return this.sender.send(line, place, this.version);
   }
 
   /** Goes to the newest moment of a branch as soon as it is there. */
@@ -138,6 +139,8 @@ export class Live {
   /** Follows a move of the viewer. */
   move({ isNewBranch }) {
     if (this.viewer.isNewest) this.missed.delete(this.viewer.branch.name);
+    // (why an event was refused holds no longer where another one has happened)
+    for (const place of document.querySelectorAll("[data-place]")) clearReply(place);
     this.show(isNewBranch);
     this.tellMissed();
   }
@@ -168,8 +171,9 @@ export class Live {
   }
 
   /** The notice of a branch that has gone on, with a button that goes there. */
-  notice(name, { added, taken, people }) {
-    const what = added ? `${counted(added, "event")} since` : `${counted(taken, "event")} undone`;
+  notice(name, { isNew, added, taken, people }) {
+    const changed = added ? `${counted(added, "event")} since` : `${counted(taken, "event")} undone`;
+    const what = isNew ? "a new branch" : changed;
     const button = makeButton("Go there", { "data-go": name }, () => {
       this.controls.pause();
       this.follow(name);

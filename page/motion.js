@@ -63,6 +63,7 @@ function sharesOf([first, last], place) {
 export function putDots(svg, sheet, row, place, isStep) {
   const dots = shape("g", { class: "dots", "aria-hidden": "true" });
   const [begin, end] = sharesOf(row, place);
+  svg.append(dots);
   for (const [ticket, points] of sheet.ways) {
     if (points.length < 2) continue;
     const lengths = lengthsOf(points);
@@ -76,7 +77,6 @@ export function putDots(svg, sheet, row, place, isStep) {
     if (!isStep || isMotionReduced()) leave();
     else animate(dot, stretch(points, lengths, here, there)).finished.then(leave, leave);
   }
-  svg.append(dots);
   return dots;
 }
 

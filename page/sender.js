@@ -29,8 +29,9 @@ function withoutPointers(why) {
   return why.filter((line, at) => !isPointer(line) && !isPointer(why[at + 1]));
 }
 
-/** Shows a reply at a place, in the stead of the one before: how it went, and why. */
-export function tellReply(place, isDone, reply, why = []) {
+/** Shows a reply at a place, or below the event where the place is gone, in the stead of the one before: how it went, and why. */
+export function tellReply(from, isDone, reply, why = []) {
+  const place = from.isConnected ? from : document.querySelector("#actions .reply-place");
   clearReply(place);
   const how = { class: `reply ${isDone ? "done" : "refused"}`, role: "status" };
   const told = make("div", how, make("p", {}, make("code", {}, reply)));
@@ -48,17 +49,20 @@ export function clearReply(place) {
 export class Sender {
   constructor() {
     this.isBusy = false;
+    // The version that came with the newest answer, which can be ahead of the page.
+    this.answered = 0;
     byId("name").value = keptName();
     byId("name").addEventListener("change", () => keepName(byId("name").value.trim()));
   }
 
-  /** Sends a line, and shows at a place why it was not taken: whether it was. */
-  async send(line, place) {
+  /** Sends a line from a page of this version, and shows at a place why it was not taken: whether it was. */
+  async send(line, place, version) {
     if (this.isBusy) return false;
     this.isBusy = true;
     document.documentElement.classList.add("sending");
     try {
-      const { reply, why } = await this.post(line);
+      const { reply, why, version: answered } = await this.post(line, Math.max(version, this.answered));
+      this.answered = answered;
       const isDone = !/^(?:refused|bad)\b/.test(reply[0] ?? "");
       if (isDone && !why.length) clearReply(place);
       else tellReply(place, isDone, `${isDone ? "" : `${line}: `}${reply.join("; ")}`, why);
@@ -74,8 +78,8 @@ export class Sender {
   }
 
   /** The laboratory's answer to a line. */
-  async post(line) {
-    const body = JSON.stringify({ name: byId("name").value.trim(), line });
+  async post(line, version) {
+    const body = JSON.stringify({ name: byId("name").value.trim(), line, version });
     const answer = await fetch("do", { method: "POST", headers: { "Content-Type": "application/json" }, body });
     if (!answer.ok) throw new Error((await answer.text()).slice(0, 500) || `status ${answer.status}`);
     return answer.json();

@@ -11,20 +11,27 @@ function kindOf(apart) {
   return apart.how === "differ" || apart.how === "no-sync" ? apart.how : "only";
 }
 
+/** How a state stands, in words. */
+function standing(node, kind, apart) {
+  if (!apart?.others?.length) return SAID[kind];
+  return `${SAID[kind]}; ${node === "a" ? "b" : "a"} has this flow as ${apart.others.join(", ")}`;
+}
+
 /** Seconds between two times, whole ones, downwards. */
 function secondsBetween(from, to) {
   return Math.floor((to - from) / 1000);
 }
 
-/** When a state expires, by its node's clock. */
-function expiry(state, clock) {
-  const left = secondsBetween(clock, state.expires);
-  return state.expires <= clock ? "expired" : `expires in ${left} s`;
+/** When a state expires, by its node's clock; the number of states there scales its timeout. */
+function expiresAt(state, [part, whole]) {
+  return state.last + 1000 * Math.floor((state.timeout * part) / whole);
 }
 
-/** What else is known of a state, in small words. */
-function details(state, clock) {
-  const said = [expiry(state, clock), `last used ${secondsBetween(state.last, clock)} s ago`, state.class];
+/** What else is known of a state of a node, in small words. */
+function details(state, { clock, scale }) {
+  const expires = expiresAt(state, scale);
+  const expiry = expires <= clock ? "expired" : `expires in ${secondsBetween(clock, expires)} s`;
+  const said = [expiry, `last used ${secondsBetween(state.last, clock)} s ago`, state.class];
   if (state.flags) said.push(state.flags);
   if (state.updates) said.push(`update count ${state.updates}`);
   if (state.peer !== null) said.push(`changed by the peer ${secondsBetween(state.peer, clock)} s ago`);
@@ -38,11 +45,11 @@ function differingField(node, [field, atA, atB]) {
     make("dd", {}, "here ", make("b", {}, here), `, at ${other} `, make("b", {}, there)));
 }
 
-/** The card of a state. */
-export function stateCard(node, name, state, apart, clock, changedBy) {
+/** The card of a state of a node, which has these numbers. */
+export function stateCard(node, name, state, apart, numbers, changedBy) {
   const kind = kindOf(apart);
   const card = make("li", { class: `state ${kind}${changedBy ? " changed" : ""}`, "data-state": name });
-  const marks = make("p", { class: "marks" }, make("span", { class: "sign" }, SAID[kind]));
+  const marks = make("p", { class: "marks" }, make("span", { class: "sign" }, standing(node, kind, apart)));
   if (changedBy) marks.append(make("span", { class: "change" }, `changed ${changedBy}`));
   const offers = make("div", { class: "offers", "data-place": `${node}/state/${name}` });
   const flow = make("p", { class: "flow" }, make("b", {}, name), " ", state.flow);
@@ -51,8 +58,8 @@ export function stateCard(node, name, state, apart, clock, changedBy) {
   if (apart?.parts.length) {
     card.append(make("dl", { class: "parts" }, ...apart.parts.map((part) => differingField(node, part))));
   }
-  const small = make("p", { class: "small" }, ...details(state, clock).map((text) => make("span", {}, text)));
-  if (state.expires <= clock) small.firstChild.className = "expired";
+  const small = make("p", { class: "small" }, ...details(state, numbers).map((text) => make("span", {}, text)));
+  if (expiresAt(state, numbers.scale) <= numbers.clock) small.firstChild.className = "expired";
   card.append(small, make("p", { class: "small rule" }, state.rule));
   return card;
 }

@@ -37,12 +37,67 @@ export class Story {
     byId("who").textContent = moment?.who ? `by ${moment.who}` : "";
     byId("happened").classList.toggle("opening", !moment);
     byId("reason").hidden = !moment?.why.length;
-    byId("why").replaceChildren(...items(moment ? moment.why : []));
+    byId("why").replaceChildren(...items(moment ? moment.why : [], (number) => this.addressOf(number)));
+    byId("after").replaceChildren(...paragraphs(moment?.after ?? []));
   }
 
-  /** The paragraphs of this moment. */
-  told() {
-    const { run, branch, moment } = this.viewer;
-    return moment ? paragraphs(moment.notes) : [...paragraphs(run.intro), ...paragraphs(branch.notes), ...setupOf(run)];
+  /** The address of another event of this branch, if it has one of this number. */
+  addressOf(number) {
+    const { branch, newest, place } = this.viewer;
+    return number > 0 && number <= newest && number !== place ? `#${encodeURIComponent(branch.name)}/${number}` : null;
   }
+
+  /** The paragraphs of this moment, or of the newest event before it that has some; and the branches that begin here. */
+  told() {
+    const { run, branch, place } = this.viewer;
+    if (!place) return [...paragraphs(run.intro), ...paragraphs(branch.notes), ...setupOf(run), ...this.beginning()];
+    const at = lastTold(branch, place);
+    const told = at ? paragraphs(branch.moments[at - 1].notes) : [];
+    const since = make("p", { class: "since" }, `From event ${at} on:`);
+    return [...(told.length && at < place ? [make("div", { class: "earlier" }, since, ...told)] : told), ...this.beginning()];
+  }
+
+  /** A button for each branch that begins after this event, and for each earlier run that went on otherwise after it. */
+  beginning() {
+    const { run, branch, place } = this.viewer;
+    const begun = (branch.forks?.[place] ?? []).map((name) => this.viewer.named(name)).filter((it) => it && it !== branch);
+    const parted = run.branches.filter((it) => isOtherRun(it, branch) && partingOf(it, branch) === place);
+    return [
+      ...begun.map((it) => this.way(it, `Branch ${it.name} begins here`)),
+      ...parted.map((it) => this.way(it, `${it.former ? `The earlier run ${it.name}` : it.name} goes on otherwise`)),
+    ];
+  }
+
+  /** A button that goes to another branch, at its event after this one if it has one. */
+  way(other, text) {
+    const button = make("button", { type: "button", "data-begins": other.name }, text);
+    button.addEventListener("click", () => this.viewer.show(other, this.viewer.place + 1));
+    return button;
+  }
+}
+
+/** The name of the branch that a run is of: that before the sign, of an earlier one. */
+function nameOf({ name, former }) {
+  return former ? name.slice(0, name.lastIndexOf("~")) : name;
+}
+
+/** Whether two are different runs of one branch. */
+function isOtherRun(one, two) {
+  return one !== two && (one.former || two.former) && nameOf(one) === nameOf(two);
+}
+
+/** After how many events two runs part. */
+function partingOf({ moments }, other) {
+  const at = moments.findIndex(({ event }, place) => event !== other.moments[place]?.event);
+  return at < 0 ? moments.length : at;
+}
+
+/** The newest event up to a moment about which there are paragraphs, 0 if there is none; what people stepped has none. */
+function lastTold(branch, place) {
+  for (let at = place; at > 0; at -= 1) {
+    const { notes, who } = branch.moments[at - 1];
+    if (notes.length) return at;
+    if (who) return 0;
+  }
+  return 0;
 }

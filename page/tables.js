@@ -100,7 +100,7 @@ class Table {
     this.clock.textContent = `clock ${node.clock / 1000} s`;
     const cards = new Map();
     for (const name of names) {
-      cards.set(name, this.card(name, node.clock, facts, changed.has(`${this.node}/state/${name}`) ? changedBy : ""));
+      cards.set(name, this.card(name, node, facts, changed.has(`${this.node}/state/${name}`) ? changedBy : ""));
     }
     this.cards = cards;
     arrange(this.list, [...cards.values()].map((it) => it.element));
@@ -108,13 +108,14 @@ class Table {
   }
 
   /** The card of a state, made anew only where something of it is another. */
-  card(name, clock, facts, changedBy) {
+  card(name, numbers, facts, changedBy) {
     const state = facts.get(`${this.node}/state/${name}`);
     const apart = facts.get(`apart/${name}`);
+    const times = `${numbers.clock} ${numbers.scale}`;
     const old = this.cards.get(name);
-    const isSame = old && old.state === state && old.apart === apart && old.clock === clock;
+    const isSame = old && old.state === state && old.apart === apart && old.times === times;
     if (isSame && old.changedBy === changedBy) return old;
-    return { state, apart, clock, changedBy, element: stateCard(this.node, name, state, apart, clock, changedBy) };
+    return { state, apart, times, changedBy, element: stateCard(this.node, name, state, apart, numbers, changedBy) };
   }
 
   /** How many states there are, and how many of them are shown. */

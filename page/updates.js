@@ -1,3 +1,5 @@
+import { counted } from "./elements.js";
+
 /** Updates of a live page, laid into the data. */
 
 /** Lays the changed sheets of a chart into it. */
@@ -8,7 +10,7 @@ function changedChart(old, { width, height, lanes, heads, count, sheets }) {
 
 /** A branch as a change makes it: a new one, or the old one, which becomes what it is now. */
 function changedBranch(old, change) {
-  const branch = old ?? { name: change.name, former: false, moments: [] };
+  const branch = old ?? { name: change.name, former: change.former ?? false, moments: [] };
   branch.moments = [...branch.moments.slice(0, change.keep), ...change.moments];
   branch.undone = change.undone;
   branch.offers = change.offers;
@@ -18,13 +20,22 @@ function changedBranch(old, change) {
   return branch;
 }
 
-/** What an update did to a branch: how many events are new, and how many were taken away. */
-function changeOf(old, change) {
+/** What an update did to a branch: whether that is new, how many of its events are, and how many were taken away. */
+function changeOf(old, { name, former, keep, moments }) {
   const had = old?.moments.length ?? 0;
-  return { name: change.name, added: change.moments.length, taken: Math.max(0, had - change.keep) };
+  return { name, isNew: !old, isFormer: former ?? false, added: moments.length, taken: Math.max(0, had - keep) };
 }
 
-/** Lays an update into the run, and tells what became of each branch; the viewer stays where that is possible. */
+/** What happened to branches, in words. */
+export function happened(changes, gone) {
+  const said = changes.map(({ name, isNew, isFormer, added, taken }) => {
+    if (isNew) return isFormer ? `earlier run ${name} is kept` : `new branch ${name}`;
+    return added ? `${counted(added, "event")} on ${name}` : `${counted(taken, "event")} of ${name} undone`;
+  });
+  return [...said, ...gone.map((name) => `branch ${name} dropped`)].join(", ");
+}
+
+/** Lays an update into the run: what became of each branch, and which are gone. The viewer stays where that is possible. */
 export function layUpdate(viewer, update) {
   const { run, branch } = viewer;
   const known = new Map(run.branches.map((it) => [it.name, it]));
@@ -36,5 +47,6 @@ export function layUpdate(viewer, update) {
   });
   if (!run.branches.includes(branch)) viewer.renew(run.branches[0], run.branches[0].moments.length);
   else if (own?.opening) viewer.renew(branch, viewer.place);
-  return changes;
+  const gone = [...known].filter(([name, it]) => !it.former && !update.order.includes(name)).map(([name]) => name);
+  return { changes, gone };
 }

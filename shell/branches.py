@@ -22,6 +22,11 @@ def read_log(lines: Sequence[str]) -> Branch:
     return Branch(head[1], [line.split(" ", 4)[4] for line in lines[1:-1]], int(head[5]))
 
 
+def common(one: Sequence[str], two: Sequence[str]) -> int:
+    """How many events two branches have in common before they part."""
+    return next((at for at, (its, other) in enumerate(zip(one, two)) if its != other), min(len(one), len(two)))
+
+
 class Happened(NamedTuple):
     """An event by its place from 1 on and its line, and what came of it: its outcome, or `refused K NAME`."""
 

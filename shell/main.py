@@ -1,23 +1,22 @@
 """The words that need the shell, of `./lab` and of the installed `pfl_shell`: shell, verify, annotate, chart and page."""
 from __future__ import annotations
 
-import argparse
 import io
 import os
 import sys
 from contextlib import closing
-from typing import Iterator, List, Optional, Sequence
+from typing import Iterator, List, Sequence
 
 from . import scripts
+from .arguments import Words, page_fault, parser
 from .charts.chart import NO_TEXTS, chart as chart_of
 from .charts.picture import draw
 from .charts.rows import Chart
 from .charts.text import text as chart_text
-from .charts.windows import WHOLE, Window, read_flow, read_place
+from .charts.windows import WHOLE, Window
 from .colours import PLAIN, Paint
 from .laboratory import Laboratory, Unknown
 from .language.lines import has_word, lines_of, opens
-from .language.names import Name
 from .pages.live import OPENING, begun, joined, serve
 from .pages.packing import NotPacked, page as page_of
 from .pages.runs import run_of
@@ -28,110 +27,6 @@ from .stories import story_of
 
 HISTORY = "~/.pfl_lab_history"
 INTERRUPTED_STATUS = 130
-
-
-class Words(argparse.Namespace):
-    """What the words of the command say; those of another word than its own are not there."""
-
-    name: str
-    program: str
-    word: str
-    files: List[str]
-    port: Optional[int]
-    setup: Optional[str]
-    echo: bool
-    strict: bool
-    file: str
-    picture: Optional[str]
-    script: Optional[str]
-    page: str
-    serve: Optional[int]
-    branch: str
-    first: int
-    last: Optional[int]
-    flow: Optional[Name]
-    notes: bool
-
-
-def parser(name: str = "./lab") -> argparse.ArgumentParser:
-    """What may follow the command's name, which is also what it calls itself in messages, without a folder."""
-    words = argparse.ArgumentParser(prog=name, description="What stands around the laboratory's program.")
-    words.set_defaults(name=os.path.basename(name))
-    words.add_argument("--program", required=True, help=argparse.SUPPRESS)
-    kinds = words.add_subparsers(dest="word", required=True)
-    shell = kinds.add_parser(
-        "shell",
-        help="a dialogue with the laboratory",
-        description="A dialogue with the laboratory; `help` in it lists its words.",
-    )
-    shell.add_argument("files", nargs="*", metavar="FILE", help="scripts that are read first")
-    shell.add_argument("--port", type=port, metavar="P", help="a session of the server at this port, and no pair of its own")
-    shell.add_argument("--setup", metavar="FILE", help="with --port: the setup that the server read, for questions that need it")
-    shell.add_argument("--echo", action="store_true", help="tells each line before its reply")
-    shell.add_argument(
-        "--strict", action="store_true", help=f"stops at the first refused or faulty line, with status {STRICT_STATUS}"
-    )
-    verify = kinds.add_parser("verify", help="compares the replies with the lines `#>` of scripts")
-    verify.add_argument("files", nargs="+", metavar="FILE")
-    annotate = kinds.add_parser("annotate", help="writes the replies into scripts, as lines `#>`")
-    annotate.add_argument("files", nargs="+", metavar="FILE")
-    chart = kinds.add_parser("chart", help="draws what happened in a script")
-    chart.add_argument("file", metavar="FILE")
-    chart.add_argument(
-        "picture", nargs="?", type=picture, metavar="FILE.svg", help="the picture's file; without it the chart comes as text"
-    )
-    chart.add_argument("--branch", default="main", metavar="BRANCH", help="draws this branch in place of `main`")
-    chart.add_argument("--from", dest="first", type=event, default=1, metavar="K", help="draws from the K-th event on")
-    chart.add_argument("--to", dest="last", type=event, metavar="L", help="draws up to the L-th event")
-    chart.add_argument("--flow", type=flow, metavar="NAME", help="draws what is about the state NAME alone, as 1.3")
-    chart.add_argument("--notes", action="store_true", help="draws the script's comments, too, each above its event")
-    page = kinds.add_parser(
-        "page",
-        help="shows what happens in a script as a page for a browser",
-        usage=f"{name} page SCRIPT OUT.html\n       {name} page --serve PORT [SCRIPT | --port P --setup FILE]",
-        description="Writes what happens in a script as a page, which is one file and needs nothing else; or serves a page that"
-        " shows a pair as it goes on, and steps it, to the browsers of this machine.",
-    )
-    page.add_argument("script", nargs="?", metavar="SCRIPT", help="the script; a served page goes on after it")
-    page.add_argument("page", nargs="?", type=page_name, metavar="OUT.html", help="the page's file")
-    page.add_argument("--serve", type=port, metavar="PORT", help="serves the page at this port of 127.0.0.1, and prints its addresses")
-    page.add_argument("--port", type=port, metavar="P", help="with --serve: a session of the server at this port, and no pair of its own")
-    page.add_argument("--setup", metavar="FILE", help="with --port: the setup that the server read")
-    return words
-
-
-def event(word: str) -> int:
-    """The place of an event in its branch."""
-    try:
-        return read_place(word)
-    except Unknown as why:
-        raise argparse.ArgumentTypeError(str(why)) from why
-
-
-def flow(word: str) -> Name:
-    """The name of a state."""
-    try:
-        return read_flow(word)
-    except Unknown as why:
-        raise argparse.ArgumentTypeError(str(why)) from why
-
-
-def port(word: str) -> int:
-    if not word.isdecimal() or len(word) > 5 or not 1 <= int(word) <= 65535:
-        raise argparse.ArgumentTypeError("a port is a number from 1 to 65535")
-    return int(word)
-
-
-def page_name(word: str) -> str:
-    if not word.endswith((".html", ".htm")):
-        raise argparse.ArgumentTypeError(f"{word}: the name of a page ends in .html")
-    return word
-
-
-def picture(word: str) -> str:
-    if not word.endswith(".svg"):
-        raise argparse.ArgumentTypeError(f"{word}: the name of a picture ends in .svg")
-    return word
 
 
 def main(arguments: Sequence[str], name: str = "./lab") -> int:
@@ -186,8 +81,7 @@ def chart(words: Words) -> int:
         return 1
     drawn = drawn_from(words.program, script, words.branch, Window(words.first, words.last, words.flow), words.notes)
     if words.picture:
-        with open(words.picture, "w", encoding="utf-8") as it:
-            it.write(draw(drawn, scripts.title_of(script) or os.path.basename(words.file)))
+        save(words.picture, draw(drawn, scripts.title_of(script) or os.path.basename(words.file)))
     else:
         print("\n".join(chart_text(drawn, paint(sys.stdout.isatty()))))
     return 0
@@ -204,10 +98,17 @@ def page(words: Words) -> int:
         pair = joined(words.port, setup, sys.stdout) if words.port else begun(words.program, script, name)
         serve(words.program, words.serve, pair, sys.stdout)
     with closing(run_of(words.program, script, name)) as run:
-        text = page_of(run.as_data())
-    with open(words.page, "w", encoding="utf-8") as it:
-        it.write(text)
+        save(words.page, page_of(run.as_data()))
     return 0
+
+
+def save(path: str, text: str) -> None:
+    """Writes a file. A fault names it, also one that comes after it was opened, as of a full disk."""
+    try:
+        with open(path, "w", encoding="utf-8") as it:
+            it.write(text)
+    except OSError as error:
+        raise OSError(error.errno, error.strerror, path) from error
 
 
 def says_faults(words: Words, path: str, script: Sequence[str]) -> bool:
@@ -216,17 +117,6 @@ def says_faults(words: Words, path: str, script: Sequence[str]) -> bool:
     for line in faulty:
         say(words, f"{path}:{line}")
     return bool(faulty)
-
-
-def page_fault(words: Words) -> str:
-    """What is wrong with the words of a page, which do not all go together; empty where nothing is."""
-    if not words.serve:
-        return "a page needs SCRIPT and OUT.html, or --serve PORT" if not words.page or words.port or words.setup else ""
-    if words.page:
-        return "a page that is served is not written"
-    if words.port and (words.script or not words.setup):
-        return "--port joins a server that has its pair, and goes with --setup and without a script"
-    return "--setup tells what a server read, and goes with --port" if words.setup and not words.port else ""
 
 
 def faulty_lines(program: str, script: Sequence[str]) -> Iterator[str]:
@@ -246,7 +136,7 @@ def drawn_from(program: str, script: Sequence[str], branch: str, window: Window 
     lab = Laboratory(program)
     try:
         story = story_of(lab, script)
-        notes = story.branches[branch].above if with_notes and branch in story.branches else NO_TEXTS
+        notes = story.above(branch) if with_notes else NO_TEXTS
         return chart_of(lab, lab.branch(branch), notes, story.forks(branch), window)
     finally:
         lab.close()

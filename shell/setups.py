@@ -2,7 +2,7 @@
 from __future__ import annotations
 
 from dataclasses import dataclass, field
-from typing import Dict, List, NamedTuple, Optional, Sequence
+from typing import Dict, List, NamedTuple, Optional, Sequence, Tuple
 
 from .language.commands import SET
 from .language.names import NODES
@@ -55,11 +55,14 @@ class Adaptive(NamedTuple):
         """Whether a node with this number of states goes by shorter timeouts."""
         return self.start < states and self.start < self.end
 
+    def scale(self, states: int) -> Tuple[int, int]:
+        """By which fraction timeouts are scaled where a node has this number of states."""
+        return (max(0, self.end - states), self.end - self.start) if self.shortens(states) else (1, 1)
+
     def scaled(self, seconds: int, states: int) -> int:
         """The seconds of a timeout where a node has this number of states."""
-        if not self.shortens(states):
-            return seconds
-        return seconds * max(0, self.end - states) // (self.end - self.start)
+        part, whole = self.scale(states)
+        return seconds * part // whole
 
 
 @dataclass

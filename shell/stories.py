@@ -16,65 +16,48 @@ Places = Dict[int, List[str]]
 
 
 @dataclass
-class Told:
-    """What is told of a branch: its events, those that were undone too, and how many of them stand; by how many events stand there,
-    the paragraphs about an event, those about what follows it, and the branches that begin after it."""
+class Chapter:
+    """What a story has of a branch: its events, those that were undone too, and how many of them stand; and by the numbers of events
+    the paragraphs about each, and the branches that begin after it."""
 
     events: List[str] = field(default_factory=list)
     cursor: int = 0
     notes: Places = field(default_factory=dict)
-    after: Places = field(default_factory=dict)
     forks: Places = field(default_factory=dict)
     # All this as it was before events were undone, if none was stepped since.
-    before: Optional["Told"] = None
-    # What was told before each excision that can be taken back, the newest last.
-    excised: List["Told"] = field(default_factory=list)
+    before: Optional["Chapter"] = None
+    # The chapters before each excision that can be taken back, the newest last.
+    excised: List["Chapter"] = field(default_factory=list)
 
-    def first(self, number: int) -> "Told":
-        """What is told of the first events."""
-        notes, after, forks = (_kept(it, number) for it in (self.notes, self.after, self.forks))
-        return Told(self.events[:number], number, notes, after, forks)
+    def first(self, number: int) -> "Chapter":
+        """The chapter of the first events."""
+        return Chapter(self.events[:number], number, _kept(self.notes, number), _kept(self.forks, number))
 
-    def without(self, gone: Set[int]) -> "Told":
-        """What is told where some events are taken out, by their places. Branches that began after one of these begin here no more."""
+    def without(self, gone: Set[int]) -> "Chapter":
+        """The chapter where events are taken out, by their places. Branches that began after one of these begin here no more."""
         events = [it for place, it in enumerate(self.events, 1) if place not in gone]
         cursor = self.cursor - sum(it <= self.cursor for it in gone)
-        told = Told(events, cursor, _without(self.notes, gone), _without(self.after, gone), _kept(self.forks, min(gone) - 1))
-        told.before, told.excised = told.first(len(events)), [*self.excised, self]
-        return told
-
-    @property
-    def at(self) -> Places:
-        """The paragraphs of each moment: about its event, and about what follows it."""
-        places = sorted({*self.notes, *self.after})
-        return {place: [*self.notes.get(place, ()), *self.after.get(place, ())] for place in places}
-
-    @property
-    def above(self) -> Places:
-        """The paragraphs above each event, or after the last one, by how many events stand before them."""
-        places = sorted({*(it - 1 for it in self.notes), *self.after})
-        there = {place: [*self.after.get(place, ()), *self.notes.get(place + 1, ())] for place in places}
-        return _kept(there, self.cursor)
+        chapter = Chapter(events, cursor, _without(self.notes, gone), _kept(self.forks, min(gone) - 1))
+        chapter.before, chapter.excised = chapter.first(len(events)), [*self.excised, self]
+        return chapter
 
 
 class Former(NamedTuple):
-    """What a branch was before it was changed otherwise than at its end, with its paragraphs by their moments."""
+    """What a branch was before it was changed otherwise than at its end, with its paragraphs."""
 
     branch: Branch
     notes: Places
 
 
 class Story:
-    """A story that is told line by line, with the replies."""
+    """A story that is read line by line, with the replies."""
 
     def __init__(self) -> None:
         # The paragraphs of the setup.
         self.intro: List[str] = []
-        self.branches: Dict[str, Told] = {"main": Told()}
+        self.branches: Dict[str, Chapter] = {"main": Chapter()}
         # The runs that were undone and stepped over, or lost an event, the newest last.
         self.former: List[Former] = []
-        # The branch that was changed last.
-        self.newest = "main"
         # The paragraphs that no line has followed yet, and whether the next comment goes on with the last one.
         self.waiting: List[str] = []
         self._goes_on = False
@@ -95,31 +78,28 @@ class Story:
         self.intro += self._paragraphs()
 
     def command(self, line: str, reply: Sequence[str]) -> None:
-        """Takes a command with its reply. One that is refused, or changes no branch, leaves its paragraphs to the next one."""
+        """Takes a command with its reply. A paragraph is about the event that happens next, whatever commands are in between."""
         self._goes_on = False
         words, answer = line.split(), reply[0].split()
         change = _CHANGES.get(words[0])
         if change is None or answer[0] in ("refused", "bad"):
             return
         change(self, words[1], words[2:], answer[1:])
-        told = self.branches[self.newest]
-        self._tell(told.notes if words[0] == STEP.word else told.after)
 
-    def end(self) -> None:
-        """The script ends: what is told after its last command is told where that left its branch."""
-        self._tell(self.branches[self.newest].after)
+    def above(self, name: str) -> Places:
+        """The paragraphs above the events of a branch, by how many events stand before them; those at the end of the script are after
+        the last event of each branch."""
+        chapter = self.branches.get(name, Chapter())
+        places = {place - 1: [*those] for place, those in chapter.notes.items() if place <= chapter.cursor}
+        if self.waiting and name in self.branches:
+            places.setdefault(chapter.cursor, []).extend(self.waiting)
+        return places
 
     def forks(self, name: str) -> Places:
         """The names of the branches that begin after events of a branch, and its own where it begins."""
-        told = self.branches.get(name, Told())
-        there = {place: [it for it in names if it in self.branches] for place, names in told.forks.items() if place <= told.cursor}
+        chapter = self.branches.get(name, Chapter())
+        there = {place: [it for it in names if it in self.branches] for place, names in chapter.forks.items() if place <= chapter.cursor}
         return {place: names for place, names in there.items() if names}
-
-    def _tell(self, places: Places) -> None:
-        """Has the paragraphs that wait be told where the newest branch stands."""
-        paragraphs = self._paragraphs()
-        if paragraphs:
-            places.setdefault(self.branches[self.newest].cursor, []).extend(paragraphs)
 
     def _paragraphs(self) -> List[str]:
         paragraphs, self.waiting = self.waiting, []
@@ -129,49 +109,46 @@ class Story:
     # ---- commands that were carried out: a branch, the words after it, and those of the reply after its first
 
     def _step(self, name: str, words: Sequence[str], answer: Sequence[str]) -> None:
-        told = self.branches[name]
-        if answer[-1] != "0" and told.before is not None:
-            self._keep(name, told.before)
-            told = self.branches[name] = told.first(told.cursor)
-        told.events.append(plain_event(words))
-        told.cursor += 1
-        told.before = None
-        told.excised.clear()
-        self.newest = name
+        chapter = self.branches[name]
+        if answer[-1] != "0" and chapter.before is not None:
+            self._keep(name, chapter.before)
+            chapter = self.branches[name] = chapter.first(chapter.cursor)
+        chapter.events.append(plain_event(words))
+        chapter.cursor += 1
+        paragraphs = self._paragraphs()
+        if paragraphs:
+            chapter.notes[chapter.cursor] = paragraphs
+        chapter.before = None
+        chapter.excised.clear()
 
     def _move(self, name: str, words: Sequence[str], answer: Sequence[str]) -> None:
-        told = self.branches[name]
-        if told.before is None:
-            told.before = told.first(len(told.events))
-        told.cursor = int(answer[0])
-        self.newest = name
+        chapter = self.branches[name]
+        if chapter.before is None:
+            chapter.before = chapter.first(len(chapter.events))
+        chapter.cursor = int(answer[0])
 
     def _fork(self, name: str, words: Sequence[str], answer: Sequence[str]) -> None:
         place, new = words
         self.branches[name].forks.setdefault(int(place), []).append(new)
         self.branches[new] = self.branches[name].first(int(place))
-        self.newest = new
 
     def _drop(self, name: str, words: Sequence[str], answer: Sequence[str]) -> None:
         del self.branches[name]
-        self.newest = next(iter(self.branches)) if self.newest == name else self.newest
 
     def _excise(self, name: str, words: Sequence[str], answer: Sequence[str]) -> None:
-        told = self.branches[name]
-        self._keep(name, told)
-        self.branches[name] = told.without({int(words[0]), *map(int, answer)})
-        self.newest = name
+        chapter = self.branches[name]
+        self._keep(name, chapter)
+        self.branches[name] = chapter.without({int(words[0]), *map(int, answer)})
 
     def _restore(self, name: str, words: Sequence[str], answer: Sequence[str]) -> None:
-        told = self.branches[name].excised[-1]
+        chapter = self.branches[name].excised[-1]
         self.former.remove(next(it for it in reversed(self.former) if it.branch.name == name))
-        told.cursor, told.before = int(answer[0]), told.first(len(told.events))
-        self.branches[name] = told
-        self.newest = name
+        chapter.cursor, chapter.before = int(answer[0]), chapter.first(len(chapter.events))
+        self.branches[name] = chapter
 
-    def _keep(self, name: str, told: Told) -> None:
+    def _keep(self, name: str, chapter: Chapter) -> None:
         """Keeps a run as it was before it is changed."""
-        self.former.append(Former(Branch(name, [*told.events], len(told.events)), told.at))
+        self.former.append(Former(Branch(name, [*chapter.events], len(chapter.events)), _copied(chapter.notes)))
 
 
 _CHANGES: Dict[str, Callable[[Story, str, Sequence[str], Sequence[str]], None]] = {
@@ -199,7 +176,6 @@ def story_of(lab: Laboratory, script: Sequence[str]) -> Story:
         else:
             # (a question ends a paragraph, and no more)
             story.comment("")
-    story.end()
     return story
 
 
@@ -218,5 +194,5 @@ def _kept(places: Places, last: int) -> Places:
 
 
 def _without(places: Places, gone: Set[int]) -> Places:
-    """What is told, where some events are taken out."""
+    """The places where some events are taken out."""
     return {place - sum(it < place for it in gone): those for place, those in _copied(places).items() if place not in gone}

@@ -1,7 +1,7 @@
 """A branch as a chart: a lane for each node, time downwards, and the frames on their ways between the lanes.
 
 What was undone is not drawn. A chart shows one run, in which each frame ends once: drawn below, an undone loss would show a
-frame as lost that is in flight. The heading tells how many events were undone, and `log` lists them."""
+frame as lost that is in flight. The heading says how many events were undone, and `log` lists them."""
 from __future__ import annotations
 
 from bisect import bisect_left
@@ -17,8 +17,6 @@ from ..language.events import CUT, DELIVER, FLUSH, LOSE, OF_FRAME, PACKET, REPEA
 from .marks import Mark, PacketMarks, delivery_mark, node_mark
 from .rows import Chart, Row
 from .windows import WHOLE, Concern, Window
-
-__all__ = ["NO_TEXTS", "Chart", "Step", "Texts", "chart", "drawn", "explained"]
 
 # Texts by the number of events that stand where they belong: paragraphs of a story, or names of branches that begin there.
 Texts = Mapping[int, Sequence[str]]
@@ -49,7 +47,8 @@ def drawn(
     growing = _Growing(Chart(name, len(events), undone, part), concern, {*notes, *forks})
     for it, flight in events:
         growing.event(it, flight)
-    growing.finish(notes, forks)
+    growing.leave_out()
+    growing.put(notes, forks)
     return growing.chart
 
 
@@ -94,12 +93,16 @@ class _Growing:
             self._draw(it)
             self.newest = event
 
-    def finish(self, notes: Texts, forks: Texts) -> None:
-        """Leaves out the frames that are not seen, and puts texts above the rows where they belong."""
-        chart, (first, last, _) = self.chart, self.chart.window
-        for ticket, flight in [*chart.flights.items()]:
+    def leave_out(self) -> None:
+        """Leaves out the frames that are not seen."""
+        first, last, _ = self.chart.window
+        for ticket, flight in [*self.chart.flights.items()]:
             if flight.sent.number > (last or 0) or (flight.ended and flight.ended.number < first):
-                del chart.flights[ticket]
+                del self.chart.flights[ticket]
+
+    def put(self, notes: Texts, forks: Texts) -> None:
+        """Puts texts above the rows where they belong."""
+        chart, (first, last, _) = self.chart, self.chart.window
         firsts = [it.first for it in chart.rows]
         for stand in sorted(notes):
             if stand + 1 in chart.places or stand == last == chart.events:

@@ -46,8 +46,8 @@ def _group_words(records: Sequence[Record]) -> str:
     what = "insert ack" if kind is INSERT_ACK else kind.name
     if len(records) == 1:
         return f"{what} {'0.0 (all)' if names == [str(ALL_STATES)] else names[0]}{f' (wants{KEPT}ack)' if wanted else ''}"
-    told = f"{what}s {', '.join(names)}" if len(records) == 2 else f"{len(records)} {what}s"
-    return f"{told}{f' (want{KEPT}ack)' if wanted else ''}"
+    said = f"{what}s {', '.join(names)}" if len(records) == 2 else f"{len(records)} {what}s"
+    return f"{said}{f' (want{KEPT}ack)' if wanted else ''}"
 
 
 def _names(names: Sequence[str]) -> str:

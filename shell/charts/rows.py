@@ -88,7 +88,7 @@ class Chart:
         return {node: f"boot {later.get(node, boot)}" for node, boot in self.boots.items()}
 
     def frame_words(self, row: Row, flight: Flight) -> Tuple[str, Tuple[str, ...]]:
-        """What the link tells of a frame in a row: which frame it is, and what it has or what happens to it."""
+        """What the link says of a frame in a row: which frame it is, and what it has or what happens to it."""
         frame = f"#{flight.ticket}"
         if row.kind == FLUSH.word:
             records = record_words(flight.frame.records)
@@ -106,7 +106,7 @@ class Chart:
         events = counted(self.events, "event") if is_whole else f"{_span(first, last or first)} of {self.events}"
         about = f", what is about {flow}" if flow else ""
         undone = f", {self.undone} undone and not drawn" if self.undone else ""
-        # Frames are told by their tickets: in 80 columns there is no room for the word.
+        # Frames are named by their tickets: in 80 columns there is no room for the word.
         legend = "; #N is frame N" if self.flights else ""
         return f"{self.branch}, {events}{about}{undone}{legend}"
 

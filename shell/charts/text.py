@@ -56,7 +56,7 @@ def glyphs_of(encoding: Optional[str]) -> Glyphs:
 
 
 def wrapped(pieces: Sequence[Piece], room: int) -> List[List[Piece]]:
-    """Pieces in lines of at most so many characters; a longer piece is broken."""
+    """Pieces in lines with at most this room for characters; a longer piece is broken."""
     lines: List[List[Piece]] = []
     used = 0
     for text, style in pieces:
@@ -91,15 +91,15 @@ class _Line:
             self.put(at, text, style)
             at += len(text) + 1
 
-    def told(self, paint: Paint) -> str:
+    def printed(self, paint: Paint) -> str:
         length = len("".join(self.characters).rstrip())
-        told, start = "", 0
+        printed, start = "", 0
         for place in range(1, length + 1):
             if place == length or self.styles[place] != self.styles[start]:
                 part = "".join(self.characters[start:place])
-                told += getattr(paint, self.styles[start])(part) if self.styles[start] else part
+                printed += getattr(paint, self.styles[start])(part) if self.styles[start] else part
                 start = place
-        return told
+        return printed
 
 
 class _Drawing:
@@ -216,11 +216,11 @@ class _Drawing:
 
     def _labels(self, place: int, row: Row, flight: Flight) -> List[List[Piece]]:
         """The words of a frame: within its line, or above it where they are too long."""
-        told = self._label(row, flight)
+        label = self._label(row, flight)
         tail, tip = self._ends(place, flight)
-        if len(tail) + _length(told) + 3 + len(tip[0]) <= self.link:
-            return [told]
-        return [*wrapped(told, self.link - 3), []]
+        if len(tail) + _length(label) + 3 + len(tip[0]) <= self.link:
+            return [label]
+        return [*wrapped(label, self.link - 3), []]
 
     def _label(self, row: Row, flight: Flight) -> List[Piece]:
         frame, words = self.chart.frame_words(row, flight)
@@ -256,9 +256,9 @@ class _Drawing:
         if not to_right:
             parts = [tip, (line, ""), *words, (tail, "")]
             at = self.lanes["b"] - shift - sum(len(it) for it, _ in parts)
-        for told, style in parts:
-            self.lines[last].put(at, told, style)
-            at += len(told)
+        for part, style in parts:
+            self.lines[last].put(at, part, style)
+            at += len(part)
         for above, pieces in enumerate(labels[:-1], last - len(labels) + 1):
             self.lines[above].put_pieces(self.lanes["a"] + 2 if to_right else self.lanes["b"] - 1 - _length(pieces), pieces)
         if leaves:
@@ -274,4 +274,4 @@ def _spaced(pieces: Sequence[Piece]) -> List[Piece]:
 def text(chart: Chart, paint: Paint, width: int = 100, encoding: Optional[str] = None) -> List[str]:
     """The chart as lines of at most the width, but for a narrow one; for standard output where no encoding is given."""
     glyphs = glyphs_of(encoding or getattr(sys.stdout, "encoding", None))
-    return [it.told(paint) for it in _Drawing(chart, max(width, NARROWEST), glyphs).drawn()]
+    return [it.printed(paint) for it in _Drawing(chart, max(width, NARROWEST), glyphs).drawn()]

@@ -3,7 +3,7 @@ from __future__ import annotations
 
 from typing import Dict, List, NamedTuple, Sequence
 
-from ..branches import Branch
+from ..branches import Branch, common
 
 
 class Stepped(NamedTuple):
@@ -37,8 +37,3 @@ class Authors:
         same = common([it.event for it in own], branch.events)
         self._of[branch.name] = own[:same] + [Stepped(event, who) for event in branch.events[same:]]
         return [it.who for it in self._of[branch.name]]
-
-
-def common(one: Sequence[str], two: Sequence[str]) -> int:
-    """How many lines two lists begin with that are the same."""
-    return next((at for at, (its, other) in enumerate(zip(one, two)) if its != other), min(len(one), len(two)))

@@ -7,7 +7,7 @@ from concurrent.futures import Future, ThreadPoolExecutor, TimeoutError as TookT
 from dataclasses import replace
 from typing import Callable, Dict, List, Sequence, Tuple, TypeVar
 
-from ..branches import Branch
+from ..branches import Branch, common
 from ..colours import PLAIN
 from ..laboratory import Laboratory, Unknown
 from ..language.commands import EXCISE
@@ -17,14 +17,15 @@ from ..reasons.commands import explain_command, explain_done
 from ..reasons.faults import explain_fault
 from ..reasons.why import why_ahead
 from ..setups import Setup
-from .authors import Authors, common
+from .authors import Authors
 from .change import Data, Shown, change
+from .former import FormerRuns, Lost
 from .news import News
 from .offers import offers
 from .packing import page
 from .record import Record
 from .runs import Run
-from .server import Branches
+from .session import Branches
 from .typed import Typed
 
 # How often the server is asked whether something happened, and how long a browser waits for an answer, in seconds.
@@ -42,7 +43,7 @@ A = TypeVar("A")
 T = TypeVar("T")
 
 
-class Known(Laboratory):
+class KnownBranches(Laboratory):
     """The branches as they are known here, for reasons of refusals: a server keeps what it is asked, so it is not asked."""
 
     def __init__(self, program: str, branches: Dict[str, Branch]):
@@ -57,6 +58,10 @@ class Known(Laboratory):
         return Pair(it.name, len(it.events), it.cursor)
 
 
+class Overtaken(Exception):
+    """A line that was sent before its page knew of a change after which it means something else."""
+
+
 class Bridge:
     """The pair of a server, for pages."""
 
@@ -64,7 +69,10 @@ class Bridge:
         self.news = News()
         self._program, self._run, self._branches = program, run, branches
         self._records = {it.name: it for it in run.records if not it.former}
-        self._former: List[Data] = [dict(it.as_data(), offers=[]) for it in run.records if it.former]
+        self._former = FormerRuns(program, run.setup, [it for it in run.records if it.former])
+        self._lost: List[Lost] = []
+        # Of each branch the version with its newest change.
+        self._versions: Dict[str, int] = {}
         self._authors = Authors()
         # The branches as pages have them; and the newest page of each kind, with its version.
         self._shown: Dict[str, Shown] = {}
@@ -98,11 +106,16 @@ class Bridge:
             it.close()
 
     def _awaited(self, task: Callable[[A], T], argument: A) -> T:
-        """What a task of the one thread gives, after those before it."""
+        """What a task of the one thread gives, after those before it. One that has not begun in time never does."""
+        future = self._submitted(task, argument)
         try:
-            return self._submitted(task, argument).result(PATIENCE)
+            return future.result(PATIENCE)
         except TookTooLong as error:
+            future.cancel()
             raise Ended(f"the server did not answer in {PATIENCE:.0f} seconds") from error
+        except (OSError, Unknown) as error:
+            # (as where the program's file is gone: the next look ends the page)
+            raise Ended(f"the page cannot go on: {error}") from error
 
     def _submitted(self, task: Callable[..., T], *arguments: object) -> "Future[T]":
         try:
@@ -134,6 +147,9 @@ class Bridge:
 
     def _do(self, typed: Typed) -> Data:
         self._look()
+        newest, name = self._versions.get(typed.takes_from, 0), typed.takes_from
+        if typed.version is not None and typed.version < newest:
+            raise Overtaken(f"somebody was faster: {name} has changed since this page was told of it")
         reply = self._branches.ask(typed.line)
         first, words = reply[0].split(), typed.line.split()
         if first[0] not in ("bad", "refused"):
@@ -152,16 +168,25 @@ class Bridge:
         live = {"may": may, "version": self.news.version, "people": self.news.people}
         branches = [dict(self._records[name].as_data(), offers=it.offers) for name, it in self._shown.items()]
         its: Data = {"title": self._run.title, "intro": self._run.intro, "setup": self._run.setup.lines}
-        return {**its, "branches": [*branches, *self._former], "live": live}
+        return {**its, "branches": [*branches, *self._former.data], "live": live}
 
     def _publish(self, who: str, line: str, reply: Sequence[str]) -> None:
         """Makes news of what changed, if something did."""
         before = list(self._shown)
         changes = self._changes(who)
         names = list(self._shown)
+        self._former.leave([it.branch for it in self._shown.values()])
         if changes or names != before:
-            order = [*names, *(it["name"] for it in self._former)]
-            self.news.publish({"who": who, "line": line, "reply": list(reply), "order": order, "branches": changes})
+            self._tell({"who": who, "line": line, "reply": list(reply), "branches": changes})
+            self._versions.update({it["name"]: self.news.version for it in changes})
+        lost, self._lost = self._lost, []
+        for it in self._former.take(lost):
+            its_chart = dict(it["chart"], count=len(it["chart"]["sheets"]), sheets=dict(enumerate(it["chart"]["sheets"])))
+            self._tell({"who": who, "line": "", "reply": [], "branches": [dict(it, keep=0, chart=its_chart)]})
+
+    def _tell(self, update: Data) -> None:
+        """Makes news of an update, with the order of the branches."""
+        self.news.publish({**update, "order": [*self._shown, *(it["name"] for it in self._former.data)]})
 
     def _changes(self, who: str) -> List[Data]:
         """Brings the records to the branches: what changed of each."""
@@ -174,7 +199,9 @@ class Bridge:
 
     def _changed(self, branch: Branch, who: str) -> Tuple[Shown, Data]:
         """A branch as it is now, and what changed of it. A record that fails, as where its program is gone, is made anew once."""
-        names = self._authors.names(branch, who)
+        names, old = self._authors.names(branch, who), self._shown.get(branch.name)
+        if old and common(old.branch.events, branch.events) < len(old.branch.events):
+            self._lost.append(Lost(old.branch, old.names))
         try:
             return self._recorded(branch, names)
         except Exception:
@@ -185,13 +212,12 @@ class Bridge:
         record = self._records.pop(branch.name, None) or Record(self._program, self._run.setup, branch.name)
         old = self._shown.get(branch.name)
         try:
-            # (what the script tells of events that are there no more is told no more)
-            same = common(old.branch.events, branch.events) if old else len(branch.events)
-            record.notes = {place: those for place, those in record.notes.items() if place <= same}
+            # (what the script says of events that are gone is gone too)
+            record.keep_texts(common(old.branch.events, branch.events) if old else len(branch.events))
             keep = record.sync(branch)
             for moment, who in zip(record.moments[keep:], names[keep:]):
                 moment.who = who
-            new = Shown(branch, offers(record.laboratory, replace(branch, name=MAIN)), record.chart_as_data())
+            new = Shown(branch, names, offers(record.laboratory, replace(branch, name=MAIN)), record.chart_as_data())
             its_change = change(old, new, record, keep)
         except Exception:
             record.close()
@@ -208,6 +234,6 @@ class Bridge:
         try:
             if "Event" in reply.split():
                 return why_ahead(self._records[words[1]].laboratory, MAIN, " ".join(words[2:]), PLAIN)
-            return explain_command(Known(self._program, self._branches.by_name), line, reply)
+            return explain_command(KnownBranches(self._program, self._branches.by_name), line, reply)
         except (Unknown, Ended, KeyError):
             return ["other sessions changed the branches since: what they are now does not show it"]

@@ -1,7 +1,7 @@
 """A branch as pages show it already, and what changed of it since."""
 from __future__ import annotations
 
-from typing import Any, Dict, List, NamedTuple, Optional
+from typing import Any, Dict, List, NamedTuple, Optional, Sequence
 
 from ..branches import Branch
 from .offers import Offer
@@ -11,9 +11,10 @@ Data = Dict[str, Any]
 
 
 class Shown(NamedTuple):
-    """A branch as pages have it, with what is offered where it stands, and its chart."""
+    """A branch as pages have it, with who stepped each event, what is offered where it stands, and its chart."""
 
     branch: Branch
+    names: Sequence[str]
     offers: List[Offer]
     chart: Data
 

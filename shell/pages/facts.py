@@ -1,22 +1,22 @@
 """The facts of a pair by key, as a page has them, and which of them an event changed."""
 from __future__ import annotations
 
-from typing import Callable, Collection, Dict, Iterator, List, NamedTuple, Sequence, Tuple
+from typing import Callable, Dict, Iterator, List, NamedTuple, Sequence, Tuple
 
 from .looks import Eye, Seen
-from .standings import Standings
+from .standings import Change, Standings
 from ..colours import PLAIN
 from ..differences import Difference, differences, node_numbers
 from ..diffs import circumstances, is_one_rule_set
 from ..frames import Frame
-from ..language.names import COUNTERS, NODES, Name
+from ..language.names import COUNTERS, NODES
 from ..language.records import BULK_STATUS, CLEAR, QUEUES, UPDATE_REQUEST
 from ..pair import Node, Pair
 from ..records import record_line
 from ..setups import Setup
 from ..states import State
 from ..views import frame_head, held_packet
-from ..words import FLAGS, bulk_status, cleared, expires_at, flow, levels, near_and_far, request, rule_number, scaling, sequence
+from ..words import FLAGS, bulk_status, cleared, flow, levels, near_and_far, request, rule_number, scaling, sequence
 
 # Values for JSON, by key. Among changes nothing stands for a key that is gone.
 Facts = Dict[str, object]
@@ -77,31 +77,25 @@ class Looker:
         node, changed = seen.after.nodes[name], seen.changed[name]
         queued = {it.name: QUEUES[it.kind] for it in node.queue if it.name in changed.queued}
         yield name, self._numbers(node)
-        for state in sorted(self._rows(seen, name)):
+        for state in sorted(changed.states):
             yield f"{name}/state/{state}", self._row(node.states[state], node) if state in node.states else None
         for state in sorted(changed.queued):
             yield f"{name}/queue/{state}", queued.get(state)
         yield f"{name}/told", list(_told(node)) or None
         yield f"{name}/held", [held_packet(it, node, self.setup) for it in node.held] or None
 
-    def _rows(self, seen: Seen, name: str) -> Collection[Name]:
-        """The states whose rows may have changed: all of them where their number, which did, shortens timeouts."""
-        old, new = (pair.nodes[name].states for pair in (seen.before, seen.after))
-        adaptive = self.setup.adaptive
-        if len(old) != len(new) and (adaptive.shortens(len(old)) or adaptive.shortens(len(new))):
-            return {*old, *new}
-        return seen.changed[name].states
-
     def _numbers(self, node: Node) -> Dict[str, object]:
         return {
             "clock": node.clock,
+            "scale": self.setup.adaptive.scale(len(node.states)),
             "numbers": [[name, text] for name, text in node_numbers(node).items()],
             "counters": [[it.counts, node.counters[it.name]] for it in COUNTERS],
             "scaling": scaling(self.setup, node),
         }
 
     def _row(self, state: State, node: Node) -> Dict[str, object]:
-        """A state in the words of pfctl; its times are those of the node's clock, in milliseconds."""
+        """A state in the words of pfctl; its last use and change are times of the node's clock, in milliseconds, and its timeout is in
+        seconds, as long as it is where no number of states shortens it."""
         rule = self.setup.rule(node.id, state.rule)
         return {
             "flow": flow(state),
@@ -109,7 +103,7 @@ class Looker:
             "ends": [sequence(it) for it in near_and_far(state)] if state.protocol == "tcp" else [],
             "class": state.timeout_class,
             "last": state.last,
-            "expires": expires_at(self.setup, node, state),
+            "timeout": self.setup.seconds(node.id, state.rule, state.timeout_class),
             "peer": state.peer,
             "updates": state.updates,
             "flags": "" if state.flags == "-" else FLAGS.get(state.flags, state.flags),
@@ -119,10 +113,11 @@ class Looker:
     # ---- both nodes, and the link
 
     def _apart(self, seen: Seen) -> Iterator[Fact]:
-        names = sorted(seen.changed["a"].states | seen.changed["b"].states)
-        for name in names:
-            was_at_b, one, two = (node.states.get(name) for node in (seen.before.b, seen.after.a, seen.after.b))
-            yield f"apart/{name}", self._standings.set_against(name, was_at_b, one, two)
+        names = seen.changed["a"].states | seen.changed["b"].states
+        before, after = ((pair.a.states, pair.b.states) for pair in (seen.before, seen.after))
+        changes = [Change(it, (before[0].get(it), before[1].get(it)), (after[0].get(it), after[1].get(it))) for it in sorted(names)]
+        for name, standing in self._standings.take(changes, seen.after):
+            yield f"apart/{name}", standing
 
     def _frame(self, frame: Frame) -> Dict[str, object]:
         records = [record_line(it) for it in frame.records]

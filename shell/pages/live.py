@@ -2,6 +2,7 @@
 from __future__ import annotations
 
 import contextlib
+import signal
 import socket
 import threading
 from itertools import dropwhile
@@ -15,28 +16,37 @@ from ..setups import Setup
 from .bridge import Bridge
 from .door import HERE, Door
 from .runs import Run, run_of
-from .server import Branches, started
+from .server import started
 from .serving import Visit
+from .session import Branches
 from .typed import CHANGING
 
 # Without a script: a pair whose nodes let everything pass, and make states of it.
 OPENING = ("rule a pass any", "rule b pass any", OPEN.word)
 STOPPED = "the page is served no more: its bridge was stopped"
-# A session of a server, and the run behind it.
+# A session of a server, and the run that its page shows.
 Served = ContextManager[Tuple[Client, Run]]
 # How long the end waits for those who watch to hear of it, in seconds.
 GRACE = 2.0
 
 
 def serve(program: str, port: int, pair: Served, out: TextIO) -> None:
-    """Serves the page of a pair at a port until an interrupt, or until the server behind it ends: both are raised."""
+    """Serves the page of a pair at a port until an interrupt, or until the pair's server ends: both are raised."""
+    interrupt_at_ends()
     with live(program, port, pair) as door:
         print(f"{door.address(door.tokens.step)} steps\n{door.address(door.tokens.watch)} watches", file=out, flush=True)
         watch(door.bridge)
 
 
+def interrupt_at_ends() -> None:
+    """Has the signals that end a program interrupt it, so that all who watch hear of it. One that is ignored stays so."""
+    for it in (signal.SIGTERM, signal.SIGHUP):
+        if signal.getsignal(it) is signal.SIG_DFL:
+            signal.signal(it, signal.default_int_handler)
+
+
 def watch(bridge: Bridge) -> None:
-    """Looks at what other sessions do until something ends it, which all who watch are told."""
+    """Looks at what other sessions do until something ends it, and says so to all who watch."""
     try:
         bridge.watch()
     except BaseException as why:

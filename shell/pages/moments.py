@@ -31,17 +31,19 @@ class Moment:
     edits: Optional[Facts] = None
     who: str = ""
 
-    def as_data(self, notes: Sequence[str]) -> Dict[str, object]:
-        """The moment for JSON, with the paragraphs of its story."""
-        told: Dict[str, object] = {"event": self.event, "outcome": self.outcome, "tone": tone(self.outcome)}
+    def as_data(self, notes: Sequence[str], after: Sequence[str]) -> Dict[str, object]:
+        """The moment for JSON, with the paragraphs about its event, and those after it."""
+        its: Dict[str, object] = {"event": self.event, "outcome": self.outcome, "tone": tone(self.outcome)}
         if self.who:
-            told["who"] = self.who
-        return {**told, "notes": list(notes), "why": list(self.why), "changes": [[*it] for it in self.changes], "edits": self.edits}
+            its["who"] = self.who
+        if after:
+            its["after"] = list(after)
+        return {**its, "notes": list(notes), "why": list(self.why), "changes": [[*it] for it in self.changes], "edits": self.edits}
 
 
 @dataclass
 class Known:
-    """What is known of some events: their lines, what came of each and the frame that it sent, if it did, and all frames by ticket."""
+    """What is known of some events: their lines, what came of each and which frame it sent, if it did, and all frames by ticket."""
 
     lines: List[str] = field(default_factory=list)
     explained: List[Tuple[Explanation, Optional[Flight]]] = field(default_factory=list)
@@ -58,22 +60,25 @@ class Known:
         return history
 
 
-def moment(lab: Laboratory, known: Known, look: Look, who: str) -> Moment:
+def moment(lab: Laboratory, known: Known, look: Look) -> Moment:
     """The newest of some events, after which the pair was looked at, as it was before."""
     it, before = known.explained[-1][0], known.history(lab, look)
     why = [line.strip() for line in reasons(Question(before, it, PLAIN))]
     changes = _first([(_tone(one), str(one)) for one in look.differences], "change")
-    return Moment(it.event.line, it.event.came, [line for _, line in _first([("", line) for line in why], "line")], changes, look.edits, who)
+    return Moment(it.event.line, it.event.came, _first_lines(why), changes, look.edits)
 
 
-def unseen(it: Explanation, look: Optional[Look], who: str) -> Moment:
+def unseen(it: Explanation, look: Optional[Look]) -> Moment:
     """An event before which the pair was not looked at: its reason is in the words of the program."""
-    edits = look.edits if look else None
-    return Moment(it.event.line, it.event.came, [line for _, line in _first([("", line) for line in it.lines], "line")], (), edits, who)
+    return Moment(it.event.line, it.event.came, _first_lines(it.lines), edits=look.edits if look else None)
 
 
 def _tone(it: Difference) -> str:
     return "good" if it.is_new else "bad" if it.is_gone else ""
+
+
+def _first_lines(lines: Sequence[str]) -> List[str]:
+    return [line for _, line in _first([("", line) for line in lines], "line")]
 
 
 def _first(lines: List[Tuple[str, str]], what: str) -> List[Tuple[str, str]]:

@@ -13,9 +13,9 @@ MOST_UPDATES = 1000
 MOST_BYTES = 32 << 20
 
 
-def message(data: Mapping[str, object], version: int = 0) -> bytes:
-    """A message of a text/event-stream. The id of an update is its version, which a browser names when it connects again."""
-    return (f"id: {version}\n" * bool(version) + f"data: {json.dumps(data, separators=(',', ':'))}\n\n").encode()
+def message(data: Mapping[str, object]) -> bytes:
+    """A message of a text/event-stream."""
+    return f"data: {json.dumps(data, separators=(',', ':'))}\n\n".encode()
 
 
 RELOAD = message({"reload": True})
@@ -46,7 +46,7 @@ class News:
 
     def publish(self, update: Mapping[str, object]) -> None:
         """Makes an update the next version."""
-        it = message({"version": self.version + 1, **update, "people": self.people}, self.version + 1)
+        it = message({"version": self.version + 1, **update, "people": self.people})
         with self._changed:
             self.version += 1
             self._kept.append(it)

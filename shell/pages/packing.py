@@ -24,9 +24,10 @@ class NotPacked(Exception):
 def page(data: Mapping[str, object], served: bool = False) -> str:
     """The page that shows this data. One that is served may ask its server, and no page may ask another one."""
     style, script, title = read(STYLE), packed(), escape(str(data["title"]))
+    allowed = policy(style, script, served)
     parts = {
         "<title></title>": f"<title>{title}</title>",
-        "<!-- style -->": f'<meta http-equiv="Content-Security-Policy" content="{policy(style, script, served)}">\n<style>{style}</style>',
+        "<!-- style -->": f'<meta http-equiv="Content-Security-Policy" content="{allowed}">\n<style>{style}</style>',
         "<!-- data -->": f'<script type="application/json" id="run">{written(data)}</script>',
         "<!-- script -->": f'<script type="module">{script}</script>',
     }

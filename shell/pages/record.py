@@ -6,7 +6,7 @@ from typing import Dict, List, Mapping, Sequence
 
 from .facts import Facts, Looker
 from .moments import Known, Moment, moment, unseen
-from ..branches import Branch
+from ..branches import Branch, common
 from ..charts.chart import drawn
 from ..charts.picture import sheets
 from ..held import held_packets, tell_packets
@@ -29,8 +29,9 @@ class Record:
     def __init__(self, program: str, setup: Setup, name: str, former: bool = False) -> None:
         """One without events. A former branch is what a branch was before its events were undone and others stepped."""
         self.name, self.former, self.undone = name, former, 0
-        # Paragraphs of the story, and branches that begin, by how many events stood.
+        # The paragraphs about events, those after them, and the branches that begin there, by the numbers of the events.
         self.notes: Mapping[int, Sequence[str]] = {}
+        self.after: Mapping[int, Sequence[str]] = {}
         self.forks: Mapping[int, Sequence[str]] = {}
         self.laboratory = Laboratory(program, setup=setup)
         self.laboratory.open()
@@ -45,16 +46,20 @@ class Record:
         self._looked = 0
         self.opening = self._looker.take(self._show()).edits
 
-    def sync(self, branch: Branch, who: str = "") -> int:
+    def sync(self, branch: Branch) -> int:
         """Brings it to the events of a branch that stand: how many of its moments are as they were."""
         events = branch.events[: branch.cursor]
-        both = zip(events, self.moments)
-        same = next((at for at, (event, it) in enumerate(both) if event != it.event), min(len(events), len(self.moments)))
+        same = common(events, [it.event for it in self.moments])
         kept = self._take_back(same) if same < len(self.moments) else same
         for event in events[same:]:
-            self._step(event, len(events), who)
+            self._step(event, len(events))
         self.undone = len(branch.events) - branch.cursor
         return kept
+
+    def keep_texts(self, number: int) -> None:
+        """Keeps the paragraphs of the first events alone, and the branches that begin after them."""
+        all_texts = (self.notes, self.after, self.forks)
+        self.notes, self.after, self.forks = ({at: those for at, those in it.items() if at <= number} for it in all_texts)
 
     def close(self) -> None:
         self.laboratory.close()
@@ -63,12 +68,15 @@ class Record:
 
     def as_data(self) -> Dict[str, object]:
         """All of the branch, for JSON."""
-        told: Dict[str, object] = {"name": self.name, "former": self.former, "undone": self.undone, "opening": self.opening}
-        return {**told, "notes": list(self.notes.get(0, ())), "moments": self.moments_as_data(), "chart": self.chart_as_data()}
+        its: Dict[str, object] = {"name": self.name, "former": self.former, "undone": self.undone, "opening": self.opening}
+        its["notes"] = list(self.after.get(0, ()))
+        its["forks"] = {str(place): list(names) for place, names in sorted(self.forks.items())}
+        return {**its, "moments": self.moments_as_data(), "chart": self.chart_as_data()}
 
     def moments_as_data(self, first: int = 0) -> List[Dict[str, object]]:
         """The moments after the first ones."""
-        return [it.as_data(self.notes.get(number, ())) for number, it in enumerate(self.moments[first:], first + 1)]
+        numbered = enumerate(self.moments[first:], first + 1)
+        return [it.as_data(self.notes.get(number, ()), self.after.get(number, ())) for number, it in numbered]
 
     def chart_as_data(self) -> Dict[str, object]:
         """The chart of the events that stand."""
@@ -76,8 +84,8 @@ class Record:
 
     # ---- events
 
-    def _step(self, event: str, last: int, who: str) -> None:
-        """Lets an event happen, which is one of so many."""
+    def _step(self, event: str, last: int) -> None:
+        """Lets an event happen; the number is that of the last one that follows."""
         number, sends = len(self.moments) + 1, event.split()[0] in (FLUSH.word, REPEAT.word)
         is_seen, was_seen = self._affords(number, last), self._looked == number - 1
         lines = [f"{STEP.word} main {event}", f"{WHY.word} main {number}"]
@@ -94,7 +102,7 @@ class Record:
         if look:
             self._looked = number
             self._shown += len(replies[-1])
-        self.moments.append(moment(self.laboratory, self._known, look, who) if look and was_seen else unseen(it, look, who))
+        self.moments.append(moment(self.laboratory, self._known, look) if look and was_seen else unseen(it, look))
 
     def _remember(self, number: int) -> None:
         """Notes the frame that an event sent, or what befell one, and the packet that was held."""

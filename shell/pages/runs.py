@@ -1,15 +1,15 @@
 """A script's run as a page has it."""
 from __future__ import annotations
 
-from dataclasses import dataclass
-from typing import Dict, List, Sequence
+from dataclasses import dataclass, replace
+from typing import Dict, Iterator, List, Sequence
 
 from .record import Record
 from ..branches import Branch
 from ..laboratory import Laboratory
 from ..scripts import title_of
 from ..setups import Setup
-from ..stories import Places, legible, story_of
+from ..stories import Former, Places, Story, legible, story_of
 
 # Of the runs that were undone and stepped over, or lost an event, a page keeps the newest.
 MOST_FORMER = 8
@@ -40,15 +40,34 @@ def run_of(program: str, script: Sequence[str], name: str) -> Run:
         story = story_of(lab, script)
         if not lab.is_open:
             lab.open()
-        records = [_recorded(lab, lab.branch(it), story.branches[it].at, it) for it in lab.names()]
+        branches = [lab.branch(it) for it in lab.names()]
+        records = [_recorded(lab, it, story.branches[it.name].notes, it.name) for it in branches]
         for record in records:
-            record.forks = story.forks(record.name)
-        former = enumerate(story.former[-MOST_FORMER:], 1)
+            record.forks, record.after = story.forks(record.name), {len(record.moments): story.waiting}
+        former = enumerate(_others([*story.former, *_undone(story, branches)], branches), 1)
         records += [_recorded(lab, it.branch, it.notes, f"{it.branch.name}~{number}", True) for number, it in former]
         title = legible(title_of(script))
         return Run(title or name, [it for it in story.intro if it.rstrip(".") != title], lab.setup, records)
     finally:
         lab.close()
+
+
+def _undone(story: Story, branches: Sequence[Branch]) -> Iterator[Former]:
+    """The branches of which events were undone at the end, with these."""
+    for it in branches:
+        if it.cursor < len(it.events):
+            yield Former(replace(it, cursor=len(it.events)), story.branches[it.name].notes)
+
+
+def _others(former: Sequence[Former], branches: Sequence[Branch]) -> List[Former]:
+    """The newest of the former runs, without those that are the beginning of another one."""
+    kept: List[Former] = []
+    there = [it.events[: it.cursor] for it in branches]
+    for it in reversed(former):
+        events = it.branch.events
+        if not any(one[: len(events)] == events for one in (*there, *(other.branch.events for other in kept))):
+            kept.append(it)
+    return kept[:MOST_FORMER][::-1]
 
 
 def _recorded(lab: Laboratory, branch: Branch, notes: Places, name: str, former: bool = False) -> Record:

@@ -12,13 +12,15 @@ from http.server import BaseHTTPRequestHandler
 from typing import Any, Callable, Dict, List, Optional, Tuple, Union
 
 from ..programs import Ended
-from .bridge import STEP
+from .bridge import STEP, Overtaken
 from .door import Door, Within
 from .news import Stream
 from .typed import NotTaken, read_typed
 
-# The seconds in which a request has to be there, those in which what is sent has to be taken, and those between signs of life.
+# The seconds in which a request has to be there, those in which each piece of what is sent has to be taken, and those between signs
+# of life.
 READ_SECONDS = WRITE_SECONDS = BEAT = 10.0
+PIECE = 64 << 10
 # How soon a stream notices that nobody is there any more.
 LOOK = 1.0
 MOST_BODY = 64 << 10
@@ -50,7 +52,8 @@ class Visit(BaseHTTPRequestHandler):
     """A connection, which is for one request."""
 
     server: Door
-    protocol_version = "HTTP/1.1"
+    # (what names no version that there is gets a whole answer too, with all headers)
+    protocol_version = default_request_version = "HTTP/1.1"
     disable_nagle_algorithm = True
 
     # ---- what the standard library's has otherwise
@@ -86,6 +89,8 @@ class Visit(BaseHTTPRequestHandler):
             self._answer(why.status, TEXT, str(why))
         except Ended as why:
             self._answer(HTTPStatus.SERVICE_UNAVAILABLE, TEXT, str(why))
+        except Overtaken as why:
+            self._answer(HTTPStatus.CONFLICT, TEXT, str(why))
 
     def _get(self) -> None:
         may, path, query = self._target()
@@ -129,7 +134,10 @@ class Visit(BaseHTTPRequestHandler):
             raise Refused(HTTPStatus.BAD_REQUEST)
         if int(lengths[0]) > MOST_BODY:
             raise Refused(HTTPStatus.REQUEST_ENTITY_TOO_LARGE)
-        return self.rfile.read(int(lengths[0]))
+        body = self.rfile.read(int(lengths[0]))
+        if len(body) < int(lengths[0]):
+            raise Refused(HTTPStatus.BAD_REQUEST, "the body ends before its length")
+        return body
 
     def _check_sender(self) -> None:
         """Whether it is the page that sends this, and not a form or a script of another place."""
@@ -146,7 +154,12 @@ class Visit(BaseHTTPRequestHandler):
         body = said if isinstance(said, bytes) else f"{said}\n".encode()
         self._begin(status, kind, {"Content-Length": str(len(body))})
         if self.command != "HEAD":
-            self.wfile.write(body)
+            self._send(body)
+
+    def _send(self, content: bytes) -> None:
+        """Sends what may be long to one who may read it slowly."""
+        for at in range(0, len(content), PIECE):
+            self.wfile.write(content[at : at + PIECE])
 
     def _begin(self, status: HTTPStatus, kind: str, more: Dict[str, str]) -> None:
         """Sends the head of an answer."""
@@ -161,28 +174,26 @@ class Visit(BaseHTTPRequestHandler):
     # ---- events
 
     def _events(self, query: str) -> None:
-        # (a browser that connects again by itself says so by a header)
-        after = self.headers.get("Last-Event-ID") or (query[len("after=") :] if query.startswith("after=") else "")
-        if not re.fullmatch("[0-9]{1,15}", after):
+        after = re.fullmatch("after=([0-9]{1,15})", query)
+        if not after:
             raise Refused(HTTPStatus.BAD_REQUEST, "events?after=VERSION is wanted")
         if not self.server.bridge.news.come():
             raise Refused(HTTPStatus.SERVICE_UNAVAILABLE, "there are too many who watch")
         try:
-            self._stream(Stream(int(after)))
+            self._stream(Stream(int(after[1])))
         finally:
             self.server.bridge.news.go()
 
     def _stream(self, stream: Stream) -> None:
         """Sends what a watcher lacks as it comes, and signs of life. One who does not read holds up this thread alone."""
         self._begin(HTTPStatus.OK, EVENTS, {})
-        self.wfile.write(b"retry: 1000\n\n")
         sent = time.monotonic()
         while not stream.is_over and not self._is_left():
             messages = self.server.bridge.news.awaited(stream, LOOK)
             if not messages and time.monotonic() >= sent + BEAT:
                 messages = [b": beat\n\n"]
             if messages:
-                self.wfile.write(b"".join(messages))
+                self._send(b"".join(messages))
                 sent = time.monotonic()
 
     def _is_left(self) -> bool:

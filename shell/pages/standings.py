@@ -1,89 +1,84 @@
 """How each state stands between the nodes: the same at both, only at one, or differing field by field."""
 from __future__ import annotations
 
-from dataclasses import dataclass, field
-from typing import Dict, List, Optional, Sequence, Set, Tuple
+from collections import Counter
+from typing import Counter as Numbers, Dict, Iterator, List, NamedTuple, Optional, Sequence, Set, Tuple
 
 from ..diffs import RULE, Counts, unequal_fields
-from ..language.names import Name
+from ..language.names import NODES, Name
 from ..language.packets import Key
+from ..pair import Pair, other
 from ..states import State
 
 # A protocol, which of the two keys it is, and the key.
 FlowKey = Tuple[str, str, Key]
-# How a state stands, with the fields that differ, for JSON.
+# How a state stands, for JSON: with the fields that differ, or where one node alone has it the other's names for the flow.
 Standing = Dict[str, object]
 
 
-@dataclass
+class Change(NamedTuple):
+    """A state before and after an event, at a and at b."""
+
+    name: Name
+    before: Tuple[Optional[State], Optional[State]]
+    after: Tuple[Optional[State], Optional[State]]
+
+
 class Standings:
     """The states of both nodes set against each other, of which a few change at a time."""
 
-    one_rule_set: bool
-    only: Dict[str, Dict[Name, State]] = field(default_factory=lambda: {"a": {}, "b": {}})
-    differing: Set[Name] = field(default_factory=set)
-    agreeing: Set[Name] = field(default_factory=set)
-    # The states with a key: those that b has, and those that only a has.
-    at_b: Dict[FlowKey, Set[Name]] = field(default_factory=dict)
-    only_at_a: Dict[FlowKey, Set[Name]] = field(default_factory=dict)
-    # The states that only a has, and of whose flow b has a state under another name.
-    twice: Set[Name] = field(default_factory=set)
+    def __init__(self, one_rule_set: bool) -> None:
+        self.one_rule_set = one_rule_set
+        # The states of each node by their keys, how each state stands, and how many stand so.
+        self._names: Dict[str, Dict[FlowKey, Set[Name]]] = {it: {} for it in NODES}
+        self._kinds: Dict[Name, str] = {}
+        self._numbers: Numbers[str] = Counter()
 
-    def set_against(self, name: Name, was_at_b: Optional[State], one: Optional[State], two: Optional[State]) -> Optional[Standing]:
-        """Takes what a and b have of a state now, and what b had: how it stands, or nothing where both have the same or neither has it."""
-        concerned = {*_keys(was_at_b), *_keys(two), *_keys(self.only["a"].get(name))}
-        self._forget(name, was_at_b)
-        for key in _keys(two):
-            self.at_b.setdefault(key, set()).add(name)
-        standing = self._standing(name, one, two)
-        for key in _keys(self.only["a"].get(name)):
-            self.only_at_a.setdefault(key, set()).add(name)
-            concerned.add(key)
-        for other in {other for key in concerned for other in self.only_at_a.get(key, ())}:
-            self._count(other)
-        return standing
+    def take(self, changes: Sequence[Change], pair: Pair) -> Iterator[Tuple[Name, Optional[Standing]]]:
+        """Takes what changed, and the pair as it is now: how each state stands that may stand otherwise than before; nothing where both
+        nodes have the same, or neither has it."""
+        concerned = {it.name for it in changes}
+        for change in changes:
+            concerned |= self._index(change)
+        for name in sorted(concerned):
+            kind, standing = self._standing(name, *(node.states.get(name) for node in (pair.a, pair.b)))
+            self._numbers[self._kinds.pop(name, "")] -= 1
+            self._numbers[kind] += 1
+            self._kinds[name] = kind
+            yield name, standing
 
     @property
     def counts(self) -> Counts:
-        return Counts(len(self.only["a"]), len(self.only["b"]), len(self.differing), len(self.agreeing), len(self.twice))
+        number = self._numbers
+        return Counts(number["a"] + number["a twice"], number["b"] + number["b twice"], number["differ"], number["same"], number["a twice"])
 
-    def _forget(self, name: Name, was_at_b: Optional[State]) -> None:
-        """Forgets what is known of a state."""
-        _take_out(self.at_b, _keys(was_at_b), name)
-        _take_out(self.only_at_a, _keys(self.only["a"].get(name)), name)
-        for those in self.only.values():
-            those.pop(name, None)
-        for names in (self.differing, self.agreeing, self.twice):
-            names.discard(name)
+    def _index(self, change: Change) -> Set[Name]:
+        """Has the keys name a state that changed, and no longer what it was: the states that have one of these keys."""
+        concerned: Set[Name] = set()
+        for names, was, now in zip(self._names.values(), change.before, change.after):
+            for key in _keys(was):
+                names[key].discard(change.name)
+                if not names[key]:
+                    del names[key]
+            for key in _keys(now):
+                names.setdefault(key, set()).add(change.name)
+        for key in (key for it in (*change.before, *change.after) for key in _keys(it)):
+            concerned = concerned.union(*(names.get(key, ()) for names in self._names.values()))
+        return concerned
 
-    def _count(self, name: Name) -> None:
-        """Notes whether b has the flow of a state that only a has."""
-        is_twice = any(self.at_b.get(key) for key in _keys(self.only["a"][name]))
-        (self.twice.add if is_twice else self.twice.discard)(name)
-
-    def _standing(self, name: Name, one: Optional[State], two: Optional[State]) -> Optional[Standing]:
+    def _standing(self, name: Name, one: Optional[State], two: Optional[State]) -> Tuple[str, Optional[Standing]]:
+        """The kind by which a state is counted, and how it stands."""
         if one and two:
-            return self._of_both(name, one, two)
-        if not one and not two:
-            return None
+            parts = {it: both for it, both in unequal_fields(one, two).items() if self.one_rule_set or it not in RULE}
+            told: Standing = {"how": "differ", "parts": [[it, *both] for it, both in parts.items()]}
+            return ("differ", told) if parts else ("same", None)
         node, state = ("a", one) if one else ("b", two)
-        assert state
+        if state is None:
+            return "", None
         if state.flags == "n":
-            return {"how": "no-sync", "parts": []}
-        self.only[node][name] = state
-        return {"how": node, "parts": []}
-
-    def _of_both(self, name: Name, one: State, two: State) -> Optional[Standing]:
-        parts = {it: both for it, both in unequal_fields(one, two).items() if self.one_rule_set or it not in RULE}
-        (self.differing if parts else self.agreeing).add(name)
-        return {"how": "differ", "parts": [[it, *both] for it, both in parts.items()]} if parts else None
-
-
-def _take_out(index: Dict[FlowKey, Set[Name]], keys: Sequence[FlowKey], name: Name) -> None:
-    for key in keys:
-        index[key].discard(name)
-        if not index[key]:
-            del index[key]
+            return "no-sync", {"how": "no-sync", "parts": []}
+        others = sorted({it for key in _keys(state) for it in self._names[other(node)].get(key, ())} - {name})
+        return node + " twice" * bool(others), {"how": node, "parts": [], "others": [str(it) for it in others]}
 
 
 def _keys(state: Optional[State]) -> List[FlowKey]:

@@ -2,11 +2,13 @@
 from __future__ import annotations
 
 import json
-from typing import NamedTuple
+from typing import NamedTuple, Optional
 
 from ..language.commands import BACK, DROP, EXCISE, FORK, FORWARD, RESTORE, STEP
 
 CHANGING = tuple(it.word for it in (STEP, BACK, FORWARD, FORK, DROP, EXCISE, RESTORE))
+# Those that mean something else after another change of their branch.
+COUNTING = tuple(it.word for it in (BACK, FORWARD, DROP, EXCISE, RESTORE))
 LONGEST_LINE = 4096
 LONGEST_NAME = 40
 NOBODY = "somebody"
@@ -17,10 +19,17 @@ class NotTaken(ValueError):
 
 
 class Typed(NamedTuple):
-    """A line that changes the pair, and who sends it."""
+    """A line that changes the pair, who sends it, and the version of the page that it was sent from, if it says so."""
 
     name: str
     line: str
+    version: Optional[int] = None
+
+    @property
+    def takes_from(self) -> str:
+        """The branch from which it takes events by how many there are, or where they are; none of another line."""
+        words = self.line.split()
+        return words[1] if words[0] in COUNTING and len(words) > 1 else ""
 
 
 def read_typed(body: bytes) -> Typed:
@@ -29,11 +38,11 @@ def read_typed(body: bytes) -> Typed:
         it = json.loads(body.decode())
     except (ValueError, RecursionError):
         raise NotTaken("the body is not JSON") from None
-    name, line = (it.get("name", ""), it.get("line")) if isinstance(it, dict) else ("", None)
-    if not isinstance(name, str) or not isinstance(line, str):
-        raise NotTaken('the body has to be {"name": "..", "line": ".."}')
+    name, line, version = (it.get("name", ""), it.get("line"), it.get("version")) if isinstance(it, dict) else ("", None, None)
+    if not isinstance(name, str) or not isinstance(line, str) or type(version) not in (int, type(None)):
+        raise NotTaken('the body has to be {"name": "..", "line": "..", "version": N}')
     _check(line)
-    return Typed(_cleaned(name), line.strip())
+    return Typed(_cleaned(name), line.strip(), version)
 
 
 def _check(line: str) -> None:

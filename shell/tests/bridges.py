@@ -7,7 +7,7 @@ import json
 import socket
 import threading
 import unittest
-from typing import Any, Dict, NamedTuple, Optional, Union
+from typing import Any, Dict, NamedTuple, Union
 from unittest import mock
 
 from ..pages.bridge import Bridge
@@ -37,10 +37,10 @@ class Answer(NamedTuple):
 class Watcher:
     """A stream of events, as a browser reads it."""
 
-    def __init__(self, door: Door, after: int = 0, token: Optional[str] = None, more: str = ""):
+    def __init__(self, door: Door, after: int = 0):
         self.connection = socket.create_connection(("127.0.0.1", door.port), SECONDS)
-        target = f"/{token or door.tokens.watch}/events?after={after}"
-        self.connection.sendall(f"GET {target} HTTP/1.1\r\nHost: 127.0.0.1:{door.port}\r\n{more}\r\n".encode())
+        target = f"/{door.tokens.watch}/events?after={after}"
+        self.connection.sendall(f"GET {target} HTTP/1.1\r\nHost: 127.0.0.1:{door.port}\r\n\r\n".encode())
         self.lines = self.connection.makefile("r", encoding="utf-8", newline="\n")
         self.status = int(self.lines.readline().split()[1])
         while self.lines.readline().strip():
@@ -84,8 +84,8 @@ class Bridged(unittest.TestCase):
         self.addCleanup(self.ends.close)
         return door
 
-    def watcher(self, door: Door, after: int = 0, more: str = "") -> Watcher:
-        it = Watcher(door, after, more=more)
+    def watcher(self, door: Door, after: int = 0) -> Watcher:
+        it = Watcher(door, after)
         self.addCleanup(it.close)
         return it
 

@@ -96,9 +96,9 @@ class Driver:
             self.close()
             raise Refused("chromedriver did not start")
 
-    def browser(self) -> "Browser":
-        """One browser more."""
-        self.browsers.append(Browser(self.port))
+    def browser(self, letters: int = 16) -> "Browser":
+        """One browser more, in whose settings letters have this size in pixels."""
+        self.browsers.append(Browser(self.port, letters))
         return self.browsers[-1]
 
     def close(self) -> None:
@@ -120,10 +120,13 @@ class Driver:
 class Browser:
     """A browser with one window."""
 
-    def __init__(self, port: int):
+    def __init__(self, port: int, letters: int):
         self.connection = HTTPConnection("127.0.0.1", port, timeout=PATIENCE)
         self.media: Dict[str, str] = {}
-        options = {"binary": shutil.which("chromium"), "args": ARGUMENTS, "perfLoggingPrefs": {"enableNetwork": True, "enablePage": False}}
+        self.shape = (0, 0)
+        settings = {"webkit": {"webprefs": {"default_font_size": letters}}}
+        logs = {"enableNetwork": True, "enablePage": False}
+        options = {"binary": shutil.which("chromium"), "args": ARGUMENTS, "prefs": settings, "perfLoggingPrefs": logs}
         wished = {"browserName": "chrome", "goog:loggingPrefs": {"browser": "ALL", "performance": "ALL"}, "goog:chromeOptions": options}
         self.path = ""
         self.path = f"/session/{self._send('POST', '/session', {'capabilities': {'alwaysMatch': wished}})['sessionId']}"
@@ -240,9 +243,11 @@ class Browser:
 
     # ---- how it is shown
 
-    def size(self, width: int, height: int = 1000, scale: float = 1) -> None:
+    def size(self, width: int, height: int = 1000) -> None:
         """How wide and high the window is inside, in pixels of CSS."""
-        self.cdp("Emulation.setDeviceMetricsOverride", width=width, height=height, deviceScaleFactor=scale, mobile=False)
+        if self.shape != (width, height):
+            self.cdp("Emulation.setDeviceMetricsOverride", width=width, height=height, deviceScaleFactor=1, mobile=False)
+        self.shape = width, height
 
     def dark(self, is_dark: bool = True) -> None:
         """Whether the person wishes dark colours."""
@@ -253,6 +258,8 @@ class Browser:
         self._wish("prefers-reduced-motion", "reduce" if is_still else "no-preference")
 
     def _wish(self, name: str, value: str) -> None:
+        if self.media.get(name) == value:
+            return
         self.media[name] = value
         self.cdp("Emulation.setEmulatedMedia", features=[{"name": it, "value": what} for it, what in self.media.items()])
 

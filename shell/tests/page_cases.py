@@ -6,6 +6,7 @@ from __future__ import annotations
 
 import contextlib
 import io
+import itertools
 import os
 import unittest
 from typing import Dict, List, Tuple
@@ -36,6 +37,7 @@ step later tick a 1500
 back main 2
 step main tick b 500
 """
+NUMBERS = itertools.count()
 # Where the page stands, out of `#place`.
 PLACE = "document.querySelector('#place').textContent"
 
@@ -108,9 +110,8 @@ class PageCase(unittest.TestCase):
         self.open_file(desk.page(script.encode(errors="surrogateescape")), place)
 
     def open_file(self, path: str, place: str = "") -> None:
-        # (another place of the same page would not load it anew)
-        self.browser.open("about:blank")
-        self.browser.open(f"file://{path}{place}")
+        # (another place of the same address would not load it anew)
+        self.browser.open(f"file://{path}?{next(NUMBERS)}{place}")
         self.browser.wait_until("document.querySelector('#place') && / /.test(document.querySelector('#place').textContent)")
 
     def go(self, branch: str, moment: int) -> None:

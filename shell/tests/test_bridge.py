@@ -1,6 +1,7 @@
 """A live page: what is stepped, and how it comes to all who watch."""
 from __future__ import annotations
 
+import json
 import os
 import threading
 import time
@@ -8,6 +9,7 @@ from typing import List, Tuple
 from unittest import mock
 
 from ..pages import news
+from ..pages.former import MOST_EVENTS
 from .bridges import PACKET, Bridged, Data, Watcher
 
 
@@ -58,13 +60,26 @@ class Steps(Bridged):
         self.assertIn("the event is missing", self.step(door, "step main")["why"][0])
         self.assertEqual(self.step(door, "step main tick a 1")["version"], 1)
 
+    def test_a_line_whose_sender_was_given_up_does_not_happen_later(self) -> None:
+        door = self.live()
+        busy = threading.Event()
+        door.bridge._worker.submit(busy.wait)
+        with mock.patch("shell.pages.bridge.PATIENCE", 0.2):
+            answer = self.asked(door, "POST", f"/{door.tokens.step}/do", json.dumps({"line": PACKET}))
+        self.assertEqual((answer.status, answer.body), (503, "the server did not answer in 0 seconds\n"))
+        busy.set()
+        self.assertEqual(self.page(door)["branches"][0]["moments"], [])
+
     def test_branches_come_change_and_go(self) -> None:
         door = self.live(PACKET, "step main flush a")
         watcher = self.watcher(door)
         for line in ("back main 1", "forward main 1", "fork main 1 other", "excise main 2", "restore main", "drop main"):
             self.step(door, line)
-        updates = [watcher.update() for _ in range(6)]
-        self.assertEqual([it["order"] for it in updates], [["main"]] * 2 + [["main", "other"]] * 3 + [["other"]])
+        updates = [watcher.update() for _ in range(7)]
+        orders = [["main"]] * 2 + [["main", "other"]] * 2 + [["main", "other", "main~1"], ["main", "other"], ["other"]]
+        self.assertEqual([it["order"] for it in updates], orders)
+        former = updates.pop(4)["branches"][0]
+        self.assertEqual((former["name"], former["former"], [it["outcome"] for it in former["moments"]]), ("main~1", True, ["pass 1.1", "sent 1 148"]))
         changes = [it["branches"][0] for it in updates[:5]]
         numbers = [(it["keep"], len(it["moments"]), it["undone"]) for it in changes]
         self.assertEqual(numbers, [(1, 0, 1), (1, 1, 0), (0, 1, 0), (1, 0, 0), (1, 1, 0)])
@@ -77,11 +92,41 @@ class Steps(Bridged):
             self.step(door, line, name)
         for line in ("back main 3", "forward main 3", "fork main 3 other", "excise main 2"):
             self.step(door, line, "Dan")
-        main, other = self.page(door)["branches"]
+        main, other, former = self.page(door)["branches"]
         self.assertEqual([it.get("who", "") for it in main["moments"]], ["", "Bob", "Cid"])
+        self.assertEqual([it.get("who", "") for it in former["moments"]], ["", "Ann", "Bob", "Cid"])
         self.assertEqual([it.get("who", "") for it in other["moments"]], ["", "Ann", "Bob"])
         self.step(door, "restore main", "Dan")
         self.assertEqual([it.get("who", "") for it in self.page(door)["branches"][0]["moments"]], ["", "Ann", "Bob", "Cid"])
+
+    def test_what_was_undone_and_stepped_over_is_an_earlier_run(self) -> None:
+        door = self.live(PACKET, "step main flush a")
+        watcher = self.watcher(door)
+        for line in ("back main 1", "step main tick a 1"):
+            self.step(door, line, "Ann")
+        updates = [watcher.update() for _ in range(3)]
+        self.assertEqual([it["order"] for it in updates], [["main"]] * 2 + [["main", "main~1"]])
+        self.assertEqual([(it["who"], it["line"]) for it in updates[2:]], [("Ann", "")])
+        self.assertEqual([it["event"] for it in self.page(door)["branches"][1]["moments"]], [PACKET[len("step main ") :], "flush a"])
+
+    def test_of_two_who_undo_at_once_one_does(self) -> None:
+        door = self.live(PACKET, "step main flush a")
+        self.step(door, "fork main 2 other")
+        body = json.dumps({"line": "back main 1", "version": 1})
+        answers = [self.asked(door, "POST", f"/{door.tokens.step}/do", body) for _ in range(2)]
+        self.assertEqual([it.status for it in answers], [200, 409])
+        self.assertEqual(answers[1].body, "somebody was faster: main has changed since this page was told of it\n")
+        self.assertEqual(self.page(door)["branches"][0]["undone"], 1)
+        # What is no matter of how many events there are is done all the same, and so is what another branch is asked.
+        for line in ("step main tick a 1", "back other 1"):
+            answer = self.asked(door, "POST", f"/{door.tokens.step}/do", json.dumps({"line": line, "version": 1}))
+            self.assertEqual(answer.status, 200, line)
+
+    def test_a_long_run_is_not_kept(self) -> None:
+        door = self.live(*[f"step main tick a {it}" for it in range(1, MOST_EVENTS + 2)])
+        self.step(door, "back main 1")
+        self.step(door, "step main tick b 1")
+        self.assertEqual([it["name"] for it in self.page(door)["branches"]], ["main"])
 
     def test_a_script_tells_no_more_of_events_that_are_gone(self) -> None:
         door = self.live("# First.", "step main tick a 1", "# Second.", "step main tick a 2")
@@ -92,6 +137,15 @@ class Steps(Bridged):
         self.step(door, "back main 1")
         self.step(door, "step main tick a 3")
         self.assertEqual([it["notes"] for it in self.page(door)["branches"][0]["moments"]], [["First."], []])
+
+    def test_a_branch_begins_no_more_after_an_event_that_is_gone(self) -> None:
+        door = self.live("step main tick a 1", "step main tick a 2", "fork main 2 other")
+        begins = "begins here"
+        self.assertIn(begins, json.dumps(self.page(door)["branches"][0]["chart"]))
+        self.step(door, "back main 2")
+        self.step(door, "step main tick b 1")
+        self.step(door, "step main tick b 2")
+        self.assertNotIn(begins, json.dumps(self.page(door)["branches"][0]["chart"]))
 
     def test_runs_that_a_script_stepped_over_come_last_and_stay(self) -> None:
         door = self.live("step main tick a 1", "back main 1", "step main tick a 2")
@@ -119,9 +173,6 @@ class Watching(Bridged):
             self.step(door, f"step main tick a {number}")
         watcher = self.watcher(door, 2)
         self.assertEqual([watcher.update()["version"] for _ in range(3)], [3, 4, 5])
-        # (a browser that connects again by itself names the last event that it has)
-        again = self.watcher(door, 0, "Last-Event-ID: 4\r\n")
-        self.assertEqual(again.update()["version"], 5)
 
     def test_who_missed_more_than_is_kept_loads_the_page_again(self) -> None:
         door = self.live()
@@ -162,8 +213,9 @@ class Watching(Bridged):
     def test_who_never_reads_holds_nobody_up_and_is_dropped(self) -> None:
         with mock.patch("shell.pages.serving.WRITE_SECONDS", 1.0):
             door = self.live()
-            idle, watcher = self.watcher(door), self.watcher(door)
+            idle = self.watcher(door)
             self.assertEqual(idle.next(), {"people": 1})
+            watcher = self.watcher(door)
             for number in range(10):
                 begun = time.monotonic()
                 door.bridge.news.publish({"line": "x" * 1_000_000})

@@ -22,10 +22,11 @@ class Doors(Bridged):
         text = body if isinstance(body, str) else json.dumps(body)
         return self.asked(self.door, "POST", f"/{self.door.tokens.step}/do", text, **headers)
 
-    def raw(self, request: str, body: bytes = b"") -> bytes:
-        """All that comes to bytes that are sent as they are."""
+    def raw(self, request: str) -> bytes:
+        """All that comes to bytes that are sent as they are, and after which nothing comes."""
         with socket.create_connection(("127.0.0.1", self.door.port), 5) as it:
-            it.sendall(request.replace("\n", "\r\n").replace("HOST", self.door.hosts[0]).encode() + body)
+            it.sendall(request.replace("\n", "\r\n").replace("HOST", self.door.hosts[0]).encode())
+            it.shutdown(socket.SHUT_WR)
             return b"".join(iter(lambda: it.recv(65536), b""))
 
     def is_untouched(self) -> None:
@@ -116,6 +117,12 @@ class Doors(Bridged):
             self.assertEqual(self.raw(f"{head}{lengths}\n").split()[1], status, lengths)
         self.is_untouched()
 
+    def test_a_body_that_ends_early_is_refused(self) -> None:
+        head = f"POST /{self.door.tokens.step}/do HTTP/1.1\nHost: HOST\nContent-Type: application/json\n"
+        said = self.raw(f"{head}Content-Length: {len(LINE) + 1}\n\n{LINE}")
+        self.assertIn(b" 400 ", said.partition(b"\n")[0])
+        self.is_untouched()
+
     def test_what_is_no_line_that_changes_the_pair_is_refused(self) -> None:
         lines = ["show main", "open", "set states 5", "log main", "view", "search main 1 1 apart", "", "#", " ", "steps main tick a 1"]
         lines += [f"{PACKET}{it}" for it in ("\nback main 1", "\r", "\t", "\0", "\x85", "\ud800")]
@@ -169,6 +176,8 @@ class Doors(Bridged):
     def test_what_is_no_request_is_refused(self) -> None:
         for request in ("", "GET", "GET / HTTP/9.9", "GET / HTTP/x", f"GET /{'x' * 70000} HTTP/1.1", "x" * 100):
             self.assertNotIn(b" 200 ", self.raw(f"{request}\n\n").partition(b"\n")[0])
+        for old in ("GET /", "PRI * HTTP/2.0", "\x16\x03\x01"):
+            self.assertIn(b"X-Content-Type-Options: nosniff", self.raw(f"{old}\nHost: HOST\n\n"), old)
         many = "".join(f"X-{number}: x\n" for number in range(200))
         self.assertIn(b" 431 ", self.raw(f"GET / HTTP/1.1\nHost: HOST\n{many}\n").partition(b"\n")[0])
 
@@ -182,6 +191,19 @@ class Crowds(Bridged):
                     it.sendall(b"x")
                     time.sleep(0.1)
             self.assertLess(time.monotonic() - begun, 2)
+
+    def test_who_reads_slowly_gets_all(self) -> None:
+        size = 16 << 20
+        with mock.patch("shell.pages.serving.WRITE_SECONDS", 0.5):
+            door = self.live()
+            with mock.patch.object(door.bridge, "page_for", lambda may: b"x" * size):
+                with socket.create_connection(("127.0.0.1", door.port), 5) as it:
+                    it.sendall(f"GET /{door.tokens.watch}/ HTTP/1.1\r\nHost: {door.hosts[0]}\r\n\r\n".encode())
+                    pieces = [b""]
+                    while len(pieces) == 1 or pieces[-1]:
+                        time.sleep(0.1 * (len(pieces) <= 10))
+                        pieces.append(it.recv(1 << 20))
+        self.assertGreater(sum(map(len, pieces)), size)
 
     def test_no_more_than_a_limit_watch(self) -> None:
         with mock.patch("shell.pages.news.MOST_STREAMS", 3):
@@ -197,3 +219,11 @@ class Crowds(Bridged):
             with self.assertRaises(OSError):
                 self.page(door)
 
+    def test_a_connection_that_gets_no_thread_takes_no_room(self) -> None:
+        with mock.patch("shell.pages.door.MOST_CONNECTIONS", 3):
+            door = self.live()
+        with mock.patch("threading.Thread.start", side_effect=RuntimeError), mock.patch.object(door, "handle_error"):
+            for _ in range(4):
+                with self.assertRaises(OSError):
+                    self.page(door)
+        self.assertEqual(self.page(door)["live"]["people"], 0)

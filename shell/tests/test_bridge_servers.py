@@ -3,12 +3,15 @@ from __future__ import annotations
 
 import contextlib
 import io
+import shutil
 import signal
 import socket
 import subprocess
 import sys
+import tempfile
 import time
 import unittest
+import urllib.request
 from typing import Iterator, List
 from unittest import mock
 
@@ -16,9 +19,10 @@ from . import TOP, program
 from .bridges import PACKET, Bridged, Data, Watcher
 from ..laboratory import Unknown
 from ..pages.door import Door
-from ..pages.live import OPENING, begun, joined, serve
+from ..pages.live import OPENING, begun, joined, live, serve, watch
 from ..pages.runs import Run
-from ..pages.server import Branches, free_port
+from ..pages.server import free_port
+from ..pages.session import Branches
 from ..programs import Client, Run as ProgramRun
 from ..setups import Setup
 
@@ -161,6 +165,19 @@ class Ends(Bridged):
         it: Data = watcher.update()["branches"][0]
         self.assertEqual((it["keep"], [one["outcome"] for one in it["moments"]]), (0, ["pass 1.1", "sent 1 148"]))
 
+    def test_a_program_that_went_away_ends_the_page(self) -> None:
+        with tempfile.TemporaryDirectory() as folder:
+            copied = shutil.copy(program(), folder)
+            door = self.ends.enter_context(live(copied, 0, begun(copied, [*OPENING, PACKET], "A pair")))
+            self.addCleanup(self.ends.close)
+        watcher = self.watcher(door)
+        answer = self.asked(door, "POST", f"/{door.tokens.step}/do", '{"line": "fork main 1 other"}')
+        missing = f"[Errno 2] No such file or directory: '{copied}'"
+        self.assertEqual((answer.status, answer.body), (503, f"the page cannot go on: {missing}\n"))
+        with self.assertRaises(FileNotFoundError):
+            watch(door.bridge)
+        self.assertEqual(watcher.update(), {"ended": missing})
+
 
 PROGRAM = """
 import sys
@@ -183,13 +200,16 @@ class Processes(unittest.TestCase):
         return it
 
     def test_an_interrupt_ends_the_page_and_its_server(self) -> None:
-        its = self.serving()
-        assert its.stdout
-        lines = [its.stdout.readline() for _ in range(2)]
-        self.assertRegex(lines[0], r"^http://127\.0\.0\.1:[0-9]+/[\w-]{22}/ steps$")
-        self.assertRegex(lines[1], r"^http://127\.0\.0\.1:[0-9]+/[\w-]{22}/ watches$")
-        its.send_signal(signal.SIGINT)
-        self.assertEqual((its.wait(5), its.communicate()[1]), (130, ""))
+        for end in (signal.SIGINT, signal.SIGTERM, signal.SIGHUP):
+            its = self.serving()
+            assert its.stdout
+            lines = [its.stdout.readline() for _ in range(2)]
+            self.assertRegex(lines[0], r"^http://127\.0\.0\.1:[0-9]+/[\w-]{22}/ steps$")
+            self.assertRegex(lines[1], r"^http://127\.0\.0\.1:[0-9]+/[\w-]{22}/ watches$")
+            with urllib.request.urlopen(f"{lines[1].split()[0]}events?after=0") as events:
+                its.send_signal(end)
+                self.assertIn(b'data: {"ended":"the page is served no more: its bridge was stopped"}', events.read())
+            self.assertEqual((its.wait(5), its.communicate()[1]), (130, ""), end)
 
     def test_a_port_in_use_is_named(self) -> None:
         with socket.socket() as it:

@@ -62,6 +62,13 @@ class Command(unittest.TestCase):
         self.assertIn("A \ufffd title", "".join(root.itertext()))
         self.assertIn("A \ufffd note", "".join(root.itertext()))
 
+    @unittest.skipUnless(os.path.exists("/dev/full"), "there is no /dev/full, which is a full disk")
+    def test_a_full_disk_is_reported_with_the_file(self) -> None:
+        with tempfile.TemporaryDirectory() as folder:
+            os.symlink("/dev/full", f"{folder}/x.svg")
+            ran = self.ran(LESSON, f"{folder}/x.svg")
+            self.assertEqual((ran.returncode, ran.stderr), (1, f"lab: {folder}/x.svg: No space left on device\n"))
+
     def test_what_is_wrong(self) -> None:
         for words, status, told in (
             (("--from", "13"), 1, "lab: main has no event 13 to draw: those that stand are counted from 1 to 12\n"),

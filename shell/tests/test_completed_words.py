@@ -9,7 +9,7 @@ import subprocess
 import unittest
 from typing import Dict, List, Set
 
-from ..main import parser
+from ..arguments import parser
 from . import TOP
 
 COMPLETIONS = f"{TOP}/installing/completions"

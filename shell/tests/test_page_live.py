@@ -25,7 +25,9 @@ SCRIPT = f"# A pair to play with\n{RULES}step main {QUERY}\nstep main flush a\n"
 HOSTILE = '<img src=x onerror="window.hit=1">'
 BANNERS = f"Array.from(document.querySelectorAll('#notices .banner:not([hidden])'), it => {FLAT}(it.textContent))"
 SAID = "document.querySelector('#said').textContent"
-HELD = 2.2
+# Has a page keep the connections over which it hears of news.
+SOURCES = """window.sources = [];
+window.EventSource = class extends EventSource { constructor(address) { super(address); window.sources.push(this); } };"""
 
 ann: Browser
 bob: Browser
@@ -341,16 +343,37 @@ class Ends(Live):
         self.addCleanup(self.served.close)
         super().setUp()
 
+    def come_counted(self) -> None:
+        """Has Bob's page keep the connections over which it hears of news."""
+        added = bob.cdp("Page.addScriptToEvaluateOnNewDocument", source=SOURCES)
+        self.addCleanup(bob.cdp, "Page.removeScriptToEvaluateOnNewDocument", identifier=added["identifier"])
+        bob.open(self.served.steps)
+        self.at(bob, "2 / 2")
+
+    def test_a_connection_that_is_lost_and_comes_again(self) -> None:
+        self.come_counted()
+        bob.evaluate("window.sources[0].close() || window.sources[0].dispatchEvent(new Event('error'))")
+        bob.wait_until(f"{BANNERS}.some(it => /connection is lost/.test(it))", 3)
+        for event, place in (("deliver 1", "3 / 3"), ("purge a", "4 / 4")):
+            self.click(ann, event)
+            self.at(ann, place)
+        self.assertEqual(bob.text("#place"), "2 / 2")
+        self.at(bob, "4 / 4", 5)
+        self.assertEqual((bob.evaluate(BANNERS), bob.text("#event"), bob.evaluate("window.sources.length")), ([], "purge a", 2))
+
     def test_a_bridge_that_is_killed(self) -> None:
+        self.come_counted()
         self.served.end(signal.SIGKILL)
         for it in (ann, bob):
             it.wait_until(f"{BANNERS}.some(it => /connection is lost/.test(it))", 5)
             it.errors()
-        # One failed try to connect again is one line of the console; they come a second apart or later.
-        time.sleep(HELD)
+        begun = time.monotonic()
+        bob.wait_until("window.sources.length === 3", 10)
+        # Two tries to connect again are two lines of the console, more than a second apart.
+        self.assertGreater(time.monotonic() - begun, 2)
         for it in (ann, bob):
             found = it.errors()
-            self.assertLessEqual(len(found), HELD + 1, found)
+            self.assertLessEqual(len(found), 3)
             self.assertEqual([one for one in found if "ERR_CONNECTION_REFUSED" not in one], [])
             it.keys("Home", "ArrowRight")
             self.at(it, "1 / 2")

@@ -8,6 +8,7 @@ import subprocess
 import unittest
 from typing import Any, Dict, List
 
+from . import page_cases
 from .browsers import boxes_that_overlap
 from .page_cases import RUN, PageCase, desk_folder, example, examples, setUpModule
 from .page_probes import CHART_TEXTS, FAINT_TEXTS, PIECES
@@ -16,7 +17,6 @@ __all__ = ["setUpModule"]
 
 WIDTHS = (1440, 1024, 390)
 OVERFLOW = "document.documentElement.scrollWidth - document.documentElement.clientWidth"
-LARGER = "document.documentElement.style.fontSize = '200%'"
 
 
 def clashes(boxes: List[Dict[str, Any]], slack: float = 1) -> List[str]:
@@ -42,12 +42,11 @@ class Layout(PageCase):
                     self.assertEqual(clashes(self.browser.evaluate(PIECES), 2), [])
                     self.assertLessEqual(self.browser.evaluate(OVERFLOW), 0)
 
-    def test_with_text_of_twice_the_size(self) -> None:
+    def test_with_letters_of_twice_the_size(self) -> None:
+        self.browser = page_cases.desk.driver.browser(letters=32)
+        self.addCleanup(self.browser.close)
         self.open(example("lost-bulk-frame"), "#main/14")
-        size = "parseFloat(getComputedStyle(document.querySelector('#event')).fontSize)"
-        before = self.browser.evaluate(size)
-        self.browser.evaluate(LARGER)
-        self.assertAlmostEqual(self.browser.evaluate(size), 2 * before, delta=0.5)
+        self.assertEqual(self.browser.evaluate("getComputedStyle(document.documentElement).fontSize"), "32px")
         for width in WIDTHS:
             self.browser.size(width)
             with self.subTest(width=width):
@@ -74,7 +73,7 @@ class Sizes(PageCase):
 
     def test_a_chart_can_be_read(self) -> None:
         self.open(example("lost-bulk-frame"), "#main/14")
-        for width in (1440, 1280):
+        for width in (*WIDTHS, 1280, 1184, 600, 320):
             self.browser.size(width)
             with self.subTest(width=width):
                 self.assertGreaterEqual(self.browser.evaluate(self.SIZE), 10)

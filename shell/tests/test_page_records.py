@@ -91,8 +91,8 @@ class Synchronised(OfRecords):
         record = self.record(f"packet a out {FLOW}", "flush a", "lose 1")
         self.assertEqual(record.sync(Branch("main", [f"packet a out {FLOW}", "flush a", "lose 1"], 2)), 2)
         self.assertEqual((len(record.moments), record.undone), (2, 1))
-        self.assertEqual(record.sync(Branch("main", [f"packet a out {FLOW}", "flush a", "deliver 1"], 3), "Ann"), 2)
-        self.assertEqual([(it.outcome, it.who) for it in record.moments], [("pass 1.1", ""), ("sent 1 148", ""), ("taken 1", "Ann")])
+        self.assertEqual(record.sync(Branch("main", [f"packet a out {FLOW}", "flush a", "deliver 1"], 3)), 2)
+        self.assertEqual([it.outcome for it in record.moments], ["pass 1.1", "sent 1 148", "taken 1"])
         self.compare(record)
 
     def test_the_opening_again(self) -> None:

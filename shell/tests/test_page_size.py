@@ -77,13 +77,13 @@ def address(number: int) -> str:
 
 def state_of(number: int, level: str = "SINGLE") -> Dict[str, object]:
     flow = f"udp {address(number)}:1000 -> 192.0.2.9:53"
-    times = {"last": 0, "expires": 60000, "peer": None, "updates": 0}
+    times = {"last": 0, "timeout": 60, "peer": None, "updates": 0}
     kind = {"class": "udp.first", "flags": "", "rule": "rule 1: pass out"}
     return {"flow": flow, "levels": f"{level}:NO_TRAFFIC", "ends": [], **kind, **times}
 
 
 def node_at(clock: int) -> Dict[str, object]:
-    return {"clock": clock, "numbers": [["boot", "1"]], "counters": [["packets passed", clock]], "scaling": ""}
+    return {"clock": clock, "scale": [1, 1], "numbers": [["boot", "1"]], "counters": [["packets passed", clock]], "scaling": ""}
 
 
 def moment_of(number: int) -> Dict[str, object]:

@@ -2,8 +2,9 @@
 from __future__ import annotations
 
 import unittest
+from glob import glob
 
-from . import page_cases
+from . import TOP, page_cases
 from .page_cases import QUERY, RULES, RUN, PageCase, setUpModule
 
 __all__ = ["setUpModule"]
@@ -24,8 +25,8 @@ class Opens(PageCase):
         self.open()
         for branch in BRANCHES:
             self.go(branch, 4)
-        asked = [it for it in self.browser.requests() if not it.startswith(("about:", "data:"))]
-        self.assertEqual(asked, [f"file://{page_cases.desk.page(RUN.encode())}"])
+        asked = [it for it in self.browser.requests() if not it.startswith("data:")]
+        self.assertEqual([it.partition("?")[0] for it in asked], [f"file://{page_cases.desk.page(RUN.encode())}"])
         self.assertEqual(self.browser.evaluate("performance.getEntriesByType('resource').map(it => it.name)"), [])
 
     def test_says_what_run_it_is(self) -> None:
@@ -36,6 +37,17 @@ class Opens(PageCase):
         self.assertEqual(self.browser.evaluate(names), BRANCHES)
         self.assertEqual(self.place()[1], 4)
         self.assertIn("The second paragraph of what stands before the setup.", self.browser.evaluate("document.body.innerText"))
+
+    def test_the_pages_of_the_lessons(self) -> None:
+        pages = sorted(glob(f"{TOP}/examples/*.html"))
+        self.assertTrue(pages)
+        for it in pages:
+            with self.subTest(it):
+                self.open_file(it)
+                self.assertEqual(self.place()[0], 0)
+                self.browser.keys("End")
+                self.browser.wait_until(f"new Set({page_cases.PLACE}.split(' / ')).size === 1")
+                self.assertEqual(self.browser.errors(), [])
 
     def test_a_link_opens_its_moment(self) -> None:
         self.open(RUN, "#later/3")
@@ -150,29 +162,43 @@ class Moves(PageCase):
 
 
 class Plays(PageCase):
+    def plays(self) -> bool:
+        return self.browser.attribute("#play", "aria-pressed") == "true"
+
     def test_play_goes_on_to_the_end_and_stops(self) -> None:
         self.open(RUN, "#main/2")
+        self.assertFalse(self.plays())
         self.browser.click("#play")
+        self.assertTrue(self.plays())
         self.browser.wait_until(f"parseInt({page_cases.PLACE}) === 4", 15)
-        self.assertEqual(self.browser.attribute("#play", "aria-label"), "Play")
+        self.assertFalse(self.plays())
 
     def test_space_plays_and_pauses(self) -> None:
         self.open(page_cases.example("lost-bulk-frame"), "#main/0")
         self.browser.keys(" ")
+        self.assertTrue(self.plays())
         self.browser.wait_until(f"parseInt({page_cases.PLACE}) > 0", 15)
         self.browser.keys(" ")
-        self.assertEqual(self.browser.attribute("#play", "aria-label"), "Play")
+        self.assertFalse(self.plays())
         paused = self.place()[0]
         with self.assertRaises(AssertionError):
             # (the next event would come after a second)
             self.browser.wait_until(f"parseInt({page_cases.PLACE}) !== arguments[0]", 1.4, paused)
+
+    def test_any_step_pauses(self) -> None:
+        self.open(page_cases.example("lost-bulk-frame"), "#main/3")
+        for key in ("ArrowRight", "Home", "PageDown", "]"):
+            self.browser.keys(" ")
+            self.assertTrue(self.plays())
+            self.browser.keys(key)
+            self.assertFalse(self.plays(), key)
 
     def test_space_on_a_button_presses_it_once(self) -> None:
         self.open(RUN, "#main/1")
         self.browser.evaluate("document.querySelector('#forward').focus()")
         self.browser.keys(" ")
         self.at(2)
-        self.assertEqual(self.browser.attribute("#play", "aria-label"), "Play")
+        self.assertFalse(self.plays())
 
 
 class Addresses(PageCase):

@@ -54,7 +54,8 @@ class Stories(unittest.TestCase):
 
     def test_paragraphs_are_at_the_moments_that_follow_them(self) -> None:
         run = self.run_of(f"{SETUP}# One.\nstep main {ONE}\nstep main {TWO}\n# Three.\nstep main {THREE}\n# The end.\n")
-        self.assertEqual(self.notes(run), {"main": {1: ["One."], 3: ["Three.", "The end."]}})
+        self.assertEqual(self.notes(run), {"main": {1: ["One."], 3: ["Three."]}})
+        self.assertEqual(run.records[0].after, {3: ["The end."]})
 
     def test_a_refused_event_and_a_question_leave_their_paragraph_to_the_next(self) -> None:
         run = self.run_of(f"{SETUP}# No.\nstep main flush a\n# Look.\nshow main\n# Yes.\nstep main {ONE}\n")
@@ -63,7 +64,7 @@ class Stories(unittest.TestCase):
     def test_what_was_undone_and_stepped_over_is_a_branch_of_its_own(self) -> None:
         run = self.run_of(f"{SETUP}# One.\nstep main {ONE}\n# Two.\nstep main {TWO}\n# Back.\nback main 2\n# Three.\nstep main {THREE}\n")
         self.assertEqual(self.events(run), {"main": [THREE], "main~1": [ONE, TWO]})
-        self.assertEqual(self.notes(run), {"main": {0: ["Back."], 1: ["Three."]}, "main~1": {1: ["One."], 2: ["Two."]}})
+        self.assertEqual(self.notes(run), {"main": {1: ["Back.", "Three."]}, "main~1": {1: ["One."], 2: ["Two."]}})
         self.assertEqual([it.former for it in run.records], [False, True])
 
     def test_back_and_forward_again_keeps_one_run(self) -> None:
@@ -73,19 +74,20 @@ class Stories(unittest.TestCase):
 
     def test_events_that_stay_undone(self) -> None:
         run = self.run_of(f"{SETUP}step main {ONE}\nstep main {TWO}\nback main 1\n")
-        self.assertEqual((self.events(run), run.records[0].undone), ({"main": [ONE]}, 1))
+        self.assertEqual((self.events(run), run.records[0].undone), ({"main": [ONE], "main~1": [ONE, TWO]}, 1))
 
     def test_a_fork_has_the_paragraphs_up_to_where_it_begins(self) -> None:
         script = f"# One.\nstep main {ONE}\n# Two.\nstep main {TWO}\n# What if?\nfork main 1 other\n# Three.\nstep other {THREE}\n"
         run = self.run_of(SETUP + script)
-        self.assertEqual(self.notes(run), {"main": {1: ["One."], 2: ["Two."]}, "other": {1: ["One.", "What if?"], 2: ["Three."]}})
+        self.assertEqual(self.notes(run), {"main": {1: ["One."], 2: ["Two."]}, "other": {1: ["One."], 2: ["What if?", "Three."]}})
         self.assertEqual(run.records[0].forks, {1: ["other"]})
 
     def test_an_excision_moves_what_follows_it(self) -> None:
         script = f"# One.\nstep main {ONE}\n# Two.\nstep main {TWO}\n# Three.\nstep main {THREE}\n# Without two.\nexcise main 2\n"
         run = self.run_of(SETUP + script)
         self.assertEqual(self.events(run), {"main": [ONE, THREE], "main~1": [ONE, TWO, THREE]})
-        self.assertEqual(self.notes(run)["main"], {1: ["One."], 2: ["Three.", "Without two."]})
+        self.assertEqual(self.notes(run)["main"], {1: ["One."], 2: ["Three."]})
+        self.assertEqual(run.records[0].after, {2: ["Without two."]})
         self.assertEqual(self.notes(run)["main~1"], {1: ["One."], 2: ["Two."], 3: ["Three."]})
 
     def test_a_restoration_brings_the_run_back(self) -> None:
@@ -96,13 +98,13 @@ class Stories(unittest.TestCase):
 
     def test_a_dropped_branch_is_not_shown(self) -> None:
         run = self.run_of(f"{SETUP}fork main 0 other\nstep other {ONE}\n# Away with it.\ndrop other\n")
-        self.assertEqual((self.events(run), self.notes(run)), ({"main": []}, {"main": {0: ["Away with it."]}}))
+        self.assertEqual((self.events(run), run.records[0].after), ({"main": []}, {0: ["Away with it."]}))
 
     def test_the_newest_of_many_runs_are_kept(self) -> None:
         tries = "".join(f"step main tick a {it}\nback main 1\n" for it in range(1, 12))
         run = self.run_of(SETUP + tries)
         former = [it.moments[0].event for it in run.records if it.former]
-        self.assertEqual(former, [f"tick a {it}" for it in range(11 - MOST_FORMER, 11)])
+        self.assertEqual(former, [f"tick a {it}" for it in range(12 - MOST_FORMER, 12)])
 
 
 if __name__ == "__main__":

@@ -3,6 +3,7 @@ from __future__ import annotations
 
 import random
 import unittest
+from functools import lru_cache
 from typing import Any, Dict, List, Sequence
 
 from ..colours import PLAIN
@@ -18,7 +19,7 @@ from ..setups import Setup
 from ..states import State
 from ..words import FLAGS, expires_at, flow, levels, rule_number
 from . import program
-from .page_cases import RULES, RUN, PageCase, desk_folder, example, setUpModule
+from .page_cases import QUERY, RULES, RUN, PageCase, desk_folder, example, setUpModule
 
 __all__ = ["setUpModule"]
 
@@ -128,6 +129,14 @@ def rest_of(node: Node) -> List[str]:
     return told + [f"clear creator {it.creator} up to id {it.bound}" for it in node.clears]
 
 
+@lru_cache(maxsize=None)
+def happened(lab: Laboratory, branch: str) -> List[List[str]]:
+    """Each event of a branch that stands, with what came of it in a run of its own."""
+    it = lab.branch(branch)
+    events = it.events[: it.cursor]
+    return [[*both] for both in zip(events, lab.outcomes(events))]
+
+
 def expected(lab: Laboratory, branch: str, moment: int) -> Dict[str, Any]:
     """What the page has to show, out of what the program shows of the past."""
     pair, setup, told = lab.past(branch, moment), lab.setup, {}
@@ -142,9 +151,7 @@ def expected(lab: Laboratory, branch: str, moment: int) -> Dict[str, Any]:
             }
             for it in node.states.values()
         }
-    events = lab.branch(branch).events[:moment]
-    outcomes = lab.outcomes(events)
-    said = [events[-1], outcomes[-1]] if events else [f"the opening of {branch}", ""]
+    said = happened(lab, branch)[moment - 1] if moment else [f"the opening of {branch}", ""]
     return {**told, "frames": sorted(map(str, pair.frames)), "pair": pair, "said": [*said, between_nodes(pair, setup, PLAIN)[0]]}
 
 
@@ -202,6 +209,11 @@ class Moments(PageCase):
     def test_held_packets(self) -> None:
         seen = self.walk(example("asymmetric-routing-deferred"), "main", range(7))
         self.assertTrue([line for it in seen.values() for line in it["rest"][0] if line.startswith("held packet of 1.1")])
+
+    def test_timeouts_that_the_number_of_states_makes_none(self) -> None:
+        # With a limit of one state the adaptive end is 1, and the lone state has no time left.
+        seen = self.walk(f"set states 1\n{RULES}step main {QUERY}\nstep main tick a 1\n", "main", range(3))
+        self.assertEqual([it["a"]["1.1"]["small"][0] for it in (seen[1], seen[2])], ["expired", "expired"])
 
     def test_random_jumps(self) -> None:
         chance = random.Random(7)
@@ -268,12 +280,19 @@ step main packet b out udp 10.0.0.4:1000 192.0.2.9:53 40
 
     def test_field_by_field(self) -> None:
         self.open(self.SCRIPT, "#main/7")
-        # The answer made the source SINGLE to the destination's SINGLE at a alone, and its class udp.multiple there.
+        # The answer brought the source to MULTIPLE, the destination to SINGLE, and the class to udp.single, at a alone.
         at_a, at_b = (self.browser.text(f"#tables [data-node={it}] [data-state='1.1']") for it in NODES)
-        for field, one, two in (("destination level", "SINGLE", "NO_TRAFFIC"),):
+        told = ("source level", "MULTIPLE", "SINGLE"), ("destination level", "SINGLE", "NO_TRAFFIC"), ("class", "udp.single", "udp.first")
+        for field, one, two in told:
             self.assertRegex(at_a, f"{field} here {one}, at b {two}")
             self.assertRegex(at_b, f"{field} here {two}, at a {one}")
-        self.assertEqual(self.browser.count("#tables [data-state='1.2'] dl"), 0)
+        self.assertEqual((self.browser.count("#tables dl"), self.browser.count("#tables dl dt")), (2, 6))
+
+    def test_two_names_of_a_flow(self) -> None:
+        self.open(example("lost-bulk-frame"), "#main/21")
+        for node, name, words in (("a", "1.1", "only here; b has this flow as 3.1"), ("b", "3.1", "only here; a has this flow as 1.1")):
+            self.assertIn(words, self.browser.text(f"#tables [data-node={node}] [data-state='{name}']"))
+        self.assertRegex(self.browser.text("#answer"), "1 flow has two names$")
 
     def test_the_answer(self) -> None:
         self.open(self.SCRIPT, "#main/7")

@@ -22,7 +22,7 @@ def story(text: str, setup: str = "") -> Story:
 
 def notes(it: Story, branch: str = "main") -> Dict[int, List[str]]:
     """The paragraphs of a branch as a chart has them."""
-    return it.branches[branch].above
+    return it.above(branch)
 
 
 class Notes(unittest.TestCase):
@@ -39,9 +39,9 @@ class Notes(unittest.TestCase):
         it = story(f"# One.\nshow main\n# Two.\nstep main deliver 1\n# Three.\n{TICK}\nnames\n")
         self.assertEqual(notes(it), {0: ["One.", "Two.", "Three."]})
 
-    def test_the_end_of_a_story_is_at_the_end_of_the_newest_branch(self) -> None:
+    def test_the_end_of_a_story_is_at_the_end_of_each_branch(self) -> None:
         it = story(f"{TICK}\nfork main 1 other\nstep other tick a 2\n# The end.\n# For all.\n")
-        self.assertEqual((notes(it), notes(it, "other")), ({}, {2: ["The end. For all."]}))
+        self.assertEqual((notes(it), notes(it, "other")), ({1: ["The end. For all."]}, {2: ["The end. For all."]}))
 
     def test_a_branch_has_what_was_said_before_it_began(self) -> None:
         it = story(f"# One.\n{TICK}\n# Two.\n{TICK}\n# What if?\nfork main 1 other\n# Other.\nstep other tick a 2\n")
@@ -50,7 +50,7 @@ class Notes(unittest.TestCase):
 
     def test_what_is_undone_and_stepped_over_is_gone(self) -> None:
         text = f"# One.\n{TICK}\n# Two.\n{TICK}\nback main 1\n"
-        self.assertEqual(notes(story(text)), {0: ["One."], 1: ["Two."]})
+        self.assertEqual(notes(story(text)), {0: ["One."]})
         self.assertEqual(notes(story(f"{text}forward main 1\n")), {0: ["One."], 1: ["Two."]})
         self.assertEqual(notes(story(f"{text}# New.\n{TICK}\n")), {0: ["One."], 1: ["New."]})
         self.assertEqual(notes(story(f"{text}back main 1\n{TICK}\n")), {})

@@ -1,0 +1,145 @@
+"""What the words of the command line may be: of `./lab`, and of the installed `pfl_shell`."""
+from __future__ import annotations
+
+import argparse
+import os
+from typing import List, Optional
+
+from .charts.windows import read_flow, read_place
+from .laboratory import Unknown
+from .language.names import Name
+from .shell import STRICT_STATUS
+
+
+class Words(argparse.Namespace):
+    """What the words of the command say; those of another word than its own are not there."""
+
+    name: str
+    program: str
+    word: str
+    files: List[str]
+    port: Optional[int]
+    setup: Optional[str]
+    echo: bool
+    strict: bool
+    file: str
+    picture: Optional[str]
+    script: Optional[str]
+    page: str
+    serve: Optional[int]
+    branch: str
+    first: int
+    last: Optional[int]
+    flow: Optional[Name]
+    notes: bool
+
+
+def parser(name: str = "./lab") -> argparse.ArgumentParser:
+    """What may follow the command's name, which is also what it calls itself in messages, without a folder."""
+    words = argparse.ArgumentParser(prog=name, description="What stands around the laboratory's program.")
+    words.set_defaults(name=os.path.basename(name))
+    words.add_argument("--program", required=True, help=argparse.SUPPRESS)
+    kinds = words.add_subparsers(dest="word", required=True)
+    _shell(
+        kinds.add_parser(
+            "shell",
+            help="a dialogue with the laboratory",
+            description="A dialogue with the laboratory; `help` in it lists its words.",
+        )
+    )
+    _scripts(kinds.add_parser("verify", help="compares the replies with the lines `#>` of scripts"))
+    _scripts(kinds.add_parser("annotate", help="writes the replies into scripts, as lines `#>`"))
+    _chart(kinds.add_parser("chart", help="draws what happened in a script"))
+    _page(
+        kinds.add_parser(
+            "page",
+            help="shows what happens in a script as a page for a browser",
+            usage=f"{name} page SCRIPT OUT.html\n       {name} page --serve PORT [SCRIPT | --port P --setup FILE]",
+            description="Writes what happens in a script as a page, which is one file and needs nothing else; or serves a page that"
+            " shows a pair as it goes on, and steps it, to the browsers of this machine.",
+        )
+    )
+    return words
+
+
+def _shell(words: argparse.ArgumentParser) -> None:
+    words.add_argument("files", nargs="*", metavar="FILE", help="scripts that are read first")
+    words.add_argument("--port", type=port, metavar="P", help="a session of the server at this port, and no pair of its own")
+    words.add_argument("--setup", metavar="FILE", help="with --port: the setup that the server read, for questions that need it")
+    words.add_argument("--echo", action="store_true", help="tells each line before its reply")
+    words.add_argument(
+        "--strict", action="store_true", help=f"stops at the first refused or faulty line, with status {STRICT_STATUS}"
+    )
+
+
+def _scripts(words: argparse.ArgumentParser) -> None:
+    words.add_argument("files", nargs="+", metavar="FILE")
+
+
+def _chart(words: argparse.ArgumentParser) -> None:
+    words.add_argument("file", metavar="FILE")
+    words.add_argument(
+        "picture", nargs="?", type=picture, metavar="FILE.svg", help="the picture's file; without it the chart comes as text"
+    )
+    words.add_argument("--branch", default="main", metavar="BRANCH", help="draws this branch in place of `main`")
+    words.add_argument("--from", dest="first", type=event, default=1, metavar="K", help="draws from the K-th event on")
+    words.add_argument("--to", dest="last", type=event, metavar="L", help="draws up to the L-th event")
+    words.add_argument("--flow", type=flow, metavar="NAME", help="draws what is about the state NAME alone, as 1.3")
+    words.add_argument("--notes", action="store_true", help="draws the script's comments, too, each above its event")
+
+
+def _page(words: argparse.ArgumentParser) -> None:
+    words.add_argument("script", nargs="?", metavar="SCRIPT", help="the script; a served page goes on after it")
+    words.add_argument("page", nargs="?", type=page_name, metavar="OUT.html", help="the page's file")
+    words.add_argument(
+        "--serve", type=port, metavar="PORT", help="serves the page at this port of 127.0.0.1, and prints its addresses"
+    )
+    words.add_argument(
+        "--port", type=port, metavar="P", help="with --serve: a session of the server at this port, and no pair of its own"
+    )
+    words.add_argument("--setup", metavar="FILE", help="with --port: the setup that the server read")
+
+
+def event(word: str) -> int:
+    """The place of an event in its branch."""
+    try:
+        return read_place(word)
+    except Unknown as why:
+        raise argparse.ArgumentTypeError(str(why)) from why
+
+
+def flow(word: str) -> Name:
+    """The name of a state."""
+    try:
+        return read_flow(word)
+    except Unknown as why:
+        raise argparse.ArgumentTypeError(str(why)) from why
+
+
+def port(word: str) -> int:
+    if not word.isdecimal() or len(word) > 5 or not 1 <= int(word) <= 65535:
+        raise argparse.ArgumentTypeError("a port is a number from 1 to 65535")
+    return int(word)
+
+
+def page_name(word: str) -> str:
+    if not word.endswith((".html", ".htm")):
+        raise argparse.ArgumentTypeError(f"{word}: the name of a page ends in .html")
+    return word
+
+
+def picture(word: str) -> str:
+    if not word.endswith(".svg"):
+        raise argparse.ArgumentTypeError(f"{word}: the name of a picture ends in .svg")
+    return word
+
+
+def page_fault(words: Words) -> str:
+    """What is wrong with the words of a page, which do not all go together; empty where nothing is."""
+    if not words.serve:
+        return "a page needs SCRIPT and OUT.html, or --serve PORT" if not words.page or words.port or words.setup else ""
+    if words.page:
+        return "a page that is served is not written"
+    if words.port and (words.script or not words.setup):
+        return "--port joins a server that has its pair, and goes with --setup and without a script"
+    return "--setup is what a server read, and goes with --port" if words.setup and not words.port else ""

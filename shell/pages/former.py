@@ -1,0 +1,65 @@
+"""Runs of a live page that people undid and stepped over, or took an event out of: the newest of them are kept, as far as they are short."""
+from __future__ import annotations
+
+from itertools import count
+from typing import Any, Dict, Iterator, List, NamedTuple, Sequence
+
+from ..branches import Branch
+from ..setups import Setup
+from .record import Record
+from .runs import MOST_FORMER
+
+# A run with more events takes too long to be played once more: some milliseconds each.
+MOST_EVENTS = 300
+
+Data = Dict[str, Any]
+
+
+class Lost(NamedTuple):
+    """A branch as it was before events of it were lost, and who stepped each."""
+
+    branch: Branch
+    names: Sequence[str]
+
+
+class FormerRun(NamedTuple):
+    """A run that is kept, and as pages have it."""
+
+    events: List[str]
+    data: Data
+
+
+class FormerRuns:
+    """The runs that are kept, the newest last."""
+
+    def __init__(self, program: str, setup: Setup, records: Sequence[Record]) -> None:
+        self._program, self._setup = program, setup
+        self._kept = [FormerRun([one.event for one in it.moments], dict(it.as_data(), offers=[])) for it in records]
+        self._numbers = count(len(records) + 1)
+
+    @property
+    def data(self) -> List[Data]:
+        return [it.data for it in self._kept]
+
+    def leave(self, branches: Sequence[Branch]) -> None:
+        """Keeps no longer what is the beginning of a branch again."""
+        self._kept = [it for it in self._kept if not any(one.events[: len(it.events)] == it.events for one in branches)]
+
+    def take(self, lost: Sequence[Lost]) -> Iterator[Data]:
+        """Keeps what was lost, if it is short: those that are new, as pages have them."""
+        for it in lost:
+            if len(it.branch.events) <= MOST_EVENTS:
+                self._kept = [*self._kept, FormerRun(it.branch.events, self._played(it))][-MOST_FORMER:]
+                yield self._kept[-1].data
+
+    def _played(self, lost: Lost) -> Data:
+        """A run that is played once more for its page."""
+        name, events = lost.branch.name, lost.branch.events
+        record = Record(self._program, self._setup, f"{name}~{next(self._numbers)}", True)
+        try:
+            record.sync(Branch(name, events, len(events)))
+            for moment, who in zip(record.moments, lost.names):
+                moment.who = who
+            return dict(record.as_data(), offers=[])
+        finally:
+            record.close()

@@ -1,0 +1,93 @@
+"""The branches of a pair as a session of its server has them."""
+from __future__ import annotations
+
+import time
+from dataclasses import replace
+from typing import Dict, List, Optional, Sequence
+
+from ..branches import Branch, read_log
+from ..language.commands import LOG, NAMES, SHOW, STEP
+from ..language.events import plain_event
+from ..pair import Pair, read_shown
+from ..programs import Client, Ended
+
+# What a server that has taken all the commands that it can answers to each further one.
+FULL = "full"
+# How long to wait, at most, before branches are read anew whose numbers look the same.
+LONGEST_PAUSE = 30.0
+
+
+class Branches:
+    """The branches of a session's pair, followed by the replies to its own commands. Where other sessions may have changed
+    something, they are read anew: a `view` says so, which is no command and waits for nobody."""
+
+    def __init__(self, session: Client):
+        self.session = session
+        self.by_name: Dict[str, Branch] = {}
+        # The number of commands that the server took, as far as it is known here, and the other numbers of the newest view.
+        self._commands, self._numbers = 0, [""]
+        self._is_stale, self._pause, self._not_before = True, 0.0, 0.0
+
+    def look(self) -> None:
+        """Reads the branches anew where they may have changed. Others mostly ask questions where no number of the view but that of
+        the commands changes, and take a reading for a command in turn: so each that brings nothing makes the next wait longer."""
+        self._see()
+        if self._is_stale and time.monotonic() >= self._not_before:
+            before = dict(self.by_name)
+            self.read()
+            self._pause = min(LONGEST_PAUSE, 2 * self._pause + 0.5) if self.by_name == before else 0.0
+            self._not_before = time.monotonic() + self._pause
+
+    def ask(self, line: str) -> List[str]:
+        """The reply to a command that changes the pair, with the branches as they are after it."""
+        reply = self._ask(line)
+        self._see()
+        if self._is_stale:
+            self.read()
+        else:
+            self._follow(line.split(), reply[0].split())
+        return reply
+
+    def shown(self, name: str) -> Optional[Pair]:
+        """The pair that the server shows; none where the branch is gone."""
+        lines = self._ask(f"{SHOW.word} {name}")
+        return read_shown(lines) if lines[-1] == "end" else None
+
+    def read(self) -> None:
+        """Reads all branches."""
+        self._is_stale = False
+        logs = [self._ask(f"{LOG.word} {name}") for name in self._ask(NAMES.word)[0].split()[1:]]
+        # (one can be gone since)
+        self.by_name = {it.name: it for it in map(read_log, (lines for lines in logs if lines[-1] == "end"))}
+
+    def _see(self) -> None:
+        """Looks whether other sessions gave commands, and whether something else than their number changed."""
+        kind, *numbers = self.session.ask("view")[0].split()
+        commands = int(numbers[-1 if kind == "overtaken" else 0])
+        if kind == "overtaken" or numbers[1:] != self._numbers:
+            self._not_before = 0.0
+        self._is_stale = self._is_stale or commands != self._commands
+        self._commands, self._numbers = commands, numbers[1:]
+
+    def _ask(self, line: str) -> List[str]:
+        """A command's reply."""
+        reply = self.session.ask(line)
+        if reply == [FULL]:
+            raise Ended(f"the server has taken {self._commands} commands, and takes no more")
+        self._commands += 1
+        return reply
+
+    def _follow(self, words: Sequence[str], reply: Sequence[str]) -> None:
+        """Changes a branch as the reply to a command says."""
+        it = self.by_name.get("".join(words[1:2]), Branch(""))
+        if reply[0] == STEP.word:
+            events = [*it.events[: it.cursor], plain_event(words[2:])]
+            self.by_name[it.name] = Branch(it.name, events, len(events))
+        elif reply[0] == "at":
+            self.by_name[it.name] = replace(it, cursor=int(reply[1]))
+        elif reply[0] == "forked":
+            self.by_name[words[3]] = Branch(words[3], it.events[: int(words[2])], int(words[2]))
+        elif reply[0] == "removed":
+            del self.by_name[it.name]
+        elif reply[0] in ("excised", "restored"):
+            self.by_name[it.name] = read_log(self._ask(f"{LOG.word} {it.name}"))
