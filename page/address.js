@@ -1,8 +1,8 @@
 /** The address names the moment: `#main/11`. */
 
-/** Browsers take at least a hundred changes of the address in so many milliseconds. */
+/** In this time, in milliseconds, browsers take at least a hundred changes of the address. */
 const PERIOD = 10000;
-/** So many of them are written at once; then one after each pause of so many milliseconds. */
+/** How many of them are written at once; then there is one after each pause, in milliseconds. */
 const MOST_AT_ONCE = 60;
 const LATER = 300;
 

@@ -10,7 +10,7 @@ const LEAST_UNIT = 0.0485;
 const NEAR = 1.5;
 
 /** The place of the last of these for which the test holds; those for which it holds come first. */
-export function lastWhere(list, test) {
+function lastWhere(list, test) {
   let low = 0;
   let high = list.length;
   while (low < high) {

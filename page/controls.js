@@ -16,6 +16,7 @@ export class Controls {
     byId("last").addEventListener("click", () => this.go(viewer.newest));
     byId("play").addEventListener("click", () => this.turn());
     byId("slider").addEventListener("input", () => this.go(Number(byId("slider").value)));
+    if (viewer.run.live) byId("copy").textContent = "Copy link for watching";
     this.copyLabel = byId("copy").textContent;
     byId("copy").addEventListener("click", () => this.copy());
     viewer.listen(() => this.show());
@@ -111,11 +112,17 @@ export class Controls {
     byId("branches").append(aside);
   }
 
+  /** The link to this moment; of a live page it is for those who only watch. */
+  get link() {
+    const { live } = this.viewer.run;
+    return live ? new URL(`../${live.watch}/${location.hash}`, location.href).href : location.href;
+  }
+
   /** Copies the link to this moment, or shows it where the browser does not let the page copy. */
   async copy() {
     const button = byId("copy");
     try {
-      await navigator.clipboard.writeText(location.href);
+      await navigator.clipboard.writeText(this.link);
       button.textContent = "Copied";
     } catch {
       button.textContent = "Copy it from the address bar";

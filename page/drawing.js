@@ -45,7 +45,7 @@ function isShape([name]) {
   return SHAPES.has(name);
 }
 
-/** A row of a sheet, which lies behind what is drawn in it. */
+/** A row of a sheet, which lies below what is drawn in it. */
 function rowArea([first, last, top, bottom], width) {
   const events = { "data-first": first, "data-last": last };
   return shape("rect", { class: "row", ...events, x: 0, y: top, width, height: bottom - top });

@@ -38,13 +38,13 @@ function chartOf(chart) {
 }
 
 /** An event with its outcome, why it was dropped or lost if it was, and the paragraphs before and after it. */
-function told(moment, at) {
+function described(moment, at) {
   const outcome = make("span", { class: toneOf(moment.tone) }, moment.outcome);
   const who = moment.who ? [make("span", { class: "who" }, ` by ${moment.who}`)] : [];
   const number = make("span", { class: "at" }, String(at + 1));
   const line = make("p", { class: "line" }, number, make("code", {}, moment.event), " ", outcome, ...who);
   const why = moment.tone === "bad" ? [make("ul", { class: "why" }, ...items(moment.why))] : [];
-  return make("div", { class: "told" }, ...paragraphs(moment.notes), line, ...why, ...paragraphs(moment.after ?? []));
+  return make("div", { class: "event" }, ...paragraphs(moment.notes), line, ...why, ...paragraphs(moment.after ?? []));
 }
 
 /** Fills the handout with the run, as the viewer has it. */
@@ -55,7 +55,7 @@ function fill(viewer) {
   byId("handout").replaceChildren(
     make("h1", {}, run.title), ...paragraphs(run.intro), ...paragraphs(branch.notes), ...setupOf(run),
     make("h2", {}, where), chartOf(branch.chart),
-    make("h2", {}, "The story"), ...branch.moments.map(told),
+    make("h2", {}, "The story"), ...branch.moments.map(described),
     make("h2", {}, now));
 }
 

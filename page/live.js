@@ -16,7 +16,7 @@ export class Live {
   constructor(viewer, controls) {
     const { may, version, people } = viewer.run.live;
     Object.assign(this, { viewer, controls, may, version, wanted: null, hasEnded: false });
-    // Branches of which an event was taken out last; and what happened behind the viewer's back, by branch.
+    // Branches of which an event was taken out last; and what happened that the viewer has not seen, by branch.
     this.excised = new Set();
     this.missed = new Map();
     this.banner = make("p", { class: "banner", hidden: "" });
@@ -31,7 +31,7 @@ export class Live {
     this.offers = new Offers(this);
     this.actions = new Actions(this);
     this.packets = ["a", "b"].map((node) => this.packetForm(node));
-    this.tellPeople(people);
+    this.showPeople(people);
     viewer.listen((move) => this.move(move));
     this.connect();
   }
@@ -58,12 +58,12 @@ export class Live {
   /** Listens to the laboratory, from the version on that is here. */
   connect() {
     const source = new EventSource(`events?after=${this.version}`);
-    source.addEventListener("open", () => this.tellBanner(""));
+    source.addEventListener("open", () => this.showBanner(""));
     source.addEventListener("message", (message) => this.take(JSON.parse(message.data), source));
     source.addEventListener("error", () => {
       source.close();
       if (this.hasEnded) return;
-      this.tellBanner(LOST);
+      this.showBanner(LOST);
       setTimeout(() => this.connect(), PAUSE);
     });
   }
@@ -78,7 +78,7 @@ export class Live {
       this.end(update.ended);
     } else {
       if (update.version > this.version) this.lay(update);
-      if (update.people !== undefined) this.tellPeople(update.people);
+      if (update.people !== undefined) this.showPeople(update.people);
     }
   }
 
@@ -94,7 +94,7 @@ export class Live {
     if (changes.some((it) => !it.isFormer) || gone.length) byId("said").textContent = `${update.who}: ${what}`;
     for (const change of changes.filter((it) => !it.isFormer)) this.miss(change, update.who);
     this.follow(this.wanted);
-    this.tellMissed();
+    this.showMissed();
     if (!focused.isConnected) byId("happened").focus();
   }
 
@@ -110,7 +110,7 @@ export class Live {
   /** The laboratory has ended. */
   end(why) {
     this.hasEnded = true;
-    this.tellBanner(`The laboratory has ended: ${why}. What happened can still be looked at.`);
+    this.showBanner(`The laboratory has ended: ${why}. What happened can still be looked at.`);
     this.show(false);
   }
 
@@ -142,7 +142,7 @@ export class Live {
     // (why an event was refused holds no longer where another one has happened)
     for (const place of document.querySelectorAll("[data-place]")) clearReply(place);
     this.show(isNewBranch);
-    this.tellMissed();
+    this.showMissed();
   }
 
   /** Shows what can be done here. */
@@ -154,13 +154,13 @@ export class Live {
   }
 
   /** Shows a banner, or none. */
-  tellBanner(text) {
+  showBanner(text) {
     this.banner.textContent = text;
     this.banner.hidden = !text;
   }
 
-  /** Tells of the branches that have gone on. */
-  tellMissed() {
+  /** Shows the branches that have gone on. */
+  showMissed() {
     const missed = [...this.missed].filter(([name]) => this.viewer.named(name));
     const isSeen = (name) => name === this.viewer.branch.name && this.viewer.isNewest;
     const notices = missed.filter(([name]) => !isSeen(name)).map(([name, it]) => this.notice(name, it));
@@ -181,8 +181,8 @@ export class Live {
     return make("p", { class: "banner" }, `${name}: ${what}, by ${[...people].join(" and ")} `, button);
   }
 
-  /** Tells how many watch. */
-  tellPeople(people) {
+  /** Shows how many watch. */
+  showPeople(people) {
     byId("people").textContent = people === 1 ? "1 person" : `${people} people`;
   }
 }

@@ -16,7 +16,7 @@ function lengthsOf(points) {
   return lengths;
 }
 
-/** How far along a way a height is; before its beginning that is 0, and behind its end all of it. */
+/** How far along a way a height is; before its beginning that is 0, and after its end all of it. */
 function lengthAt(points, lengths, y) {
   if (y < points[0][1]) return 0;
   for (let at = 1; at < points.length; at += 1) {

@@ -1,6 +1,6 @@
 import { make, makeButton } from "./elements.js";
 import { numberField } from "./fields.js";
-import { tellReply } from "./sender.js";
+import { showReply } from "./sender.js";
 
 /** What can happen next, as buttons at the places where it would happen. */
 
@@ -21,7 +21,7 @@ function offerButton([, event, would, isAccepted], live, place) {
   const attributes = { class: `offer ${word}`, "data-event": event, title, "aria-disabled": refused };
   const button = makeButton(labelOf(word), attributes, () => {
     if (isAccepted) live.step(button.dataset.event, place);
-    else tellReply(place, false, event, [would]);
+    else showReply(place, false, event, [would]);
   });
   return button;
 }

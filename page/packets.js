@@ -15,16 +15,16 @@ function restOf({ protocol }) {
   return protocol === "tcp" ? OF_TCP : OF_OTHERS;
 }
 
-/** A packet out of the words of its event, behind its node. */
+/** A packet out of the words of its event after the node. */
 function readPacket([direction, protocol, source, destination, ...rest]) {
   const ends = { direction, protocol, source, destination };
   return { ...ends, ...Object.fromEntries(restOf(ends).map((name, at) => [name, rest[at] ?? ""])) };
 }
 
-/** The words of a packet's event, behind its node. */
+/** The words of a packet's event after the node. */
 function writtenPacket(packet) {
-  const told = { ...packet, flags: packet.flags.trim() || "-" };
-  return [...OF_ENDS, ...restOf(packet)].map((name) => told[name].trim()).filter(Boolean).join(" ");
+  const plain = { ...packet, flags: packet.flags.trim() || "-" };
+  return [...OF_ENDS, ...restOf(packet)].map((name) => plain[name].trim()).filter(Boolean).join(" ");
 }
 
 /** The flags of a likely answer to a packet of TCP. */

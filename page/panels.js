@@ -9,9 +9,9 @@ const MOST_LISTED = 50;
 const BOTH_NODES = ["a", "b"];
 
 /** The first of a list as nodes, and how many more there are. */
-function firstOf(list, told) {
+function firstOf(list, itemOf) {
   const rest = list.length - MOST_LISTED;
-  const shown = list.slice(0, MOST_LISTED).map(told);
+  const shown = list.slice(0, MOST_LISTED).map(itemOf);
   return rest > 0 ? [...shown, make("li", { class: "rest" }, `and ${grouped(rest)} more`)] : shown;
 }
 
@@ -67,14 +67,14 @@ export class Panels {
     this.showChanges(walk, moment);
   }
 
-  /** What the event changed, or why that is not told. */
+  /** What the event changed, or why that is not shown. */
   showChanges(walk, moment) {
     const changes = moment ? moment.changes : [];
-    const told = changes.map(([tone, text]) => make("li", { class: `tone-${tone || "plain"}` }, text));
-    byId("changes").replaceChildren(...told);
+    const listed = changes.map(([tone, text]) => make("li", { class: `tone-${tone || "plain"}` }, text));
+    byId("changes").replaceChildren(...listed);
     if (changes.length) return;
     const isKnown = moment?.edits !== null && walk.changedBy === BY_EVENT;
-    const nothing = isKnown ? "nothing" : "not told: in so long a run the tables are not looked at after each event";
+    const nothing = isKnown ? "nothing" : "not shown: in so long a run the tables are not looked at after each event";
     byId("changes").append(make("li", { class: "nothing" }, moment ? nothing : "no event yet"));
   }
 
@@ -98,9 +98,9 @@ export class Panels {
     byId("queues").replaceChildren(...BOTH_NODES.map((node) => {
       const kinds = this.queues.kinds(node).map(([kind, names]) =>
         make("li", {}, make("b", {}, kind), " ", this.namesOf(names)));
-      const told = items(facts.get(`${node}/told`) ?? []);
+      const messages = items(facts.get(`${node}/messages`) ?? []);
       const held = (facts.get(`${node}/held`) ?? []).map((text) => make("li", { class: "held" }, text));
-      const all = [...kinds, ...told, ...firstOf(held, (it) => it)];
+      const all = [...kinds, ...messages, ...firstOf(held, (it) => it)];
       return make("div", {}, make("h3", {}, `at ${node}`),
         all.length ? make("ul", {}, ...all) : make("p", { class: "nothing" }, "nothing"));
     }));

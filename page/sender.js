@@ -30,14 +30,14 @@ function withoutPointers(why) {
 }
 
 /** Shows a reply at a place, or below the event where the place is gone, in the stead of the one before: how it went, and why. */
-export function tellReply(from, isDone, reply, why = []) {
+export function showReply(from, isDone, reply, why = []) {
   const place = from.isConnected ? from : document.querySelector("#actions .reply-place");
   clearReply(place);
   const how = { class: `reply ${isDone ? "done" : "refused"}`, role: "status" };
-  const told = make("div", how, make("p", {}, make("code", {}, reply)));
+  const shown = make("div", how, make("p", {}, make("code", {}, reply)));
   const reasons = withoutPointers(why).map((line) => make("li", {}, ...worded(line.trim())));
-  if (reasons.length) told.append(make("ul", {}, ...reasons));
-  place.append(told);
+  if (reasons.length) shown.append(make("ul", {}, ...reasons));
+  place.append(shown);
 }
 
 /** Takes the reply away from a place. */
@@ -65,11 +65,11 @@ export class Sender {
       this.answered = answered;
       const isDone = !/^(?:refused|bad)\b/.test(reply[0] ?? "");
       if (isDone && !why.length) clearReply(place);
-      else tellReply(place, isDone, `${isDone ? "" : `${line}: `}${reply.join("; ")}`, why);
+      else showReply(place, isDone, `${isDone ? "" : `${line}: `}${reply.join("; ")}`, why);
       return isDone;
     } catch (error) {
       const why = error instanceof TypeError ? "the laboratory cannot be reached" : error.message;
-      tellReply(place, false, `${line}: not sent`, [why]);
+      showReply(place, false, `${line}: not sent`, [why]);
       return false;
     } finally {
       this.isBusy = false;

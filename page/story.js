@@ -29,7 +29,7 @@ export class Story {
   /** Shows the paragraphs, the event, its outcome and its reason. */
   show() {
     const { place, moment, branch } = this.viewer;
-    arrange(byId("story"), this.told());
+    arrange(byId("story"), this.paragraphs());
     byId("number").textContent = moment ? `Event ${place}` : "";
     byId("event").textContent = moment ? moment.event : `the opening of ${branch.name}`;
     byId("outcome").textContent = moment ? moment.outcome : "";
@@ -48,13 +48,13 @@ export class Story {
   }
 
   /** The paragraphs of this moment, or of the newest event before it that has some; and the branches that begin here. */
-  told() {
+  paragraphs() {
     const { run, branch, place } = this.viewer;
     if (!place) return [...paragraphs(run.intro), ...paragraphs(branch.notes), ...setupOf(run), ...this.beginning()];
     const at = lastTold(branch, place);
-    const told = at ? paragraphs(branch.moments[at - 1].notes) : [];
+    const those = at ? paragraphs(branch.moments[at - 1].notes) : [];
     const since = make("p", { class: "since" }, `From event ${at} on:`);
-    return [...(told.length && at < place ? [make("div", { class: "earlier" }, since, ...told)] : told), ...this.beginning()];
+    return [...(those.length && at < place ? [make("div", { class: "earlier" }, since, ...those)] : those), ...this.beginning()];
   }
 
   /** A button for each branch that begins after this event, and for each earlier run that went on otherwise after it. */

@@ -2,7 +2,7 @@ import { arrange, byId, grouped, make } from "./elements.js";
 import { SortedNames, inOrder } from "./names.js";
 import { stateCard } from "./states.js";
 
-/** The tables of both nodes, of which at most so many states a node are in the document. */
+/** The tables of both nodes, of which the document has the first states alone. */
 const MOST_STATES = 50;
 /** As many changes at once as are laid into an order one by one. */
 const FEW = 200;

@@ -44,7 +44,7 @@ export class Viewer {
   go(place) {
     const from = this.place;
     const touched = this.walk.go(this.near(place));
-    this.tell({ touched, isStep: this.place === from + 1, isNewBranch: false, isNewChart: false });
+    this.announce({ touched, isStep: this.place === from + 1, isNewBranch: false, isNewChart: false });
   }
 
   /** Goes to a moment of another branch, or of this one. */
@@ -53,7 +53,7 @@ export class Viewer {
     else this.renew(branch, place);
   }
 
-  /** Goes to the branch that stands so many places behind this one in the order. */
+  /** Goes to the branch that is this number of places after this one in the order. */
   turn(by) {
     const { branches } = this.run;
     const at = branches.indexOf(this.branch) + by;
@@ -64,7 +64,7 @@ export class Viewer {
   renew(branch, place) {
     this.walk = new Walk(branch);
     this.walk.go(this.near(place));
-    this.tell({ touched: new Set(), isStep: false, isNewBranch: true, isNewChart: true });
+    this.announce({ touched: new Set(), isStep: false, isNewBranch: true, isNewChart: true });
   }
 
   /** Changes the data, of which this branch keeps its first moments; at its newest moment the viewer goes along. */
@@ -74,7 +74,7 @@ export class Viewer {
     lay();
     const place = this.near(wasNewest ? this.newest : from);
     for (const key of this.walk.go(place)) touched.add(key);
-    this.tell({ touched, isStep: wasNewest && place === from + 1, isNewBranch: false, isNewChart: true });
+    this.announce({ touched, isStep: wasNewest && place === from + 1, isNewBranch: false, isNewChart: true });
   }
 
   /** The moment of this branch that is nearest to a place. */
@@ -82,8 +82,8 @@ export class Viewer {
     return Math.max(0, Math.min(this.newest, place));
   }
 
-  /** Tells all listeners of a move. */
-  tell(move) {
+  /** Reports a move to all listeners of a move. */
+  announce(move) {
     for (const listener of this.listeners) listener(move);
   }
 }

@@ -13,7 +13,7 @@ export class Walk {
     this.replaced = [];
   }
 
-  /** Goes to a moment, and tells the keys of the facts that may be others there. */
+  /** Goes to a moment, and gives the keys of the facts that may be others there. */
   go(place) {
     const touched = new Set();
     while (this.place < place) this.forward(touched);

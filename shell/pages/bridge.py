@@ -65,9 +65,11 @@ class Overtaken(Exception):
 class Bridge:
     """The pair of a server, for pages."""
 
-    def __init__(self, program: str, run: Run, branches: Branches):
+    def __init__(self, program: str, run: Run, branches: Branches, watching: str = ""):
         self.news = News()
         self._program, self._run, self._branches = program, run, branches
+        # The token for watching, which a page has for links.
+        self._watching = watching
         self._records = {it.name: it for it in run.records if not it.former}
         self._former = FormerRuns(program, run.setup, [it for it in run.records if it.former])
         self._lost: List[Lost] = []
@@ -165,7 +167,7 @@ class Bridge:
         return it
 
     def _all(self, may: str) -> Data:
-        live = {"may": may, "version": self.news.version, "people": self.news.people}
+        live = {"may": may, "watch": self._watching, "version": self.news.version, "people": self.news.people}
         branches = [dict(self._records[name].as_data(), offers=it.offers) for name, it in self._shown.items()]
         its: Data = {"title": self._run.title, "intro": self._run.intro, "setup": self._run.setup.lines}
         return {**its, "branches": [*branches, *self._former.data], "live": live}

@@ -3,19 +3,32 @@ from __future__ import annotations
 
 import hmac
 import io
+import resource
 import secrets
 import socket
 import socketserver
 import sys
 import threading
 import time
-from typing import Any, Callable, NamedTuple, Optional, Tuple
+from typing import Any, Callable, NamedTuple, Optional, Tuple, Union
 
 from .bridge import STEP, WATCH, Bridge
 from .news import MOST_STREAMS
 
 HERE = "127.0.0.1"
 MOST_CONNECTIONS = MOST_STREAMS + 100
+# What may be open at once: the connections, and what the runs of the branches and the rest of the process need.
+MOST_FILES = MOST_CONNECTIONS + 200
+# (as socketserver has it, whose other servers have datagrams)
+Request = Union[socket.socket, Tuple[bytes, socket.socket]]
+
+
+def make_room() -> None:
+    """Lets enough files be open, as far as the system allows that: with none left, no branch can begin."""
+    now, most = resource.getrlimit(resource.RLIMIT_NOFILE)
+    wanted = MOST_FILES if most == resource.RLIM_INFINITY else min(MOST_FILES, most)
+    if now != resource.RLIM_INFINITY and now < wanted:
+        resource.setrlimit(resource.RLIMIT_NOFILE, (wanted, most))
 
 
 class Tokens(NamedTuple):
@@ -58,7 +71,7 @@ class Door(socketserver.ThreadingTCPServer):
     def address(self, token: str) -> str:
         return f"http://{HERE}:{self.port}/{token}/"
 
-    def process_request(self, request: Any, client_address: Any) -> None:
+    def process_request(self, request: Request, client_address: object) -> None:
         if not self._room.acquire(blocking=False):
             self.shutdown_request(request)
             return
@@ -69,13 +82,13 @@ class Door(socketserver.ThreadingTCPServer):
             self._room.release()
             raise
 
-    def process_request_thread(self, request: Any, client_address: Any) -> None:
+    def process_request_thread(self, request: Request, client_address: object) -> None:
         try:
             super().process_request_thread(request, client_address)
         finally:
             self._room.release()
 
-    def handle_error(self, request: Any, client_address: Any) -> None:
+    def handle_error(self, request: Request, client_address: object) -> None:
         # (that somebody goes away, or does not read, is no fault)
         if not isinstance(sys.exc_info()[1], (ConnectionError, socket.timeout)):
             super().handle_error(request, client_address)

@@ -81,7 +81,7 @@ class Looker:
             yield f"{name}/state/{state}", self._row(node.states[state], node) if state in node.states else None
         for state in sorted(changed.queued):
             yield f"{name}/queue/{state}", queued.get(state)
-        yield f"{name}/told", list(_told(node)) or None
+        yield f"{name}/messages", list(_messages(node)) or None
         yield f"{name}/held", [held_packet(it, node, self.setup) for it in node.held] or None
 
     def _numbers(self, node: Node) -> Dict[str, object]:
@@ -125,8 +125,8 @@ class Looker:
         return {"to": frame.to, "head": head, "broken": bool(frame.broken), "records": [] if frame.broken else records}
 
 
-def _told(node: Node) -> Iterator[str]:
-    """What is to be told to the peer and is about no queued state."""
+def _messages(node: Node) -> Iterator[str]:
+    """What waits to be sent to the peer and is about no queued state."""
     yield from (f"{UPDATE_REQUEST.name} {request(it)}" for it in node.asks)
     yield from (f"{BULK_STATUS.name} {bulk_status(it)}" for it in node.statuses)
     yield from (f"{CLEAR.name} {cleared(it)}" for it in node.clears)

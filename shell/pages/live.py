@@ -14,7 +14,7 @@ from ..language.lines import opens
 from ..programs import Client
 from ..setups import Setup
 from .bridge import Bridge
-from .door import HERE, Door
+from .door import HERE, Door, make_room
 from .runs import Run, run_of
 from .server import started
 from .serving import Visit
@@ -33,8 +33,10 @@ GRACE = 2.0
 def serve(program: str, port: int, pair: Served, out: TextIO) -> None:
     """Serves the page of a pair at a port until an interrupt, or until the pair's server ends: both are raised."""
     interrupt_at_ends()
+    make_room()
     with live(program, port, pair) as door:
-        print(f"{door.address(door.tokens.step)} steps\n{door.address(door.tokens.watch)} watches", file=out, flush=True)
+        print(f"{door.address(door.tokens.step)} for those who step", file=out)
+        print(f"{door.address(door.tokens.watch)} for those who only watch", file=out, flush=True)
         watch(door.bridge)
 
 
@@ -62,7 +64,7 @@ def live(program: str, port: int, pair: Served) -> Iterator[Door]:
         with at_port(port):
             door = ends.enter_context(Door(port, Visit))
         session, run = ends.enter_context(pair)
-        door.bridge = Bridge(program, run, Branches(session))
+        door.bridge = Bridge(program, run, Branches(session), door.tokens.watch)
         ends.callback(door.bridge.close)
         ends.callback(cut_off, session)
         door.bridge.begin()

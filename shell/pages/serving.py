@@ -9,7 +9,7 @@ import socket
 import time
 from http import HTTPStatus
 from http.server import BaseHTTPRequestHandler
-from typing import Any, Callable, Dict, List, Optional, Tuple, Union
+from typing import Callable, Dict, List, Optional, Tuple, Union
 
 from ..programs import Ended
 from .bridge import STEP, Overtaken
@@ -66,7 +66,7 @@ class Visit(BaseHTTPRequestHandler):
     def version_string(self) -> str:
         return "pfl_lab"
 
-    def log_message(self, format: str, *words: Any) -> None:
+    def log_message(self, format: str, *words: object) -> None:
         """Nothing is logged."""
 
     def send_error(self, code: int, message: Optional[str] = None, explain: Optional[str] = None) -> None:
@@ -192,8 +192,8 @@ class Visit(BaseHTTPRequestHandler):
             messages = self.server.bridge.news.awaited(stream, LOOK)
             if not messages and time.monotonic() >= sent + BEAT:
                 messages = [b": beat\n\n"]
-            if messages:
-                self._send(b"".join(messages))
+            for it in messages:
+                self._send(it)
                 sent = time.monotonic()
 
     def _is_left(self) -> bool:

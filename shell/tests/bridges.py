@@ -17,7 +17,9 @@ from ..programs import Ended
 from . import program
 
 PACKET = "step main packet a out udp 10.0.0.1:1000 192.0.2.9:53 40"
-SECONDS = 5.0
+# In how many seconds something is there that takes some milliseconds: the machine may do other work.
+PROMPT = 5
+SECONDS = 15.0
 Data = Dict[str, Any]
 
 

@@ -5,12 +5,13 @@ import json
 import os
 import threading
 import time
+import tracemalloc
 from typing import List, Tuple
 from unittest import mock
 
 from ..pages import news
 from ..pages.former import MOST_EVENTS
-from .bridges import PACKET, Bridged, Data, Watcher
+from .bridges import PACKET, PROMPT, Bridged, Data, Watcher
 
 
 class Steps(Bridged):
@@ -20,7 +21,7 @@ class Steps(Bridged):
         answer = self.step(door, PACKET, "Ann")
         self.assertEqual(answer, {"reply": ["step pass 1.1 dropped 0"], "why": [], "version": 1})
         it = watcher.update()
-        self.assertLess(time.monotonic() - begun, 1)
+        self.assertLess(time.monotonic() - begun, PROMPT)
         self.assertEqual((it["version"], it["who"], it["line"], it["people"]), (1, "Ann", PACKET, 1))
         self.assertEqual((it["reply"], it["order"]), (["step pass 1.1 dropped 0"], ["main"]))
         [branch] = it["branches"]
@@ -161,7 +162,7 @@ class Watching(Bridged):
         for number in range(5):
             self.step(door, f"step main tick a {number}")
         page = self.page(door)
-        self.assertEqual((len(page["branches"][0]["moments"]), page["live"]), (6, {"may": "watch", "version": 5, "people": 0}))
+        self.assertEqual((len(page["branches"][0]["moments"]), page["live"]), (6, {"may": "watch", "watch": door.tokens.watch, "version": 5, "people": 0}))
         watcher = self.watcher(door, page["live"]["version"])
         self.step(door, "step main flush a")
         it = watcher.update()
@@ -192,6 +193,17 @@ class Watching(Bridged):
         self.assertEqual(len(kept.awaited(news.Stream(8), 0)), 2)
         self.assertEqual(kept.awaited(news.Stream(3), 0), [news.RELOAD])
 
+    def test_those_who_lack_much_share_what_is_kept(self) -> None:
+        door = self.live()
+        for _ in range(20):
+            door.bridge.news.publish({"line": "x" * 1_000_000})
+        tracemalloc.start()
+        self.addCleanup(tracemalloc.stop)
+        watchers = [self.watcher(door) for _ in range(5)]
+        time.sleep(0.3)
+        self.assertLess(tracemalloc.get_traced_memory()[1], 20_000_000)
+        self.assertEqual([it.update()["version"] for it in watchers], [1] * 5)
+
     def test_fifty_get_each_of_twenty_updates_in_order(self) -> None:
         door = self.live()
         watchers = [self.watcher(door) for _ in range(50)]
@@ -220,7 +232,7 @@ class Watching(Bridged):
                 begun = time.monotonic()
                 door.bridge.news.publish({"line": "x" * 1_000_000})
                 self.assertEqual(watcher.update()["version"], number + 1)
-                self.assertLess(time.monotonic() - begun, 1)
+                self.assertLess(time.monotonic() - begun, PROMPT)
             self.assertEqual(watcher.next(), {"people": 1})
         self.assertEqual(door.bridge.news.people, 1)
 

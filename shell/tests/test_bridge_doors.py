@@ -6,7 +6,7 @@ import socket
 import time
 from unittest import mock
 
-from .bridges import PACKET, Answer, Bridged
+from .bridges import PACKET, PROMPT, Answer, Bridged
 from ..pages import packing
 
 LINE = json.dumps({"name": "Ann", "line": PACKET})
@@ -99,10 +99,10 @@ class Doors(Bridged):
         said = self.raw(f"POST /{self.door.tokens.step}/do HTTP/1.1\nHost: HOST\nContent-Length: 10000000\n\n")
         self.assertIn(b" 413 ", said.partition(b"\n")[0])
         with self.assertRaises(OSError), socket.create_connection(("127.0.0.1", self.door.port), 5) as it:
-            it.sendall(f"POST / HTTP/1.1\r\nHost: x\r\nContent-Length: 10000000\r\n\r\n".encode())
+            it.sendall("POST / HTTP/1.1\r\nHost: x\r\nContent-Length: 10000000\r\n\r\n".encode())
             for _ in range(1000):
                 it.sendall(b"x" * 10_000)
-        self.assertLess(time.monotonic() - begun, 2)
+        self.assertLess(time.monotonic() - begun, PROMPT)
 
     def test_a_body_has_one_length(self) -> None:
         head = f"POST /{self.door.tokens.step}/do HTTP/1.1\nHost: HOST\nContent-Type: application/json\n"
@@ -163,6 +163,12 @@ class Doors(Bridged):
             self.assertFalse([name for name in it.headers if name.startswith("Access-Control")])
         self.assertEqual([it.status for it in answers], [200, 404, 400])
 
+    def test_the_page_of_one_who_watches_has_no_address_for_stepping(self) -> None:
+        with mock.patch("shell.pages.bridge.page", packing.page):
+            pages = [self.asked(self.door, "GET", f"/{it}/").body for it in self.door.tokens]
+        self.assertEqual([self.door.tokens.watch in it for it in pages], [True, True])
+        self.assertEqual([self.door.tokens.step in it for it in pages], [False, False])
+
     def test_the_page_itself_may_ask_its_server_alone(self) -> None:
         with mock.patch("shell.pages.bridge.page", packing.page):
             self.step(self.door, PACKET, "</script>")
@@ -190,7 +196,7 @@ class Crowds(Bridged):
                 for _ in range(50):
                     it.sendall(b"x")
                     time.sleep(0.1)
-            self.assertLess(time.monotonic() - begun, 2)
+            self.assertLess(time.monotonic() - begun, PROMPT)
 
     def test_who_reads_slowly_gets_all(self) -> None:
         size = 16 << 20

@@ -3,6 +3,7 @@ from __future__ import annotations
 
 import contextlib
 import io
+import json
 import shutil
 import signal
 import socket
@@ -16,7 +17,7 @@ from typing import Iterator, List
 from unittest import mock
 
 from . import TOP, program
-from .bridges import PACKET, Bridged, Data, Watcher
+from .bridges import PACKET, PROMPT, Bridged, Data, Watcher
 from ..laboratory import Unknown
 from ..pages.door import Door
 from ..pages.live import OPENING, begun, joined, live, serve, watch
@@ -61,7 +62,7 @@ class Joined(Bridged):
             watcher, begun = self.watcher(door), time.monotonic()
             shell.ask(PACKET)
             it = watcher.update()
-            self.assertLess(time.monotonic() - begun, 1)
+            self.assertLess(time.monotonic() - begun, PROMPT)
             self.assertEqual((it["version"], it["who"], it["line"], it["reply"]), (1, "another session", "", []))
             self.assertEqual(it["branches"][0]["moments"][0]["outcome"], "pass 1.1")
             self.assertEqual(self.step(door, "step main flush a")["reply"], ["step sent 1 148 dropped 0"])
@@ -74,9 +75,9 @@ class Joined(Bridged):
             self.ends.close()
 
     def order(self, watcher: Watcher) -> List[str]:
-        """The branches as the updates of two seconds leave them."""
+        """The branches as the updates of a few seconds leave them."""
         order: List[str] = []
-        end = time.monotonic() + 2
+        end = time.monotonic() + PROMPT
         while order != ["other"] and time.monotonic() < end:
             order = watcher.update()["order"]
         return order
@@ -192,8 +193,8 @@ except KeyboardInterrupt:
 
 
 class Processes(unittest.TestCase):
-    def serving(self, port: int = 0) -> "subprocess.Popen[str]":
-        words = [sys.executable, "-c", PROGRAM.format(top=TOP, program=program(), port=port)]
+    def serving(self, port: int = 0, before: str = "") -> "subprocess.Popen[str]":
+        words = [sys.executable, "-c", before + PROGRAM.format(top=TOP, program=program(), port=port)]
         it = subprocess.Popen(words, stdout=subprocess.PIPE, stderr=subprocess.PIPE, text=True)
         self.addCleanup(it.communicate)
         self.addCleanup(it.kill)
@@ -204,12 +205,24 @@ class Processes(unittest.TestCase):
             its = self.serving()
             assert its.stdout
             lines = [its.stdout.readline() for _ in range(2)]
-            self.assertRegex(lines[0], r"^http://127\.0\.0\.1:[0-9]+/[\w-]{22}/ steps$")
-            self.assertRegex(lines[1], r"^http://127\.0\.0\.1:[0-9]+/[\w-]{22}/ watches$")
+            self.assertRegex(lines[0], r"^http://127\.0\.0\.1:[0-9]+/[\w-]{22}/ for those who step$")
+            self.assertRegex(lines[1], r"^http://127\.0\.0\.1:[0-9]+/[\w-]{22}/ for those who only watch$")
             with urllib.request.urlopen(f"{lines[1].split()[0]}events?after=0") as events:
                 its.send_signal(end)
                 self.assertIn(b'data: {"ended":"the page is served no more: its bridge was stopped"}', events.read())
             self.assertEqual((its.wait(5), its.communicate()[1]), (130, ""), end)
+
+    def test_a_crowd_takes_no_files_from_the_branches(self) -> None:
+        its = self.serving(before="import resource as r\nr.setrlimit(r.RLIMIT_NOFILE, (64, r.getrlimit(r.RLIMIT_NOFILE)[1]))")
+        assert its.stdout
+        address = its.stdout.readline().split()[0]
+        port = int(address.split(":")[2].split("/")[0])
+        with contextlib.ExitStack() as ends:
+            for _ in range(100):
+                ends.enter_context(socket.create_connection(("127.0.0.1", port)))
+            body, kind = b'{"line": "fork main 0 other"}', {"Content-Type": "application/json"}
+            with urllib.request.urlopen(urllib.request.Request(f"{address}do", body, kind), timeout=5) as answer:
+                self.assertEqual(json.load(answer)["reply"], ["forked"])
 
     def test_a_port_in_use_is_named(self) -> None:
         with socket.socket() as it:
