@@ -352,6 +352,9 @@ class Command(Room):
         ran = self.run_in(examples, str(place / "bin/pfl_shell"), "chart", "restart.pfl", "../drawn.svg")
         self.assertEqual((ran.returncode, ran.stdout + ran.stderr), (0, ""))
         self.assertIn("<svg", (examples.parent / "drawn.svg").read_text())
+        ran = self.run_in(examples, str(place / "bin/pfl_shell"), "page", "restart.pfl", "../page.html")
+        self.assertEqual((ran.returncode, ran.stdout + ran.stderr), (0, ""))
+        self.assertIn("<!doctype html>", (examples.parent / "page.html").read_text())
         ran = self.run_in(examples, str(place / "bin/pfl_shell"), "annotate", "restart.pfl")
         self.assertEqual(ran.stdout, "restart.pfl: as it was\n")
 
