@@ -57,14 +57,15 @@ export class Story {
     return [...(those.length && at < place ? [make("div", { class: "earlier" }, since, ...those)] : those), ...this.beginning()];
   }
 
-  /** A button for each branch that begins after this event, and for each earlier run that went on otherwise after it. */
+  /** A button for each branch that begins after this event, and for each run that goes on otherwise after it. */
   beginning() {
     const { run, branch, place } = this.viewer;
     const begun = (branch.forks?.[place] ?? []).map((name) => this.viewer.named(name)).filter((it) => it && it !== branch);
-    const parted = run.branches.filter((it) => isOtherRun(it, branch) && partingOf(it, branch) === place);
+    const others = run.branches.filter((it) => it !== branch && it.moments.length > place && !begun.includes(it));
+    const parted = others.filter((it) => partingOf(it, branch) === place);
     return [
       ...begun.map((it) => this.way(it, `Branch ${it.name} begins here`)),
-      ...parted.map((it) => this.way(it, `${it.former ? `The earlier run ${it.name}` : it.name} goes on otherwise`)),
+      ...parted.map((it) => this.way(it, `${it.former ? "The earlier run" : "Branch"} ${it.name} goes on otherwise`)),
     ];
   }
 
@@ -74,16 +75,6 @@ export class Story {
     button.addEventListener("click", () => this.viewer.show(other, this.viewer.place + 1));
     return button;
   }
-}
-
-/** The name of the branch that a run is of: that before the sign, of an earlier one. */
-function nameOf({ name, former }) {
-  return former ? name.slice(0, name.lastIndexOf("~")) : name;
-}
-
-/** Whether two are different runs of one branch. */
-function isOtherRun(one, two) {
-  return one !== two && (one.former || two.former) && nameOf(one) === nameOf(two);
 }
 
 /** After how many events two runs part. */

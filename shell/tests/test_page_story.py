@@ -46,8 +46,9 @@ class Story(PageCase):
         self.assertEqual(self.ways("main", 1), ())
         self.assertEqual(self.ways("main", 2), ("Branch later begins here",))
         self.assertEqual(self.ways("main", 3), ("The earlier run main~1 goes on otherwise",))
-        self.assertEqual(self.ways("main~1", 3), ("main goes on otherwise",))
-        self.assertEqual(self.ways("later", 2), ())
+        self.assertEqual(self.ways("main~1", 3), ("Branch main goes on otherwise",))
+        self.assertEqual(self.ways("later", 2), ("Branch main goes on otherwise", "The earlier run main~1 goes on otherwise"))
+        self.assertEqual(self.ways("later", 3), ())
 
     def test_a_way_goes_to_the_next_event_of_the_other_run(self) -> None:
         self.open(RUN, "#main/2")
