@@ -11,6 +11,8 @@ from .language.events import plain_event
 from .language.lines import content_of, has_word
 from .scripts import is_mark
 
+# A script can undo and step over again and again: of these runs the newest are kept.
+MOST_KEPT = 64
 # Paragraphs, or names of branches, by how many events of a branch stood.
 Places = Dict[int, List[str]]
 
@@ -142,13 +144,15 @@ class Story:
 
     def _restore(self, name: str, words: Sequence[str], answer: Sequence[str]) -> None:
         chapter = self.branches[name].excised[-1]
-        self.former.remove(next(it for it in reversed(self.former) if it.branch.name == name))
+        taken_back = next((it for it in reversed(self.former) if it.branch.name == name), None)
+        self.former = [it for it in self.former if it is not taken_back]
         chapter.cursor, chapter.before = int(answer[0]), chapter.first(len(chapter.events))
         self.branches[name] = chapter
 
     def _keep(self, name: str, chapter: Chapter) -> None:
         """Keeps a run as it was before it is changed."""
         self.former.append(Former(Branch(name, [*chapter.events], len(chapter.events)), _copied(chapter.notes)))
+        del self.former[:-MOST_KEPT]
 
 
 _CHANGES: Dict[str, Callable[[Story, str, Sequence[str], Sequence[str]], None]] = {

@@ -48,8 +48,12 @@ class PageChart(NamedTuple):
 
     def plain(self) -> Dict[str, object]:
         """It as lists and dictionaries, for JSON."""
-        height, its_sheets = round(self.height, 1), [it.plain() for it in self.sheets]
-        return {"width": self.width, "height": height, "lanes": self.lanes, "heads": self.heads, "sheets": its_sheets}
+        return _plain(self, [it.plain() for it in self.sheets])
+
+
+def _plain(page: PageChart, its_sheets: Sequence[Dict[str, object]]) -> Dict[str, object]:
+    height = round(page.height, 1)
+    return {"width": page.width, "height": height, "lanes": page.lanes, "heads": page.heads, "sheets": [*its_sheets]}
 
 
 def draw(chart: Chart, title: str) -> str:
@@ -73,8 +77,41 @@ def picture(chart: Chart, title: str) -> Sheet:
     return sheet
 
 
-def sheets(chart: Chart) -> PageChart:
-    """The chart for a page, without a title and without the heads of its lanes."""
+class Part(NamedTuple):
+    """What is drawn on a sheet of a page: the rows of these places, and the frames that cross them."""
+
+    layout: Layout
+    sheet: Sheet
+    places: range
+    flights: Sequence[Flight]
+
+    @property
+    def key(self) -> Tuple[object, ...]:
+        """All that the sheet is drawn by: where this is the same, so is the drawing."""
+        layout, first, end = self.layout, self.places.start, self.places.stop
+        heights = [its[first:end] for its in (layout.tops, layout.middles, layout.bottoms)]
+        labels = [layout.labels.get(it) for it in self.places]
+        forks = [layout.forks.get(it) for it in range(first, end + 1)]
+        ways = [layout.ways[it.ticket] for it in self.flights]
+        said = (layout.end, layout.said_below) if end == len(layout.chart.rows) else ()
+        rows = layout.chart.rows[first:end]
+        return self.sheet.top, self.sheet.bottom, rows, heights, labels, forks, self.flights, ways, layout.said_above, said
+
+    def drawn(self) -> PageSheet:
+        """The sheet with its drawing."""
+        layout, sheet = self.layout, self.sheet
+        painter = Painter(layout, sheet, self.places)
+        painter.bands()
+        painter.lanes(sheet.top)
+        painter.contents(self.flights)
+        numbered = [(layout.chart.rows[it], layout.tops[it] - sheet.top, layout.bottoms[it] - sheet.top) for it in self.places]
+        rows = [(row.first, row.last, top, bottom) for row, top, bottom in numbered]
+        ways = [(it.ticket, sheet.cut(layout.ways[it.ticket])) for it in self.flights]
+        return PageSheet(sheet.top, sheet.bottom - sheet.top, rows, sheet.elements, ways)
+
+
+def _parts(chart: Chart) -> Tuple[PageChart, List[Part]]:
+    """The chart for a page without its sheets, and what is to be drawn on these."""
     layout = Layout(chart, PAGE)
     starts = range(0, max(len(chart.rows), 1), ROWS)
     flights: List[List[Flight]] = [[] for _ in starts]
@@ -85,19 +122,30 @@ def sheets(chart: Chart) -> PageChart:
             flights[at].append(it)
     edges = [0.0, *(layout.tops[it] for it in starts[1:]), layout.height]
     its_sheets = [Sheet(*ends) for ends in zip(edges, edges[1:])]
-    parts = [_sheet(layout, *it) for it in zip(its_sheets, starts, flights)]
+    places = [range(start, min(start + ROWS, len(chart.rows))) for start in starts]
     heads = {node: f"node {node}, {boot}" for node, boot in chart.heads(0).items()}
-    return PageChart(PAGE.width, layout.height, dict(PAGE.lanes), heads, parts)
+    parts = [Part(layout, *its) for its in zip(its_sheets, places, flights)]
+    return PageChart(PAGE.width, layout.height, dict(PAGE.lanes), heads, []), parts
 
 
-def _sheet(layout: Layout, sheet: Sheet, start: int, flights: Sequence[Flight]) -> PageSheet:
-    """The sheet of the rows from a place on, which these frames cross."""
-    places = range(start, min(start + ROWS, len(layout.chart.rows)))
-    painter = Painter(layout, sheet, places)
-    painter.bands()
-    painter.lanes(sheet.top)
-    painter.contents(flights)
-    numbered = [(layout.chart.rows[it], layout.tops[it] - sheet.top, layout.bottoms[it] - sheet.top) for it in places]
-    rows = [(row.first, row.last, top, bottom) for row, top, bottom in numbered]
-    ways = [(it.ticket, sheet.cut(layout.ways[it.ticket])) for it in flights]
-    return PageSheet(sheet.top, sheet.bottom - sheet.top, rows, sheet.elements, ways)
+def sheets(chart: Chart) -> PageChart:
+    """The chart for a page, without a title and without the heads of its lanes."""
+    page, parts = _parts(chart)
+    return page._replace(sheets=[it.drawn() for it in parts])
+
+
+class Drawing:
+    """The chart of a branch for its page, of which sheets that are as they were are not drawn again."""
+
+    def __init__(self) -> None:
+        self._sheets: List[Tuple[Tuple[object, ...], Dict[str, object]]] = []
+
+    def plain(self, chart: Chart) -> Dict[str, object]:
+        """The chart as it is now, as lists and dictionaries."""
+        page, parts = _parts(chart)
+        before = dict(enumerate(self._sheets))
+        self._sheets = []
+        for at, part in enumerate(parts):
+            key, (old, drawing) = part.key, before.get(at, ((), {}))
+            self._sheets.append((old, drawing) if old == key else (key, part.drawn().plain()))
+        return _plain(page, [drawing for _, drawing in self._sheets])

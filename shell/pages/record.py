@@ -8,7 +8,7 @@ from .facts import Facts, Looker
 from .moments import Known, Moment, moment, unseen
 from ..branches import Branch, common
 from ..charts.chart import drawn
-from ..charts.picture import sheets
+from ..charts.picture import Drawing
 from ..held import held_packets, tell_packets
 from ..laboratory import Laboratory, Unknown
 from ..explanations import read_explanation
@@ -19,7 +19,8 @@ from ..language.names import Name
 from ..pair import Pair
 from ..setups import Setup
 
-# How many lines of shown pairs are read for a branch at most. A longer run is not looked at after each of its events.
+# How many lines of shown pairs are read for the new events of a branch, and then those after the last one. Of a longer run the pair is
+# not looked at after each event.
 MOST_SHOWN = 2_500_000
 
 
@@ -41,6 +42,7 @@ class Record:
         self._known = Known()
         self._packets: Dict[Name, str] = {}
         self._looker = Looker(setup, self._with_contents)
+        self._drawing = Drawing()
         self._shown = 0
         # The moment at which the pair was looked at last.
         self._looked = 0
@@ -51,8 +53,9 @@ class Record:
         events = branch.events[: branch.cursor]
         same = common(events, [it.event for it in self.moments])
         kept = self._take_back(same) if same < len(self.moments) else same
-        for event in events[same:]:
-            self._step(event, len(events))
+        self._shown = 0
+        for number, event in enumerate(events[same:], 1):
+            self._step(event, number, len(events) - same)
         self.undone = len(branch.events) - branch.cursor
         return kept
 
@@ -80,14 +83,14 @@ class Record:
 
     def chart_as_data(self) -> Dict[str, object]:
         """The chart of the events that stand."""
-        return sheets(drawn(self.name, self._known.explained, self.undone, forks=self.forks)).plain()
+        return self._drawing.plain(drawn(self.name, self._known.explained, self.undone, forks=self.forks))
 
     # ---- events
 
-    def _step(self, event: str, last: int) -> None:
-        """Lets an event happen; the number is that of the last one that follows."""
+    def _step(self, event: str, at: int, last: int) -> None:
+        """Lets an event happen, the one at this place of those that are new."""
         number, sends = len(self.moments) + 1, event.split()[0] in (FLUSH.word, REPEAT.word)
-        is_seen, was_seen = self._affords(number, last), self._looked == number - 1
+        is_seen, was_seen = self._affords(at, last), self._looked == number - 1
         lines = [f"{STEP.word} main {event}", f"{WHY.word} main {number}"]
         # (tickets are counted from 1)
         lines += [f"{FRAME.word} main {len(self._known.flights) + 1}"] * sends + [f"{SHOW.word} main"] * is_seen
@@ -113,9 +116,9 @@ class Record:
         if it.event.words[0] in OF_FRAME:
             self._known.flights[int(it.event.words[1])].later.append(it.event)
 
-    def _affords(self, number: int, last: int) -> bool:
+    def _affords(self, at: int, last: int) -> bool:
         """Whether the pair is looked at after an event: always after the last one."""
-        return number == last or self._shown + len(self._looker.facts) <= MOST_SHOWN * number // last
+        return at == last or self._shown + len(self._looker.facts) <= MOST_SHOWN * at // last
 
     def _take_back(self, number: int) -> int:
         """Goes back to the first events: how many moments are as they were."""
@@ -146,9 +149,7 @@ class Record:
     # ---- looks
 
     def _show(self) -> List[str]:
-        shown = self.laboratory.ask(f"{SHOW.word} main")
-        self._shown += len(shown)
-        return shown
+        return self.laboratory.ask(f"{SHOW.word} main")
 
     def _with_contents(self, pair: Pair) -> Pair:
         """A pair with the records of its frames, and with the packets that its nodes hold."""

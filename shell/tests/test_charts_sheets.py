@@ -2,6 +2,7 @@
 from __future__ import annotations
 
 import json
+import random
 import time
 import unittest
 from typing import List
@@ -10,7 +11,7 @@ from xml.etree import ElementTree
 from ..charts.chart import drawn as drawn_of
 from ..charts.elements import TONES, Point
 from ..charts.geometry import PAGE
-from ..charts.picture import ROWS, PageChart, sheets
+from ..charts.picture import ROWS, Drawing, PageChart, sheets
 from ..charts.svg import svg
 from ..charts.windows import WHOLE, Window
 from .drawings import CROSSING, LOST_INSERTION, QUERY, RULES, boxes, drawn, happened, overlaps, random_events, steps
@@ -89,6 +90,15 @@ class Sheets(unittest.TestCase):
         # A frame in flight goes down to the end of the drawing: the sheets from that of its sending on are others, and no more.
         in_flight = sheets(drawn_of("main", events[:-1], 0, {}, {5: ["later"]}))
         self.assertEqual([one == two for one, two in zip(grown.sheets, in_flight.sheets)], [True, True, *[False] * 4])
+
+    def test_a_drawing_that_goes_on_is_that_of_the_chart(self) -> None:
+        events, _ = happened("set defer 1\nset frames 256\n" + steps(*random_events(11, 420)))
+        drawing, dice = Drawing(), random.Random(3)
+        for _ in range(12):
+            end = dice.randrange(len(events) + 1)
+            for last in range(end, min(end + 3, len(events)) + 1):
+                chart = drawn_of("main", events[:last], 0, {}, {it: ["later"] for it in dice.sample(range(last + 1), min(last, 2))})
+                self.assertEqual(drawing.plain(chart), sheets(chart).plain(), last)
 
     def test_plain_form(self) -> None:
         page = sheets(drawn(CROSSING))

@@ -1,12 +1,14 @@
 """What a page tells of a script: its paragraphs, each at its moment, and the runs that were undone."""
 from __future__ import annotations
 
+import random
 import unittest
 from typing import Dict, List
 
+from ..laboratory import Laboratory
 from ..language.lines import lines_of
 from ..pages.runs import MOST_FORMER, Run, run_of
-from ..stories import Story
+from ..stories import Story, story_of
 from . import program
 
 SETUP = "rule a pass out\nrule b pass out\nopen\n"
@@ -105,6 +107,25 @@ class Stories(unittest.TestCase):
         run = self.run_of(SETUP + tries)
         former = [it.moments[0].event for it in run.records if it.former]
         self.assertEqual(former, [f"tick a {it}" for it in range(12 - MOST_FORMER, 12)])
+
+
+class AtRandom(unittest.TestCase):
+    """Scripts of any commands in any order, taken or refused."""
+
+    def script(self, seed: int) -> List[str]:
+        dice, names = random.Random(seed), ("main", "x", "y")
+        kinds = ["step {0} tick a {1}", f"step {{0}} {ONE}", "step {0} flush a", "step {0} deliver {2}", "back {0} {2}", "forward {0} {2}"]
+        kinds += ["fork {0} {2} {3}", "excise {0} {2}", "excise {0} {2}", "restore {0}", "drop {0}", "show {0}"]
+        lines = [dice.choice(kinds).format(dice.choice(names), it, dice.randrange(1, 5), dice.choice(names)) for it in range(1, 50)]
+        return [*SETUP.splitlines(), *(f"# {number}.\n{line}" for number, line in enumerate(lines))]
+
+    def test_a_story_has_the_events_of_the_branches(self) -> None:
+        for seed in range(30):
+            lab = Laboratory(program())
+            story = story_of(lab, lines_of("\n".join(self.script(seed))))
+            branches = {name: (it.events, it.cursor) for name, it in story.branches.items()}
+            self.assertEqual(branches, {it: (lab.branch(it).events, lab.branch(it).cursor) for it in lab.names()}, seed)
+            lab.close()
 
 
 if __name__ == "__main__":
