@@ -6,6 +6,7 @@ import os
 from typing import List, Optional
 
 from .charts.windows import read_flow, read_place
+from .dumps.comparing import Tolerance
 from .laboratory import Unknown
 from .language.names import Name
 from .shell import STRICT_STATUS
@@ -32,6 +33,14 @@ class Words(argparse.Namespace):
     last: Optional[int]
     flow: Optional[Name]
     notes: bool
+    dumps: List[str]
+    stats: List[str]
+    apart: Optional[int]
+    all: bool
+
+
+# The words that run no program.
+WITHOUT_PROGRAM = ("compare",)
 
 
 def parser(name: str = "./lab") -> argparse.ArgumentParser:
@@ -57,6 +66,15 @@ def parser(name: str = "./lab") -> argparse.ArgumentParser:
             usage=f"{name} page SCRIPT OUT.html\n       {name} page --serve PORT [SCRIPT | --port P --setup FILE]",
             description="Writes what happens in a script as a page, which is one file and needs nothing else; or serves a page that"
             " shows a pair as it goes on, and steps it, to the browsers of this machine.",
+        )
+    )
+    _compare(
+        kinds.add_parser(
+            "compare",
+            help="compares the state tables of two firewalls, as pfctl printed them",
+            usage=f"{name} compare A B [--stats A B] [--apart S] [--all]",
+            description="Compares two files with what `pfctl -ss -vv` printed at the firewalls of a pair: which states stand at one alone,"
+            " and which differ, field by field. Status: 0 they agree, 1 they differ, 2 a file could not be read.",
         )
     )
     return words
@@ -98,6 +116,26 @@ def _page(words: argparse.ArgumentParser) -> None:
         "--port", type=port, metavar="P", help="with --serve: a session of the server at this port, and no pair of its own"
     )
     words.add_argument("--setup", metavar="FILE", help="with --port: the setup that the server read")
+
+
+def _compare(words: argparse.ArgumentParser) -> None:
+    words.add_argument("dumps", nargs=2, metavar="FILE", help="what `pfctl -ss -vv` printed, at the one firewall and at the other")
+    words.add_argument(
+        "--stats", nargs=2, default=[], metavar="FILE", help="what `netstat -s -p pfsync` printed, where it is not in those files, too"
+    )
+    words.add_argument(
+        "--apart",
+        type=tolerance,
+        metavar="S",
+        help=f"ages and times of expiry may differ by S seconds; without it only the latter count, which may by {Tolerance().seconds}",
+    )
+    words.add_argument("--all", action="store_true", help="lists each state, and not the first of those that have something in common")
+
+
+def tolerance(word: str) -> int:
+    if not word.isdecimal() or len(word) > 6:
+        raise argparse.ArgumentTypeError("S is a number of seconds from 0 to 999999")
+    return int(word)
 
 
 def event(word: str) -> int:

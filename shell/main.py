@@ -1,11 +1,13 @@
-"""The words that need the shell, of `./lab` and of the installed `pfl_shell`: shell, verify, annotate, chart and page."""
+"""The words that need the shell, of `./lab` and of the installed `pfl_shell`: shell, verify, annotate, chart, page and
+compare."""
 from __future__ import annotations
 
 import io
 import os
 import sys
 from contextlib import closing
-from typing import Iterator, List, Sequence
+from functools import partial
+from typing import Callable, Dict, Iterator, List, Sequence
 
 from . import scripts
 from .arguments import Words, page_fault, parser
@@ -15,6 +17,9 @@ from .charts.rows import Chart
 from .charts.text import text as chart_text
 from .charts.windows import WHOLE, Window
 from .colours import PLAIN, Paint
+from .dumps.command import TROUBLE, NothingRead, compared
+from .dumps.comparing import Tolerance
+from .dumps.report import Shown
 from .laboratory import Laboratory, Unknown
 from .language.lines import has_word, lines_of, opens
 from .pages.live import OPENING, begun, joined, serve
@@ -42,20 +47,24 @@ def main(arguments: Sequence[str], name: str = "./lab") -> int:
             # A line has whatever bytes it has: the program judges them.
             stream.reconfigure(errors="surrogateescape")
     try:
-        return {"shell": shell, "verify": verify, "annotate": annotate, "chart": chart, "page": page}[words.word](words)
+        return WORDS[words.word](words)
     except KeyboardInterrupt:
         return INTERRUPTED_STATUS
     except BrokenPipeError:
-        # Who reads has had enough; what is left to write goes nowhere.
-        os.dup2(os.open(os.devnull, os.O_WRONLY), sys.stdout.fileno())
-        return 1
+        # (who reads has had enough)
+        discard_output()
     except OSError as error:
         say(words, f"{error.filename}: {error.strerror}" if error.filename else error)
     except SetupFault as fault:
         say(words, f"setup line {fault.line}: {fault.words}")
-    except (Ended, Unknown, NotPacked, scripts.NotWritten) as why:
+    except (Ended, Unknown, NotPacked, scripts.NotWritten, NothingRead) as why:
         say(words, why)
-    return 1
+    return TROUBLE if words.word == "compare" else 1
+
+
+def discard_output() -> None:
+    """What is left to write goes nowhere."""
+    os.dup2(os.open(os.devnull, os.O_WRONLY), sys.stdout.fileno())
 
 
 def say(words: Words, what: object) -> None:
@@ -100,6 +109,21 @@ def page(words: Words) -> int:
     with closing(run_of(words.program, script, name)) as run:
         save(words.page, page_of(run.as_data()))
     return 0
+
+
+def compare(words: Words) -> int:
+    """Compares two dumps; the status is that of diff(1)."""
+    tolerance = Tolerance() if words.apart is None else Tolerance(words.apart, True)
+    how = Shown(paint(sys.stdout.isatty()), tolerance, words.all)
+    answer = compared(words.dumps, words.stats, how, partial(say, words))
+    try:
+        print("\n".join(answer.lines), flush=True)
+    except BrokenPipeError:
+        raise
+    except OSError as error:
+        discard_output()
+        raise OSError(error.errno, error.strerror, "standard output") from error
+    return answer.status
 
 
 def save(path: str, text: str) -> None:
@@ -230,3 +254,13 @@ def write_history(path: str) -> None:
         readline.write_history_file(path)
     except OSError:
         pass
+
+
+WORDS: Dict[str, Callable[[Words], int]] = {
+    "shell": shell,
+    "verify": verify,
+    "annotate": annotate,
+    "chart": chart,
+    "page": page,
+    "compare": compare,
+}

@@ -64,7 +64,7 @@ class Words(unittest.TestCase):
 
     def test_there_are_words(self) -> None:
         self.assertEqual({*OPTIONS["pfl_lab"]}, {"run", "check", "serve"})
-        self.assertEqual({*OPTIONS["pfl_shell"]}, {"shell", "verify", "annotate", "chart", "page"})
+        self.assertEqual({*OPTIONS["pfl_shell"]}, {"shell", "verify", "annotate", "chart", "page", "compare"})
         self.assertIn("--port", OPTIONS["pfl_lab"]["serve"])
         self.assertIn("--strict", OPTIONS["pfl_shell"]["shell"])
 
@@ -113,6 +113,7 @@ class Completed(unittest.TestCase):
             self.assertEqual(sorted(self.completed(*words, "")), scripts, words)
         self.assertEqual(sorted(self.completed("pfl_shell", "chart", "restart.pfl", "")), pictures)
         self.assertEqual(self.completed("pfl_shell", "annotate", "conn"), ["connection.pfl"])
+        self.assertEqual(sorted(self.completed("pfl_shell", "compare", "README.md", "")), sorted(os.listdir(f"{TOP}/examples")))
 
     def test_the_shells_read_their_files(self) -> None:
         for shell, mark in (("bash", ""), ("zsh", "_")):

@@ -1,0 +1,44 @@
+"""`compare`: two dumps, read and set against each other, with what their counters say."""
+from __future__ import annotations
+
+from collections import deque
+from typing import Dict, List, NamedTuple, Sequence
+
+from ..language.names import NODES
+from . import statistics
+from .captures import Say
+from .comparing import compare
+from .reading import Dump
+from .report import Shown, report
+
+SAME, APART, TROUBLE = 0, 1, 2
+
+
+class NothingRead(Exception):
+    """There is nothing to compare."""
+
+
+class Answer(NamedTuple):
+    """What is printed, and whether the nodes are apart."""
+
+    lines: List[str]
+    status: int
+
+
+def compared(files: Sequence[str], others: Sequence[str], how: Shown, say: Say) -> Answer:
+    """Compares a file of each node, whose counters stand there, too, or in a file of their own."""
+    dumps = {node: Dump(path, say) for node, path in zip(NODES, files)}
+    found = compare(dumps["a"].states(), dumps["b"].states(), how.tolerance)
+    counters = {node: it.counters for node, it in dumps.items()}
+    for node, path in zip(NODES, others):
+        counters[node] = {**_counters(Dump(path, say)), **counters[node]}
+    has_states, said = any(found.sizes.values()), statistics.report(counters, how.paint)
+    if not has_states and not said:
+        raise NothingRead(f"{' and '.join(files)} have neither states (pfctl -ss -vv) nor counters (netstat -s -p pfsync)")
+    return Answer(report(found, dict(zip(NODES, files)), how) * has_states + said, SAME if found.is_same else APART)
+
+
+def _counters(dump: Dump) -> Dict[str, int]:
+    """The counters that a file has, whatever else it has."""
+    deque(dump.states(), maxlen=0)
+    return dump.counters

@@ -1,0 +1,264 @@
+"""Two dumps set against each other: which states stand at one node alone, and which differ in what."""
+from __future__ import annotations
+
+from dataclasses import dataclass, field
+from enum import Enum
+from typing import Dict, Iterable, List, NamedTuple, Optional, Sequence, Set, Tuple
+
+from ..diffs import RULE, unequal_fields
+from ..language.names import NODES
+from ..language.packets import CIRCLE
+from .forms import clock, numbers, windows
+from .states import Dumped, as_state, ends
+
+# The fields that are compared as they are printed.
+LEVELS = ("source level", "destination level")
+# Words that say what a node keeps for itself of a state's source address.
+OF_A_NODE = frozenset(("src-track", "source-track", "sticky-address"))
+
+
+class Kind(Enum):
+    """In what a state differs; of several kinds the first counts."""
+
+    FLOWS = "keys"
+    LEVELS = "levels"
+    RULES = "rules"
+    WINDOWS = "windows by more than a window"
+    TIMES = "times"
+    REST = "interfaces, routes or options"
+
+
+@dataclass(frozen=True)
+class Tolerance:
+    """How many seconds times may be apart; whether that goes for ages, too."""
+
+    seconds: int = 10
+    is_of_ages: bool = False
+
+    def is_apart(self, one: Optional[int], two: Optional[int]) -> bool:
+        return one is not None and two is not None and abs(one - two) > self.seconds
+
+
+class Two(NamedTuple):
+    """One state at both nodes."""
+
+    a: Dumped
+    b: Dumped
+
+
+@dataclass
+class Compared:
+    """What two dumps have, set against each other."""
+
+    sizes: Dict[str, int] = field(default_factory=lambda: {it: 0 for it in NODES})
+    # How many states have no name; and how many came more than once, of which the first counts.
+    unnamed: Dict[str, int] = field(default_factory=lambda: {it: 0 for it in NODES})
+    again: Dict[str, int] = field(default_factory=lambda: {it: 0 for it in NODES})
+    only: Dict[str, List[Dumped]] = field(default_factory=lambda: {it: [] for it in NODES})
+    unsynchronised: Dict[str, List[Dumped]] = field(default_factory=lambda: {it: [] for it in NODES})
+    # Flows that have another name at either node; their states count as those of one node alone.
+    twice: List[Two] = field(default_factory=list)
+    differing: Dict[Kind, List[Two]] = field(default_factory=lambda: {it: [] for it in Kind})
+    agreeing: int = 0
+    # How many of those that agree differ in their windows by less than a window.
+    moved: int = 0
+
+    @property
+    def differ(self) -> int:
+        return sum(map(len, self.differing.values()))
+
+    @property
+    def is_same(self) -> bool:
+        """Whether nothing is apart but what no peer is told of, or what packets between the dumps explain."""
+        return not (self.differ or any(self.only.values()))
+
+
+def compare(a: Iterable[Dumped], b: Iterable[Dumped], tolerance: Tolerance) -> Compared:
+    """Reads the first dump, and sets the states of the second one against it as they come."""
+    found = Compared()
+    table = Table.read(a, found)
+    rest: Dict[object, Dumped] = {}
+    for state in b:
+        found.sizes["b"] += 1
+        found.unnamed["b"] += state.name is None
+        key = key_of(state)
+        if key in table.states:
+            _take(table, key, state, found, tolerance)
+        elif key in rest:
+            found.again["b"] += 1
+        else:
+            rest[key] = state
+    left = [it for it in table.states.values() if it]
+    _pair_by_flows(left, list(rest.values()), found, tolerance)
+    return found
+
+
+def key_of(state: Dumped) -> object:
+    """What pairs a state with that of the other node: its name, and where it has none its flow at its interface."""
+    return (state.interface, state.flow) if state.name is None else state.name
+
+
+@dataclass
+class Table:
+    """The states of the first dump by their names or flows; None once they have met that of the second."""
+
+    states: Dict[object, Optional[Dumped]]
+
+    @classmethod
+    def read(cls, a: Iterable[Dumped], found: Compared) -> "Table":
+        states: Dict[object, Optional[Dumped]] = {}
+        for state in a:
+            found.sizes["a"] += 1
+            found.unnamed["a"] += state.name is None
+            if states.setdefault(key_of(state), state) is not state:
+                found.again["a"] += 1
+        return cls(states)
+
+
+def _take(table: Table, key: object, state: Dumped, found: Compared, tolerance: Tolerance) -> None:
+    """Sets a state of the second dump against that of the first."""
+    partner = table.states[key]
+    if partner:
+        table.states[key] = None
+        _judge(Two(partner, state), found, tolerance)
+    else:
+        found.again["b"] += 1
+
+
+# ---- states without a partner of their name
+
+
+class Flows:
+    """States by their keys on the wire and in the stack: no two of a node share one."""
+
+    def __init__(self, states: Iterable[Dumped]):
+        self._by_key: Dict[object, List[Dumped]] = {}
+        self._taken: Set[int] = set()
+        for state, key in ((state, key) for state in states for key in _keys(state)):
+            self._by_key.setdefault(key, []).append(state)
+
+    def take(self, state: Dumped) -> Optional[Dumped]:
+        """A state with a key of this one that was not taken yet."""
+        wire, stack = map(self._last, _keys(state))
+        found = wire or stack
+        if found:
+            self._taken.add(found.line)
+        return found
+
+    def _last(self, key: object) -> Optional[Dumped]:
+        """The last state of a key that was not taken; those after it are forgotten."""
+        its = self._by_key.get(key, [])
+        while its and its[-1].line in self._taken:
+            its.pop()
+        return its[-1] if its else None
+
+
+def _keys(state: Dumped) -> Tuple[object, object]:
+    its = ends(state.flow)
+    return (its.protocol, "wire", its.wire), (its.protocol, "stack", its.stack)
+
+
+def _pair_by_flows(left: List[Dumped], rest: List[Dumped], found: Compared, tolerance: Tolerance) -> None:
+    """Pairs those states by their flows that have no name at one of the nodes, and finds the flows that have two names."""
+    flows = Flows(left if rest else ())
+    judged: Dict[str, Set[int]] = {it: set() for it in NODES}
+    for state in rest:
+        partner = flows.take(state)
+        if partner and (partner.name is None or state.name is None):
+            judged["a"].add(partner.line)
+            judged["b"].add(state.line)
+            _judge(Two(partner, state), found, tolerance)
+        elif partner:
+            found.twice.append(Two(partner, state))
+    _stand_alone("a", (it for it in left if it.line not in judged["a"]), found)
+    _stand_alone("b", (it for it in rest if it.line not in judged["b"]), found)
+
+
+def _stand_alone(node: str, states: Iterable[Dumped], found: Compared) -> None:
+    for it in states:
+        (found.only if it.is_synchronised else found.unsynchronised)[node].append(it)
+
+
+# ---- states at both nodes
+
+
+def _judge(two: Two, found: Compared, tolerance: Tolerance) -> None:
+    """Counts a state of both nodes where it belongs."""
+    kind = kind_of(two, tolerance)
+    if kind:
+        found.differing[kind].append(two)
+    else:
+        found.agreeing += 1
+        found.moved += has_windows(two) and two.a.windows != two.b.windows
+
+
+def kind_of(two: Two, tolerance: Tolerance) -> Optional[Kind]:
+    """In what a state differs first; None where it is the same but for what packets between the dumps explain."""
+    a, b = two
+    if a.flow != b.flow:
+        return Kind.FLOWS
+    if a.levels != b.levels:
+        return Kind.LEVELS
+    if has_details(two) and a.marks.rule != b.marks.rule:
+        return Kind.RULES
+    if has_windows(two) and a.windows != b.windows and _are_windows_apart(two):
+        return Kind.WINDOWS
+    if tolerance.is_apart(a.expires, b.expires) or tolerance.is_of_ages and tolerance.is_apart(a.age, b.age):
+        return Kind.TIMES
+    is_alike = (a.interface, a.marks, a.routes) == (b.interface, b.marks, b.routes)
+    return Kind.REST if not is_alike and _rest(two) else None
+
+
+def has_windows(two: Two) -> bool:
+    return bool(two.a.windows and two.b.windows)
+
+
+def has_details(two: Two) -> bool:
+    return two.a.age is not None and two.b.age is not None
+
+
+def _are_windows_apart(two: Two) -> bool:
+    one, other = numbers(two.a.windows), numbers(two.b.windows)
+    return _is_outside(one[:4], other[:4]) or _is_outside(one[4:], other[4:])
+
+
+def _is_outside(one: Sequence[str], two: Sequence[str]) -> bool:
+    """Whether the sequence number that one node has of an end is beyond the window of the other, or what is added or the scale
+    is not the same."""
+    if one[2:] != two[2:]:
+        return True
+    ahead = (int(one[0]) - int(two[0])) % CIRCLE
+    return ahead > int(two[1]) if ahead < CIRCLE // 2 else CIRCLE - ahead > int(one[1])
+
+
+def fields(two: Two, tolerance: Tolerance) -> List[str]:
+    """All in which a state differs, field by field."""
+    a, b = two
+    parts = [f"levels {a.levels} | {b.levels}"] if a.levels != b.levels else []
+    unequal = unequal_fields(as_state(a, has_windows(two)), as_state(b, has_windows(two)))
+    passed = (*LEVELS, *(() if has_details(two) else RULE))
+    parts += [f"{it} {one} | {other}" for it, (one, other) in unequal.items() if it not in passed]
+    if has_windows(two):
+        added = [" and ".join(it.added or "0" for it in windows(state.windows)) for state in two]
+        parts += [f"added to the numbers {added[0]} | {added[1]}"] if added[0] != added[1] else []
+    parts += [
+        f"{what} {clock(one)} | {clock(other)}"
+        for what, one, other in (("age", a.age, b.age), ("expires in", a.expires, b.expires))
+        if one is not None and other is not None and tolerance.is_apart(one, other)
+    ]
+    return parts + _rest(two)
+
+
+def _rest(two: Two) -> List[str]:
+    """What differs of the interface, the routes, and the words after the rule; of the last two only what both dumps have."""
+    a, b = two
+    parts = [f"interface {a.interface} | {b.interface}"] if a.interface != b.interface else []
+    if has_details(two) and (a.marks.words ^ b.marks.words) - OF_A_NODE:
+        parts.append(f"options {_list(a.marks.words - OF_A_NODE)} | {_list(b.marks.words - OF_A_NODE)}")
+    if a.name is not None and b.name is not None and a.routes != b.routes:
+        parts.append(f"routes {_list(a.routes)} | {_list(b.routes)}")
+    return parts
+
+
+def _list(words: Iterable[str]) -> str:
+    return ", ".join(sorted(words)) or "none"

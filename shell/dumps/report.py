@@ -1,0 +1,222 @@
+"""What two dumps come to, in words: the verdict first, then what is serious, and last what packets between the dumps explain."""
+from __future__ import annotations
+
+from collections import Counter
+from functools import partial
+from itertools import chain
+from typing import Callable, Dict, Hashable, Iterable, List, NamedTuple, Optional, Sequence, TypeVar
+
+from ..colours import Paint
+from ..diffs import Counts
+from ..language.names import NODES
+from ..words import counted
+from .comparing import Compared, Kind, Tolerance, Two, fields
+from .forms import clock
+from .states import Dumped, ends
+
+# How many groups of a kind, and states of a group, are listed where not all are asked for.
+MOST_GROUPS = 10
+MOST_STATES = 3
+
+_WHY_ALONE = "an insertion or a deletion was lost, or is on its way: lessons lost-insertion.pfl, lost-bulk-frame.pfl"
+_WHY_TWICE = "each node let a packet of the flow make a state of its own: lessons split-brain.pfl, lost-bulk-frame.pfl"
+_WHY: Dict[Kind, str] = {
+    Kind.LEVELS: "an update was lost, or is on its way: lesson asymmetric-routing.pfl",
+    Kind.RULES: "a node keeps the number of the peer's rule only where both have the same rules: compare `pfctl -sr` of both",
+    Kind.FLOWS: "one state with two sets of addresses: compare the translations, `pfctl -sn` of both",
+    Kind.WINDOWS: "the node behind has not seen what the other one has: lesson failover-in-mid-stream.pfl",
+    Kind.TIMES: "one node expects packets for longer than the other: lessons early-purge.pfl, adaptive-timeouts.pfl",
+    Kind.REST: "the nodes have other interfaces, routes or options",
+}
+
+
+Item = TypeVar("Item")
+Key = TypeVar("Key", bound=Hashable)
+
+
+class Shown(NamedTuple):
+    """How a report is to be: colours, the tolerance, and whether all states are listed."""
+
+    paint: Paint
+    tolerance: Tolerance
+    lists_all: bool
+
+
+def report(found: Compared, files: Dict[str, str], how: Shown) -> List[str]:
+    """The whole report of what two files have."""
+    counts = Counts(len(found.only["a"]), len(found.only["b"]), found.differ, found.agreeing, len(found.twice))
+    parts = [
+        [counts.answer(how.paint)],
+        _files(found, files, how),
+        *(_alone(node, found, how) for node in NODES),
+        *(_differing(kind, those, how) for kind, those in found.differing.items()),
+        _twice(found.twice, how),
+        _unsynchronised(found),
+        _moved(found),
+    ]
+    return [*chain.from_iterable(parts)]
+
+
+def _files(found: Compared, files: Dict[str, str], how: Shown) -> List[str]:
+    """What stands in which file, and what that leaves open."""
+    lines = ["; ".join(f"{node}: {counted(found.sizes[node], 'state')} in {path}" for node, path in files.items())]
+    for node, path in files.items():
+        if found.again[node]:
+            lines.append(f"{path}: {counted(found.again[node], 'state comes', 'states come')} again; the first of each counts")
+        if found.unnamed[node]:
+            unnamed = counted(found.unnamed[node], "state without a name", "states without names")
+            lines.append(f"{path}: {unnamed}, paired by flow alone; `pfctl -ss -vv` prints names")
+    if all(found.sizes.values()) and not found.agreeing + found.differ:
+        lines.append("no state stands at both nodes: are these files of one pair, and does pfsync run?")
+    return [how.paint.note(it) if at else it for at, it in enumerate(lines)]
+
+
+def _unsynchronised(found: Compared) -> List[str]:
+    return [
+        f"no-sync, only on {node}: {counted(len(states), 'state')}, which no peer is told of"
+        for node, states in found.unsynchronised.items()
+        if states
+    ]
+
+
+def _moved(found: Compared) -> List[str]:
+    if not found.moved:
+        return []
+    return [f"{counted(found.moved, 'state differs', 'states differ')} only in windows, by less than a window: packets came in between"]
+
+
+# ---- states of one node alone
+
+
+class Group(NamedTuple):
+    """What states of one node alone have in common."""
+
+    protocol: str
+    direction: str
+    service: str
+    rule: Optional[int]
+    creator: str
+    when: str
+    is_twice: bool
+
+    def __str__(self) -> str:
+        words = [f"{self.protocol} {self.direction}" + (f" to port {self.service}" if self.service else "")]
+        words += [] if self.rule is None else [f"rule {self.rule}"]
+        words += [f"made by {self.creator}"] if self.creator else []
+        words += [self.when] if self.when else []
+        return ", ".join([*words, "its flow has another name at the other node"] if self.is_twice else words)
+
+
+def _alone(node: str, found: Compared, how: Shown) -> List[str]:
+    """The states of one node alone, those that have something in common together."""
+    states = found.only[node]
+    if not states:
+        return []
+    twice = {(it.a if node == "a" else it.b).line for it in found.twice}
+    groups = _grouped(states, lambda it: _group(it, it.line in twice, how.tolerance))
+    head = how.paint.bad(f"only on {node}: ") + f"{counted(len(states), 'state')}{_of_them(groups)}; {_WHY_ALONE}"
+    return [head, *_largest(groups, lambda group, its: f"{group}{_ranges(its)}", _state, how)]
+
+
+def _of_them(groups: Dict[Group, List[Dumped]]) -> str:
+    """How many states of one node alone may have begun or expired between the dumps."""
+    numbers: Counter[str] = Counter()
+    for group, its in groups.items():
+        numbers[group.when] += len(its)
+    said = (f"{number} {when}" for when, number in numbers.most_common() if when)
+    return "".join(f", {it}" for it in said)
+
+
+def _group(state: Dumped, is_twice: bool, tolerance: Tolerance) -> Group:
+    its, when = ends(state.flow), ""
+    if state.age is not None and state.age <= tolerance.seconds:
+        when = f"not older than {clock(tolerance.seconds)}"
+    elif state.expires is not None and state.expires <= tolerance.seconds:
+        when = f"about to expire in {clock(tolerance.seconds)}"
+    return Group(its.protocol, its.direction, its.service, state.marks.rule, state.creator, when, is_twice)
+
+
+def _ranges(states: Sequence[Dumped]) -> str:
+    """How old the states of a group are, and when they expire."""
+    ages = [it.age for it in states if it.age is not None]
+    left = [it.expires for it in states if it.expires is not None]
+    return (f", age {_range(ages)}" if ages else "") + (f", expires in {_range(left)}" if left else "")
+
+
+def _range(times: Sequence[int]) -> str:
+    first, last = min(times), max(times)
+    return clock(first) if first == last else f"{clock(first)} to {clock(last)}"
+
+
+def _state(it: Dumped) -> str:
+    return f"{it.named()}  {it.flow}  {it.levels}"
+
+
+# ---- states of both nodes
+
+
+def _differing(kind: Kind, those: Sequence[Two], how: Shown) -> List[str]:
+    """The states that differ first in this, those with the same difference together."""
+    if not those:
+        return []
+    head = how.paint.bad(f"differ in {kind.value}: ") + f"{counted(len(those), 'state')}; {_WHY[kind]}"
+    groups = _grouped(those, partial(_both, kind))
+    return [head, *_largest(groups, lambda both, _: both, lambda it: _fields(it, how.tolerance), how)]
+
+
+def _fields(it: Two, tolerance: Tolerance) -> str:
+    return f"{it.a.named()}  {it.a.flow}  {', '.join(fields(it, tolerance))}"
+
+
+def _both(kind: Kind, two: Two) -> str:
+    """What a kind of difference comes to at either node, where few states have each."""
+    if kind is Kind.LEVELS:
+        return f"{two.a.levels} | {two.b.levels}"
+    if kind is Kind.RULES:
+        first, second = two.a.marks.rule, two.b.marks.rule
+        if first is None or second is None:
+            return "no rule | a rule" if first is None else "a rule | no rule"
+        return f"rule {first} | rule {second}"
+    return ""
+
+
+def _twice(those: Sequence[Two], how: Shown) -> List[str]:
+    """The flows that have two names."""
+    if not those:
+        return []
+    head = how.paint.bad("under two names: ") + f"{counted(len(those), 'flow')}; {_WHY_TWICE}"
+    groups = _grouped(those, lambda it: f"made by {it.a.creator} | {it.b.creator}")
+    return [head, *_largest(groups, lambda made, _: made, lambda it: f"{it.a.named()} | {it.b.named()}  {it.a.flow}", how)]
+
+
+# ---- groups
+
+
+def _grouped(items: Iterable[Item], of: Callable[[Item], Key]) -> Dict[Key, List[Item]]:
+    """What has the same key together."""
+    groups: Dict[Key, List[Item]] = {}
+    for it in items:
+        groups.setdefault(of(it), []).append(it)
+    return groups
+
+
+def _largest(
+    groups: Dict[Key, List[Item]], head: Callable[[Key, Sequence[Item]], str], text: Callable[[Item], str], how: Shown
+) -> List[str]:
+    """The largest groups, each with its head, which may be empty, and the texts of its first items; or all of them."""
+    ordered = sorted(groups.items(), key=lambda it: -len(it[1]))
+    shown = ordered if how.lists_all else ordered[:MOST_GROUPS]
+    lines: List[str] = []
+    for key, its in shown:
+        title = head(key, its)
+        lines += [f"  {len(its)}: {title}"] if title else []
+        lines += _first(its, text, how)
+    rest = len(ordered) - len(shown)
+    return lines + ([f"  and {counted(rest, 'group')} more; --all lists them"] if rest else [])
+
+
+def _first(items: Sequence[Item], text: Callable[[Item], str], how: Shown) -> List[str]:
+    """The texts of the first items of a group, or of all."""
+    most = len(items) if how.lists_all else MOST_STATES
+    lines = [f"    {text(it)}" for it in items[:most]]
+    return lines + ([f"    and {len(items) - most} more; --all lists them"] if len(items) > most else [])
