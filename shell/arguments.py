@@ -10,9 +10,10 @@ from .dumps.comparing import Tolerance
 from .laboratory import Unknown
 from .language.names import Name
 from .shell import STRICT_STATUS
+from .whatif.asked import Options, add_options
 
 
-class Words(argparse.Namespace):
+class Words(Options):
     """What the words of the command say; those of another word than its own are not there."""
 
     name: str
@@ -28,9 +29,6 @@ class Words(argparse.Namespace):
     script: Optional[str]
     page: str
     serve: Optional[int]
-    branch: str
-    first: int
-    last: Optional[int]
     flow: Optional[Name]
     notes: bool
     dumps: List[str]
@@ -66,6 +64,14 @@ def parser(name: str = "./lab") -> argparse.ArgumentParser:
             usage=f"{name} page SCRIPT OUT.html\n       {name} page --serve PORT [SCRIPT | --port P --setup FILE]",
             description="Writes what happens in a script as a page, which is one file and needs nothing else; or serves a page that"
             " shows a pair as it goes on, and steps it, to the browsers of this machine.",
+        )
+    )
+    _whatif(
+        kinds.add_parser(
+            "whatif",
+            help="tries each single fault of what happened in a script",
+            description="Plays what happened in a script again with each single fault by itself, as a lost frame or a restart, and groups"
+            " the faults by what they change.",
         )
     )
     _compare(
@@ -116,6 +122,12 @@ def _page(words: argparse.ArgumentParser) -> None:
         "--port", type=port, metavar="P", help="with --serve: a session of the server at this port, and no pair of its own"
     )
     words.add_argument("--setup", metavar="FILE", help="with --port: the setup that the server read")
+
+
+def _whatif(words: argparse.ArgumentParser) -> None:
+    words.add_argument("file", metavar="SCRIPT")
+    words.add_argument("--branch", default="main", metavar="BRANCH", help="tries the events of this branch in place of `main`")
+    add_options(words)
 
 
 def _compare(words: argparse.ArgumentParser) -> None:

@@ -6,7 +6,7 @@ import re
 from typing import Callable, Dict, Iterable, List, Sequence, Tuple
 
 from .charts.windows import FLOW, WINDOW_WORDS
-from .helps import CHART, SHELL, WORDS
+from .helps import CHART, SHELL, WHATIF, WHATIF_OPTIONS, WORDS
 from .laboratory import Laboratory
 from .language.commands import COMMANDS, FRAME, RULE, SETUP, STEP, TYPED, WHY
 from .language.events import EVENTS
@@ -15,6 +15,8 @@ from .language.searches import SEARCH
 from .language.setups import LIMITS, OPTIONS
 from .pair import Pair
 from .searches.offers import offers
+from .whatif.faults import KINDS
+from .whatif.groups import WATCHED
 
 Choice = Callable[[Laboratory, Sequence[str]], Iterable[str]]
 
@@ -58,6 +60,8 @@ def candidates(lab: Laboratory, before: Sequence[str], begun: str) -> List[str]:
         return _search(lab, words, begun)
     if words[0] == CHART:
         return _matching(_chart(lab, words, begun), begun)
+    if words[0] == WHATIF:
+        return _matching(_whatif(lab, words, begun), begun)
     # An event follows the branch, which `why` may be without.
     places = {STEP.word: (2,), WHY.word: (1, 2)}.get(words[0], ())
     part = next((words[at:] for at in places if words[at:] and words[at] in EVENTS), words)
@@ -96,6 +100,16 @@ def _chart(lab: Laboratory, words: Sequence[str], begun: str) -> Iterable[str]:
     said = [WINDOW_WORDS.index(it) for it in words if it in WINDOW_WORDS]
     branches = _branches(lab, words) if len(words) == 1 else ()
     return [*branches, *WINDOW_WORDS[max(said, default=-1) + 1 :], *glob.glob(glob.escape(begun) + "*")]
+
+
+def _whatif(lab: Laboratory, words: Sequence[str], begun: str) -> Iterable[str]:
+    """What can follow the words of a `whatif`: a branch, options that are not there yet, and what these say."""
+    values: Dict[str, Iterable[str]] = {"--faults": KINDS, "--watch": WATCHED, "--out": glob.glob(glob.escape(begun) + "*")}
+    options = {it.split()[0]: it.split()[1:] for it in WHATIF_OPTIONS}
+    if options.get(words[-1]):
+        return values.get(words[-1], ())
+    branches = _branches(lab, words) if len(words) == 1 else ()
+    return [*branches, *(it for it in options if it not in words)]
 
 
 def _options(word: str) -> Iterable[str]:

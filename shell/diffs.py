@@ -53,7 +53,7 @@ class Compared:
 
 def between_nodes(pair: Pair, setup: Optional[Setup], paint: Paint) -> List[str]:
     """Whether both nodes have the same states, what is on its way between them, and each difference."""
-    compared = _compare(pair, setup)
+    compared = compare(pair, setup)
     only, twice = compared.only, sum(bool(_names_of_flow(pair.b, it)) for it in compared.only["a"])
     counts = Counts(len(only["a"]), len(only["b"]), len(compared.differing), len(compared.agreeing), twice)
     lines = [counts.answer(paint), *circumstances(pair, setup, paint)]
@@ -69,7 +69,8 @@ def between_nodes(pair: Pair, setup: Optional[Setup], paint: Paint) -> List[str]
     return lines + _only_apart(compared)
 
 
-def _compare(pair: Pair, setup: Optional[Setup]) -> Compared:
+def compare(pair: Pair, setup: Optional[Setup]) -> Compared:
+    """The states of both nodes, set against each other by their names."""
     compared = Compared()
     for node in (pair.a, pair.b):
         for name, state in sorted(node.states.items()):

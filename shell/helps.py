@@ -21,6 +21,23 @@ class Help(NamedTuple):
 
 
 CHART = "chart"
+WHATIF = "whatif"
+WHATIF_OPTIONS = ("--faults KINDS", "--watch WHAT", "--from K", "--to L", "--pairs", "--only N", "--out FILE.pfl")
+WHATIF_PARTS = "\n".join(
+    (
+        "The events of the branch that stand happen again with each fault, and then what is pending is sent and delivered, as by `quiet`; "
+        "nothing changes here. The groups that change most come first, each with the reason in its first fault.",
+        "--faults KINDS: only these, joined by commas: undone (a loss, cut, repeat, restart, kill or clear of the run as if it had not "
+        "been), lose, twice, cut, late, last (a frame), skip (a packet or another event of a node), restart, clock (61 s ahead).",
+        "--watch WHAT: shows only the groups in which a packet passes that did not (pass), or the reverse (drop), in which the nodes are "
+        "apart otherwise at the end (apart), or in which the packets of events with these numbers get other verdicts; joined by commas.",
+        "--from K, --to L: faults at these events.",
+        "--pairs: each two faults together; restarts and clocks only where --faults names them.",
+        "--only N: shows the N-th group alone, with all of its faults and the whole reason.",
+        "--out FILE.pfl: writes the dialogue as a script, with a branch for the first fault of each group that is shown.",
+        "An interrupt (Ctrl-C) ends it, and what was found is shown.",
+    )
+)
 # The names in forms that the help writes out.
 _WRITTEN_OUT = {"SRC": "SOURCE", "DST": "DESTINATION", "LEN": "LENGTH"}
 
@@ -107,6 +124,12 @@ SHELL: Dict[str, Help] = {
         "draws what happened: two lanes, frames as arrows; as text, or as a picture into a file",
         "With K and L it draws the events from the K-th to the L-th; with NAME only what is about this state: packets of its flow, "
         "frames with a record about it, and what takes it from a node.",
+    ),
+    WHATIF: Help(
+        f"{WHATIF} [BRANCH] {' '.join(f'[{it}]' for it in WHATIF_OPTIONS)}",
+        "tries each single fault of the branch in a run of its own, as a lost frame or a restart, and groups the faults by what they "
+        "change",
+        WHATIF_PARTS,
     ),
     "summary": Help("summary", "asks a server for a few numbers of all branches, which is no command and waits for nobody"),
     "use": Help("use BRANCH", "makes a branch the one that events and questions without a branch are meant of"),

@@ -1,4 +1,4 @@
-"""The words that need the shell, of `./lab` and of the installed `pfl_shell`: shell, verify, annotate, chart, page and
+"""The words that need the shell, of `./lab` and of the installed `pfl_shell`: shell, verify, annotate, chart, page, whatif and
 compare."""
 from __future__ import annotations
 
@@ -29,6 +29,8 @@ from .programs import Client, Ended, SetupFault, check_setup, run_lines, setup_f
 from .setups import Setup
 from .shell import STRICT_STATUS, Shell, Stopped
 from .stories import story_of
+from .whatif.answers import Counter, answer
+from .whatif.asked import asked
 
 HISTORY = "~/.pfl_lab_history"
 INTERRUPTED_STATUS = 130
@@ -109,6 +111,29 @@ def page(words: Words) -> int:
     with closing(run_of(words.program, script, name)) as run:
         save(words.page, page_of(run.as_data()))
     return 0
+
+
+def whatif(words: Words) -> int:
+    """Tries the faults of what happened in a script."""
+    text = scripts.read(words.file)
+    if words.out and os.path.realpath(words.out) == os.path.realpath(words.file):
+        raise Unknown(f"{words.out} is the script itself: --out writes a copy of it under another name")
+    if says_faults(words, words.file, lines_of(text)):
+        return 1
+    with closing(Laboratory(words.program)) as lab:
+        story_of(lab, lines_of(text))
+        counter = Counter(sys.stderr)
+        try:
+            found = answer(lab, lab.branch(words.branch), asked(words), paint(sys.stdout.isatty()), counter, lambda: text)
+        finally:
+            counter.clear()
+    print("\n".join(found.lines))
+    if found.written and words.out:
+        scripts.write(words.out, found.written.text)
+        print(found.written.told(words.out))
+    if found.fault:
+        say(words, found.fault)
+    return INTERRUPTED_STATUS if found.is_interrupted else int(bool(found.fault))
 
 
 def compare(words: Words) -> int:
@@ -262,5 +287,6 @@ WORDS: Dict[str, Callable[[Words], int]] = {
     "annotate": annotate,
     "chart": chart,
     "page": page,
+    "whatif": whatif,
     "compare": compare,
 }

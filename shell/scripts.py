@@ -92,6 +92,15 @@ def read(path: str) -> str:
         return it.read()
 
 
+def write(path: str, text: str) -> None:
+    """Writes a script, whatever bytes it has. A fault names it, also one that comes after it was opened, as of a full disk."""
+    try:
+        with open(path, "w", encoding="utf-8", errors="surrogateescape", newline="") as it:
+            it.write(text)
+    except OSError as error:
+        raise OSError(error.errno, error.strerror, path) from error
+
+
 def verify(program: str, text: str) -> List[Mismatch]:
     """Where the script's marked lines and the replies, faults and status differ: each place, from the first on."""
     script = Script.of(text)

@@ -5,6 +5,7 @@ import cmd
 import difflib
 import os
 import re
+import sys
 from typing import IO, Any, Iterable, List, Sequence, Tuple
 
 from . import changes, diffs, helps, logs, macros, scripts, views
@@ -27,6 +28,8 @@ from .reasons.faults import explain_fault
 from .reasons.why import why_ahead, why_event, why_last
 from .searches.finder import Finder
 from .stories import Story
+from .whatif.answers import Counter, answer
+from .whatif.asked import read as read_whatif
 
 STRICT_STATUS = 4
 BAD_WORDS = ("bad", "refused")
@@ -327,14 +330,33 @@ class Shell(cmd.Cmd):
 
     def do_save(self, words: str) -> None:
         path = self.needed(words, "save")
+        scripts.write(path, self.script())
+        self.tell([f"written: {path}"])
+
+    def script(self) -> str:
+        """The setup and the commands of this dialogue with their replies, as a script."""
         if self.lab.port is not None:
             raise Unknown("a script begins with the setup of its pair: on a server there is none to save")
-        with open(path, "w", encoding="utf-8", errors="surrogateescape") as it:
-            for line, reply in self.lines:
-                # (a faulty line is a slip of the dialogue, and no part of its script)
-                if not reply or not reply[0].startswith("bad "):
-                    it.write("".join(f"{text}\n" for text in (line, *(f"{scripts.REPLY}{part}" for part in reply))))
-        self.tell([f"written: {path}"])
+        # (a faulty line is a slip of the dialogue, and no part of its script)
+        kept = ((line, reply) for line, reply in self.lines if not reply or not reply[0].startswith("bad "))
+        return "".join(f"{text}\n" for line, reply in kept for text in (line, *(f"{scripts.REPLY}{part}" for part in reply)))
+
+    def do_whatif(self, words: str) -> None:
+        name, asked = read_whatif(words.split())
+        counter = Counter(sys.stderr)
+        try:
+            found = answer(self.lab, self.branch(name), asked, self.paint, counter, self.script)
+        finally:
+            counter.clear()
+        self.tell(found.lines)
+        if found.written and asked.out:
+            scripts.write(asked.out, found.written.text)
+            self.tell([found.written.told(asked.out)])
+        if found.fault:
+            self.fault(found.fault)
+        if found.is_interrupted and not self.is_typed:
+            # (outside a dialogue an interrupt ends the shell)
+            raise KeyboardInterrupt
 
     def do_help(self, words: str) -> None:
         word = {"exit": "quit"}.get(words.strip(), words.strip())

@@ -1,0 +1,58 @@
+"""The answer to a `whatif`: the groups in words, and the script with variants where one is asked for."""
+from __future__ import annotations
+
+import time
+from typing import IO, Callable, List, NamedTuple, Optional
+
+from ..branches import Branch
+from ..colours import Paint
+from ..laboratory import Laboratory, Unknown
+from ..scripts import NotWritten
+from .asked import Asked
+from .plays import Player
+from .report import shown_groups, told
+from .tries import Progress, course_of, tried
+from .variants import Written, with_variants
+
+# A line of progress is renewed after this many seconds.
+RENEWED = 0.2
+
+
+class Answer(NamedTuple):
+    """What is said, and whether an interrupt ended it; the script that is to be written, or why none is."""
+
+    lines: List[str]
+    is_interrupted: bool
+    written: Optional[Written] = None
+    fault: str = ""
+
+
+def answer(lab: Laboratory, branch: Branch, asked: Asked, paint: Paint, progress: Progress, script: Callable[[], str]) -> Answer:
+    """Tries the faults of a branch in a run of its own; nothing changes here. The script is the one that variants are added to."""
+    course, taken = course_of(lab, branch), lab.names()
+    with lab.beside(branch) as other:
+        it = tried(Player(other, branch, course), asked, progress)
+        groups = shown_groups(it)
+        found = Answer(told(it, groups, paint), it.is_interrupted)
+        try:
+            return found._replace(written=with_variants(it, script(), taken, groups)) if asked.out else found
+        except (NotWritten, Unknown) as why:
+            # (what was found is not lost)
+            return found._replace(fault=str(why))
+
+
+class Counter:
+    """How many variants are tried, on a line of a terminal that is written over; elsewhere it is not shown."""
+
+    def __init__(self, out: IO[str]):
+        self.out, self.is_shown = out, out.isatty()
+        self.next = time.monotonic() + RENEWED
+
+    def __call__(self, done: int, total: int) -> None:
+        if self.is_shown and time.monotonic() >= self.next:
+            self.next = time.monotonic() + RENEWED
+            print(f"\r\033[K{done:,} of {total:,} tried", end="", file=self.out, flush=True)
+
+    def clear(self) -> None:
+        if self.is_shown:
+            print("\r\033[K", end="", file=self.out, flush=True)

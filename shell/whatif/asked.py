@@ -1,0 +1,130 @@
+"""What a `whatif` asks for, out of the words of a command line or of a dialogue."""
+from __future__ import annotations
+
+import argparse
+from dataclasses import dataclass
+from typing import NoReturn, Optional, Sequence, Tuple
+
+from ..charts.windows import read_place
+from ..helps import SHELL, WHATIF
+from ..laboratory import Unknown
+from ..language.forms import nearest, one_of
+from .faults import KINDS, OF_PAIRS
+from .groups import WATCHED, Watch
+
+
+@dataclass(frozen=True)
+class Asked:
+    """Which faults are tried, at which events, alone or two together; which groups are shown; and the file for variants."""
+
+    faults: Tuple[str, ...] = ()
+    watch: Watch = Watch()
+    first: int = 1
+    last: Optional[int] = None
+    pairs: bool = False
+    only: Tuple[int, ...] = ()
+    out: Optional[str] = None
+
+    @property
+    def kinds(self) -> Tuple[str, ...]:
+        return self.faults or (OF_PAIRS if self.pairs else tuple(KINDS))
+
+    def within(self, branch: str, events: int) -> Tuple[int, int]:
+        """The first and the last event that faults are tried at, or what is wrong with them."""
+        last = events if self.last is None else self.last
+        for number in (self.first, last):
+            if not 1 <= number <= events:
+                raise Unknown(f"{branch} has no event {number}: those that stand are counted from 1 to {events}")
+        if self.first > last:
+            raise Unknown(f"there is no event from {self.first} on up to {last}, which comes before it")
+        return self.first, last
+
+
+class Options(argparse.Namespace):
+    """The words as they are read: those of the options, and the branch of a dialogue."""
+
+    branch: str
+    faults: Tuple[str, ...]
+    watch: Watch
+    first: int
+    last: Optional[int]
+    pairs: bool
+    only: Tuple[int, ...]
+    out: Optional[str]
+
+
+def add_options(words: argparse.ArgumentParser) -> None:
+    """The options, the same on a command line and in a dialogue."""
+    every = ",".join(KINDS)
+    words.add_argument("--faults", type=_kinds, default=(), metavar="KINDS", help=f"tries these kinds of faults alone, out of {every}")
+    words.add_argument(
+        "--watch", type=_watch, default=Watch(), metavar="WHAT",
+        help=f"shows the groups alone that change this: {', '.join(WATCHED)}, or numbers of events, joined by commas",
+    )
+    words.add_argument("--from", dest="first", type=_place, default=1, metavar="K", help="tries faults at the K-th event and later ones")
+    words.add_argument("--to", dest="last", type=_place, metavar="L", help="tries faults at the L-th event and earlier ones")
+    words.add_argument("--pairs", action="store_true", help="tries each two faults together, restarts and clocks if --faults names them")
+    words.add_argument("--only", type=_groups, default=(), metavar="N", help="shows the N-th group alone, with all of its faults")
+    words.add_argument(
+        "--out", type=_script, metavar="FILE.pfl", help="writes a copy of the script with a branch for each group"
+    )
+
+
+def asked(words: Options) -> Asked:
+    return Asked(words.faults, words.watch, words.first, words.last, words.pairs, words.only, words.out)
+
+
+class _OfDialogue(argparse.ArgumentParser):
+    """Reads the words of a dialogue, where a fault ends nothing."""
+
+    def error(self, message: str) -> NoReturn:
+        raise Unknown(f"{message[:1].lower()}{message[1:]}; usage: {SHELL[WHATIF].form}")
+
+
+def read(words: Sequence[str]) -> Tuple[str, Asked]:
+    """The branch that is named in a dialogue, or nothing, and what is asked."""
+    reader = _OfDialogue(prog=WHATIF, add_help=False, allow_abbrev=False)
+    reader.add_argument("branch", nargs="?", default="")
+    add_options(reader)
+    options = reader.parse_args(words, Options())
+    return options.branch, asked(options)
+
+
+def _kinds(word: str) -> Tuple[str, ...]:
+    kinds = tuple(word.split(","))
+    for it in kinds:
+        if it not in KINDS:
+            raise argparse.ArgumentTypeError(f"`{it}` is no kind of fault{nearest(it, KINDS)}: {one_of(KINDS)}, joined by commas")
+    return kinds
+
+
+def _watch(word: str) -> Watch:
+    parts = word.split(",")
+    for it in parts:
+        if it not in WATCHED and not _is_number(it):
+            raise argparse.ArgumentTypeError(f"`{it}` is not {one_of((*WATCHED, 'the number of an event'))}")
+    numbers = frozenset(int(it) for it in parts if it not in WATCHED)
+    return Watch(frozenset(it for it in parts if it in WATCHED), numbers)
+
+
+def _place(word: str) -> int:
+    try:
+        return read_place(word)
+    except Unknown as why:
+        raise argparse.ArgumentTypeError(str(why)) from why
+
+
+def _groups(word: str) -> Tuple[int, ...]:
+    if not all(map(_is_number, word.split(","))):
+        raise argparse.ArgumentTypeError(f"`{word}`: groups are numbered from 1 on; several are joined by commas")
+    return tuple(sorted({*map(int, word.split(","))}))
+
+
+def _script(word: str) -> str:
+    if not word.endswith(".pfl"):
+        raise argparse.ArgumentTypeError(f"{word}: the name of a script ends in .pfl")
+    return word
+
+
+def _is_number(word: str) -> bool:
+    return word.isdecimal() and word.isascii() and len(word) <= 10 and int(word) > 0

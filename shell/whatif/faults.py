@@ -1,0 +1,270 @@
+"""The single faults of a run as data: what each leaves out of the list of its events, and what it puts between them."""
+from __future__ import annotations
+
+from dataclasses import dataclass
+from itertools import combinations
+from typing import Callable, Dict, FrozenSet, Iterator, List, NamedTuple, Sequence, Tuple
+
+from ..branches import Happened
+from ..language import events
+from ..language.events import CUT, DELIVER, FLUSH, LOSE, OF_FRAME, PACKET, PURGE, RELEASE, REPEAT, RESTART, RETRY, SENT, TICK, TURN
+from ..language.names import NODES
+from ..words import counted, seconds
+
+# How far a clock jumps: further than the 60 s of udp.first and udp.multiple.
+JUMP = 61_000
+# How many events a frame comes late.
+LATE = (1, 2, 4)
+# Where the records of a frame begin: its header, and the head of its first group.
+FIRST_RECORD = 24
+# Where an event stands: after this number of events of the run, and its rank among those that stand there.
+Position = Tuple[int, int]
+# An event of the run itself, one that comes late, one that a fault puts before the next event, and what befalls that one's frame.
+OWN, AFTER, BETWEEN, BEFORE = 0, 1, 2, 3
+
+
+class Planned(NamedTuple):
+    """An event that is to happen: its number in the run, or 0 where a fault adds it; its line, with the tickets and names of the
+    run; and the ticket under which the run knows the frame that it sends, or 0. A frame that a fault adds has a negative ticket."""
+
+    number: int
+    line: str
+    sends: int = 0
+
+    @property
+    def words(self) -> List[str]:
+        return self.line.split()
+
+    @property
+    def frame(self) -> int:
+        """The frame that it is about, or 0."""
+        words = self.words
+        return int(words[1]) if words[0] in OF_FRAME else 0
+
+
+class Sent(NamedTuple):
+    """A frame of the run: the event that sent it, its bytes, and the events about it, in their order."""
+
+    ticket: int
+    number: int
+    length: int
+    later: List[Happened]
+
+    def has(self, kind: events.Event) -> bool:
+        return any(it.kind is kind for it in self.later)
+
+    @property
+    def end(self) -> int:
+        """The event that delivered or lost it; 0 where it is in flight after the last event."""
+        return next((it.number for it in self.later if it.kind in (DELIVER, LOSE)), 0)
+
+
+class Course:
+    """The events of a run with what came of each, and its frames."""
+
+    def __init__(self, lines: Sequence[str], outcomes: Sequence[str]):
+        self.events = [Happened(number, *it) for number, it in enumerate(zip(lines, outcomes), 1)]
+        self.frames: Dict[int, Sent] = {}
+        self.planned = [self._planned(it) for it in self.events]
+        # By the name of a state the first packet that met it, which made it.
+        self.makers: Dict[str, int] = {}
+        for it in self.events:
+            if it.kind is PACKET and len(it.outcome) > 1 and it.outcome[0] != events.DROPPED.word:
+                self.makers.setdefault(it.outcome[1], it.number)
+
+    def _planned(self, it: Happened) -> Planned:
+        sends = int(it.outcome[1]) if it.outcome[0] == SENT.word else 0
+        if sends:
+            self.frames[sends] = Sent(sends, it.number, int(it.outcome[2]), [])
+        if it.words[0] in OF_FRAME:
+            self.frames[int(it.words[1])].later.append(it)
+        return Planned(it.number, it.line, sends)
+
+    def __len__(self) -> int:
+        return len(self.events)
+
+
+@dataclass(frozen=True)
+class Fault:
+    """A fault: its kind, the event that it is about, what it is in words (but for the event that it comes before, where it is
+    between events), which events it leaves out, and what it adds where."""
+
+    kind: str
+    at: int
+    text: str
+    left_out: FrozenSet[int] = frozenset()
+    added: Tuple[Tuple[Position, Planned], ...] = ()
+    # What two faults cannot both befall: a frame by its ticket, or an event by its negative number; 0 for what is between events.
+    subject: int = 0
+
+    @property
+    def name(self) -> str:
+        """It in words, with the event that it is about."""
+        return self.text if self.subject else f"{self.text} before event {self.at}"
+
+    @property
+    def place(self) -> int:
+        """How many events of the run are as they were before the first that it changes."""
+        return min([number - 1 for number in self.left_out] + [position[0] for position, _ in self.added])
+
+
+# A fault alone, or two together.
+Variant = Tuple[Fault, ...]
+
+
+def place_of(variant: Variant, course: Course) -> int:
+    """How many events a variant has in common with its run from the first on."""
+    return min((it.place for it in variant), default=len(course))
+
+
+def planned(course: Course, variant: Variant) -> List[Planned]:
+    """The events of a variant, from the first that is not as it was."""
+    place = place_of(variant, course)
+    left_out = {number for it in variant for number in it.left_out}
+    steps: List[Tuple[Position, Planned]] = [((it.number, OWN), it) for it in course.planned[place:] if it.number not in left_out]
+    steps += [step for it in variant for step in it.added]
+    # (the order of those that stand at one place is that in which they are named)
+    return [it for _, it in sorted(steps, key=lambda step: step[0])]
+
+
+# ---- frames
+
+
+def _delivered(course: Course) -> Iterator[Sent]:
+    """The frames that are delivered, and those that are in flight after the last event, which are delivered at the end."""
+    return (it for it in course.frames.values() if not it.has(LOSE))
+
+
+def _of_frame(kind: str, frame: Sent, what: str, *added: Tuple[Position, Planned], is_moved: bool = False) -> Fault:
+    """What befalls a frame where it would be delivered; the delivery itself is left out where it is moved."""
+    where = f"event {frame.end}" if frame.end else f"sent by event {frame.number}"
+    left_out = frozenset([frame.end]) if is_moved and frame.end else frozenset()
+    return Fault(kind, frame.end or frame.number, f"frame {frame.ticket} {what} ({where})", left_out, added, frame.ticket)
+
+
+def _before(course: Course, frame: Sent) -> Position:
+    """Just before a frame is delivered; after the last event where that is not in the run."""
+    return (frame.end - 1, BEFORE) if frame.end else (len(course), BEFORE)
+
+
+def _lost(course: Course) -> Iterator[Fault]:
+    for it in _delivered(course):
+        at = (it.end, OWN) if it.end else _before(course, it)
+        yield _of_frame("lose", it, "lost", (at, Planned(it.end, f"{LOSE.word} {it.ticket}")), is_moved=True)
+
+
+def _twice(course: Course) -> Iterator[Fault]:
+    """A frame is doubled, and its copy delivered just after it."""
+    for it in _delivered(course):
+        again = Planned(0, f"{REPEAT.word} {it.ticket}", -it.ticket)
+        second = ((it.end, AFTER), Planned(0, f"{DELIVER.word} {-it.ticket}"))
+        yield _of_frame("twice", it, "twice", (_before(course, it), again), *([second] if it.end else []))
+
+
+def _cut(course: Course) -> Iterator[Fault]:
+    """A frame is cut in the middle of its records."""
+    for it in _delivered(course):
+        length = (FIRST_RECORD + it.length) // 2
+        if not it.has(CUT):
+            step = Planned(0, f"{CUT.word} {it.ticket} {length}")
+            yield _of_frame("cut", it, f"cut to {length} bytes", (_before(course, it), step))
+
+
+def _late(course: Course) -> Iterator[Fault]:
+    """A frame comes some events late, which are not all that follow."""
+    frames = ((it, more) for it in _delivered(course) for more in LATE if 0 < it.end < len(course) - more)
+    for it, more in frames:
+        yield _moved("late", it, it.end + more, f"late by {counted(more, 'event')}")
+
+
+def _last(course: Course) -> Iterator[Fault]:
+    """A frame comes after all events, also one that the run lost."""
+    for it in course.frames.values():
+        if it.has(LOSE):
+            yield _moved("last", it, len(course), "not lost, but last")
+        elif 0 < it.end < len(course):
+            yield _moved("last", it, len(course), "last")
+
+
+def _moved(kind: str, frame: Sent, after: int, what: str) -> Fault:
+    step = Planned(frame.end, f"{DELIVER.word} {frame.ticket}")
+    return _of_frame(kind, frame, what, ((after, AFTER), step), is_moved=True)
+
+
+# ---- events
+
+
+SKIPPED = (PACKET, FLUSH, PURGE, RELEASE, TURN, RETRY)
+# Faults that the run itself has, and which are not about a frame.
+OWN_FAULTS = (RESTART, events.KILL, events.CLEAR)
+
+
+def _without(kind: str, it: Happened) -> Fault:
+    words = it.words
+    what = f"{words[0]} {' '.join(words[1:6])}" if it.kind is PACKET else it.line
+    return Fault(kind, it.number, f"without event {it.number} ({what})", frozenset([it.number]), (), -it.number)
+
+
+def _skipped(course: Course) -> Iterator[Fault]:
+    for it in course.events:
+        if it.kind in SKIPPED:
+            yield _without("skip", it)
+
+
+def _between(kind: str, course: Course, text: str, line: str) -> Iterator[Fault]:
+    """Something that happens before each event in turn."""
+    for number in range(1, len(course) + 1):
+        yield Fault(kind, number, text, frozenset(), (((number - 1, BETWEEN), Planned(0, line)),))
+
+
+def _restarted(course: Course) -> Iterator[Fault]:
+    for node in NODES:
+        yield from _between("restart", course, f"{node} restarts", f"{RESTART.word} {node}")
+
+
+def _jumped(course: Course) -> Iterator[Fault]:
+    for node in NODES:
+        yield from _between("clock", course, f"the clock of {node} {seconds(JUMP)} on", f"{TICK.word} {node} {JUMP}")
+
+
+def _undone(course: Course) -> Iterator[Fault]:
+    """The faults of the run itself, each as if it had not been."""
+    for it in course.events:
+        if it.kind is LOSE:
+            frame = course.frames[int(it.words[1])]
+            step = Planned(it.number, f"{DELIVER.word} {frame.ticket}")
+            yield _of_frame("undone", frame, "not lost", ((it.number, OWN), step), is_moved=True)
+        elif it.kind in (CUT, REPEAT):
+            what = "not cut" if it.kind is CUT else "not repeated"
+            text = f"frame {it.words[1]} {what} (event {it.number})"
+            yield Fault("undone", it.number, text, frozenset([it.number]), (), int(it.words[1]))
+        elif it.kind in OWN_FAULTS:
+            yield _without("undone", it)
+
+
+# The kinds of faults, in the order in which they are tried and named.
+KINDS: Dict[str, Callable[[Course], Iterator[Fault]]] = {
+    "undone": _undone,
+    "lose": _lost,
+    "twice": _twice,
+    "cut": _cut,
+    "late": _late,
+    "last": _last,
+    "skip": _skipped,
+    "restart": _restarted,
+    "clock": _jumped,
+}
+# Those that two of are tried together, where nobody asks for others: these have no place of their own in a run.
+OF_PAIRS = tuple(it for it in KINDS if it not in ("restart", "clock"))
+
+
+def faults_of(course: Course, kinds: Sequence[str], first: int, last: int) -> List[Fault]:
+    """The faults of these kinds at the events from the first to the last."""
+    return [it for kind, those in KINDS.items() if kind in kinds for it in those(course) if first <= it.at <= last]
+
+
+def pairs_of(faults: Sequence[Fault]) -> Iterator[Variant]:
+    """Each two of some faults that can both be."""
+    for one, two in combinations(faults, 2):
+        if not (one.subject and one.subject == two.subject) and not one.left_out & two.left_out:
+            yield one, two

@@ -1,0 +1,68 @@
+"""What frames and states of a run are called in a variant of it."""
+from __future__ import annotations
+
+from typing import Dict, Optional, Sequence, Tuple
+
+from ..language.events import HELD_BACK, KILL, OF_FRAME, PACKET, PASS, SENT
+from .faults import Course, Planned
+
+
+class Names:
+    """The tickets and the names in a variant that parts from its run after some events. Tickets are counted, so that one is foreseen
+    where every event that sends is accepted."""
+
+    def __init__(self, course: Course, place: int):
+        self.course, self.place = course, place
+        self._tickets: Dict[int, int] = {}
+        self._next_ticket = 1 + sum(it.number <= place for it in course.frames.values())
+        # By node and name.
+        self._states: Dict[Tuple[str, str], str] = {}
+
+    def line(self, step: Planned) -> Optional[str]:
+        """The line of an event, if the frame or the state is there that it is about."""
+        words = step.words
+        if words[0] in OF_FRAME:
+            ticket = self._of_frame(int(words[1]))
+            return None if ticket is None else " ".join([words[0], str(ticket), *words[2:]])
+        if words[0] == KILL.word:
+            name = self._of_state(words[1], words[2])
+            return None if name is None else " ".join([*words[:2], name])
+        return step.line
+
+    def _of_frame(self, ticket: int) -> Optional[int]:
+        """The ticket of a frame, if it was sent. Up to the place tickets are those of the run."""
+        frame = self.course.frames.get(ticket)
+        return ticket if frame and frame.number <= self.place else self._tickets.get(ticket)
+
+    def _of_state(self, node: str, name: str) -> Optional[str]:
+        """The name of a state, as the newest packet shows that met it in the run, first of all at this node."""
+        elsewhere = [it for (_, its), it in self._states.items() if its == name]
+        as_it_was = [name] if self.course.makers.get(name, len(self.course) + 1) <= self.place else []
+        return next(iter([*filter(None, [self._states.get((node, name))]), *elsewhere[-1:], *as_it_was]), None)
+
+    def foresee(self, step: Planned) -> None:
+        """Gives the frame that an event will send its ticket, if it will send one."""
+        if step.sends:
+            self._tickets[step.sends] = self._next_ticket
+            self._next_ticket += 1
+
+    def forget(self, steps: Sequence[Planned]) -> None:
+        """Takes back what was foreseen of the newest events."""
+        sent = [it.sends for it in steps if it.sends]
+        for ticket in sent:
+            del self._tickets[ticket]
+        self._next_ticket -= len(sent)
+
+    def learn(self, step: Planned, outcome: Sequence[str]) -> None:
+        """Takes what an event answered."""
+        if step.sends and outcome[0] == SENT.word:
+            self._tickets[step.sends] = int(outcome[1])
+        elif step.number and step.words[0] == PACKET.word:
+            was = self.course.events[step.number - 1].outcome
+            if _has_state(was) and _has_state(outcome):
+                self._states[step.words[1], was[1]] = outcome[1]
+
+
+def _has_state(outcome: Sequence[str]) -> bool:
+    """Whether a packet met a state, or made one, and is not dropped."""
+    return outcome[0] in (PASS.word, HELD_BACK.word) and outcome[1] != "-"

@@ -1,0 +1,171 @@
+"""Plays variants of a run: one program holds the run, and a branch begins for each variant where it parts from it."""
+from __future__ import annotations
+
+from collections import deque
+from dataclasses import dataclass, field
+from typing import Deque, Dict, List, NamedTuple, Optional, Sequence, Tuple
+
+from ..branches import Branch
+from ..laboratory import Laboratory, Unknown, outcome_of
+from ..language.commands import BACK, DROP, FORK, SHOW, STEP
+from ..language.events import DELIVER, FLUSH, KILL, SENT
+from ..language.names import NODES
+from ..macros import next_steps
+from ..pair import Pair, read_shown
+from .faults import Course, Planned, Variant, place_of, planned
+from .names import Names
+
+# The branch that a variant is played on; the second name where the run's own branch has the first.
+NAMES = ("variant", "other")
+# For each line that is shown first a pair has at most this number of steps until nothing is pending or in flight, and some more: a
+# state has its turn of a bulk update, the frame that brings it, and an answer.
+STEPS_OF_ONE, SPARE_STEPS = 4, 100
+NOTHING_PENDING = "NothingPending"
+ENDLESS = "the nodes go on answering each other"
+# How many lines are sent together: they and their replies have room in a pipe.
+MOST_TOGETHER = 128
+
+
+class Refused(NamedTuple):
+    """An event that did not happen: its place among those that were to happen, from 0 on; its number in the run, or 0 where the
+    fault adds it; its line, with the variant's tickets and names; and the name of the refusal."""
+
+    at: int
+    number: int
+    line: str
+    why: str
+
+
+@dataclass
+class Played:
+    """A variant as it went, from the first event on that is not as it was."""
+
+    place: int
+    # By their numbers in the run what came of its events, and their places in the variant; those that the fault adds are not there.
+    came: Dict[int, str] = field(default_factory=dict)
+    places: Dict[int, int] = field(default_factory=dict)
+    # What was stepped: each event with its number in the run, or 0, refused ones too; and then those until all was told.
+    steps: List[Tuple[int, str]] = field(default_factory=list)
+    until_quiet: List[str] = field(default_factory=list)
+    refused: List[Refused] = field(default_factory=list)
+    # The events whose frame or state is not there.
+    without_subject: List[int] = field(default_factory=list)
+    # The last reply to `show`, and what keeps the pair from being quiet.
+    shown: List[str] = field(default_factory=list)
+    trouble: str = ""
+
+    @property
+    def pair(self) -> Pair:
+        """The pair at the end."""
+        return read_shown(self.shown)
+
+
+class _Waiting(NamedTuple):
+    """An event that waits to be stepped: its place among those that are to happen, and its line in the variant."""
+
+    at: int
+    step: Planned
+    line: str
+
+
+class Player:
+    """Plays variants of the first events of a branch, in a laboratory of its own in which that branch stands."""
+
+    def __init__(self, lab: Laboratory, branch: Branch, course: Course):
+        self.lab, self.branch, self.course = lab, branch, course
+        self.name = next(it for it in NAMES if it != branch.name)
+        self._has_variant = False
+
+    def play(self, variant: Variant, until: Optional[int] = None) -> Played:
+        """Plays a variant on a branch, which stays until the next one; only so many of its events, where a number is given."""
+        place = place_of(variant, self.course)
+        played, names = Played(place), Names(self.course, place)
+        self._begin(place)
+        steps: Deque[Tuple[int, Planned]] = deque(enumerate(planned(self.course, variant)[:until]))
+        waiting: List[_Waiting] = []
+        while steps or waiting:
+            if not steps or len(waiting) == MOST_TOGETHER or waiting and steps[0][1].words[0] == KILL.word:
+                steps.extendleft(self._step(waiting, played, names))
+                continue
+            at, step = steps.popleft()
+            line = names.line(step)
+            if line is None:
+                played.without_subject += [step.number] * bool(step.number)
+            else:
+                waiting.append(_Waiting(at, step, line))
+                names.foresee(step)
+        if until is None:
+            self._quiet(played)
+        return played
+
+    def _begin(self, place: int) -> None:
+        """A new branch for a variant. An interrupt can have left the last one half done."""
+        had, self._has_variant = self._has_variant, True
+        fork = f"{FORK.word} {self.branch.name} {place} {self.name}"
+        replies = self._asked([*[f"{DROP.word} {self.name}"] * had, fork])
+        if replies[-1] != ["forked"]:
+            raise Unknown(f"the program answers `{replies[-1][0]}` to `{fork}`")
+
+    def _asked(self, lines: Sequence[str]) -> List[List[str]]:
+        assert self.lab.session
+        session, parts = self.lab.session, range(0, len(lines), MOST_TOGETHER)
+        return [reply for at in parts for reply in session.ask_together(lines[at : at + MOST_TOGETHER])]
+
+    def _step(self, waiting: List[_Waiting], played: Played, names: Names) -> List[Tuple[int, Planned]]:
+        """Steps what is waiting, and takes what comes of it. Where an event that sends is refused, the tickets of those behind it are
+        others than foreseen: these are undone and come back, the last one first."""
+        replies = [it[0] for it in self._asked([f"{STEP.word} {self.name} {it.line}" for it in waiting])]
+        refused = [reply.startswith("refused") for reply in replies]
+        good = next((at + 1 for at, it in enumerate(waiting) if it.step.sends and refused[at]), len(waiting))
+        again = waiting[good:]
+        names.forget([it.step for it in again])
+        for it, reply in zip(waiting[:good], replies):
+            self._take(it, outcome_of(reply), played, names)
+        undone = refused[good:].count(False)
+        if undone:
+            self._asked([f"{BACK.word} {self.name} {undone}"])
+        waiting.clear()
+        return [(it.at, it.step) for it in reversed(again)]
+
+    def _take(self, it: _Waiting, outcome: str, played: Played, names: Names) -> None:
+        """Takes what came of an event."""
+        played.steps.append((it.step.number, it.line))
+        if outcome.startswith("refused"):
+            played.refused.append(Refused(it.at, it.step.number, it.line, outcome.split()[-1]))
+            names.forget([it.step])
+        else:
+            names.learn(it.step, outcome.split())
+        if it.step.number:
+            played.came[it.step.number] = outcome
+            played.places[it.step.number] = played.place + len(played.steps) - len(played.refused)
+
+    def _quiet(self, played: Played) -> None:
+        """Goes on as `quiet` does: what is in flight arrives, what is pending is sent, bulk updates take their turns."""
+        most = 0
+        while not played.trouble:
+            played.shown = self._asked([f"{SHOW.word} {self.name}"])[0]
+            most = most or SPARE_STEPS + STEPS_OF_ONE * len(played.shown)
+            # (the states do not count here, and can be many)
+            events = next_steps(read_shown([it for it in played.shown if not it.startswith("state ")]))
+            if not events:
+                return
+            self._go_on(events, played, most)
+
+    def _go_on(self, events: Sequence[str], played: Played, most: int) -> None:
+        """Steps some events and what follows from them, as far as that is known without looking."""
+        while events and not played.trouble:
+            events = self._followed(events, played)
+            played.trouble = played.trouble or ENDLESS * (len(played.until_quiet) > most)
+
+    def _followed(self, events: Sequence[str], played: Played) -> List[str]:
+        """Steps what brings the pair nearer to quiet: the deliveries of what is sent then. After deliveries both nodes send what they
+        have; that one has nothing is no trouble, and asking so is quicker than looking."""
+        tried = [f"{FLUSH.word} {node}" for node in NODES] if events[0].startswith(DELIVER.word) else []
+        replies = self._asked([f"{STEP.word} {self.name} {it}" for it in (*events, *tried)])
+        outcomes = [(event, outcome_of(reply[0]).split()) for event, reply in zip((*events, *tried), replies)]
+        stepped = [(event, outcome) for event, outcome in outcomes if not (event in tried and outcome[-1] == NOTHING_PENDING)]
+        played.until_quiet += [event for event, _ in stepped]
+        refused = [event for event, outcome in stepped if outcome[0] == "refused"]
+        if refused:
+            played.trouble = f"`{refused[0]}` is refused"
+        return [f"{DELIVER.word} {outcome[1]}" for _, outcome in stepped if outcome[0] == SENT.word]

@@ -1,0 +1,120 @@
+"""Tries the faults of a run, each by itself or each two together, and groups them by what they change."""
+from __future__ import annotations
+
+from dataclasses import dataclass, field
+from typing import Callable, Iterable, Iterator, List
+
+from ..branches import Branch
+from ..laboratory import Laboratory, Unknown
+from ..setups import Setup
+from .asked import Asked
+from .faults import Course, Fault, Variant, faults_of, pairs_of
+from .groups import Base, Effect, Groups, is_of_one
+from .plays import Player
+
+# How many events of variants are stepped at most where nobody named a part of the run, so that it takes minutes and not hours.
+MOST_EVENTS = 10_000_000
+# Takes how many variants are tried, and how many there are.
+Progress = Callable[[int, int], None]
+
+ON_A_SERVER = "a server does not report its setup: with --setup FILE, the file that it read, faults are tried in runs of their own"
+
+
+@dataclass
+class Tried:
+    """What was tried, how far that came, and what it changes."""
+
+    player: Player
+    base: Base
+    asked: Asked
+    # The last reply to `show` of the run as it was, at its end.
+    shown: List[str]
+    faults: List[Fault]
+    total: int
+    done: int = 0
+    groups: Groups = field(default_factory=Groups)
+    # How many pairs change what one of their faults alone changes, or each of them alone.
+    of_one: int = 0
+    is_interrupted: bool = False
+
+    @property
+    def course(self) -> Course:
+        return self.player.course
+
+    @property
+    def setup(self) -> Setup:
+        return self.player.lab.setup
+
+
+def course_of(lab: Laboratory, branch: Branch) -> Course:
+    """The events of a branch that stand, with their outcomes."""
+    if not lab.knows_setup:
+        raise Unknown(ON_A_SERVER)
+    lines = branch.events[: branch.cursor]
+    if not lines:
+        undone = ": all that it has are undone" if branch.events else ""
+        raise Unknown(f"{branch.name} has no events that stand{undone}, and so no faults to try")
+    return Course(lines, lab.outcomes(lines))
+
+
+def tried(player: Player, asked: Asked, progress: Progress) -> Tried:
+    """Tries what is asked for. An interrupt ends it, and what was found until then counts."""
+    course, setup = player.course, player.lab.setup
+    faults = faults_of(course, asked.kinds, *asked.within(player.branch.name, len(course)))
+    if not asked.pairs:
+        _bounded(player.branch.name, course, faults)
+    played = player.play(())
+    base = Base.of(course, played, setup)
+    total = sum(1 for _ in pairs_of(faults)) if asked.pairs else len(faults)
+    it = Tried(player, base, asked, played.shown, faults, total)
+    try:
+        (_try_pairs if asked.pairs else _try_each)(it, progress)
+    except KeyboardInterrupt:
+        it.is_interrupted = True
+    return it
+
+
+def _bounded(branch: str, course: Course, faults: List[Fault]) -> None:
+    """Refuses what would take hours."""
+    events = sum(len(course) - it.place for it in faults)
+    if events > MOST_EVENTS:
+        raise Unknown(
+            f"{branch} has {len(course):,} events that stand and {len(faults):,} single faults, whose runs have {events:,} events"
+            f" together; at most {MOST_EVENTS:,} are tried: --from K and --to L try the faults at some events alone, and --faults"
+            " some kinds alone"
+        )
+
+
+def _effect(it: Tried, variant: Variant) -> Effect:
+    return it.base.effect(it.player.play(variant), it.setup)
+
+
+def _counted(it: Tried, variants: Iterable[Variant], progress: Progress) -> Iterator[Variant]:
+    """The variants, each of which counts once it is done."""
+    for variant in variants:
+        progress(it.done, it.total)
+        yield variant
+        it.done += 1
+
+
+def _watched(it: Tried, progress: Progress) -> Iterator[Fault]:
+    """The faults that are tried before any pair is."""
+    for fault in it.faults:
+        progress(0, it.total)
+        yield fault
+
+
+def _try_each(it: Tried, progress: Progress) -> None:
+    for variant in _counted(it, ((fault,) for fault in it.faults), progress):
+        it.groups.add(variant, _effect(it, variant))
+
+
+def _try_pairs(it: Tried, progress: Progress) -> None:
+    """Tries each fault by itself first: only a pair that does something else counts."""
+    alone = {fault: _effect(it, (fault,)) for fault in _watched(it, progress)}
+    for one, two in _counted(it, pairs_of(it.faults), progress):
+        effect = _effect(it, (one, two))
+        if is_of_one(effect, alone[one], alone[two], one.left_out | two.left_out):
+            it.of_one += 1
+        else:
+            it.groups.add((one, two), effect)
