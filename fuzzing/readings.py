@@ -8,7 +8,7 @@ from typing import List, Optional, Sequence, Tuple
 from shell.language.faults import LIMIT_FAULTS, LINE_FAULTS, RULE_FAULTS, numbered
 from shell.language.lines import check_line, has_word, lines_of, opens
 from shell.language.readers import LineFault
-from shell.language.setups import MOST_RULES, NAT
+from shell.language.setups import MOST_RULES, NAT, RDR
 from shell.setups import Rule, Setup
 
 
@@ -81,7 +81,9 @@ def _fault_of(rules: Sequence[Rule]) -> Optional[str]:
         return "TooMany"
     if any(it.has(NAT) and it.words[1] != "out" for it in rules):
         return "NatNotOut"
-    return "ZeroMax" if any(it.most_states == 0 for it in rules) else None
+    if any(it.most_states == 0 for it in rules):
+        return "ZeroMax"
+    return "RdrNotIn" if any(it.has(RDR) and it.words[1] != "in" for it in rules) else None
 
 
 def fault_of_limits(setup: Setup) -> str:

@@ -9,7 +9,7 @@ from shell.language.forms import ACTION, RULE_DIRECTION
 from shell.language.lines import KNOWN
 from shell.language.names import NODES
 from shell.language.searches import ANY, GOALS, SCOPES
-from shell.language.setups import CLASS, LIMITS, OPTIONS
+from shell.language.setups import CLASS, LIMITS, OPTIONS, TIMEOUT
 
 # The numbers at which something begins or ends, each with its neighbours.
 EDGES = (
@@ -29,6 +29,12 @@ NETS = (
     *("10.0.0.0/8", "10.0.0.1/32", "0.0.0.0/0", "10.0.0.0/33", "10.0.0.1/", "/8"),
     *("2001:0db8:0000:0000:0000:0000:0000:0000/32", "2001:0db8:0000:0000:0000:0000:0000:0000/129"),
 )
+PORTS = ("53", "80", "53:80", "80:80", "80:53", "1000:1001", "0:65535", "053:0080", "65535:65536", "70000", "53:", ":53", "1:2:3", ":")
+POOLS = (
+    *("203.0.113.1:7000", "203.0.113.1:7000:7001", "198.51.100.1:4000:4003", "010.0.0.1:07000:07000", "192.0.2.1:0:65535"),
+    *("[2001:0db8:0000:0000:0000:0000:0000:0001]:1000:1001", "[2001:0db8:0000:0000:0000:0000:0000:0001]:7:7"),
+    *("10.0.0.1:2:1", "10.0.0.1:1:2:3", "10.0.0.1:", "10.0.0.1", "[10.0.0.1]:1:2", "[2001:db8::1]:1:2", "10.0.0.1:1:65536"),
+)
 BRANCHES = (
     *("main", "other", "w0", "f1", "a", "b", "a-9", "ma", "maine", "Main", "-a", "1a", "m_n"),
     *("x" * 16, "x" * 17, "x" * 32, "x" * 33),
@@ -46,18 +52,20 @@ ALIKE: Tuple[Sequence[str], ...] = (
     (*NODES, "A", "ab"),
     RULE_DIRECTION.words,
     ACTION.words,
-    tuple(LIMITS),
+    (*LIMITS, TIMEOUT.word),
     CLASS.words,
     (*OPTIONS, "port", "keep"),
     FLAGS,
     PROTOCOLS,
     ENDS,
     NETS,
+    PORTS,
+    POOLS,
     BRANCHES,
     STATES,
 )
 # Words of a form by its name, right ones and others, and numbers where there are none.
-BY_NAME = {"P": PROTOCOLS, "NET": NETS, "END": ENDS}
+BY_NAME = {"P": PROTOCOLS, "NET": NETS, "PORTS": PORTS, "POOL": POOLS}
 FEW = (0, 1, 1, 2, 2, 3, 53, 80, 1000, 65535)
 # What many pairs show, in the lines that events are made from.
 SHOWN = (

@@ -20,12 +20,14 @@ def flow(chance: random.Random) -> Tuple[str, str, str]:
     """A protocol and the ends of one of a few flows, the inner one first."""
     kind = chance.random()
     inner = chance.choice(("10.0.0.1", "10.0.0.1", "10.0.0.1", "10.0.0.2", "203.0.113.1"))
+    # (rules of `setups.py` translate to this address and these ports)
+    is_translated = inner == "203.0.113.1"
     if kind < 0.1:
-        return "icmp", f"{inner}:7", "192.0.2.9:7"
-    if kind < 0.5:
-        port = 7000 if inner == "203.0.113.1" else chance.randint(1000, 1002)
-        return "udp", f"{inner}:{port}", "192.0.2.9:53"
-    return "tcp", f"{inner}:{chance.randint(1000, 1001)}", "192.0.2.9:80"
+        identifier = 7000 if is_translated else 7
+        return "icmp", f"{inner}:{identifier}", f"192.0.2.9:{identifier}"
+    protocol, outer, most = ("udp", "192.0.2.9:53", 1002) if kind < 0.5 else ("tcp", "192.0.2.9:80", 1001)
+    port = chance.randint(7000, 7001) if is_translated else chance.randint(1000, most)
+    return protocol, f"{inner}:{port}", outer
 
 
 def packet(chance: random.Random, node: str) -> str:

@@ -7,12 +7,12 @@ from shell.explanations import Expiry, Explanation, Judged, OfState, Purge, read
 from shell.frames import Frame
 from shell.language.events import DELIVER, PACKET, PURGE, read_packet
 from shell.language.names import SYN_SENT, Name
-from shell.language.packets import Key, PacketEvent
+from shell.language.packets import PacketEvent
 from shell.language.records import BY_WORD
-from shell.language.setups import DEFER, NAT, NO_SYNC, STATES
+from shell.language.setups import DEFER, NO_SYNC, STATES
 from shell.pair import Node, read_shown
 from shell.rulings import deciding
-from shell.setups import Setup
+from shell.setups import Keys, Setup
 from shell.states import State
 from shell.words import expires_at
 
@@ -89,12 +89,19 @@ def _judged(setup: Setup, node: Node, packet: PacketEvent) -> Judged:
         return Judged(name, number, "max", (str(most), str(many)))
     if len(standing) >= setup.limits[STATES]:
         return Judged(name, number, "full", (str(setup.limits[STATES]), str(len(standing))))
-    near = rules[number].value(NAT) if rules[number].has(NAT) else packet.key.near
-    wire = Key(packet.key.far, near)
-    found = [("wire", it.name) for it in standing if (it.protocol, it.wire) == (packet.protocol, wire)]
-    found += [("stack", it.name) for it in standing if (it.protocol, it.stack) == (packet.protocol, packet.key)]
+    found: List[Tuple[str, Name]] = []
+    for keys in rules[number].keys(packet):
+        found = _with_keys(standing, packet.protocol, keys)
+        if not found:
+            break
     how, value = [*found, ("new", Name(node.boot, node.next_id))][0]
     return Judged(name, number, how, (str(value),))
+
+
+def _with_keys(states: Sequence[State], protocol: str, keys: Keys) -> List[Tuple[str, Name]]:
+    """Which key of a new state the states have, those with its wire key first."""
+    found = [("wire", it.name) for it in states if (it.protocol, it.wire) == (protocol, keys.wire)]
+    return found + [("stack", it.name) for it in states if (it.protocol, it.stack) == (protocol, keys.stack)]
 
 
 # ---- a frame that comes

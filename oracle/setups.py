@@ -5,7 +5,7 @@ import random
 from typing import Dict, Iterator, Sequence
 
 from shell.language.names import NODES
-from shell.language.setups import AEND, ASTART, BATCH, BULK_MS, DEFER, FRAMES, HELD, MAXUPD, MTU, QUEUE, STATES, Limit
+from shell.language.setups import AEND, ASTART, BATCH, BULK_MS, CLASSES, DEFER, FRAMES, HELD, MAXUPD, MTU, QUEUE, STATES, Limit
 
 # Of each limit that is set the values that it is given, and of some the one that it has in every other setup.
 TRIED: Dict[Limit, Sequence[int]] = {
@@ -14,19 +14,41 @@ TRIED: Dict[Limit, Sequence[int]] = {
     **{BULK_MS: (1, 1000, BULK_MS.default)},
 }
 SMALLEST: Dict[Limit, int] = {STATES: 3, QUEUE: 2, FRAMES: 2, HELD: 1, BATCH: 1}
+# The ports of the flows of `events.py`, some of them, and none.
+PORTS = ("53", "80:80", "53:80", "54:79", "1000:1001", "0:65535")
 
 
 def setup(chance: random.Random) -> Iterator[str]:
-    """Limits so small that events are refused, for every other seed the smallest, and a few rules, mostly the same at both."""
+    """Limits so small that events are refused, for every other seed the smallest, timeouts of some classes, and a few rules, mostly the
+    same at both."""
     smallest = chance.random() < 0.5
     for limit, values in TRIED.items():
         yield f"set {limit.word} {SMALLEST[limit] if smallest and limit in SMALLEST else chance.choice(values)}"
     for limit in (ASTART, AEND):
         if chance.random() < 0.5:
             yield f"set {limit.word} {chance.choice((0, 0, 1, 2, 3, 5, 9))}"
-    both = chance.choice(("out", "any", "any flags any", "any timeout udp.first 5", "out max 2"))
+    for it in chance.sample(CLASSES, chance.choice((0, 0, 1, 2, 3))):
+        yield f"set timeout {it.word} {chance.choice((0, 1, 2, 5, 30, it.seconds))}"
+    yield from _rules(chance)
+
+
+def _rules(chance: random.Random) -> Iterator[str]:
+    nat, rdr = f"out nat {_pool(chance, '203.0.113.1:7000')}", f"in rdr {_pool(chance, '10.0.0.1:1000')}"
+    both = chance.choice(("out", "any", "any flags any", "any timeout udp.first 5", "out max 2", nat, f"out tport {chance.choice(PORTS)}"))
+    is_redirected = chance.random() < 0.25
     for node in NODES:
         if chance.random() < 0.2:
-            yield f"rule {node} {chance.choice(('block any tport 80', 'pass in no-sync', 'pass out max 1'))}"
-        other = chance.choice(("out", "any no-sync", "any max 1", "out nat 203.0.113.1:7000"))
+            ports = chance.choice(PORTS)
+            blocks = f"block any tport {ports}", f"block in fport {ports}"
+            yield f"rule {node} {chance.choice((*blocks, 'pass in no-sync', 'pass out max 1'))}"
+        other = chance.choice(("out", "any no-sync", "any max 1", nat, rdr, f"any fport {chance.choice(PORTS)}"))
         yield f"rule {node} pass {both if chance.random() < 0.8 else other}"
+        if is_redirected:
+            yield f"rule {node} pass {rdr}"
+
+
+def _pool(chance: random.Random, end: str) -> str:
+    """The end, or a pool of up to four ports that begins with it."""
+    address, _, port = end.partition(":")
+    ports = chance.choice((0, 0, 1, 1, 2, 3))
+    return f"{address}:{port}:{int(port) + ports}" if ports else end

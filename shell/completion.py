@@ -12,7 +12,7 @@ from .language.commands import COMMANDS, FRAME, RULE, SETUP, STEP, TYPED, WHY
 from .language.events import EVENTS
 from .language.forms import ACTION, NODE, RULE_DIRECTION
 from .language.searches import SEARCH
-from .language.setups import LIMITS, OPTIONS
+from .language.setups import LIMITS, OPTIONS, TIMEOUT
 from .pair import Pair
 from .searches.offers import offers
 from .whatif.faults import KINDS
@@ -46,7 +46,7 @@ CHOICES: Dict[str, Choice] = {
     "TICKET": _tickets,
     "NAME": _state_names,
     "EVENT": lambda lab, words: EVENTS,
-    "LIMIT": lambda lab, words: LIMITS,
+    "LIMIT": lambda lab, words: (*LIMITS, TIMEOUT.word),
     "WORD": lambda lab, words: WORDS,
 }
 
@@ -71,7 +71,7 @@ def candidates(lab: Laboratory, before: Sequence[str], begun: str) -> List[str]:
 def _following(lab: Laboratory, words: Sequence[str], part: Sequence[str], begun: str) -> Iterable[str]:
     """What can follow the words of a part of a line, by the first of them."""
     word, at = part[0], len(part) - 1
-    values = _values(word)
+    values = _values(part)
     if at >= len(values):
         return _options(part[-1]) if word == RULE.word else ()
     name, fixed = values[at]
@@ -81,12 +81,14 @@ def _following(lab: Laboratory, words: Sequence[str], part: Sequence[str], begun
     return [*(CHOICES[name](lab, words) if name in CHOICES else fixed), *(it for it in others if it and at == 0)]
 
 
-def _values(word: str) -> List[Tuple[str, Sequence[str]]]:
-    """The names of what can follow a word, each with the words that it can be where these are always the same."""
+def _values(part: Sequence[str]) -> List[Tuple[str, Sequence[str]]]:
+    """The names of what can follow the first word of a part of a line, each with the words that it can be where these are always the
+    same."""
+    word = part[0]
     if word in SHELL:
         return [(it, ()) for it in re.findall("[A-Z]+", SHELL[word].form.split("\n")[-1])]
     row = EVENTS.get(word) or TYPED.get(word) or SETUP.get(word)
-    values = (NODE, ACTION, RULE_DIRECTION) if row is RULE else row.values if row else ()
+    values = (NODE, ACTION, RULE_DIRECTION) if row is RULE else row.values_of(part) if row else ()
     return [(it.name, it.words) for it in values]
 
 

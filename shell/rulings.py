@@ -5,7 +5,7 @@ import ipaddress
 from typing import Optional, Sequence
 
 from .language.packets import PacketEvent
-from .language.setups import FLAGS_ANY, FROM, FROM_PORT, NAT, PROTO, QUICK, TO, TO_PORT, Option
+from .language.setups import FLAGS_ANY, FROM, FROM_PORT, PROTO, QUICK, TO, TO_PORT, Option
 from .setups import Rule
 
 
@@ -23,13 +23,14 @@ def deciding(rules: Sequence[Rule], packet: PacketEvent, any_flags: Optional[int
 
 def _matches(rule: Rule, packet: PacketEvent, any_flags: bool) -> bool:
     """Whether a rule is for the packet; a pass rule takes a TCP packet that begins a connection, or any if it says so."""
+    pool = rule.pool
     return (
         rule.words[1] in ("any", packet.direction)
         and (not rule.has(PROTO) or rule.value(PROTO) == packet.protocol)
         and _meets(rule, packet.source, FROM, FROM_PORT, packet.protocol)
         and _meets(rule, packet.destination, TO, TO_PORT, packet.protocol)
         and (rule.action == "block" or any_flags or not packet.is_tcp or packet.is_request)
-        and (rule.action == "block" or not rule.has(NAT) or rule.value(NAT).startswith("[") == packet.source.startswith("["))
+        and (rule.action == "block" or pool is None or pool.is_v6 == packet.source.startswith("["))
     )
 
 
@@ -38,4 +39,5 @@ def _meets(rule: Rule, end: str, net: Option, port: Option, protocol: str) -> bo
     address, _, number = end.rpartition(":")
     if rule.has(net) and ipaddress.ip_address(address.strip("[]")) not in ipaddress.ip_network(rule.value(net), strict=False):
         return False
-    return not rule.has(port) or protocol in ("tcp", "udp") and rule.value(port) == number
+    ports = rule.ports(port)
+    return ports is None or protocol in ("tcp", "udp") and ports.has(int(number))

@@ -2,13 +2,76 @@
 from __future__ import annotations
 
 from dataclasses import dataclass, field
-from typing import Dict, List, NamedTuple, Optional, Sequence, Tuple
+from typing import Dict, Iterator, List, NamedTuple, Optional, Sequence, Tuple
 
 from .language.commands import SET
 from .language.names import NODES
-from .language.setups import AEND, ASTART, CLASSES, LIMITS, MAX, STATES, TIMEOUT, Limit, Option
+from .language.packets import Key, PacketEvent
+from .language.setups import AEND, ASTART, CLASSES, LIMITS, MAX, NAT, RDR, STATES, TIMEOUT, Limit, Option
 
 DEFAULT_SECONDS = {it.word: it.seconds for it in CLASSES}
+
+
+class Ports(NamedTuple):
+    """The ports from the first to the last."""
+
+    first: int
+    last: int
+
+    @classmethod
+    def read(cls, plain: str) -> "Ports":
+        first, _, last = plain.partition(":")
+        return cls(int(first), int(last or first))
+
+    def has(self, port: int) -> bool:
+        return self.first <= port <= self.last
+
+    @property
+    def is_one(self) -> bool:
+        return self.first == self.last
+
+    def __str__(self) -> str:
+        return str(self.first) if self.is_one else f"{self.first}:{self.last}"
+
+
+class Pool(NamedTuple):
+    """An address, as ends have it, with the ports of which one is taken."""
+
+    address: str
+    ports: Ports
+
+    @classmethod
+    def read(cls, plain: str) -> "Pool":
+        address, _, ports = plain.partition("]:" if plain.startswith("[") else ":")
+        return cls(address + "]" * plain.startswith("["), Ports.read(ports))
+
+    def __str__(self) -> str:
+        return f"{self.address}:{self.ports}"
+
+    @property
+    def is_v6(self) -> bool:
+        return self.address.startswith("[")
+
+    @property
+    def ends(self) -> Iterator[str]:
+        """Its ends, from the first port to the last."""
+        return (f"{self.address}:{port}" for port in range(self.ports.first, self.ports.last + 1))
+
+
+class Keys(NamedTuple):
+    """The wire key and the stack key of a state."""
+
+    wire: Key
+    stack: Key
+
+
+def _translated(packet: PacketEvent, near: str) -> Key:
+    """The flow of a packet with this near end. An echo of ICMP has its identifier at both ends, and other protocols than TCP and UDP
+    have port 0."""
+    (address, _, port), far = near.rpartition(":"), packet.key.far
+    if packet.protocol == "icmp":
+        return Key(f"{far.rpartition(':')[0]}:{port}", near)
+    return Key(far, near if packet.protocol in ("tcp", "udp") else f"{address}:0")
 
 
 @dataclass(frozen=True)
@@ -32,13 +95,30 @@ class Rule:
         """The word that follows an option which the rule has, in the form in which the program prints it."""
         return option.values[0].plain(self.words[self.words.index(option.word) + 1])
 
+    def ports(self, option: Option) -> Optional[Ports]:
+        """The ports of an option, if the rule has it."""
+        return Ports.read(self.value(option)) if self.has(option) else None
+
+    @property
+    def pool(self) -> Optional[Pool]:
+        """What the rule translates to, by the one or the other of the two options; no rule of a set has both."""
+        option = RDR if self.has(RDR) else NAT
+        return Pool.read(self.value(option)) if self.has(option) else None
+
+    def keys(self, packet: PacketEvent) -> Iterator[Keys]:
+        """The keys that a new state of a packet can have under the rule, in the order in which they are tried."""
+        flow, pool = packet.key, self.pool
+        for near in pool.ends if pool else (flow.near,):
+            translated = _translated(packet, near)
+            yield Keys(flow, translated) if self.has(RDR) else Keys(translated, flow)
+
     @property
     def most_states(self) -> Optional[int]:
         return int(self.value(MAX)) if self.has(MAX) else None
 
     def seconds(self, timeout_class: str) -> Optional[int]:
-        """The seconds that the rule sets for a class, if it does."""
-        for at, word in enumerate(self.words[:-2]):
+        """The seconds that the rule sets for a class, if it does; those of a block rule have no effect."""
+        for at, word in enumerate(self.words[:-2] if self.action == "pass" else ()):
             if word == TIMEOUT.word and self.words[at + 1] == timeout_class:
                 return int(self.words[at + 2])
         return None
@@ -67,10 +147,12 @@ class Adaptive(NamedTuple):
 
 @dataclass
 class Setup:
-    """The lines of a setup without `open`, and what they say. Its limits have `astart` and `aend` only where these are set."""
+    """The lines of a setup without `open`, and what they say. Its limits have `astart` and `aend` only where these are set, and its
+    timeouts are those of the lines `set timeout`, by class."""
 
     lines: List[str] = field(default_factory=list)
     limits: Dict[Limit, int] = field(default_factory=lambda: {it: it.default for it in LIMITS.values() if not it.fifths})
+    timeouts: Dict[str, int] = field(default_factory=dict)
     rules: Dict[str, List[Rule]] = field(default_factory=lambda: {node: [] for node in NODES})
     # Between which numbers of states timeouts shrink.
     adaptive: Adaptive = field(init=False)
@@ -88,7 +170,9 @@ class Setup:
     def add(self, line: str) -> None:
         """Takes a line that the program has found right."""
         words = line.split()
-        if words[0] == SET.word:
+        if words[:2] == [SET.word, TIMEOUT.word]:
+            self.timeouts[words[2]] = int(words[3])
+        elif words[0] == SET.word:
             self.limits[LIMITS[words[1]]] = int(words[2])
             self._adapt()
         else:
@@ -104,7 +188,15 @@ class Setup:
         self.adaptive = Adaptive(*(self.limits.get(it, self.limits[STATES] * it.fifths // 5) for it in (ASTART, AEND)))
 
     def seconds(self, node: str, number: Optional[int], timeout_class: str) -> int:
-        """The timeout of a state's class under its rule, in seconds, where no number of states shortens it."""
+        """The timeout of a state's class under its rule, in seconds, where no number of states shortens it: what the rule says, else
+        what a line `set timeout` says, else the default."""
         rule = self.rule(node, number)
         own = rule.seconds(timeout_class) if rule else None
-        return DEFAULT_SECONDS[timeout_class] if own is None else own
+        return self.timeouts.get(timeout_class, DEFAULT_SECONDS[timeout_class]) if own is None else own
+
+    def said_by(self, node: str, number: Optional[int], timeout_class: str) -> str:
+        """What says the timeout of a state's class under its rule: the rule, or `set timeout`; nothing where it is the default."""
+        rule = self.rule(node, number)
+        if rule and rule.seconds(timeout_class) is not None:
+            return f"rule {number} of {node}"
+        return f"`{SET.word} {TIMEOUT.word}`" if timeout_class in self.timeouts else ""

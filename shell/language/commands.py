@@ -2,12 +2,12 @@
 from __future__ import annotations
 
 from dataclasses import dataclass
-from typing import Sequence, Tuple
+from typing import Optional, Sequence, Tuple
 
 from . import forms as form
 from .events import EVENTS
-from .forms import Form
-from .setups import LIMITS, RULE_FORM
+from .forms import Form, choice
+from .setups import LIMITS, RULE_FORM, TIMEOUT
 
 MOST_BRANCHES = 16
 
@@ -18,6 +18,15 @@ def _read_apart(name: str) -> Form:
 
 
 LIMIT, EVENT = _read_apart("LIMIT"), _read_apart("EVENT")
+
+
+@dataclass(frozen=True)
+class Other:
+    """Another form of a line: the place of the word by which it is known, what that is, and the forms that follow the line's word."""
+
+    place: int
+    words: Tuple[str, ...]
+    values: Tuple[Form, ...]
 
 
 @dataclass(frozen=True)
@@ -34,13 +43,12 @@ class Line:
     is_long: bool = False
     # Whether the shell has a word of its own in its place.
     is_hidden: bool = False
-    # The forms of those that follow where the word after the branch is an event's.
-    of_event: Tuple[Form, ...] = ()
+    other: Optional[Other] = None
 
     @property
     def alternatives(self) -> Tuple[Tuple[Form, ...], ...]:
         """The forms of the words that can follow its own."""
-        return (self.values, self.of_event) if self.of_event else (self.values,)
+        return (self.values, self.other.values) if self.other else (self.values,)
 
     @property
     def form(self) -> str:
@@ -49,24 +57,28 @@ class Line:
 
     def values_of(self, words: Sequence[str]) -> Tuple[Form, ...]:
         """The forms of the words that follow its own, which is the first of these."""
-        return self.of_event if self.of_event and len(words) > 2 and words[2] in EVENTS else self.values
+        is_other = self.other and len(words) > self.other.place and words[self.other.place] in self.other.words
+        return self.other.values if self.other and is_other else self.values
 
 
 SET = Line(
     "set",
     (LIMIT, form.N),
-    "sets a limit of the pair",
+    "sets a limit of the pair, or the seconds of a class at both nodes, where the rule of a state does not set them",
     f"Limits: {', '.join(it.word + ' (0 or 1)' * it.is_switch for it in LIMITS.values())}. The last value "
-    "of each counts. Where a node has more states than `astart` (three fifths of `states` where it is not set), timeouts are "
-    "scaled by (aend - its states) / (aend - astart), and from `aend` (six fifths of `states`) on they are 0. Where `aend` is "
+    "of each limit and of each class counts. Where a node has more states than `astart` (three fifths of `states` where it is not "
+    "set), timeouts are scaled by (aend - its states) / (aend - astart), and from `aend` (six fifths of `states`) on they are 0. Where `aend` is "
     "not above `astart`, as with both 0, they are whole.",
+    other=Other(1, (TIMEOUT.word,), (choice(TIMEOUT.word, (TIMEOUT.word,)), *TIMEOUT.values)),
 )
 RULE = Line(
     "rule",
     (form.NODE, _read_apart(RULE_FORM)),
     "adds a rule to node a's or b's set; the last rule that matches decides, or the first that is quick",
-    "The words stand in this order. NET is ADDRESS/LENGTH, END is ADDRESS:PORT. Where no rule matches, the packet passes without a "
-    "state.",
+    "The words stand in this order. NET is ADDRESS/LENGTH. PORTS is N, or LO:HI for the ports from LO to HI. POOL is ADDRESS:PORTS, "
+    "for IPv6 [ADDRESS]:PORTS: a new state gets the first of its ports that no state has in use. `nat` replaces the near end on the "
+    "wire, on a rule that is `out`; `rdr` replaces it on the stack, on one that is `in`. Where no rule matches, the packet passes "
+    "without a state.",
 )
 OPEN = Line("open", (), "ends the setup; events and commands follow", "The branch main is there, with no events.")
 SETUP = {it.word: it for it in (SET, RULE, OPEN)}
@@ -104,7 +116,8 @@ PAST = Line(
 )
 WHY = Line(
     "why", _BRANCH_K, "explains the K-th event of the branch, or what would come of an event where the branch stands, and why", "",
-    ("why NAME K",), ("NoBranch", "NoEvent"), is_long=True, is_hidden=True, of_event=(form.BRANCH, EVENT),
+    ("why NAME K",), ("NoBranch", "NoEvent"), is_long=True, is_hidden=True,
+    other=Other(2, tuple(EVENTS), (form.BRANCH, EVENT)),
 )
 FRAME = Line(
     "frame", (form.BRANCH, form.TICKET), "shows a frame that an event of the branch sent, and what became of it", "",

@@ -4,7 +4,7 @@ from __future__ import annotations
 from typing import Sequence
 
 LINE_FAULTS = ("Long", "NotAscii", "Unknown", "Missing", "Number", "Extra", "Packet")
-RULE_FAULTS = ("TooMany", "NatNotOut", "ZeroMax", "NoMemory")
+RULE_FAULTS = ("TooMany", "NatNotOut", "ZeroMax", "NoMemory", "RdrNotIn")
 LIMIT_FAULTS = ("TooSmall", "TooLarge", "NoMemory")
 FRAME_FAULTS = ("Short", "Version", "Length", "Action", "Count", "Value")
 # Why an event is refused. Each can be refused for the last, which its row leaves out.

@@ -92,16 +92,43 @@ def _port_wrong(word: str) -> Optional[str]:
 
 def _end_wrong(word: str) -> Optional[str]:
     if word.startswith("["):
-        address, bracket, port = word[1:].partition("]:")
-        if not bracket:
-            return "has no `]:PORT` behind its address"
-        return _v6_wrong(address) or _port_wrong(port)
+        return _bracketed_wrong(word, "PORT", _port_wrong)
     address, colon, port = word.partition(":")
     if not colon:
         return _v4_wrong(address) or "has no port: ADDRESS:PORT (0 for a protocol without ports)"
     if word.count(":") > 1:
         return "looks like IPv6, which stands in brackets: [ADDRESS]:PORT"
     return _v4_wrong(address) or _port_wrong(port)
+
+
+def _bracketed_wrong(word: str, name: str, after_wrong: Callable[[str], Optional[str]]) -> Optional[str]:
+    """What is wrong with an IPv6 address in brackets, and with what follows its colon, which has this name."""
+    address, bracket, after = word[1:].partition("]:")
+    if not bracket:
+        return f"has no `]:{name}` behind its address"
+    return _v6_wrong(address) or after_wrong(after)
+
+
+def _ports_wrong(word: str) -> Optional[str]:
+    first, colon, last = word.partition(":")
+    if not all(re.fullmatch("[0-9]+", it) for it in (first, *[last] * bool(colon))):
+        return "has not the form N or LO:HI, of decimal digits"
+    above = [it for it in (first, last or first) if int(it) > 65535]
+    if above:
+        return f"has port {above[0]}, above 65535"
+    return f"has {first} before {last}: the lower port comes first" if colon and int(first) > int(last) else None
+
+
+def _pool_wrong(word: str) -> Optional[str]:
+    if word.startswith("["):
+        return _bracketed_wrong(word, "PORTS", _ports_wrong)
+    address, colon, ports = word.partition(":")
+    if not colon:
+        return _v4_wrong(address) or "has no port: ADDRESS:PORTS"
+    if word.count(":") > 2:
+        is_v6 = "." not in address
+        return "looks like IPv6, which stands in brackets: [ADDRESS]:PORTS" if is_v6 else "has more than two ports: ADDRESS:LO:HI"
+    return _v4_wrong(address) or _ports_wrong(ports)
 
 
 def _net_wrong(word: str) -> Optional[str]:
@@ -169,6 +196,19 @@ def _plain_around(mark: str) -> Callable[[str], str]:
     return plain
 
 
+def _ports_plain(word: str) -> str:
+    """The first and the last port, or one where they are the same."""
+    first, _, last = word.partition(":")
+    return ":".join(dict.fromkeys(map(plain_number, (first, last or first))))
+
+
+def _pool_plain(word: str) -> str:
+    address, bracket, ports = word.rpartition("]:")
+    if not bracket:
+        address, _, ports = word.partition(":")
+    return f"{_dotted_plain(address)}{bracket or ':'}{_ports_plain(ports)}"
+
+
 _END = "ADDRESS:PORT or for IPv6 [ADDRESS]:PORT"
 BRANCH = Form("BRANCH", "a letter from a to z and at most 15 more of a to z, 0 to 9 and `-`", _branch_wrong)
 NODE = choice("NODE", NODES)
@@ -183,6 +223,8 @@ END = Form("END", _END, _end_wrong, _plain_around(":"))
 SOURCE = replace(END, name="SRC", what=f"the source, {_END}")
 DESTINATION = replace(END, name="DST", what=f"the destination, {_END}")
 NET = Form("NET", "ADDRESS/LENGTH", _net_wrong, _plain_around("/"))
+PORTS = Form("PORTS", "a port, or LO:HI for those from LO to HI, numbers from 0 to 65535", _ports_wrong, _ports_plain)
+POOL = Form("POOL", "ADDRESS:PORTS or for IPv6 [ADDRESS]:PORTS, where PORTS is a port or LO:HI", _pool_wrong, _pool_plain)
 FLAGS = Form("FLAGS", f"`-` for no flag, or letters of {FLAG_LETTERS} in that order", _flags_wrong)
 NAME = Form("NAME", "a state's name, CREATOR.ID", _name_wrong, _dotted_plain)
 N, K, TICKET = (number(it, GREATEST) for it in ("N", "K", "TICKET"))

@@ -19,7 +19,9 @@ KNOWN = (*COMMANDS, SEARCH)
 FOR_PEOPLE = (f"{SEARCH} drops packet .. [, PART]..", f"{SEARCH} passes packet .. [, PART]..", f"{SEARCH} {APART} [, PART]..")
 # What an operator's pf.conf has, and a rule here has not.
 _OF_PF_CONF = {
-    "port": "a port is `fport N` behind `from`, `tport N` behind `to`",
+    "port": "a port is `fport PORTS` behind `from`, `tport PORTS` behind `to`",
+    "nat-to": "the translation is `nat POOL`, on a rule that is `out`",
+    "rdr-to": "the redirection is `rdr POOL`, on a rule that is `in`",
     "keep": "a pass rule always keeps state",
     "on": "a node has no interfaces",
     "log": "nothing is logged",
@@ -84,11 +86,16 @@ def _check_setup(reader: Reader) -> None:
     hint = ": it is a command, and those come behind `open`" if reader.next in KNOWN else ""
     word = reader.known("line of a setup", SETUP, hint)
     if word == SET.word:
-        limit = LIMITS[reader.known("limit", LIMITS)]
-        reader.take(number("N", 1 if limit.is_switch else form.GREATEST))
+        _check_set(reader)
     elif word == RULE.word:
         _check_rule(reader)
     reader.finish()
+
+
+def _check_set(reader: Reader) -> None:
+    word = reader.known("setting", (*LIMITS, TIMEOUT.word))
+    for wanted in TIMEOUT.values if word == TIMEOUT.word else (number("N", 1 if LIMITS[word].is_switch else form.GREATEST),):
+        reader.take(wanted)
 
 
 # ---- rules

@@ -43,7 +43,7 @@ LIMITS = {it.word: it for it in _LIMITS}
 
 @dataclass(frozen=True)
 class TimeoutClass:
-    """A class of timeouts, with its seconds where no rule sets others."""
+    """A class of timeouts, with its seconds where neither a rule nor `set timeout` sets others."""
 
     word: str
     seconds: int
@@ -81,20 +81,20 @@ class Option:
         return f"[{' '.join([self.word, *(it.name for it in self.values)])}]"
 
 
-_PORT = number("N", 65535)
 QUICK = Option("quick")
 PROTO = Option("proto", (form.PROTOCOL.named("P"),))
-FROM, FROM_PORT = Option("from", (form.NET,)), Option("fport", (_PORT,))
-TO, TO_PORT = Option("to", (form.NET,)), Option("tport", (_PORT,))
+FROM, FROM_PORT = Option("from", (form.NET,)), Option("fport", (form.PORTS,))
+TO, TO_PORT = Option("to", (form.NET,)), Option("tport", (form.PORTS,))
 # These have no effect on a block rule.
 FLAGS_ANY = Option("flags", (form.ANY,))
 NO_SYNC = Option("no-sync")
 MAX = Option("max", (form.N,))
-NAT = Option("nat", (form.END,))
-# May come for each class, in the order of their numbers.
+# What replaces the near end on the wire, of a rule for the way out, and on the stack, of one for the way in.
+NAT, RDR = Option("nat", (form.POOL,)), Option("rdr", (form.POOL,))
+# May come for each class, in the order of their numbers. A line `set timeout` has the same words.
 TIMEOUT = Option("timeout", (CLASS, number("SECONDS", form.GREATEST)))
 # In the order in which a rule has them.
-_OPTIONS = (QUICK, PROTO, FROM, FROM_PORT, TO, TO_PORT, FLAGS_ANY, NO_SYNC, MAX, NAT, TIMEOUT)
+_OPTIONS = (QUICK, PROTO, FROM, FROM_PORT, TO, TO_PORT, FLAGS_ANY, NO_SYNC, MAX, NAT, RDR, TIMEOUT)
 OPTIONS = {it.word: it for it in _OPTIONS}
 RULE_FORM = f"pass|block in|out|any {' '.join(it.form for it in OPTIONS.values())}..."
 MOST_RULES = 256

@@ -12,7 +12,6 @@ from ..language.forms import is_tcp
 from ..language.names import Name
 from ..language.packets import PacketEvent
 from ..language.records import INSERT, QUEUES, SHORT_UPDATE, UPDATE, RecordKind
-from ..language.setups import NAT
 from ..pair import Node, other
 from .questions import Question, peer_of, told_state
 from .records import became, came_records
@@ -59,7 +58,7 @@ def _names_of(question: Question) -> List[Name]:
     """The states that a node can have had for the packet's flow: those of the packets of both nodes with the same ends, or the
     same far end where rules are known to translate the near one. A state that a frame brought was made by a packet too."""
     packet = question.packet
-    translate = any(it.has(NAT) for rules in question.lab.setup.rules.values() for it in rules)
+    translate = any(it.pool for rules in question.lab.setup.rules.values() for it in rules)
     # (a look at the text first: there can be many packets)
     lines = (it for it in enumerate(question.history.lines, 1) if it[1].startswith(f"{PACKET.word} ") and packet.key.far in it[1])
     packets = ((number, read_packet(line)) for number, line in lines)

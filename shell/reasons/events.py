@@ -28,7 +28,7 @@ def _purged(question: Question) -> List[str]:
     due = sorted(purge.due, key=lambda it: (it.expires, it.name))
     left = [it for it in purge.expiries if it.expires > purge.clock]
     lines = [f"the clock of {node.id} stands at {purge.clock} ms", *filter(None, [scaled_by(purge.adaptive, node.id, purge.states)])]
-    lines += [_expired(it, node.states[it.name]) for it in due]
+    lines += [_expired(question, it, node.states[it.name]) for it in due]
     if not left:
         return [*lines, "no state is left"]
     expires = min(it.last + 1000 * purge.adaptive.scaled(it.timeout, len(left)) for it in left)
@@ -39,9 +39,12 @@ def _purged(question: Question) -> List[str]:
     return [*lines, scaled_by(purge.adaptive, node.id, len(left)) or whole]
 
 
-def _expired(it: Expiry, state: State) -> str:
+def _expired(question: Question, it: Expiry, state: State) -> str:
+    setup, node = question.lab.setup, question.words[1]
+    said_by = setup.said_by(node, state.rule, it.timeout_class) if question.lab.knows_setup else ""
+    said = f" ({said_by})" if said_by else ""
     scaled = f", scaled to {it.scaled} s" if it.scaled != it.timeout else ""
-    used = f"last used at {it.last} ms, and {it.timeout_class} is {it.timeout} s{scaled}"
+    used = f"last used at {it.last} ms, and {it.timeout_class} is {it.timeout} s{said}{scaled}"
     return f"{told_state(state)} expired at {it.expires} ms: {used}"
 
 

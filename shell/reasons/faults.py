@@ -22,6 +22,7 @@ _OF_SETUPS = {
     "open": "the setup ends without a line `open`",
     "TooMany": f"a node has {MOST_RULES} rules at most",
     "NatNotOut": "a rule with `nat` has to be for the way `out`",
+    "RdrNotIn": "a rule with `rdr` has to be for the way `in`",
     "ZeroMax": "a rule has to allow one state at least, and says `max 0`",
     "NoMemory": "the program had no memory for the setup",
 }

@@ -1,12 +1,14 @@
 """Why a packet passed, is held or was dropped: by a state, or by a rule and what stood against a new state."""
 from __future__ import annotations
 
+from itertools import islice
 from typing import List, Optional
 
 from .absence import explain_absence
 from ..explanations import Judged, OfState
 from ..language.events import DROPPED, HELD_BACK
-from ..language.setups import DEFER_MS, FLAGS_ANY, HELD, QUICK
+from ..language.packets import PacketEvent
+from ..language.setups import DEFER_MS, FLAGS_ANY, HELD, QUICK, RDR
 from .questions import Question, name_list, told_state
 from ..rulings import deciding
 from ..setups import Rule
@@ -87,9 +89,20 @@ def _room(question: Question, reason: Judged) -> str:
     if reason.how == "full":
         entries = counted(int(reason.values[1]), "entry", "entries")
         return f"the state table of {node.id} has {entries}, and the limit `states` is {reason.values[0]}"
-    state = node.states[reason.name]
+    state, rule = node.states[reason.name], question.rule(node.id, reason.rule)
     key = state.wire if reason.how == "wire" else state.stack
-    return f"{told_state(state)} of {node.id} has its {reason.how} key already: {key.near} and {key.far}"
+    has = f"{told_state(state)} of {node.id} has its {reason.how} key already: {key.near} and {key.far}"
+    # (the other key is that of the packet, whatever the port)
+    is_translated = reason.how == ("stack" if rule and rule.has(RDR) else "wire")
+    if rule is None or not is_translated or not _may_choose(rule, question.packet):
+        return has
+    return f"all ports of the pool {rule.pool} are taken: with the last, {has}"
+
+
+def _may_choose(rule: Rule, packet: PacketEvent) -> bool:
+    """Whether the ports of a rule's pool give the packet several keys; to a protocol without ports they give one."""
+    first, *others = islice(rule.keys(packet), 2)
+    return others != [] and others[0] != first
 
 
 def _but_for_flags(question: Question) -> List[str]:

@@ -69,9 +69,15 @@ class Rules(unittest.TestCase):
         self.assertEqual(self.decided(udp, "block any quick", "pass out"), 0)
         self.assertIsNone(self.decided(udp, "block in", "pass out proto 6", "pass out from 10.0.0.2/32", "pass out to 10.0.0.0/8"))
         self.assertEqual(self.decided(udp, "pass out tport 053", "pass out fport 53", "block any from 010.0.0.255/24 to 0.0.0.0/0"), 2)
+        for port, decided in ((52, None), (53, 0), (60, 0), (80, 0), (81, None)):
+            self.assertEqual(self.decided(udp.replace(":53", f":{port}"), "pass out tport 53:080"), decided, port)
+        self.assertIsNone(self.decided(udp, "pass out fport 53:80"))
+        self.assertIsNone(self.decided("out icmp 10.0.0.1:53 192.0.2.9:53 40", "block any fport 0:65535"))
         self.assertIsNone(self.decided("out icmp 10.0.0.1:53 192.0.2.9:53 40", "block any tport 53"))
         v6 = "[2001:0db8:0000:0000:0000:0000:0000:0001]:9"
         self.assertIsNone(self.decided(udp, f"pass out nat {v6}", "block any to 2001:0db8:0000:0000:0000:0000:0000:0000/0"))
+        self.assertEqual(self.decided(tcp, f"pass in flags any rdr 10.0.0.1:5:6", f"pass in flags any rdr {v6}:10"), 0)
+        self.assertEqual(self.decided(tcp, f"block in rdr {v6}:10"), 0)
         rules = ("pass in proto tcp", "pass in flags any tport 9")
         self.assertEqual([self.decided(tcp, *rules), self.decided(tcp, *rules, any_flags=0)], [None, 0])
 

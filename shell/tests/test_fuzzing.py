@@ -4,6 +4,7 @@ from __future__ import annotations
 import contextlib
 import os
 import random
+import re
 import tempfile
 import unittest
 from typing import Iterator, List
@@ -17,6 +18,7 @@ from fuzzing.readings import fault_of, read
 from fuzzing.timelines import replies_to
 from fuzzing.trials import Trial, minimised
 from fuzzing.wholes import pieces
+from oracle.setups import setup as small_setup
 from oracle.subject import Differs, Subject
 from oracle.searches import Search, compare_search, is_allowed, line_of
 from oracle.tallies import Seen
@@ -228,6 +230,31 @@ class Searches(unittest.TestCase):
             ("back main 1000", "back main 1000"),
         ):
             self.assertEqual(with_few_runs(f"open\n{line}\nnames"), f"open\n{wanted}\nnames")
+
+
+class Setups(unittest.TestCase):
+    def test_setups_by_chance_have_no_fault_and_each_form(self) -> None:
+        setups = [[*small_setup(random.Random(seed)), "open"] for seed in range(300)]
+        self.assertEqual({read("\n".join(it)).fault for it in setups}, {""})
+        lines = [line for it in setups for line in it]
+        for form in ("set timeout udp", " nat 203.0.113.1:7000$", " nat 203.0.113.1:7000:70", " rdr 10.0.0.1:1000:1", "port 5[34]:"):
+            self.assertTrue(any(re.search(form, it) for it in lines), form)
+
+    def test_the_fault_that_is_looked_for_first(self) -> None:
+        nat, rdr = "nat 198.51.100.1:4:5", "rdr 10.0.0.80:8080"
+        for lines, fault in (
+            (f"rule a pass in {rdr}\nrule b pass out {nat}", ""),
+            (f"rule a pass out {rdr}", "rule 5"),
+            (f"rule a block any {rdr}", "rule 5"),
+            (f"rule a pass in {nat} {rdr}", "rule 2"),
+            (f"rule a pass out {nat} {rdr}", "rule 5"),
+            (f"rule a pass out {rdr}\nrule a pass in max 0", "rule 3"),
+            (f"rule a pass out {rdr}\nrule b pass in max 0", "rule 5"),
+            (f"rule a pass in {rdr} {nat}", "line 6"),
+            ("set timeout udp.x 3", "line 5"),
+            ("set timeout udp.first", "line 4"),
+        ):
+            self.assertEqual(read(f"{lines}\nopen\n").fault, fault, lines)
 
 
 class Scripts(unittest.TestCase):

@@ -87,7 +87,7 @@ class Page(unittest.TestCase):
 
     def test_lines_of_a_setup_and_commands(self) -> None:
         setup = [codes(row[0])[0] for row in table("### Setup", "Line")]
-        self.assertEqual(setup, [it.form.replace(RULE_FORM, "RULE") for it in SETUP.values()])
+        self.assertEqual(setup, [form.replace(RULE_FORM, "RULE") for it in SETUP.values() for form in it.form.split("\n")])
         commands = [form for it in COMMANDS.values() for form in it.form.split("\n")]
         self.assertEqual([codes(row[0])[0] for row in table("### Commands", "Line")], commands)
         self.assertIn(f"There are at most {MOST_BRANCHES} branches", section("### Commands"))

@@ -14,6 +14,8 @@ WALLS = "rule a block any\nrule a pass out\nrule b block any\nrule b pass out\no
 OPEN = "rule a pass any flags any\nrule b pass any flags any\nopen\n"
 QUERY = "step main packet a out udp 10.0.0.1:1000 192.0.2.9:53 40\n"
 SECOND = "step main packet a out udp 10.0.0.2:1000 192.0.2.9:53 40\n"
+# Flows of one far end to several addresses.
+REDIRECTED = "step main packet a in udp 192.0.2.7:5000 203.0.113.{}:80 40\n"
 ANSWER_AT_B = "step main packet b in udp 192.0.2.9:53 10.0.0.1:1000 80\n"
 FLUSH = "step main flush a\n"
 SYNC = "step main flush a\nstep main deliver 1\n"
@@ -165,6 +167,36 @@ DROPS: Cases = {
             "203.0.113.1:999 and 192.0.2.9:53"
         ],
     ),
+    "key, all ports of a pool": (
+        "rule a pass out nat 203.0.113.1:998:999\nopen\n" + QUERY + SECOND + SECOND.replace("10.0.0.2", "10.0.0.3"),
+        [
+            "all ports of the pool 203.0.113.1:998:999 are taken: with the last, state 1.2 (udp 203.0.113.1:999 (10.0.0.2:1000) -> "
+            "192.0.2.9:53) of a has its wire key already: 203.0.113.1:999 and 192.0.2.9:53",
+            "rule 0 of a (pass out nat 203.0.113.1:998:999) decided, and would make a state",
+        ],
+    ),
+    "key, a pool and a protocol without ports": (
+        "rule a pass out nat 203.0.113.1:998:999\nopen\n"
+        + "step main packet a out 47 10.0.0.1:0 192.0.2.9:0 40\nstep main packet a out 47 10.0.0.2:0 192.0.2.9:0 40\n",
+        [
+            "state 1.1 (47 203.0.113.1:0 (10.0.0.1:0) -> 192.0.2.9:0) of a has its wire key already: 203.0.113.1:0 and 192.0.2.9:0",
+            "rule 0 of a (pass out nat 203.0.113.1:998:999) decided, and would make a state",
+        ],
+    ),
+    "key, a redirection": (
+        "rule a pass in rdr 10.0.0.80:8080\nopen\n" + REDIRECTED.format(1) + REDIRECTED.format(2),
+        [
+            "state 1.1 (udp 10.0.0.80:8080 (203.0.113.1:80) <- 192.0.2.7:5000) of a has its stack key already: "
+            "10.0.0.80:8080 and 192.0.2.7:5000"
+        ],
+    ),
+    "key, all ports of a redirection": (
+        "rule a pass in rdr 10.0.0.80:8080:8081\nopen\n" + "".join(REDIRECTED.format(it) for it in (1, 2, 3)),
+        [
+            "all ports of the pool 10.0.0.80:8080:8081 are taken: with the last, state 1.2 (udp 10.0.0.80:8081 (203.0.113.2:80) <- "
+            "192.0.2.7:5000) of a has its stack key already: 10.0.0.80:8081 and 192.0.2.7:5000",
+        ],
+    ),
     "window, the right edge": (
         WALLS + SYN + SYN_ACK + ACK.format(126001, 9001),
         [
@@ -219,6 +251,14 @@ PASSES: Cases = {
             "no rule of a matches it, which has 1 rule: what no rule matches passes, without a state",
             "rule 0 of a (pass out) would pass it, but for its flags A",
             "a pass rule without `flags any` takes only a TCP packet that begins a connection: SYN without ACK",
+        ],
+    ),
+    "an answer from the end before a redirection": (
+        "rule a pass in rdr 10.0.0.80:8080\nopen\n" + REDIRECTED.format(1) + "step main packet a out udp 203.0.113.1:80 192.0.2.7:5000 80",
+        [
+            "no rule of a matches it, which has 1 rule: what no rule matches passes, without a state",
+            "state 1.1 (udp 10.0.0.80:8080 (203.0.113.1:80) <- 192.0.2.7:5000) of a is translated: "
+            "on the way out its stack key counts, with 10.0.0.80:8080, and the packet has 203.0.113.1:80",
         ],
     ),
     "a new connection": (
@@ -349,13 +389,21 @@ PURGES: Cases = {
         WALLS + QUERY + "step main tick a 60000\nstep main purge a",
         [f"{FLOW} expired at 60000 ms: last used at 0 ms, and udp.first is 60 s", "no state is left"],
     ),
+    "timeouts of a rule and of the setup": (
+        "set timeout udp.first 7\n" + HALVED.replace("aend 4", "aend 0") + QUERY + SECOND + "step main tick a 7000\nstep main purge a",
+        [
+            "state 1.2 (udp 10.0.0.2:1000 -> 192.0.2.9:53) expired at 5000 ms: "
+            "last used at 0 ms, and udp.first is 5 s (rule 1 of a)",
+            f"{FLOW} expired at 7000 ms: last used at 0 ms, and udp.first is 7 s (`set timeout`)",
+        ],
+    ),
     # Half of five seconds is two whole ones. The two that are left have all of their 60.
     "three states, whose timeouts are halved": (
         HALVED + QUERY + SECOND + THIRD + "step main tick a 2000\nstep main purge a",
         [
             "timeouts of a are scaled by 1/2: it has 3 states, `astart` is 2, `aend` 4",
             "state 1.2 (udp 10.0.0.2:1000 -> 192.0.2.9:53) expired at 2000 ms: "
-            "last used at 0 ms, and udp.first is 5 s, scaled to 2 s",
+            "last used at 0 ms, and udp.first is 5 s (rule 1 of a), scaled to 2 s",
             "of the 2 states left the next expires at 60000 ms",
             "timeouts of a are whole again: it has 2 states",
         ],

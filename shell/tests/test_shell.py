@@ -66,6 +66,9 @@ class Lines(Dialogue):
         self.assertEqual(
             self.said(shell, "rule a pass in nat 192.0.2.1:5000")[-1], "the setup is without this line: rules 2 NatNotOut"
         )
+        self.assertEqual(
+            self.said(shell, "rule a pass out rdr 192.0.2.1:80:81")[-1], "the setup is without this line: rules 5 RdrNotIn"
+        )
         self.assertEqual(self.said(shell, "set states 9", "rule a pass out", "open", QUERY), ["step pass 1.1 dropped 0"])
 
     def test_a_question_before_open_says_what_is_missing(self) -> None:

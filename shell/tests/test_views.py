@@ -277,6 +277,17 @@ class Checksums(unittest.TestCase):
     def test_no_rules_have_the_checksum_of_formats(self) -> None:
         self.assertEqual(rules_checksum([]), "d41d8cd98f00b204e9800998ecf8427e")
 
+    def test_ranges_and_pools_in_one_form(self) -> None:
+        v6 = "[2001:0db8:0000:0000:0000:0000:0000:0001]"
+        for words, plain in (
+            ("pass any fport 053:53 tport 00:0", "pass any fport 53 tport 0"),
+            ("pass any fport 01:65535", "pass any fport 1:65535"),
+            ("pass out nat 198.051.100.1:04000:04001 timeout udp.first 05", "pass out nat 198.51.100.1:4000:4001 timeout udp.first 5"),
+            (f"pass in rdr {v6}:080:80", f"pass in rdr {v6}:80"),
+            (f"pass in rdr {v6}:080:81", f"pass in rdr {v6}:80:81"),
+        ):
+            self.assertEqual(canonical_text(Rule(tuple(words.split()))), plain)
+
     def test_the_program_computes_the_same(self) -> None:
         words = "pass out quick proto 006 from 010.0.0.0/08 fport 01 to 192.0.2.0/24 tport 53 flags any no-sync max 007"
         words += " nat 198.051.100.1:04000 timeout tcp.first 05 timeout udp.multiple 7"
@@ -288,6 +299,8 @@ class Checksums(unittest.TestCase):
             rule a {words}
             rule a pass in proto 47 from 2001:0db8:0000:0000:0000:0000:0000:0000/032
             rule a pass out nat [2001:0db8:0000:0000:0000:0000:0000:0001]:00
+            rule a pass out fport 01:2 tport 03:3 nat 198.51.100.1:04:005
+            rule a pass in rdr [2001:0db8:0000:0000:0000:0000:0000:0001]:07:8
             open
             step main restart a
             step main flush a

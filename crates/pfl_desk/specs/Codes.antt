@@ -1,6 +1,6 @@
 -- A node as nested pairs, by which the logic tells two nodes apart. It says nothing of nodes.
-use Rattle.std.specs.Prelude.{ℕ, Bool, List, refl}
-use Rattle.std.specs.Coded.{Coded, code_by, coded×, coded_ℕ, coded_list, coded_bool}
+use Rattle.std.specs.Prelude.{ℕ, Bool, List, Option, refl}
+use Rattle.std.specs.Coded.{Coded, code_by, coded×, coded_ℕ, coded_list, coded_bool, coded_option}
 use Rattle.pfl_base.specs.Names.{coded_state_name}
 use Rattle.pfl_edits.specs.Maps as maps
 use Rattle.pfl_rules.specs.Rules.{Rules}
@@ -23,7 +23,7 @@ use Rattle.pfl_desk.specs.contracts.counters.Counters as counters_type
 use Rattle.pfl_desk.specs.Nodes.{Node}
 
 abbrev coded_rules : Coded Rules
-coded_rules = code_by (List Rule × List ℕ) (coded× (coded_list rule_type.the_row.coded) (coded_list coded_ℕ)) (λ r. (r.list, r.print)) (λ p. record { list = p.0; print = p.1 }) (λ _. refl)
+coded_rules = code_by (List Rule × (List (Option ℕ) × List ℕ)) (coded× (coded_list rule_type.the_row.coded) (coded× (coded_list (coded_option coded_ℕ)) (coded_list coded_ℕ))) (λ r. (r.list, (r.timeouts, r.print))) (λ p. record { list = p.0; timeouts = p.1.0; print = p.1.1 }) (λ _. refl)
 
 abbrev coded_deferrals : Coded Deferrals
 coded_deferrals = code_by (ℕ × List Held) (coded× coded_ℕ (coded_list held_type.the_row.coded)) (λ d. (d.limit, d.list)) (λ p. record { limit = p.0; list = p.1 }) (λ _. refl)

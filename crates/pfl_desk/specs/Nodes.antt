@@ -70,7 +70,7 @@ last_millisecond = 1000000000000
 -- the timeout that the node gives the states of a rule and a class where it has so many states, in seconds (pf.conf(5), `timeout`,
 -- `adaptive.start`)
 abbrev pub timeout_among : ℕ → Node → Option ℕ → Class → ℕ
-timeout_among states n rule class = scaled (timeout n.rules.list rule class) (adaptive n.limits) states
+timeout_among states n rule class = scaled (timeout n.rules rule class) (adaptive n.limits) states
 
 -- the timeout that it gives them as it stands
 abbrev pub timeout_at : Node → Option ℕ → Class → ℕ

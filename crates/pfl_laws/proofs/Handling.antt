@@ -14,10 +14,10 @@ use Rattle.pfl_world.specs.rules.Rules.{verdict, rule_at}
 use Rattle.pfl_world.specs.track.declared.state.State.{State}
 use Rattle.pfl_world.specs.track.declared.tracked.Tracked.{Tracked}
 use Rattle.pfl_world.specs.track.declared.tracked.Tracked.TheVariants.{Moved, OutOfWindow, Reused}
-use Rattle.pfl_world.specs.track.Keys.{wire_key}
 use Rattle.pfl_world.specs.track.Tracking.{tracked}
 use Rattle.pfl_world.proofs.ForCallers.track.{Stays, tracked-stays}
-use Rattle.pfl_world.specs.table.Tables.{States, AreStates, found, key_in_use}
+use Rattle.pfl_world.specs.table.Tables.{States, AreStates, found}
+use Rattle.pfl_world.specs.table.Translating.{is_taken, new_keys}
 use Rattle.pfl_world.proofs.ForCallers.table.{found-stands}
 use Rattle.pfl_world.specs.queue.declared.Kind.TheVariants.{Insert}
 use Rattle.pfl_world.specs.defer.Deferring.{pushed_out}
@@ -76,7 +76,7 @@ started-keeps q n dir p number r filed given =
     let other : q ≢ new.name = not_next n q given in
     one_of Alike q n (is_at_max n number r) _ _ still
     (one_of Alike q n (nat_le n.limits.states (maps.len n.states)) _ _ still
-    (one_of Alike q n (key_in_use n.states (wire_key (key p dir) r.nat) (key p dir)) _ _ still
+    (one_of Alike q n (is_taken n.states (new_keys n.states r (key p dir))) _ _ still
     (alike-then q n (with_new n new) (announced (with_new n new) new dir p).node
     (new-keeps q n new other) (announced-keeps q (with_new n new) new dir p (filed-put n.states new filed) other))))
 

@@ -17,9 +17,9 @@ use Rattle.pfl_world.specs.rules.Rules.{verdict, rule_at}
 use Rattle.pfl_world.specs.track.declared.state.State.{State}
 use Rattle.pfl_world.specs.track.declared.tracked.Tracked.{Tracked}
 use Rattle.pfl_world.specs.track.declared.tracked.Tracked.TheVariants.{Moved, OutOfWindow, Reused}
-use Rattle.pfl_world.specs.track.Keys.{wire_key}
 use Rattle.pfl_world.specs.track.Tracking.{tracked}
-use Rattle.pfl_world.specs.table.Tables.{found, key_in_use}
+use Rattle.pfl_world.specs.table.Tables.{found}
+use Rattle.pfl_world.specs.table.Translating.{is_taken, new_keys}
 use Rattle.pfl_world.proofs.ForCallers.table.{found-stands}
 use Rattle.pfl_world.specs.wire.declared.fault.BadFrame.{BadFrame}
 use Rattle.pfl_world.specs.wire.Frames.{Frame, records_of}
@@ -105,7 +105,7 @@ started-stays n h dir p number r holds =
     let s = new_state n dir p number r in
     stays_test n h (is_at_max n number r) _ _ (inl holds)
     (stays_test n h (nat_le n.limits.states (maps.len n.states)) _ _ (inl holds)
-    (stays_test n h (key_in_use n.states (wire_key (key p dir) r.nat) (key p dir)) _ _ (inl holds)
+    (stays_test n h (is_taken n.states (new_keys n.states r (key p dir))) _ _ (inl holds)
     (announced-stays n h (with_new n s) s dir p refl holds)))
 
 judged-stays : (n : Node) (h : Held) (dir : Dir) (p : Packet) → Holds n h → Stays n h (judged n dir p)

@@ -14,8 +14,8 @@ use Rattle.pfl_edits.proofs.ForCallers.{get-set_at_other, key_cases}
 use Rattle.pfl_world.specs.rules.declared.rule.Rule.{Rule}
 use Rattle.pfl_world.specs.rules.Rules.{verdict, rule_at}
 use Rattle.pfl_world.specs.track.declared.state.State.{State}
-use Rattle.pfl_world.specs.track.Keys.{wire_key}
-use Rattle.pfl_world.specs.table.Tables.{States, key_in_use}
+use Rattle.pfl_world.specs.table.Tables.{States}
+use Rattle.pfl_world.specs.table.Translating.{is_taken, new_keys}
 use Rattle.pfl_world.specs.wire.declared.message.StateRecord.{StateRecord}
 use Rattle.pfl_world.specs.wire.declared.message.Message.TheVariants as message
 use Rattle.pfl_world.specs.merge.declared.received.Received.{Received}
@@ -142,7 +142,7 @@ started-tied n dir p number r filed given tied =
     let dropped : IsTied (count_blocked n) = tied-same n (count_blocked n) tied refl refl in
     of_test (is_at_max n number r) _ _ dropped
     (of_test (nat_le n.limits.states (maps.len n.states)) _ _ dropped
-    (of_test (key_in_use n.states (wire_key (key p dir) r.nat) (key p dir)) _ _ dropped
+    (of_test (is_taken n.states (new_keys n.states r (key p dir))) _ _ dropped
     (announced-tied (with_new n s) s dir p (filed-put n.states s filed)
     (tied-put n (with_new n s) s tied refl refl (sym (next-free n given tied))))))
 
@@ -199,7 +199,7 @@ unfolding started
 started-given n dir p number r filed given =
     given_test (is_at_max n number r) _ _ given
     (given_test (nat_le n.limits.states (maps.len n.states)) _ _ given
-    (given_test (key_in_use n.states (wire_key (key p dir) r.nat) (key p dir)) _ _ given
+    (given_test (is_taken n.states (new_keys n.states r (key p dir))) _ _ given
     (announced-given n (new_state n dir p number r) dir p filed refl given)))
 
 pub judged-given : (n : Node) (dir : Dir) (p : Packet) → Filed n.states → AreGiven n → AreGiven (judged n dir p).node

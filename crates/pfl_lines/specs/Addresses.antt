@@ -1,11 +1,14 @@
--- How addresses, ends and nets are written (RFC 791, RFC 8200; eight full groups of IPv6 are this project's profile).
+-- How addresses, ends, nets and ranges of ports are written (RFC 791, RFC 8200; eight full groups of IPv6 are this project's profile).
 use Rattle.std.specs.Prelude.{ℕ, ◌+◌, ◌-◌, ◌*◌, ◌==◌, ◌&&◌, nat_le, List, [], ◌∷◌, if◌then◌else◌, Result, Ok, Err}
 use Rattle.std.specs.Option.{ok_or}
 use Rattle.pfl_base.specs.declared.addr.Addr.{Addr}
 use Rattle.pfl_base.specs.declared.addr.Addr.TheVariants.{V4, V6}
 use Rattle.pfl_base.specs.declared.addr.End.{End}
 use Rattle.pfl_rules.specs.declared.net.NetFields.{NetFields}
+use Rattle.pfl_rules.specs.declared.pool.Pool.{Pool}
+use Rattle.pfl_rules.specs.declared.ports.PortsFields.{PortsFields}
 use Rattle.pfl_rules.specs.Nets.{net_of}
+use Rattle.pfl_rules.specs.Ports.{ports_of}
 use Rattle.pfl_lines.specs.declared.fault.LineFault.{LineFault}
 use Rattle.pfl_lines.specs.declared.fault.LineFault.TheVariants.{Number}
 use Rattle.pfl_lines.specs.Readings.{◌>>=◌}
@@ -129,3 +132,48 @@ net_at_word word = do
   addr ← addr_of parts.0
   len ← number_of 128 parts.1
   ok_or (net_of addr len) Number
+
+-- one port
+unfoldable pub single_port_of : List ℕ → Result PortsFields LineFault
+single_port_of word = do
+  port ← number_of 65535 word
+  ok_or (ports_of port port) Number
+
+-- FIRST:LAST, FIRST not above LAST
+unfoldable pub port_range_of : List ℕ → Result PortsFields LineFault
+port_range_of word = do
+  parts ← cut_at 58 word
+  first ← number_of 65535 parts.0
+  last ← number_of 65535 parts.1
+  ok_or (ports_of first last) Number
+
+-- the first of the two forms that the word has
+abbrev pub ports_by : Result PortsFields LineFault → Result PortsFields LineFault → Result PortsFields LineFault
+ports_by (Ok ports) _ = Ok ports
+ports_by (Err e) range = range
+
+-- a port, or the first and the last of a range (pf.conf(5))
+abbrev pub ports_at_word : List ℕ → Result PortsFields LineFault
+ports_at_word word = ports_by (single_port_of word) (port_range_of word)
+
+-- ADDR:PORTS
+unfoldable pub v4_pool : List ℕ → Result Pool LineFault
+v4_pool word = do
+  parts ← cut_at 58 word
+  addr ← v4_of parts.0
+  ports ← ports_at_word parts.1
+  Ok (record { addr = V4 addr; ports = ports })
+
+-- ADDR]:PORTS, behind [
+unfoldable pub v6_pool : List ℕ → Result Pool LineFault
+v6_pool word = do
+  addr ← v6_at word
+  rest ← mark_at 93 addr.1
+  text ← mark_at 58 rest
+  ports ← ports_at_word text
+  Ok (record { addr = V6 addr.0; ports = ports })
+
+-- ADDR:PORTS, for IPv6 [ADDR]:PORTS
+unfoldable pub pool_at_word : List ℕ → Result Pool LineFault
+pool_at_word [] = Err Number
+pool_at_word (b ∷ bytes) = if b == 91 then v6_pool bytes else v4_pool (b ∷ bytes)

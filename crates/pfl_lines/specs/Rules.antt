@@ -8,14 +8,16 @@ use Rattle.pfl_base.specs.Texts.{class_text}
 use Rattle.pfl_base.specs.Words.{class_at_word}
 use Rattle.pfl_rules.specs.declared.action.Action.{Action}
 use Rattle.pfl_rules.specs.declared.net.NetFields.{NetFields}
+use Rattle.pfl_rules.specs.declared.pool.Pool.{Pool}
+use Rattle.pfl_rules.specs.declared.ports.PortsFields.{PortsFields}
 use Rattle.pfl_rules.specs.declared.rule.Rule.{Rule}
 use Rattle.pfl_rules.specs.declared.rule_dir.RuleDir.{RuleDir}
 use Rattle.pfl_rules.specs.Words.{action_at_word, direction_at_word}
 use Rattle.pfl_lines.specs.declared.fault.LineFault.{LineFault}
 use Rattle.pfl_lines.specs.declared.fault.LineFault.TheVariants.{Unknown, Number, Extra}
 use Rattle.pfl_lines.specs.Readings.{◌>>=◌, Reading, one_word, choice_at}
-use Rattle.pfl_lines.specs.Addresses.{net_at_word}
-use Rattle.pfl_lines.specs.Parts.{number_at, end_at, proto_at}
+use Rattle.pfl_lines.specs.Addresses.{net_at_word, pool_at_word, ports_at_word}
+use Rattle.pfl_lines.specs.Parts.{number_at, proto_at}
 
 -- ---- words
 
@@ -30,6 +32,14 @@ rule_dir_at ws = choice_at direction_at_word ws
 -- a net
 abbrev pub net_at : List (List ℕ) → Reading NetFields
 net_at ws = one_word net_at_word ws
+
+-- a range of ports
+abbrev pub ports_at : List (List ℕ) → Reading PortsFields
+ports_at ws = one_word ports_at_word ws
+
+-- what translation puts in the place of an end
+abbrev pub pool_at : List (List ℕ) → Reading Pool
+pool_at ws = one_word pool_at_word ws
 
 -- the word `any`
 abbrev pub any_of : List ℕ → Result Bool LineFault
@@ -104,7 +114,7 @@ timeouts_at (class ∷ rest) ws = do
 abbrev pub option_names : List (List ℕ)
 option_names =
     codes "quick" ∷ codes "proto" ∷ codes "from" ∷ codes "fport" ∷ codes "to" ∷ codes "tport" ∷ codes "flags"
-    ∷ codes "no-sync" ∷ codes "max" ∷ codes "nat" ∷ codes "timeout" ∷ []
+    ∷ codes "no-sync" ∷ codes "max" ∷ codes "nat" ∷ codes "rdr" ∷ codes "timeout" ∷ []
 
 -- what is wrong with a `timeout` out of its order: what is wrong with its class comes first
 abbrev pub late_timeout : Reading Class → LineFault
@@ -122,7 +132,8 @@ abbrev pub rule_ended : Rule → List (List ℕ) → Result Rule LineFault
 rule_ended rule [] = Ok rule
 rule_ended rule (word ∷ ws) = Err (misplaced word ws)
 
--- pass|block in|out|any [quick] [proto P] [from NET] [fport N] [to NET] [tport N] [flags any] [no-sync] [max N] [nat END] [timeout CLASS S]...
+-- pass|block in|out|any [quick] [proto P] [from NET] [fport PORTS] [to NET] [tport PORTS] [flags any] [no-sync] [max N] [nat POOL] [rdr POOL]
+-- [timeout CLASS S]...
 unfoldable pub rule_of : List (List ℕ) → Result Rule LineFault
 rule_of ws = do
   action ← action_at ws
@@ -130,14 +141,15 @@ rule_of ws = do
   quick ← Ok (flag_word_at (codes "quick") direction.1)
   proto ← option_at (codes "proto") proto_at quick.1
   from ← option_at (codes "from") net_at proto.1
-  from_port ← option_at (codes "fport") (number_at 65535) from.1
+  from_port ← option_at (codes "fport") ports_at from.1
   to ← option_at (codes "to") net_at from_port.1
-  to_port ← option_at (codes "tport") (number_at 65535) to.1
+  to_port ← option_at (codes "tport") ports_at to.1
   any_flags ← any_flags_at to_port.1 (behind_word (codes "flags") to_port.1)
   no_sync ← Ok (flag_word_at (codes "no-sync") any_flags.1)
   max ← option_at (codes "max") (number_at greatest) no_sync.1
-  nat ← option_at (codes "nat") end_at max.1
-  timeouts ← timeouts_at classes nat.1
+  nat ← option_at (codes "nat") pool_at max.1
+  rdr ← option_at (codes "rdr") pool_at nat.1
+  timeouts ← timeouts_at classes rdr.1
   rule_ended (record {
     action = action.0;
     direction = direction.0;
@@ -151,5 +163,6 @@ rule_of ws = do
     no_sync = no_sync.0;
     max = max.0;
     nat = nat.0;
+    rdr = rdr.0;
     timeouts = timeouts.0;
   }) timeouts.1

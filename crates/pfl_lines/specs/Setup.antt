@@ -1,6 +1,7 @@
 -- How a pair is set up, line by line (this project's profile).
 use Rattle.std.specs.Prelude.{ℕ, List, codes, bytes_eq, if◌then◌else◌, Result, Ok, Err}
-use Rattle.std.specs.Option.{ok_or}
+use Rattle.std.specs.Option.{ok_or, option_map_or}
+use Rattle.pfl_base.specs.Numbers.{greatest}
 use Rattle.pfl_language.specs.declared.limits.Limit.{Limit}
 use Rattle.pfl_language.specs.Limits.{limit_at_word, greatest_said}
 use Rattle.pfl_lines.specs.declared.fault.LineFault.{LineFault}
@@ -11,18 +12,29 @@ use Rattle.pfl_lines.specs.Words.{words}
 use Rattle.pfl_lines.specs.Readings.{◌>>=◌, Reading, word_at, one_word}
 use Rattle.pfl_lines.specs.Parts.{number_at, node_at}
 use Rattle.pfl_lines.specs.Commands.{checked, finished}
-use Rattle.pfl_lines.specs.Rules.{rule_of}
+use Rattle.pfl_lines.specs.Rules.{behind_word, class_at, rule_of}
 
 -- a limit by its word
 abbrev pub limit_at : List (List ℕ) → Reading Limit
 limit_at ws = one_word (λ word. ok_or (limit_at_word word) Unknown) ws
 
--- NAME N
-unfoldable pub set_of : List (List ℕ) → Result SetupLine LineFault
-set_of ws = do
+-- LIMIT N
+unfoldable pub limit_line_of : List (List ℕ) → Result SetupLine LineFault
+limit_line_of ws = do
   limit ← limit_at ws
   n ← number_at (greatest_said limit.0) limit.1
   finished (setup.Set limit.0 n.0, n.1)
+
+-- CLASS SECONDS
+unfoldable pub timeout_line_of : List (List ℕ) → Result SetupLine LineFault
+timeout_line_of ws = do
+  class ← class_at ws
+  seconds ← number_at greatest class.1
+  finished (setup.Timeout class.0 seconds.0, seconds.1)
+
+-- LIMIT N, or timeout CLASS SECONDS (pf.conf(5), `set timeout`)
+abbrev pub set_of : List (List ℕ) → Result SetupLine LineFault
+set_of ws = option_map_or timeout_line_of (behind_word (codes "timeout") ws) (limit_line_of ws)
 
 -- NODE RULE
 unfoldable pub rule_line_of : List (List ℕ) → Result SetupLine LineFault

@@ -1,14 +1,14 @@
-//! Addresses, ends and nets.
+//! Addresses, ends, nets and ranges of ports.
 
 ghost use Rattle.std.specs.Prelude.{◌≡◌, ◌<◌, IfOk};
 ghost use Rattle.pfl_lines.specs.inner.Readings.{Gives};
 ghost use Rattle.pfl_lines.specs.inner.Addresses.{v4_front, v4_read, v4_end_read};
-ghost use Rattle.pfl_lines.specs.Addresses.{hex_digit, mark_at, hex_at, group_at, pair_at, quad_at, v6_at, v6_of, v6_end, end_of, addr_of, net_at_word};
+ghost use Rattle.pfl_lines.specs.Addresses.{hex_digit, mark_at, hex_at, group_at, pair_at, quad_at, v6_at, v6_of, v6_end, end_of, addr_of, net_at_word, single_port_of, port_range_of, ports_at_word, v4_pool, v6_pool, pool_at_word};
 
 use crate::fault::LineFault;
 use crate::numbers::{cut, number_before, number_of};
 use pfl_base::{Addr, End};
-use pfl_rules::Net;
+use pfl_rules::{Net, Pool, Ports};
 
 /// Three numbers from 0 to 255, a dot after each, as one number, and what stands after them.
 #[tactic(auto, unfolding(crate::specs::inner::Addresses::v4_front))]
@@ -190,4 +190,75 @@ pub fn net_at_word(word: &[u8]) -> Result<Net, LineFault>
     let addr = addr_of(addr)?;
     let len = number_of(len, 128)?;
     Net::new(addr, len as u8).ok_or(LineFault::Number)
+}
+
+/// One port.
+#[tactic(auto, unfolding(crate::specs::Addresses::single_port_of))]
+fn single_port_of(word: &[u8]) -> Result<Ports, LineFault>
+    ensures { result ≡ single_port_of word.now }
+{
+    let port = number_of(word, 65535)?;
+    Ports::new(port as u16, port as u16).ok_or(LineFault::Number)
+}
+
+/// `FIRST:LAST`.
+#[tactic(auto, unfolding(crate::specs::Addresses::port_range_of))]
+fn port_range_of(word: &[u8]) -> Result<Ports, LineFault>
+    ensures { result ≡ port_range_of word.now }
+{
+    let (first, last) = cut(word, b':')?;
+    let first = number_of(first, 65535)?;
+    let last = number_of(last, 65535)?;
+    Ports::new(first as u16, last as u16).ok_or(LineFault::Number)
+}
+
+/// A port, or the first and the last of a range with a colon between them.
+pub fn ports_at_word(word: &[u8]) -> Result<Ports, LineFault>
+    ensures { result ≡ ports_at_word word.now }
+{
+    match single_port_of(word) {
+        Ok(ports) => Ok(ports),
+        Err(_) => port_range_of(word),
+    }
+}
+
+/// `ADDR:PORTS`.
+#[tactic(auto, using(crate::proofs::Dotted::v4_is), unfolding(crate::specs::Addresses::v4_pool))]
+fn v4_pool(word: &[u8]) -> Result<Pool, LineFault>
+    ensures { result ≡ v4_pool word.now }
+{
+    let (addr, ports) = cut(word, b':')?;
+    let addr = v4_of(addr)?;
+    let ports = ports_at_word(ports)?;
+    Ok(Pool {
+        addr: Addr::V4(addr),
+        ports,
+    })
+}
+
+/// `ADDR]:PORTS`, after `[`.
+#[tactic(auto, unfolding(crate::specs::Addresses::v6_pool))]
+fn v6_pool(word: &[u8]) -> Result<Pool, LineFault>
+    ensures { result ≡ v6_pool word.now }
+{
+    let (addr, rest) = v6_at(word)?;
+    let rest = mark_at(rest, b']')?;
+    let ports = mark_at(rest, b':')?;
+    let ports = ports_at_word(ports)?;
+    Ok(Pool {
+        addr: Addr::V6(addr),
+        ports,
+    })
+}
+
+/// `ADDR:PORTS`, for IPv6 `[ADDR]:PORTS`.
+#[tactic(auto, unfolding(crate::specs::Addresses::pool_at_word))]
+pub fn pool_at_word(word: &[u8]) -> Result<Pool, LineFault>
+    ensures { result ≡ pool_at_word word.now }
+{
+    match word.split_first() {
+        Some((b'[', rest)) => v6_pool(rest),
+        Some(_) => v4_pool(word),
+        None => Err(LineFault::Number),
+    }
 }

@@ -7,15 +7,15 @@ ghost use Rattle.pfl_base.specs.Classes.{classes};
 ghost use Rattle.pfl_base.specs.Numbers.{greatest};
 ghost use Rattle.pfl_lines.specs.Words.{words};
 ghost use Rattle.pfl_lines.specs.inner.Readings.{Gives};
-ghost use Rattle.pfl_lines.specs.Parts.{number_at, end_at, proto_at};
-ghost use Rattle.pfl_lines.specs.Rules.{action_at, rule_dir_at, net_at, any_of, any_at, class_at, behind_word, option_at, flag_word_at, any_flags_at, behind_class, timeout_at, timeouts_at, option_names, misplaced, rule_ended, rule_of};
+ghost use Rattle.pfl_lines.specs.Parts.{number_at, proto_at};
+ghost use Rattle.pfl_lines.specs.Rules.{action_at, rule_dir_at, net_at, ports_at, pool_at, any_of, any_at, class_at, behind_word, option_at, flag_word_at, any_flags_at, behind_class, timeout_at, timeouts_at, option_names, misplaced, rule_ended, rule_of};
 
-use crate::addresses::net_at_word;
+use crate::addresses::{net_at_word, pool_at_word, ports_at_word};
 use crate::fault::LineFault;
-use crate::parts::{end_at, number_at, proto_at};
+use crate::parts::{number_at, proto_at};
 use crate::words::{is_word, one_word, try_read, word_at};
-use pfl_base::{Class, End, GREATEST_NUMBER, Proto};
-use pfl_rules::{Action, Net, Rule, RuleDir};
+use pfl_base::{Class, GREATEST_NUMBER, Proto};
+use pfl_rules::{Action, Net, Pool, Ports, Rule, RuleDir};
 
 /// An action.
 fn action_at(line: &[u8]) -> Result<(Action, &[u8]), LineFault>
@@ -38,6 +38,20 @@ fn net_at(line: &[u8]) -> Result<(Net, &[u8]), LineFault>
     one_word!(line, word => net_at_word(word))
 }
 
+/// A range of ports.
+fn ports_at(line: &[u8]) -> Result<(Ports, &[u8]), LineFault>
+    ensures { Gives (λ x. (x.0, words x.1.now)) result (ports_at (words line.now)) }
+{
+    one_word!(line, word => ports_at_word(word))
+}
+
+/// What translation puts in the place of an end.
+fn pool_at(line: &[u8]) -> Result<(Pool, &[u8]), LineFault>
+    ensures { Gives (λ x. (x.0, words x.1.now)) result (pool_at (words line.now)) }
+{
+    one_word!(line, word => pool_at_word(word))
+}
+
 /// The word `any`.
 fn any_of(word: &[u8]) -> Result<bool, LineFault>
     ensures { result ≡ any_of word.now }
@@ -57,14 +71,14 @@ fn any_at(line: &[u8]) -> Result<(bool, &[u8]), LineFault>
 }
 
 /// A class by its word.
-fn class_at(line: &[u8]) -> Result<(Class, &[u8]), LineFault>
+pub fn class_at(line: &[u8]) -> Result<(Class, &[u8]), LineFault>
     ensures { Gives (λ x. (x.0, words x.1.now)) result (class_at (words line.now)) }
 {
     one_word!(line, word => Class::of_word(word).ok_or(LineFault::Number))
 }
 
 /// What stands behind an option's word, if the line begins with it.
-fn behind_word<'a>(line: &'a [u8], name: &str) -> Option<&'a [u8]>
+pub fn behind_word<'a>(line: &'a [u8], name: &str) -> Option<&'a [u8]>
     ensures { option_map (λ x. words x.now) result ≡ behind_word name.now (words line.now) }
 {
     match word_at(line) {
@@ -105,15 +119,15 @@ fn net_option_at<'a>(line: &'a [u8], name: &str) -> Result<(Option<Net>, &'a [u8
     Ok((Some(net), rest))
 }
 
-/// `[fport N]` or `[tport N]`.
-fn port_option_at<'a>(line: &'a [u8], name: &str) -> Result<(Option<u16>, &'a [u8]), LineFault>
-    ensures { Gives (λ x. (x.0, words x.1.now)) result (option_at name.now (number_at 65535) (words line.now)) }
+/// `[fport PORTS]` or `[tport PORTS]`.
+fn ports_option_at<'a>(line: &'a [u8], name: &str) -> Result<(Option<Ports>, &'a [u8]), LineFault>
+    ensures { Gives (λ x. (x.0, words x.1.now)) result (option_at name.now ports_at (words line.now)) }
 {
     let Some(rest) = behind_word(line, name) else {
         return Ok((None, line));
     };
-    let (port, rest) = number_at(rest, 65535)?;
-    Ok((Some(port as u16), rest))
+    let (ports, rest) = try_read!(ports_at(rest));
+    Ok((Some(ports), rest))
 }
 
 /// `[flags any]`.
@@ -137,15 +151,15 @@ fn max_option_at(line: &[u8]) -> Result<(Option<u32>, &[u8]), LineFault>
     Ok((Some(max as u32), rest))
 }
 
-/// `[nat END]`.
-fn nat_option_at(line: &[u8]) -> Result<(Option<End>, &[u8]), LineFault>
-    ensures { Gives (λ x. (x.0, words x.1.now)) result (option_at (codes "nat") end_at (words line.now)) }
+/// `[nat POOL]` or `[rdr POOL]`.
+fn pool_option_at<'a>(line: &'a [u8], name: &str) -> Result<(Option<Pool>, &'a [u8]), LineFault>
+    ensures { Gives (λ x. (x.0, words x.1.now)) result (option_at name.now pool_at (words line.now)) }
 {
-    let Some(rest) = behind_word(line, "nat") else {
+    let Some(rest) = behind_word(line, name) else {
         return Ok((None, line));
     };
-    let (end, rest) = end_at(rest)?;
-    Ok((Some(end), rest))
+    let (pool, rest) = try_read!(pool_at(rest));
+    Ok((Some(pool), rest))
 }
 
 /// What stands behind `timeout` and the class, if the line begins with them.
@@ -198,6 +212,7 @@ fn is_option_name(word: &[u8]) -> bool
         || is_word(word, "no-sync")
         || is_word(word, "max")
         || is_word(word, "nat")
+        || is_word(word, "rdr")
         || is_word(word, "timeout")
 }
 
@@ -228,8 +243,8 @@ fn rule_ended(rule: Rule, line: &[u8]) -> Result<Rule, LineFault>
     }
 }
 
-/// `pass|block in|out|any [quick] [proto P] [from NET] [fport N] [to NET] [tport N] [flags any] [no-sync] [max N]
-/// [nat END] [timeout CLASS S]...`.
+/// `pass|block in|out|any [quick] [proto P] [from NET] [fport PORTS] [to NET] [tport PORTS] [flags any] [no-sync] [max N]
+/// [nat POOL] [rdr POOL] [timeout CLASS S]...`.
 #[tactic(auto, unfolding(crate::specs::Rules::rule_of))]
 pub fn rule_of(line: &[u8]) -> Result<Rule, LineFault>
     ensures { result ≡ rule_of (words line.now) }
@@ -239,13 +254,14 @@ pub fn rule_of(line: &[u8]) -> Result<Rule, LineFault>
     let (quick, rest) = flag_word_at(rest, "quick");
     let (proto, rest) = try_read!(proto_option_at(rest));
     let (from, rest) = try_read!(net_option_at(rest, "from"));
-    let (from_port, rest) = port_option_at(rest, "fport")?;
+    let (from_port, rest) = try_read!(ports_option_at(rest, "fport"));
     let (to, rest) = try_read!(net_option_at(rest, "to"));
-    let (to_port, rest) = port_option_at(rest, "tport")?;
+    let (to_port, rest) = try_read!(ports_option_at(rest, "tport"));
     let (any_flags, rest) = any_flags_at(rest)?;
     let (no_sync, rest) = flag_word_at(rest, "no-sync");
     let (max, rest) = max_option_at(rest)?;
-    let (nat, rest) = nat_option_at(rest)?;
+    let (nat, rest) = try_read!(pool_option_at(rest, "nat"));
+    let (rdr, rest) = try_read!(pool_option_at(rest, "rdr"));
     let (timeouts, rest) = timeouts_at(rest)?;
     let rule = Rule {
         action,
@@ -260,6 +276,7 @@ pub fn rule_of(line: &[u8]) -> Result<Rule, LineFault>
         no_sync,
         max,
         nat,
+        rdr,
         timeouts,
     };
     rule_ended(rule, rest)

@@ -4,14 +4,14 @@ ghost use Rattle.std.specs.Prelude.{◌≡◌};
 ghost use Rattle.pfl_lines.specs.Words.{words};
 ghost use Rattle.pfl_lines.specs.inner.Readings.{Gives};
 ghost use Rattle.pfl_lines.specs.Commands.{finished};
-ghost use Rattle.pfl_lines.specs.Setup.{limit_at, set_of, rule_line_of, setup_by, setup_of, parsed_setup};
+ghost use Rattle.pfl_lines.specs.Setup.{limit_at, limit_line_of, timeout_line_of, set_of, rule_line_of, setup_by, setup_of, parsed_setup};
 
 use crate::commands::checked;
 use crate::fault::LineFault;
 use crate::parts::{node_at, number_at};
-use crate::rules::rule_of;
+use crate::rules::{behind_word, class_at, rule_of};
 use crate::words::{is_word, one_word, word_at};
-use pfl_base::NodeId;
+use pfl_base::{Class, GREATEST_NUMBER, NodeId};
 use pfl_language::Limit;
 use pfl_rules::Rule;
 
@@ -20,6 +20,8 @@ use pfl_rules::Rule;
 pub enum SetupLine {
     /// A limit gets a value.
     Set { limit: Limit, n: u32 },
+    /// A class gets its seconds, where a rule says none.
+    Timeout { class: Class, seconds: u32 },
     /// A node gets its next rule.
     Rule { node: NodeId, rule: Rule },
     /// The setup ends.
@@ -43,10 +45,31 @@ fn ended(setup: SetupLine, line: &[u8]) -> Result<SetupLine, LineFault>
     }
 }
 
-/// `NAME N`.
-#[tactic(auto, unfolding(crate::specs::Setup::set_of))]
+/// `CLASS SECONDS`.
+#[tactic(auto, unfolding(crate::specs::Setup::timeout_line_of))]
+fn timeout_line_of(line: &[u8]) -> Result<SetupLine, LineFault>
+    ensures { result ≡ timeout_line_of (words line.now) }
+{
+    let (class, rest) = class_at(line)?;
+    let (seconds, rest) = number_at(rest, GREATEST_NUMBER)?;
+    let seconds = seconds as u32;
+    ended(SetupLine::Timeout { class, seconds }, rest)
+}
+
+/// `LIMIT N`, or `timeout CLASS SECONDS`.
 fn set_of(line: &[u8]) -> Result<SetupLine, LineFault>
     ensures { result ≡ set_of (words line.now) }
+{
+    match behind_word(line, "timeout") {
+        Some(rest) => timeout_line_of(rest),
+        None => limit_line_of(line),
+    }
+}
+
+/// `LIMIT N`.
+#[tactic(auto, unfolding(crate::specs::Setup::limit_line_of))]
+fn limit_line_of(line: &[u8]) -> Result<SetupLine, LineFault>
+    ensures { result ≡ limit_line_of (words line.now) }
 {
     let (limit, rest) = limit_at(line)?;
     let (n, rest) = number_at(rest, limit.greatest_said())?;

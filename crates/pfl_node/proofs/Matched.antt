@@ -1,20 +1,22 @@
 -- The rule that decides matches, and what that makes of a packet.
 use Rattle.std.specs.Prelude.{◌≡◌, ℕ, ◌+◌, suc, Bool, true, false, not, ◌&&◌, ◌||◌, List, [], ◌∷◌, filter, slice_get, Option, Some, None, refl}
 use Rattle.std.specs.List.{AllByRecursion, enumerate_from}
+use Rattle.std.specs.Option.{option_map_or, option_or}
 use Rattle.std.proofs.Common.{cond, ◌∙◌, ap, sym, subst, arith}
 use Rattle.pfl_base.specs.declared.addr.Addr.{Addr}
 use Rattle.pfl_base.specs.declared.addr.Addr.TheVariants.{V4, V6}
-use Rattle.pfl_base.specs.declared.addr.End.{End}
+use Rattle.pfl_base.specs.declared.flow.Key.{Key}
 use Rattle.pfl_base.specs.declared.direction.Dir.{Dir}
 use Rattle.pfl_base.specs.declared.direction.Dir.TheVariants.{Inbound, Outbound}
 use Rattle.pfl_base.specs.declared.packet.Packet.{Packet}
 use Rattle.pfl_base.specs.Ends.{same_family}
 use Rattle.pfl_base.specs.Keys.{key}
 use Rattle.pfl_base.specs.Lists.{last_of, up_to_first}
+use Rattle.pfl_rules.specs.declared.pool.Pool.{Pool}
 use Rattle.pfl_rules.specs.declared.rule.Rule.{Rule}
 use Rattle.pfl_rules.specs.Matching.{matches, is_pass, can_start, if_said}
 use Rattle.pfl_rules.specs.Rules.{verdict, verdict_by, deciding, looked_at}
-use Rattle.pfl_track.specs.Keys.{fits_family}
+use Rattle.pfl_receive.specs.table.Translating.{fits_translation}
 
 -- ---- the rule that decides
 
@@ -79,6 +81,10 @@ right : (a b : Bool) → (a && b) ≡ true → b ≡ true
 right true b e = e
 right false b e = absurd (cc)
 
+left : (a b : Bool) → (a && b) ≡ true → a ≡ true
+left true b e = refl
+left false b e = absurd (cc)
+
 passes : (a b : Bool) → a ≡ true → (not a || b) ≡ true → b ≡ true
 passes true b e f = f
 passes false b e f = absurd (cc)
@@ -95,14 +101,21 @@ through (V6 a) (V6 b) c e f = f
 through (V4 a) (V6 b) c e f = absurd (cc)
 through (V6 a) (V4 b) c e f = absurd (cc)
 
-nat_fits : (nat : Option End) (p : Packet) (dir : Dir) → same_family p.src.addr p.dst.addr ≡ true → if_said nat (λ e. same_family e.addr p.src.addr) ≡ true → fits_family (key p dir) nat ≡ true
-nat_fits None p dir h e = refl
-nat_fits (Some n) p Outbound h e = turned_round n.addr p.src.addr e
-nat_fits (Some n) p Inbound h e = through p.src.addr p.dst.addr n.addr h (turned_round n.addr p.src.addr e)
+pool_fits : (pool : Option Pool) (p : Packet) (dir : Dir) → same_family p.src.addr p.dst.addr ≡ true → if_said pool (λ e. same_family e.addr p.src.addr) ≡ true
+    → option_map_or (λ e. same_family (key p dir).near.addr e.addr) pool true ≡ true
+pool_fits None p dir h e = refl
+pool_fits (Some n) p Outbound h e = turned_round n.addr p.src.addr e
+pool_fits (Some n) p Inbound h e = through p.src.addr p.dst.addr n.addr h (turned_round n.addr p.src.addr e)
+
+-- either of them fits
+either_fits : (k : Key) (a b : Option Pool) → option_map_or (λ e. same_family k.near.addr e.addr) a true ≡ true → option_map_or (λ e. same_family k.near.addr e.addr) b true ≡ true
+    → option_map_or (λ e. same_family k.near.addr e.addr) (option_or a b) true ≡ true
+either_fits k None b f g = g
+either_fits k (Some n) b f g = f
 
 pub judged-fits : (rules : List Rule) (p : Packet) (dir : Dir) (number : ℕ) (r : Rule) → same_family p.src.addr p.dst.addr ≡ true → (verdict rules p dir).pass ≡ true → (verdict rules p dir).rule ≡ Some number → slice_get rules number ≡ Some r
-    → fits_family (key p dir) r.nat ≡ true
+    → fits_translation (key p dir) r ≡ true
 judged-fits rules p dir number r family pass rule there =
     let d = by_verdict rules p dir number r pass rule there in
     let start : can_start r p ≡ true = passes (is_pass r.action) (can_start r p) d.pass (right _ _ d.matches) in
-    nat_fits r.nat p dir family (right _ _ start)
+    either_fits (key p dir) r.rdr r.nat (pool_fits r.rdr p dir family (right _ _ start)) (pool_fits r.nat p dir family (right _ _ (left _ _ start)))

@@ -19,6 +19,7 @@ use Rattle.pfl_track.specs.declared.tracked.Tracked.TheVariants.{Moved, OutOfWin
 use Rattle.pfl_track.specs.Tracking.{tracked}
 use Rattle.pfl_track.proofs.ForCallers.{Stays, tracked-stays}
 use Rattle.pfl_receive.specs.table.Tables.{AreStates, found, key_in_use}
+use Rattle.pfl_receive.specs.table.Translating.{is_taken, new_keys}
 use Rattle.pfl_receive.proofs.ForCallers.table.{OwnsKeys-unused, OwnsKeys-known, SameKeys, SameKeys-itself, AreStates-with, AreStates-without, found-stands}
 use Rattle.pfl_wire.specs.declared.message.BulkStatus.{BulkStatus}
 use Rattle.pfl_wire.specs.declared.message.StateRecord.{StateRecord}
@@ -33,7 +34,6 @@ use Rattle.pfl_receive.specs.defer.declared.Held.{Held}
 use Rattle.pfl_receive.specs.defer.Deferring.{pushed_out}
 use Rattle.pfl_receive.specs.desk.Nodes.{Node, timeout_at}
 use Rattle.pfl_receive.specs.desk.Changes.{put_state, mark, is_untold, is_insert, is_held, freed, lost, not_waiting, released, changed, deleted, forgotten, count_stale, count_freed, count_lost, without_held}
-use Rattle.pfl_track.specs.Keys.{wire_key}
 use Rattle.pfl_node.specs.Starting.{Handled, started, judged, by_rule, announced, hold, with_room, with_new, new_state, is_at_max, is_deferred}
 use Rattle.pfl_node.specs.Packets.{handled, handled_by, followed, accepted}
 use Rattle.pfl_receive.specs.Receiving.{taken, insert_taken, can_import, imported, merge_taken, merged_into, bulk_taken, state_answered, request_taken, ack_taken, is_known, cleared_names, status_taken}
@@ -256,7 +256,7 @@ unfolding started
 started-apart n dir p number r k =
     one_of (is_at_max n number r) _ _ k
     (one_of (nat_le n.limits.states (maps.len n.states)) _ _ k
-    (one_by (key_in_use n.states (wire_key (key p dir) r.nat) (key p dir)) _ _ (λ e. k) (λ e.
+    (one_by (is_taken n.states (new_keys n.states r (key p dir))) _ _ (λ e. k) (λ e.
     announced-apart (with_new n (new_state n dir p number r)) (new_state n dir p number r) dir p
     (put-unused n (new_state n dir p number r) k e)
     (get-set_at_same names_total names_exact n.states (new_state n dir p number r).name (Some (new_state n dir p number r))))))

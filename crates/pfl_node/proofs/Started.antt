@@ -8,8 +8,7 @@ use Rattle.pfl_base.specs.Keys.{key}
 use Rattle.pfl_edits.specs.Maps as maps
 use Rattle.pfl_rules.specs.declared.rule.Rule.{Rule}
 use Rattle.pfl_rules.specs.Rules.{verdict}
-use Rattle.pfl_track.specs.Keys.{wire_key}
-use Rattle.pfl_receive.specs.table.Tables.{key_in_use}
+use Rattle.pfl_receive.specs.table.Translating.{is_taken, new_keys}
 use Rattle.pfl_language.specs.declared.fate.Reason.TheVariants as reason
 use Rattle.pfl_receive.specs.desk.Nodes.{Node}
 use Rattle.pfl_node.specs.Starting.{Handled, pass, drop, by_rule, judged, started, announced, with_new, new_state, is_at_max}
@@ -35,23 +34,23 @@ module _ (n : Node) (dir : Dir) (p : Packet) where
     tests : Bool → Bool → Bool → Handled
     tests at_max full used = cond at_max (drop n reason.Max) (cond full (drop n reason.Full) (cond used (drop n reason.Key) (announced (with_new n (new_state n dir p number r)) (new_state n dir p number r) dir p)))
 
-    is_tests : started n dir p number r ≡ tests (is_at_max n number r) (nat_le n.limits.states (maps.len n.states)) (key_in_use n.states (wire_key (key p dir) r.nat) (key p dir))
+    is_tests : started n dir p number r ≡ tests (is_at_max n number r) (nat_le n.limits.states (maps.len n.states)) (is_taken n.states (new_keys n.states r (key p dir)))
     unfolding started tests
     is_tests = refl
 
     pub started-max : is_at_max n number r ≡ true → started n dir p number r ≡ drop n reason.Max
     unfolding tests
-    started-max a = is_tests ∙ (λ i. tests (a i) (nat_le n.limits.states (maps.len n.states)) (key_in_use n.states (wire_key (key p dir) r.nat) (key p dir)))
+    started-max a = is_tests ∙ (λ i. tests (a i) (nat_le n.limits.states (maps.len n.states)) (is_taken n.states (new_keys n.states r (key p dir))))
 
     pub started-full : is_at_max n number r ≡ false → nat_le n.limits.states (maps.len n.states) ≡ true → started n dir p number r ≡ drop n reason.Full
     unfolding tests
-    started-full a b = is_tests ∙ (λ i. tests (a i) (b i) (key_in_use n.states (wire_key (key p dir) r.nat) (key p dir)))
+    started-full a b = is_tests ∙ (λ i. tests (a i) (b i) (is_taken n.states (new_keys n.states r (key p dir))))
 
-    pub started-key : is_at_max n number r ≡ false → nat_le n.limits.states (maps.len n.states) ≡ false → key_in_use n.states (wire_key (key p dir) r.nat) (key p dir) ≡ true → started n dir p number r ≡ drop n reason.Key
+    pub started-key : is_at_max n number r ≡ false → nat_le n.limits.states (maps.len n.states) ≡ false → is_taken n.states (new_keys n.states r (key p dir)) ≡ true → started n dir p number r ≡ drop n reason.Key
     unfolding tests
     started-key a b c = is_tests ∙ (λ i. tests (a i) (b i) (c i))
 
-    pub started-new : is_at_max n number r ≡ false → nat_le n.limits.states (maps.len n.states) ≡ false → key_in_use n.states (wire_key (key p dir) r.nat) (key p dir) ≡ false
+    pub started-new : is_at_max n number r ≡ false → nat_le n.limits.states (maps.len n.states) ≡ false → is_taken n.states (new_keys n.states r (key p dir)) ≡ false
         → started n dir p number r ≡ announced (with_new n (new_state n dir p number r)) (new_state n dir p number r) dir p
     unfolding tests
     started-new a b c = is_tests ∙ (λ i. tests (a i) (b i) (c i))

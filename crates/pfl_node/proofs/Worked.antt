@@ -27,7 +27,7 @@ print = replicate 16 7
 
 -- a new node of creator 1, whose next id is this
 abbrev from : ℕ → Node
-from next = new_node default_limits (record { list = []; print = print }) 1 next 0
+from next = new_node default_limits (record { list = []; timeouts = replicate 14 None; print = print }) 1 next 0
 
 abbrev fresh : Node
 fresh = from 1

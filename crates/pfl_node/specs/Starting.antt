@@ -11,9 +11,9 @@ use Rattle.pfl_edits.specs.Maps as maps
 use Rattle.pfl_rules.specs.declared.rule.Rule.{Rule}
 use Rattle.pfl_rules.specs.Rules.{verdict, rule_at}
 use Rattle.pfl_track.specs.declared.state.State.{State}
-use Rattle.pfl_track.specs.Keys.{wire_key}
 use Rattle.pfl_track.specs.Tracking.{start_state}
-use Rattle.pfl_receive.specs.table.Tables.{key_in_use, count_of_rule}
+use Rattle.pfl_receive.specs.table.Tables.{count_of_rule}
+use Rattle.pfl_receive.specs.table.Translating.{is_taken, new_keys}
 use Rattle.pfl_receive.specs.queue.declared.Kind.TheVariants.{Insert}
 use Rattle.pfl_receive.specs.defer.Deferring.{pushed_out, with_held}
 use Rattle.pfl_language.specs.declared.fate.Fate.{Fate}
@@ -69,16 +69,18 @@ announced n s dir p =
     if s.no_sync then pass n (Some s.name) else
     if is_deferred n dir then hold (with_room (mark n s.name Insert)) s p else pass (mark n s.name Insert) (Some s.name)
 
--- the state that the packet makes
+-- the state that the packet makes, under the keys that its rule gives it
 abbrev pub new_state : Node → Dir → Packet → ℕ → Rule → State
-new_state n dir p number r = start_state (next_name n) (wire_key (key p dir) r.nat) (key p dir) dir p (Some number) r.no_sync n.clock
+new_state n dir p number r =
+    let keys = new_keys n.states r (key p dir) in
+    start_state (next_name n) keys.wire keys.stack dir p (Some number) r.no_sync n.clock
 
 -- a packet that a rule passes: the first of these lines that applies
 unfoldable pub started : Node → Dir → Packet → ℕ → Rule → Handled
 started n dir p number r =
     if is_at_max n number r then drop n reason.Max else
     if nat_le n.limits.states (maps.len n.states) then drop n reason.Full else
-    if key_in_use n.states (wire_key (key p dir) r.nat) (key p dir) then drop n reason.Key else
+    if is_taken n.states (new_keys n.states r (key p dir)) then drop n reason.Key else
     announced (with_new n (new_state n dir p number r)) (new_state n dir p number r) dir p
 
 -- the rule that decided, with its number

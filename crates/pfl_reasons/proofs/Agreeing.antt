@@ -20,7 +20,6 @@ use Rattle.pfl_track.specs.declared.state.State.{State}
 use Rattle.pfl_track.specs.declared.tracked.Tracked.{Tracked}
 use Rattle.pfl_track.specs.declared.tracked.Tracked.TheVariants.{Moved, OutOfWindow, Reused}
 use Rattle.pfl_track.specs.Edges.{TestsAgree, is_met, window_test}
-use Rattle.pfl_track.specs.Keys.{wire_key}
 use Rattle.pfl_track.specs.Tracking.{is_closed, moved, receiver, sender, tracked, tracked_other}
 use Rattle.pfl_track.specs.Windows.{begun, is_inside, receiver_after, sender_after}
 use Rattle.pfl_language.specs.declared.event.Event.{Event}
@@ -47,7 +46,8 @@ use Rattle.pfl_world.specs.node.Starting.{Handled, announced, by_rule, drop, hol
 use Rattle.pfl_world.specs.node.Stepping.{NodeStepped, node_after, node_step}
 use Rattle.pfl_world.specs.receive.Delivering.{same_rules}
 use Rattle.pfl_world.specs.receive.Receiving.{taken}
-use Rattle.pfl_world.specs.table.Tables.{by_stack, by_wire, count_of_rule, found, key_in_use}
+use Rattle.pfl_world.specs.table.Tables.{by_stack, by_wire, count_of_rule, found}
+use Rattle.pfl_world.specs.table.Translating.{is_taken, new_keys}
 use Rattle.pfl_world.specs.queue.declared.Kind.TheVariants.{Insert}
 use Rattle.pfl_world.specs.AtNodes.{from_node}
 use Rattle.pfl_world.specs.Delivering.{deliver_step, read_taken}
@@ -92,11 +92,11 @@ module _ (n : Node) (dir : Dir) (p : Packet) where
       s = new_state n dir p number r
 
       by : (most full : Bool)
-          → JudgedSo (cond most (made.AtMax number (unwrap_or r.max 0) (count_of_rule n.states number)) (cond full (made.Full number n.limits.states (maps.len n.states)) (by_keys number (by_wire n.states (wire_key (key p dir) r.nat)) (by_stack n.states (key p dir)) (made.Makes number (next_name n)))))
-          (cond most (drop n reason.Max) (cond full (drop n reason.Full) (cond (key_in_use n.states (wire_key (key p dir) r.nat) (key p dir)) (drop n reason.Key) (announced (with_new n s) s dir p)))).fate
+          → JudgedSo (cond most (made.AtMax number (unwrap_or r.max 0) (count_of_rule n.states number)) (cond full (made.Full number n.limits.states (maps.len n.states)) (by_keys number (by_wire n.states (new_keys n.states r (key p dir)).wire) (by_stack n.states (new_keys n.states r (key p dir)).stack) (made.Makes number (next_name n)))))
+          (cond most (drop n reason.Max) (cond full (drop n reason.Full) (cond (is_taken n.states (new_keys n.states r (key p dir))) (drop n reason.Key) (announced (with_new n s) s dir p)))).fate
       by true full = refl
       by false true = refl
-      by false false = keyed-so number (by_wire n.states (wire_key (key p dir) r.nat)) (by_stack n.states (key p dir)) (announced (with_new n s) s dir p) (announced-so (with_new n s) s number)
+      by false false = keyed-so number (by_wire n.states (new_keys n.states r (key p dir)).wire) (by_stack n.states (new_keys n.states r (key p dir)).stack) (announced (with_new n s) s dir p) (announced-so (with_new n s) s number)
 
   by_rule-so : (number : ℕ) (o : Option Rule) → JudgedSo (option_map_or (start_reason n dir p number) o made.Unmatched) (option_map_or (started n dir p number) o (pass n None)).fate
   by_rule-so number None = refl

@@ -49,6 +49,7 @@ pass = record {
   no_sync = false;
   max = None;
   nat = None;
+  rdr = None;
   timeouts = replicate 14 None;
 }
 
@@ -56,7 +57,7 @@ abbrev block : Rule
 block = record pass { action = Block }
 
 abbrev pair : Limits → List Rule → World
-pair l rules = new_world l (record { list = rules; print = replicate 16 7 }) (record { list = rules; print = replicate 16 7 })
+pair l rules = new_world l (record { list = rules; timeouts = replicate 14 None; print = replicate 16 7 }) (record { list = rules; timeouts = replicate 14 None; print = replicate 16 7 })
 
 abbrev after : World → List Event → World
 after w events = unwrap_or (run w events) w
@@ -95,7 +96,7 @@ node_full = refl
 
 -- what goes out takes this end
 abbrev translated : Rule
-translated = record pass { direction = Out; nat = Some (record { addr = V4 0xcb007101; port = 5000 }) }
+translated = record pass { direction = Out; nat = Some (record { addr = V4 0xcb007101; ports = record { first = 5000; last = 5000 } }) }
 
 -- two flows to one end
 same_on_the_wire : explained (after (pair limits (translated ∷ [])) (packet Outbound u1 ∷ [])) (packet Outbound u2) ≡ by_rules (WireInUse 0 (name 1 1))
@@ -239,6 +240,6 @@ not_syncing : stands (pair limits []) (event.At A own.BulkRetry) Nothing
 unfolding computing
 not_syncing = refl
 
-count_full : stands (new_world_at limits (record { list = []; print = replicate 16 7 }) (record { list = []; print = replicate 16 7 }) 4294967295) (event.Restart A) Nothing
+count_full : stands (new_world_at limits (record { list = []; timeouts = replicate 14 None; print = replicate 16 7 }) (record { list = []; timeouts = replicate 14 None; print = replicate 16 7 }) 4294967295) (event.Restart A) Nothing
 unfolding computing
 count_full = refl

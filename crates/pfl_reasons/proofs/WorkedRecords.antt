@@ -28,7 +28,7 @@ name creator id = record { creator = creator; id = id }
 
 -- a new node of creator 1 without rules, a minute after it began; 16 equal bytes stand for the checksum
 abbrev fresh : Node
-fresh = new_node default_limits (record { list = []; print = replicate 16 7 }) 1 1 60000
+fresh = new_node default_limits (record { list = []; timeouts = replicate 14 None; print = replicate 16 7 }) 1 1 60000
 
 -- a query of 10.0.0.1:1000 to 192.0.2.9:53
 abbrev flow : Key

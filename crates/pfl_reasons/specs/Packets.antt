@@ -14,7 +14,6 @@ use Rattle.pfl_track.specs.declared.state.State.{State}
 use Rattle.pfl_track.specs.declared.tracked.Tracked.{Tracked}
 use Rattle.pfl_track.specs.declared.tracked.Tracked.TheVariants.{Reused}
 use Rattle.pfl_track.specs.Edges.{is_met, window_test}
-use Rattle.pfl_track.specs.Keys.{wire_key}
 use Rattle.pfl_track.specs.Tracking.{tracked}
 use Rattle.pfl_language.specs.declared.fate.Fate.{Fate}
 use Rattle.pfl_language.specs.declared.fate.Fate.TheVariants as fate
@@ -23,12 +22,14 @@ use Rattle.pfl_world.specs.desk.Changes.{deleted}
 use Rattle.pfl_world.specs.desk.Nodes.{Node}
 use Rattle.pfl_world.specs.node.Starting.{is_at_max, next_name}
 use Rattle.pfl_world.specs.table.Tables.{by_stack, by_wire, count_of_rule, found}
+use Rattle.pfl_world.specs.table.Translating.{new_keys}
 use Rattle.pfl_reasons.specs.declared.packet_reason.Judged.{Judged}
 use Rattle.pfl_reasons.specs.declared.packet_reason.Judged.TheVariants as judged
 use Rattle.pfl_reasons.specs.declared.packet_reason.PacketReason.{PacketReason}
 use Rattle.pfl_reasons.specs.declared.packet_reason.PacketReason.TheVariants.{OfState, ByRules}
 
--- a state that has a key of the new one stands against it, the one with the wire key first
+-- a state that has a key of the new one stands against it, the one with the wire key first; where a rule has several ports, this is about
+-- the last of them
 abbrev pub by_keys : ℕ → Option State → Option State → Judged → Judged
 by_keys rule (Some s) on_stack makes = judged.WireInUse rule s.name
 by_keys rule None (Some s) makes = judged.StackInUse rule s.name
@@ -39,7 +40,8 @@ abbrev pub start_reason : Node → Dir → Packet → ℕ → Rule → Judged
 start_reason n dir p number r =
     if is_at_max n number r then judged.AtMax number (unwrap_or r.max 0) (count_of_rule n.states number) else
     if nat_le n.limits.states (maps.len n.states) then judged.Full number n.limits.states (maps.len n.states) else
-    by_keys number (by_wire n.states (wire_key (key p dir) r.nat)) (by_stack n.states (key p dir)) (judged.Makes number (next_name n))
+    let keys = new_keys n.states r (key p dir) in
+    by_keys number (by_wire n.states keys.wire) (by_stack n.states keys.stack) (judged.Makes number (next_name n))
 
 -- the rule that decided, by its number
 abbrev pub rule_reason : Node → Dir → Packet → Verdict → ℕ → Judged

@@ -12,7 +12,7 @@ abbrev pub expiry_of : ℕ → Node → State → Expiry
 expiry_of states n s = record {
   name = s.name;
   class = s.class;
-  timeout = timeout n.rules.list s.rule s.class;
+  timeout = timeout n.rules s.rule s.class;
   scaled = timeout_of states n s;
   expires = expiry_among states n s;
 }

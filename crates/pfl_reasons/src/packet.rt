@@ -4,10 +4,10 @@ ghost use Rattle.std.specs.Prelude.{◌≡◌, true, None, Some, IfOk, if◌then
 ghost use Rattle.pfl_base.specs.Keys.{key as flow_of};
 ghost use Rattle.pfl_base.specs.Packets.{IsPacket};
 ghost use Rattle.pfl_edits.specs.Maps as maps;
-ghost use Rattle.pfl_track.specs.Keys.{fits_family};
 ghost use Rattle.pfl_world.specs.desk.Changes.{deleted};
 ghost use Rattle.pfl_world.specs.node.Starting as starting;
 ghost use Rattle.pfl_world.specs.table.Tables.{by_stack, by_wire};
+ghost use Rattle.pfl_world.specs.table.Translating.{fits_translation};
 ghost use Rattle.pfl_world.specs.Worlds.{node_at};
 ghost use Rattle.pfl_reasons.specs.Packets as meant;
 
@@ -114,7 +114,7 @@ fn start_reason<A: Allocator>(
     number: u16,
     rule: &Rule,
 ) -> Judged
-    requires fits { fits_family (flow_of packet.now dir) rule.now.nat ≡ true }
+    requires fits { fits_translation (flow_of packet.now dir) rule.now ≡ true }
     ensures { result ≡ meant.start_reason node.now dir packet.now number rule.now }
 {
     let states = node.states();
@@ -132,9 +132,7 @@ fn start_reason<A: Allocator>(
             states: states.len(),
         };
     }
-    let Some(keys) = KeyPair::of_packet(packet, dir, rule.nat) else {
-        unreachable!();
-    };
+    let keys = states.new_keys(rule, packet, dir);
     by_keys(node, number, &keys)
 }
 

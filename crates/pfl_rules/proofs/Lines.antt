@@ -53,12 +53,12 @@ timeouts_spaced ((class, seconds) ∷ ts) =
     rw (timeout_spaced class seconds, timeouts_spaced ts) (sym (flat_map-append (λ word. codes " " ++ word) (timeout_words (class, seconds)) (flat_map timeout_words ts)))
 
 -- a line whose words from the third on stand in groups, each group printed by itself
-pub line_of : (a d : List ℕ) (w1 w2 w3 w4 w5 w6 w7 w8 w9 w10 w11 : List (List ℕ)) (t1 t2 t3 t4 t5 t6 t7 t8 t9 t10 t11 : List ℕ)
-    → t1 ≡ spaced w1 → t2 ≡ spaced w2 → t3 ≡ spaced w3 → t4 ≡ spaced w4 → t5 ≡ spaced w5 → t6 ≡ spaced w6 → t7 ≡ spaced w7 → t8 ≡ spaced w8 → t9 ≡ spaced w9 → t10 ≡ spaced w10 → t11 ≡ spaced w11
-    → a ++ (codes " " ++ (d ++ (t1 ++ (t2 ++ (t3 ++ (t4 ++ (t5 ++ (t6 ++ (t7 ++ (t8 ++ (t9 ++ (t10 ++ t11))))))))))))
-    ≡ join_with_byte 32 (a ∷ d ∷ [] ++ w1 ++ w2 ++ w3 ++ w4 ++ w5 ++ w6 ++ w7 ++ w8 ++ w9 ++ w10 ++ w11)
-line_of a d w1 w2 w3 w4 w5 w6 w7 w8 w9 w10 w11 t1 t2 t3 t4 t5 t6 t7 t8 t9 t10 t11 e1 e2 e3 e4 e5 e6 e7 e8 e9 e10 e11 =
-    let split : spaced (w1 ++ w2 ++ w3 ++ w4 ++ w5 ++ w6 ++ w7 ++ w8 ++ w9 ++ w10 ++ w11) ≡ spaced w1 ++ (spaced w2 ++ (spaced w3 ++ (spaced w4 ++ (spaced w5 ++ (spaced w6 ++ (spaced w7 ++ (spaced w8 ++ (spaced w9 ++ (spaced w10 ++ spaced w11)))))))))
+pub line_of : (a d : List ℕ) (w1 w2 w3 w4 w5 w6 w7 w8 w9 w10 w11 w12 : List (List ℕ)) (t1 t2 t3 t4 t5 t6 t7 t8 t9 t10 t11 t12 : List ℕ)
+    → t1 ≡ spaced w1 → t2 ≡ spaced w2 → t3 ≡ spaced w3 → t4 ≡ spaced w4 → t5 ≡ spaced w5 → t6 ≡ spaced w6 → t7 ≡ spaced w7 → t8 ≡ spaced w8 → t9 ≡ spaced w9 → t10 ≡ spaced w10 → t11 ≡ spaced w11 → t12 ≡ spaced w12
+    → a ++ (codes " " ++ (d ++ (t1 ++ (t2 ++ (t3 ++ (t4 ++ (t5 ++ (t6 ++ (t7 ++ (t8 ++ (t9 ++ (t10 ++ (t11 ++ t12)))))))))))))
+    ≡ join_with_byte 32 (a ∷ d ∷ [] ++ w1 ++ w2 ++ w3 ++ w4 ++ w5 ++ w6 ++ w7 ++ w8 ++ w9 ++ w10 ++ w11 ++ w12)
+line_of a d w1 w2 w3 w4 w5 w6 w7 w8 w9 w10 w11 w12 t1 t2 t3 t4 t5 t6 t7 t8 t9 t10 t11 t12 e1 e2 e3 e4 e5 e6 e7 e8 e9 e10 e11 e12 =
+    let split : spaced (w1 ++ w2 ++ w3 ++ w4 ++ w5 ++ w6 ++ w7 ++ w8 ++ w9 ++ w10 ++ w11 ++ w12) ≡ spaced w1 ++ (spaced w2 ++ (spaced w3 ++ (spaced w4 ++ (spaced w5 ++ (spaced w6 ++ (spaced w7 ++ (spaced w8 ++ (spaced w9 ++ (spaced w10 ++ (spaced w11 ++ spaced w12))))))))))
     = simp (flat_map-append, append_assoc) refl in
-    rw (e1, e2, e3, e4, e5, e6, e7, e8, e9, e10, e11)
-    (sym (joined a (d ∷ [] ++ w1 ++ w2 ++ w3 ++ w4 ++ w5 ++ w6 ++ w7 ++ w8 ++ w9 ++ w10 ++ w11) ∙ ap (λ rest. a ++ 32 ∷ (d ++ rest)) split))
+    rw (e1, e2, e3, e4, e5, e6, e7, e8, e9, e10, e11, e12)
+    (sym (joined a (d ∷ [] ++ w1 ++ w2 ++ w3 ++ w4 ++ w5 ++ w6 ++ w7 ++ w8 ++ w9 ++ w10 ++ w11 ++ w12) ∙ ap (λ rest. a ++ 32 ∷ (d ++ rest)) split))

@@ -11,6 +11,7 @@ use Rattle.pfl_rules.specs.declared.rule_dir.RuleDir.{RuleDir}
 use Rattle.pfl_rules.specs.declared.rule_dir.RuleDir.TheVariants.{In, Out, Any}
 use Rattle.pfl_rules.specs.declared.rule.Rule.{Rule}
 use Rattle.pfl_rules.specs.Nets.{in_net}
+use Rattle.pfl_rules.specs.Ports.{in_ports}
 
 -- the rule is for this way
 abbrev pub goes : RuleDir → Dir → Bool
@@ -29,17 +30,18 @@ abbrev pub is_pass : Action → Bool
 is_pass Pass = true
 is_pass Block = false
 
--- a rule with a port matches only protocols that have ports
+-- a rule with ports matches only protocols that have ports
 abbrev pub ports_match : Rule → Packet → Bool
 ports_match r p =
     (has_ports p.proto || (not (is_some r.from_port) && not (is_some r.to_port)))
-    && if_said r.from_port (λ n. n == p.src.port) && if_said r.to_port (λ n. n == p.dst.port)
+    && if_said r.from_port (λ n. in_ports n.first n.last p.src.port) && if_said r.to_port (λ n. in_ports n.first n.last p.dst.port)
 
 -- a pass rule matches only the TCP packets that ask for a connection, unless it says `flags any`, and a translation only packets of its family
 abbrev pub can_start : Rule → Packet → Bool
 can_start r p =
     (not (is_tcp p.proto) || r.any_flags || is_request p)
-    && if_said r.nat (λ e. same_family e.addr p.src.addr)
+    && if_said r.nat (λ pool. same_family pool.addr p.src.addr)
+    && if_said r.rdr (λ pool. same_family pool.addr p.src.addr)
 
 -- the rule matches the packet on its way
 abbrev pub matches : Rule → Packet → Dir → Bool

@@ -4,17 +4,18 @@ use Rattle.std.specs.List.{flat_map, zip}
 use Rattle.std.specs.Fmt.{decimal}
 use Rattle.pfl_base.specs.declared.class.Class.{Class}
 use Rattle.pfl_base.specs.Classes.{classes}
-use Rattle.pfl_base.specs.Texts.{class_text, end_text, proto_text}
+use Rattle.pfl_base.specs.Texts.{class_text, proto_text}
 use Rattle.pfl_rules.specs.declared.parts.Value.{Value}
-use Rattle.pfl_rules.specs.declared.parts.Value.TheVariants.{Proto, Net, Number, End}
-use Rattle.pfl_rules.specs.Texts.{net_text}
+use Rattle.pfl_rules.specs.declared.parts.Value.TheVariants.{Proto, Net, Ports, Number, Pool}
+use Rattle.pfl_rules.specs.Texts.{net_text, pool_text, ports_text}
 
 -- the value of an option
 abbrev pub value_text : Value → List ℕ
 value_text (Proto proto) = proto_text proto
 value_text (Net net) = net_text net
+value_text (Ports ports) = ports_text ports
 value_text (Number number) = decimal number
-value_text (End end) = end_text end
+value_text (Pool pool) = pool_text pool
 
 -- the word of an option and its value
 abbrev pub said_text : List ℕ → Option Value → List ℕ

@@ -1,5 +1,5 @@
 -- Rule sets: their verdicts, timeouts and faults (pf.conf(5)).
-use Rattle.std.specs.Prelude.{◌≡◌, ℕ, Bool, true, false, not, ◌&&◌, ◌==◌, nat_lt, Option, Some, None, is_some, List, length, filter, slice_get, if◌then◌else◌, unwrap_or}
+use Rattle.std.specs.Prelude.{◌≡◌, ℕ, Bool, true, false, not, ◌&&◌, ◌==◌, nat_lt, Option, Some, None, is_some, List, length, filter, replicate, slice_get, if◌then◌else◌, unwrap_or}
 use Rattle.std.specs.List.{enumerate_from, list_any}
 use Rattle.std.specs.Option.{option_and_then, option_map_or}
 use Rattle.pfl_base.specs.declared.direction.Dir.{Dir}
@@ -10,21 +10,31 @@ use Rattle.pfl_base.specs.Lists.{up_to_first, last_of}
 use Rattle.md5.specs.Md5.{md5}
 use Rattle.pfl_rules.specs.declared.rule.Rule.{Rule}
 use Rattle.pfl_rules.specs.declared.rule_dir.RuleDir.{RuleDir}
-use Rattle.pfl_rules.specs.declared.rule_dir.RuleDir.TheVariants.{Out}
+use Rattle.pfl_rules.specs.declared.rule_dir.RuleDir.TheVariants.{In, Out}
 use Rattle.pfl_rules.specs.declared.fault.RuleFault.{RuleFault}
-use Rattle.pfl_rules.specs.declared.fault.RuleFault.TheVariants.{TooMany, NatNotOut, ZeroMax}
+use Rattle.pfl_rules.specs.declared.fault.RuleFault.TheVariants.{TooMany, NatNotOut, ZeroMax, RdrNotIn}
 use Rattle.pfl_rules.specs.declared.verdict.Verdict.{Verdict}
 use Rattle.pfl_rules.specs.Matching.{matches, is_pass}
 use Rattle.pfl_rules.specs.Texts.{canonical_text}
 
--- what contracts see of a rule set: its rules, and its checksum
+-- what contracts see of a rule set: its rules, the seconds that it sets for classes, and its checksum
 pub record Rules : Type 0 where
   pub list : List Rule
+  pub timeouts : List (Option ℕ)
   pub print : List ℕ
 
--- the rule set of these rules; its checksum is the MD5 of its text (RFC 1321)
+-- nothing is said of any class
+abbrev pub no_timeouts : List (Option ℕ)
+no_timeouts = replicate 14 None
+
+-- the rule set of these rules; it sets no timeouts, and its checksum is the MD5 of its text (RFC 1321)
 unfoldable pub rule_set : List Rule → Rules
-rule_set rules = record { list = rules; print = md5 (canonical_text rules) }
+rule_set rules = record { list = rules; timeouts = no_timeouts; print = md5 (canonical_text rules) }
+
+-- the rule set with these timeouts, in the order of the classes' numbers (pf.conf(5), `set timeout`); its text and checksum do not
+-- know of them
+abbrev pub timed : List (Option ℕ) → Rules → Rules
+timed timeouts rules = record rules { timeouts = timeouts }
 
 -- the rules that are looked at: up to and with the first quick one that matches
 abbrev pub looked_at : List Rule → Packet → Dir → List (ℕ × Rule)
@@ -47,25 +57,36 @@ verdict rules p dir = verdict_by (deciding rules p dir)
 abbrev pub rule_at : List Rule → Option ℕ → Option Rule
 rule_at rules rule = option_and_then (slice_get rules) rule
 
+-- what timeouts, in the order of the classes' numbers, say of the class
+abbrev pub said_timeout : List (Option ℕ) → Class → Option ℕ
+said_timeout timeouts class = option_and_then (λ t. t) (slice_get timeouts (class_number class))
+
 -- what the rule says of the class; a block rule says nothing
 abbrev pub own_timeout : Rule → Class → Option ℕ
-own_timeout r class = if is_pass r.action then option_and_then (λ t. t) (slice_get r.timeouts (class_number class)) else None
+own_timeout r class = if is_pass r.action then said_timeout r.timeouts class else None
 
--- seconds: the rule's for the class, else the default
-abbrev pub timeout : List Rule → Option ℕ → Class → ℕ
-timeout rules rule class = unwrap_or (option_and_then (λ r. own_timeout r class) (rule_at rules rule)) (default_timeout class)
+-- seconds: the rule's for the class, else the set's, else the default (pf.conf(5), `set timeout`)
+abbrev pub timeout : Rules → Option ℕ → Class → ℕ
+timeout rules rule class =
+    unwrap_or (option_and_then (λ r. own_timeout r class) (rule_at rules.list rule)) (unwrap_or (said_timeout rules.timeouts class) (default_timeout class))
 
 -- the rule is for the way out alone
 abbrev pub is_out : RuleDir → Bool
 is_out Out = true
 is_out _ = false
 
+-- the rule is for the way in alone
+abbrev pub is_in : RuleDir → Bool
+is_in In = true
+is_in _ = false
+
 -- why these rules are no rule set: the first reason that holds of any of them
 abbrev pub rule_fault : List Rule → Option RuleFault
 rule_fault rules =
     if nat_lt 256 (length rules) then Some TooMany else
     if list_any (λ r. is_some r.nat && not (is_out r.direction)) rules then Some NatNotOut else
-    if list_any (λ r. option_map_or (λ n. n == 0) r.max false) rules then Some ZeroMax else None
+    if list_any (λ r. option_map_or (λ n. n == 0) r.max false) rules then Some ZeroMax else
+    if list_any (λ r. is_some r.rdr && not (is_in r.direction)) rules then Some RdrNotIn else None
 
 -- what each rule set keeps: no fault, and the checksum of its own text
 pub record AreRules (r : Rules) : Type 0 where

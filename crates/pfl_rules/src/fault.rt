@@ -17,12 +17,14 @@ pub enum RuleFault {
     ZeroMax,
     /// The rules have no fault, and the allocator had no memory to give.
     NoMemory,
+    /// A redirection on a rule that is not `in`. It is looked for last, and told before want of memory.
+    RdrNotIn,
 }
 
 impl RuleFault {
     ghost use Rattle.pfl_rules.specs.Faults.{fault_number};
 
-    /// The number by which a program names the fault, from 1 to 4.
+    /// The number by which a program names the fault, from 1 to 5.
     pub fn number(self) -> u8
         ensures { result ≡ fault_number self }
     {
@@ -41,6 +43,7 @@ impl fmt::Display for RuleFault {
             RuleFault::NatNotOut => "a translation on a rule that is not out",
             RuleFault::ZeroMax => "a limit of no states",
             RuleFault::NoMemory => "no memory",
+            RuleFault::RdrNotIn => "a redirection on a rule that is not in",
         })
     }
 }

@@ -3,7 +3,9 @@
 ghost use Rattle.std.specs.Prelude.{◌≡◌, Some, if◌then◌else◌, []};
 
 use crate::net::Net;
-use pfl_base::{Class, End, Proto};
+use crate::pool::Pool;
+use crate::ports::Ports;
+use pfl_base::{Class, Proto};
 use std::fmt;
 
 /// A text that prints only if it is set.
@@ -24,8 +26,9 @@ impl fmt::Display for Mark {
 enum Value {
     Proto(Proto),
     Net(Net),
+    Ports(Ports),
     Number(u32),
-    End(End),
+    Pool(Pool),
 }
 
 impl fmt::Display for Value {
@@ -37,8 +40,9 @@ impl fmt::Display for Value {
         match self {
             Value::Proto(proto) => write!(f, "{proto}"),
             Value::Net(net) => write!(f, "{net}"),
+            Value::Ports(ports) => write!(f, "{ports}"),
             Value::Number(number) => write!(f, "{number}"),
-            Value::End(end) => write!(f, "{end}"),
+            Value::Pool(pool) => write!(f, "{pool}"),
         }
     }
 }
@@ -52,10 +56,10 @@ pub(crate) struct Said {
 
 impl Said {
     ghost use Rattle.std.specs.Fmt.{decimal};
-    ghost use Rattle.pfl_base.specs.Texts.{end_text, proto_text};
+    ghost use Rattle.pfl_base.specs.Texts.{proto_text};
     ghost use Rattle.pfl_rules.specs.Parts.{said_text};
     ghost use Rattle.pfl_rules.specs.inner.Parts.{spaced};
-    ghost use Rattle.pfl_rules.specs.Texts.{net_text, option_words};
+    ghost use Rattle.pfl_rules.specs.Texts.{net_text, option_words, pool_text, ports_text};
 
     pub(crate) fn proto(word: &'static str, proto: Option<Proto>) -> Said
         ensures { said_text result.word.now result.value ≡ spaced (option_words word.now proto_text proto) }
@@ -77,10 +81,14 @@ impl Said {
         Said { word, value }
     }
 
-    pub(crate) fn port(word: &'static str, port: Option<u16>) -> Said
-        ensures { said_text result.word.now result.value ≡ spaced (option_words word.now decimal port) }
+    pub(crate) fn ports(word: &'static str, ports: Option<Ports>) -> Said
+        ensures { said_text result.word.now result.value ≡ spaced (option_words word.now ports_text ports) }
     {
-        Said::number(word, port.map(u32::from))
+        let value = match ports {
+            Some(ports) => Some(Value::Ports(ports)),
+            None => None,
+        };
+        Said { word, value }
     }
 
     pub(crate) fn number(word: &'static str, number: Option<u32>) -> Said
@@ -92,11 +100,11 @@ impl Said {
         }
     }
 
-    pub(crate) fn end(word: &'static str, end: Option<End>) -> Said
-        ensures { said_text result.word.now result.value ≡ spaced (option_words word.now end_text end) }
+    pub(crate) fn pool(word: &'static str, pool: Option<Pool>) -> Said
+        ensures { said_text result.word.now result.value ≡ spaced (option_words word.now pool_text pool) }
     {
-        let value = match end {
-            Some(end) => Some(Value::End(end)),
+        let value = match pool {
+            Some(pool) => Some(Value::Pool(pool)),
             None => None,
         };
         Said { word, value }

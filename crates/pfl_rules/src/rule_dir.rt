@@ -17,7 +17,7 @@ pub enum RuleDir {
 impl RuleDir {
     ghost use Rattle.std.specs.Prelude.{IfSome};
     ghost use Rattle.pfl_rules.specs.Matching.{goes};
-    ghost use Rattle.pfl_rules.specs.Rules.{is_out};
+    ghost use Rattle.pfl_rules.specs.Rules.{is_in, is_out};
     ghost use Rattle.pfl_rules.specs.Texts.{direction_text};
     ghost use Rattle.pfl_rules.specs.Words.{direction_at_word};
 
@@ -62,6 +62,13 @@ impl RuleDir {
         ensures { result ≡ is_out self }
     {
         matches!(self, RuleDir::Out)
+    }
+
+    /// Whether the rule is for the way in alone.
+    pub(crate) fn is_in(self) -> bool
+        ensures { result ≡ is_in self }
+    {
+        matches!(self, RuleDir::In)
     }
 }
 

@@ -3,10 +3,11 @@
 ghost use Rattle.std.specs.Prelude.{◌≡◌, ◌&&◌, ◌==◌, false, is_some, not, Some, IfOk, IfErr, slice_get, unwrap_or};
 ghost use Rattle.std.specs.List.{list_any};
 ghost use Rattle.std.specs.Option.{option_map_or};
-ghost use Rattle.pfl_rules.specs.Rules.{is_out, rule_fault};
+ghost use Rattle.pfl_base.specs.Classes.{default_timeout};
+ghost use Rattle.pfl_rules.specs.Rules.{is_in, is_out, rule_fault, said_timeout};
 
 use crate::fault::RuleFault;
-use crate::rule::Rule;
+use crate::rule::{Rule, said_timeout};
 use crate::text::{Canonical, text_of};
 use crate::verdict::Verdict;
 use md5::{Digest, Md5};
@@ -19,11 +20,12 @@ use std::marker::Model;
 /// The greatest number of rules in a set.
 pub const MAX_RULES: usize = 256;
 
-/// Rules in the order in which packets are tested against them, the first being number 0, with the checksum of their
-/// canonical text, as which the set prints.
+/// Rules in the order in which packets are tested against them, the first being number 0, with the timeouts that hold where a rule
+/// says none, and the checksum of the rules' canonical text, as which the set prints.
 #[derive(Drop)]
 pub struct RuleSet<A: Allocator> {
     rules: Vec<Rule, A>,
+    timeouts: [Option<u32>; 14],
     print: [u8; 16],
 }
 
@@ -32,15 +34,15 @@ impl<A: Allocator> Model for RuleSet<A> {
 
     ghost Value = { Rules };
 
-    ghost view = { λ s. record { list = s.rules.items; print = s.print } };
+    ghost view = { λ s. record { list = s.rules.items; timeouts = s.timeouts; print = s.print } };
 
-    ghost invariant = { λ s. AreRules (record { list = s.rules.items; print = s.print }) };
+    ghost invariant = { λ s. AreRules (record { list = s.rules.items; timeouts = s.timeouts; print = s.print }) };
 }
 
 impl<A: Allocator> RuleSet<A> {
-    ghost use Rattle.pfl_rules.specs.Rules.{rule_fault, rule_set, timeout, verdict as verdict_of, AreRules};
+    ghost use Rattle.pfl_rules.specs.Rules.{rule_fault, rule_set, timed, timeout, verdict as verdict_of, AreRules};
 
-    /// The rule set of these rules, or the first fault of any of them. `alloc` lends memory for their text.
+    /// The rule set of these rules, or the first fault of any of them. It sets no timeouts. `alloc` lends memory for their text.
     pub fn new<B: Allocator>(alloc: B, rules: Vec<Rule, A>) -> Result<RuleSet<A>, RuleFault>
         ensures faultless { IfOk result (λ _. rule_fault rules.items ≡ None) }
         ensures set { IfOk result (λ set. set ≡ rule_set rules.items) }
@@ -51,8 +53,24 @@ impl<A: Allocator> RuleSet<A> {
             None => {
                 let text = text_of(alloc, &rules)?;
                 let print = Md5::digest(text.as_bytes());
-                Ok(RuleSet { rules, print })
+                Ok(RuleSet {
+                    rules,
+                    timeouts: [None; 14],
+                    print,
+                })
             }
+        }
+    }
+
+    /// The rule set with these timeouts, in seconds and in the order of the classes' numbers (pf.conf(5), `set timeout`); where there
+    /// is none, the class has its default.
+    pub fn with_timeouts(self, timeouts: [Option<u32>; 14]) -> RuleSet<A>
+        ensures { result ≡ timed timeouts self }
+    {
+        RuleSet {
+            rules: self.rules,
+            timeouts,
+            print: self.print,
         }
     }
 
@@ -80,11 +98,18 @@ impl<A: Allocator> RuleSet<A> {
 
     /// The timeout of a state of the class that the rule with the number made, in seconds; `scaled` may shorten it.
     pub fn timeout(&self, rule: Option<u16>, class: Class) -> u32
-        ensures { result ≡ timeout self.now.list rule class }
+        ensures { result ≡ timeout self.now rule class }
     {
         rule.and_then(|number| self.rules.get(usize::from(number)))
             .and_then(|rule| rule.own_timeout(class))
-            .unwrap_or(class.default_seconds())
+            .unwrap_or(self.set_timeout(class))
+    }
+
+    /// The timeout of a class where a rule says none.
+    fn set_timeout(&self, class: Class) -> u32
+        ensures { result ≡ unwrap_or (said_timeout self.now.timeouts class) (default_timeout class) }
+    {
+        said_timeout(&self.timeouts, class).unwrap_or(class.default_seconds())
     }
 
     /// The rule with the number, if there is one.
@@ -125,6 +150,7 @@ impl<A: Allocator + Copy> RuleSet<A> {
         rules.extend_from_slice(&self.rules)?;
         Ok(RuleSet {
             rules,
+            timeouts: self.timeouts,
             print: self.print,
         })
     }
@@ -151,6 +177,8 @@ fn fault_of(rules: &[Rule]) -> Option<RuleFault>
         Some(RuleFault::NatNotOut)
     } else if any_has_zero_max(rules) {
         Some(RuleFault::ZeroMax)
+    } else if any_redirects_not_in(rules) {
+        Some(RuleFault::RdrNotIn)
     } else {
         None
     }
@@ -160,6 +188,12 @@ fn any_nats_not_out(rules: &[Rule]) -> bool
     ensures { result ≡ list_any (λ r. is_some r.nat && not (is_out r.direction)) rules.now }
 {
     rules.iter().any(|rule| rule.nats_not_out())
+}
+
+fn any_redirects_not_in(rules: &[Rule]) -> bool
+    ensures { result ≡ list_any (λ r. is_some r.rdr && not (is_in r.direction)) rules.now }
+{
+    rules.iter().any(|rule| rule.redirects_not_in())
 }
 
 fn any_has_zero_max(rules: &[Rule]) -> bool

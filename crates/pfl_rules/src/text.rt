@@ -45,17 +45,18 @@ impl fmt::Display for Rule {
         let quick = Mark(" quick", self.quick);
         let proto = Said::proto("proto", self.proto);
         let from = Said::net("from", self.from);
-        let from_port = Said::port("fport", self.from_port);
+        let from_port = Said::ports("fport", self.from_port);
         let to = Said::net("to", self.to);
-        let to_port = Said::port("tport", self.to_port);
+        let to_port = Said::ports("tport", self.to_port);
         let any_flags = Mark(" flags any", self.any_flags);
         let no_sync = Mark(" no-sync", self.no_sync);
         let max = Said::number("max", self.max);
-        let nat = Said::end("nat", self.nat);
+        let nat = Said::pool("nat", self.nat);
+        let rdr = Said::pool("rdr", self.rdr);
         let timeouts = Timeouts(&self.timeouts);
         write!(
             f,
-            "{action} {direction}{quick}{proto}{from}{from_port}{to}{to_port}{any_flags}{no_sync}{max}{nat}{timeouts}"
+            "{action} {direction}{quick}{proto}{from}{from_port}{to}{to_port}{any_flags}{no_sync}{max}{nat}{rdr}{timeouts}"
         )
     }
 }

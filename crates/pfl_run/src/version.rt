@@ -2,4 +2,4 @@
 
 /// The release, the sum of its sources, and the logic that proves them.
 pub(crate) const VERSION: &str =
-    "release 11, sources 614ac74f31a37013b123ac7371746e2636b2ac314bd635a3f54af1b8c0a39a4c, logic dac8208d650f15bf";
+    "release 12, sources 4c2a155ca0ef9d4acc1d76bc919f4c0f07191f57254add81189cde2b3af51fef, logic dac8208d650f15bf";

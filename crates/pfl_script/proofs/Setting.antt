@@ -185,18 +185,19 @@ counts-finished (fault.NoOpen m) old new n d h stop = absurd stop
 counts-finished fault.Read old new n d h stop = absurd stop
 counts-finished fault.TooManyTurns old new n d h stop = absurd stop
 
--- the first of three faults is none where memory is wanting in its place
-three_faults : (a b c : Bool) →
-    rule.NoMemory ≡ unwrap_or (cond a (Some rule.TooMany) (cond b (Some rule.NatNotOut) (cond c (Some rule.ZeroMax) None))) rule.NoMemory →
-    cond a (Some rule.TooMany) (cond b (Some rule.NatNotOut) (cond c (Some rule.ZeroMax) None)) ≡ None
-three_faults true b c h = cc
-three_faults false true c h = cc
-three_faults false false true h = cc
-three_faults false false false h = refl
+-- the first of four faults is none where memory is wanting in its place
+four_faults : (a b c d : Bool) →
+    rule.NoMemory ≡ unwrap_or (cond a (Some rule.TooMany) (cond b (Some rule.NatNotOut) (cond c (Some rule.ZeroMax) (cond d (Some rule.RdrNotIn) None)))) rule.NoMemory →
+    cond a (Some rule.TooMany) (cond b (Some rule.NatNotOut) (cond c (Some rule.ZeroMax) (cond d (Some rule.RdrNotIn) None))) ≡ None
+four_faults true b c d h = cc
+four_faults false true c d h = cc
+four_faults false false true d h = cc
+four_faults false false false true h = cc
+four_faults false false false false h = refl
 
 -- rules have no fault where memory is wanting for their set
 pub faultless-rules : (rules : List Rule) → rule.NoMemory ≡ unwrap_or (rule_fault rules) rule.NoMemory → rule_fault rules ≡ None
-faultless-rules rules h = three_faults _ _ _ h
+faultless-rules rules h = four_faults _ _ _ _ h
 
 -- node a's rules are no rule set
 pub finish-a : (e : SetupFault) (n : ℕ) (d : Draft) → IsRuleStop e n (rule_fault d.a) → IsFinishStop e n d

@@ -1,12 +1,14 @@
 -- How lines set up a pair (this project's profile).
-use Rattle.std.specs.Prelude.{◌≡◌, ℕ, ◌+◌, Bool, true, false, not, List, [], ◌∷◌, ◌++◌, length, if◌then◌else◌, Option, Some, None, ◌⊎◌, Result, Ok, Err}
+use Rattle.std.specs.Prelude.{◌≡◌, ℕ, ◌+◌, Bool, true, false, not, List, [], ◌∷◌, ◌++◌, length, set, if◌then◌else◌, Option, Some, None, ◌⊎◌, Result, Ok, Err}
 use Rattle.std.specs.List.{fold, list_all}
 use Rattle.std.specs.Option.{option_or}
 use Rattle.pfl_base.specs.declared.node_id.NodeId.{NodeId}
 use Rattle.pfl_base.specs.declared.node_id.NodeId.TheVariants.{A, B}
+use Rattle.pfl_base.specs.declared.class.Class.{Class}
+use Rattle.pfl_base.specs.Classes.{class_number}
 use Rattle.pfl_rules.specs.declared.rule.Rule.{Rule}
 use Rattle.pfl_rules.specs.declared.fault.RuleFault.{RuleFault}
-use Rattle.pfl_rules.specs.Rules.{Rules, rule_set, rule_fault}
+use Rattle.pfl_rules.specs.Rules.{Rules, no_timeouts, rule_set, rule_fault, timed}
 use Rattle.pfl_language.specs.declared.limits.Limits.{Limits}
 use Rattle.pfl_language.specs.Limits.{default_limits, with_limit}
 use Rattle.pfl_lines.specs.declared.fault.LineFault.{LineFault}
@@ -21,24 +23,30 @@ use Rattle.pfl_reader.specs.Readers.{Source}
 use Rattle.pfl_script.specs.Readers.{counted_on}
 use Rattle.pfl_script.specs.Answers.{AreLines, AreFirst}
 
--- what lines have set: limits, and the rules of either node
+-- what lines have set: limits, timeouts in the order of the classes' numbers, and the rules of either node
 pub record Draft : Type 0 where
   pub limits : Limits
+  pub timeouts : List (Option ℕ)
   pub a : List Rule
   pub b : List Rule
 
 -- nothing is set
 abbrev pub nothing_set : Draft
-nothing_set = record { limits = default_limits; a = []; b = [] }
+nothing_set = record { limits = default_limits; timeouts = no_timeouts; a = []; b = [] }
 
 -- one rule more of a node
 abbrev pub with_rule : Draft → NodeId → Rule → Draft
 with_rule d A rule = record d { a = d.a ++ rule ∷ [] }
 with_rule d B rule = record d { b = d.b ++ rule ∷ [] }
 
+-- the seconds of a class
+abbrev pub with_timeout : Draft → Class → ℕ → Draft
+with_timeout d class seconds = record d { timeouts = set d.timeouts (class_number class) (Some seconds) }
+
 -- what a setup line sets
 abbrev pub set_by : Draft → SetupLine → Draft
 set_by d (setup.Set limit n) = record d { limits = with_limit d.limits limit n }
+set_by d (setup.Timeout class seconds) = with_timeout d class seconds
 set_by d (setup.Rule node rule) = with_rule d node rule
 set_by d setup.Open = d
 
@@ -77,7 +85,7 @@ abbrev pub says_rule : Option (Result SetupLine LineFault) → Bool
 says_rule (Some (Ok line)) = is_rule line
 says_rule _ = false
 
--- what lines set, one after another: of each limit the last value, and each node's rules in their order
+-- what lines set, one after another: of each limit and each timeout the last value, and each node's rules in their order
 unfoldable pub drafted : List (List ℕ) → Draft
 drafted lines = fold (λ d line. set_by_said d (said line)) nothing_set lines
 
@@ -115,11 +123,11 @@ pub record IsUnopened (old : Option (List ℕ)) (n : ℕ) : Type 0 where
 abbrev pub first_rule_fault : Draft → Option RuleFault
 first_rule_fault d = option_or (rule_fault d.a) (rule_fault d.b)
 
--- limits and rule sets are those that lines set
+-- limits and rule sets are those that lines set, and both sets have the timeouts
 pub record Finishes (d : Draft) (limits : Limits) (a b : Rules) : Type 0 where
   pub set : limits ≡ d.limits
-  pub rules_a : a ≡ rule_set d.a
-  pub rules_b : b ≡ rule_set d.b
+  pub rules_a : a ≡ timed d.timeouts (rule_set d.a)
+  pub rules_b : b ≡ timed d.timeouts (rule_set d.b)
   pub faultless : first_rule_fault d ≡ None
 
 -- a setup was read up to its line `open`

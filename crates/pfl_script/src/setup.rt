@@ -27,6 +27,7 @@ pub struct Setup<A: Allocator> {
 #[derive(Drop)]
 struct SetupDraft<A: Allocator> {
     limits: Limits,
+    timeouts: [Option<u32>; 14],
     a: Vec<Rule, A>,
     b: Vec<Rule, A>,
 }
@@ -36,7 +37,7 @@ impl<A: Allocator> Model for SetupDraft<A> {
 
     ghost Value = { Draft };
 
-    ghost view = { λ d. record { limits = d.limits; a = d.a.items; b = d.b.items } };
+    ghost view = { λ d. record { limits = d.limits; timeouts = d.timeouts; a = d.a.items; b = d.b.items } };
 }
 
 impl<A: Allocator> SetupDraft<A> {
@@ -48,6 +49,7 @@ impl<A: Allocator> SetupDraft<A> {
     {
         SetupDraft {
             limits: Limits::default(),
+            timeouts: [None; 14],
             a,
             b,
         }
@@ -73,6 +75,10 @@ impl<A: Allocator> SetupDraft<A> {
         match setup {
             SetupLine::Set { limit, n } => {
                 self.limits = self.limits.with(limit, n);
+                Ok(false)
+            }
+            SetupLine::Timeout { class, seconds } => {
+                self.timeouts[usize::from(class.number())] = Some(seconds);
                 Ok(false)
             }
             SetupLine::Rule { node, rule } => match self.push_rule(node, rule) {
@@ -125,13 +131,18 @@ fn finish<A: Allocator + Copy>(
     ensures setup { IfOk result (λ s. Finishes draft s.limits s.rules_a s.rules_b) }
     ensures fault { IfErr result (λ e. IsFinishStop e number draft) }
 {
-    let SetupDraft { limits, a, b } = draft;
+    let SetupDraft {
+        limits,
+        timeouts,
+        a,
+        b,
+    } = draft;
     let rules_a = rule_set_of(alloc, a, number)?;
     let rules_b = rule_set_of(alloc, b, number)?;
     Ok(Setup {
         limits,
-        rules_a,
-        rules_b,
+        rules_a: rules_a.with_timeouts(timeouts),
+        rules_b: rules_b.with_timeouts(timeouts),
     })
 }
 

@@ -47,12 +47,13 @@ rule action direction = record {
   no_sync = false;
   max = None;
   nat = None;
+  rdr = None;
   timeouts = replicate 14 None;
 }
 
 -- `block any` and `pass out`, under a checksum of 16 equal bytes, which stands for their MD5
 abbrev rules : Rules
-rules = record { list = rule Block Any ∷ rule Pass Out ∷ []; print = replicate 16 7 }
+rules = record { list = rule Block Any ∷ rule Pass Out ∷ []; timeouts = replicate 14 None; print = replicate 16 7 }
 
 abbrev inside : End
 inside = record { addr = V4 0x0a000001; port = 1000 }

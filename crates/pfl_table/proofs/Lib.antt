@@ -8,6 +8,7 @@ pub mod FirstOfEach
 pub mod Dues
 pub mod Setting
 pub mod Tables
+pub mod Pooled
 pub mod Expiries
 pub mod Keyed
 pub mod Ranked

@@ -58,7 +58,7 @@ pub record IsNamed (name : List ℕ) (h : History) (former : Option History) : T
 -- a pair that stands where there is no branch, which no timeline meets
 abbrev nowhere : World
 nowhere =
-    let rules : Rules = record { list = []; print = [] } in
+    let rules : Rules = record { list = []; timeouts = []; print = [] } in
     new_world default_limits rules rules
 
 -- the opening is the one that the first branch begins from

@@ -62,6 +62,17 @@ impl KeyPair {
         KeyPair::of(wire, stack)
     }
 
+    /// The pair that has either key in the place of the other: a translation of the wire key becomes one of the stack key (pf.conf(5),
+    /// `rdr`).
+    pub fn exchanged(&self) -> KeyPair
+        ensures { let fields : KeyFields = record { wire = self.now.stack; stack = self.now.wire } in result ≡ fields }
+    {
+        KeyPair {
+            wire: self.stack,
+            stack: self.wire,
+        }
+    }
+
     /// The pair of two keys that are known to be a state's.
     pub(crate) fn with(fields: KeyFields) -> KeyPair
         requires { AreKeys fields.wire fields.stack }

@@ -17,7 +17,7 @@ use Rattle.pfl_edits.proofs.ForCallers as map_lemmas
 use Rattle.pfl_rules.specs.declared.rule.Rule.{Rule}
 use Rattle.pfl_rules.specs.declared.action.Action.TheVariants.{Pass}
 use Rattle.pfl_rules.specs.declared.rule_dir.RuleDir.TheVariants.{Out}
-use Rattle.pfl_rules.specs.Rules.{Rules}
+use Rattle.pfl_rules.specs.Rules.{no_timeouts, Rules}
 use Rattle.pfl_node.specs.track.declared.peer.Peer.{Peer}
 use Rattle.pfl_node.specs.track.declared.state.State.{State}
 use Rattle.pfl_node.specs.queue.declared.Kind.{Kind}
@@ -58,6 +58,7 @@ use Rattle.pfl_world.specs.Tickets as tickets
 use Rattle.pfl_wire.specs.Spelling as spelling
 use Rattle.pfl_wire.proofs.ForCallers as reading
 use Rattle.pfl_node.specs.queue.Taking as taking
+use Rattle.pfl_node.specs.table.Translating as translating
 use Rattle.pfl_node.specs.desk.Changes as changes
 use Rattle.pfl_node.specs.Starting as starting
 use Rattle.pfl_node.specs.Packets as packets
@@ -88,12 +89,13 @@ pass_out = record {
   no_sync = false;
   max = None;
   nat = None;
+  rdr = None;
   timeouts = replicate 14 None;
 }
 
 -- rules under a checksum of 16 equal bytes, which stands for their MD5
 abbrev pub rules_under : ℕ → List Rule → Rules
-rules_under byte list = record { list = list; print = replicate 16 byte }
+rules_under byte list = record { list = list; timeouts = no_timeouts; print = replicate 16 byte }
 
 abbrev pub rules : List Rule → Rules
 rules list = rules_under 7 list
@@ -236,7 +238,7 @@ final w (e ∷ es) = final (world_after w (step w e)) es
 
 -- what a run needs to compute on literals
 unfoldable pub computing : ℕ
-unfolding answers final map_lemmas.computing spelling.number_bytes spelling.name_bytes spelling.peer_bytes spelling.end_bytes spelling.key_bytes spelling.keys_bytes spelling.class_bytes spelling.state_bytes spelling.update_bytes spelling.record_bytes spelling.group_bytes spelling.spelling reading.computing taking.next_frame changes.changed changes.deleted changes.forgotten starting.started starting.judged packets.handled packets.packet_points receiving.taken flushing.frame_of flushing.flushed purging.purged purging.purge_points releasing.released_due clearing.cleared events.restarted turning.turn_of turning.turned retrying.retried_client flushes.flush_step deliveries.deliver_step tickets.lose_step tickets.repeat_step tickets.cut_step restarts.restart_step one.step runs.run delivering.cleared_by delivering.records_work
+unfolding answers final map_lemmas.computing spelling.number_bytes spelling.name_bytes spelling.peer_bytes spelling.end_bytes spelling.key_bytes spelling.keys_bytes spelling.class_bytes spelling.state_bytes spelling.update_bytes spelling.record_bytes spelling.group_bytes spelling.spelling reading.computing taking.next_frame changes.changed changes.deleted changes.forgotten translating.new_keys starting.started starting.judged packets.handled packets.packet_points receiving.taken flushing.frame_of flushing.flushed purging.purged purging.purge_points releasing.released_due clearing.cleared events.restarted turning.turn_of turning.turned retrying.retried_client flushes.flush_step deliveries.deliver_step tickets.lose_step tickets.repeat_step tickets.cut_step restarts.restart_step one.step runs.run delivering.cleared_by delivering.records_work
 computing = 0
 
 -- what is pending at a node

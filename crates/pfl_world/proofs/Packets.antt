@@ -8,19 +8,20 @@ use Rattle.pfl_base.specs.Packets.{bad_packet}
 use Rattle.pfl_base.specs.declared.refusal.Refusal.TheVariants as refusal
 use Rattle.pfl_base.specs.declared.class.Class.TheVariants.{TcpClosed, UdpFirst, UdpSingle, UdpMultiple, IcmpFirst, IcmpError, OtherFirst}
 use Rattle.pfl_base.specs.declared.node_id.NodeId.TheVariants.{A}
+use Rattle.pfl_base.specs.declared.addr.End.{End}
 use Rattle.pfl_node.specs.bulk.declared.BulkServer.TheVariants as server
 use Rattle.pfl_node.specs.bulk.declared.BulkClient.TheVariants as client
 use Rattle.pfl_node.specs.track.declared.state.State.{State}
 use Rattle.pfl_rules.specs.declared.rule.Rule.{Rule}
 use Rattle.pfl_rules.specs.declared.action.Action.TheVariants.{Block}
-use Rattle.pfl_rules.specs.declared.rule_dir.RuleDir.TheVariants.{Any}
+use Rattle.pfl_rules.specs.declared.rule_dir.RuleDir.TheVariants.{Any, In}
 use Rattle.pfl_node.specs.queue.declared.Kind.TheVariants.{Insert}
 use Rattle.pfl_language.specs.declared.fate.Reason.TheVariants as reason
 use Rattle.pfl_language.specs.declared.event.Event.{Event}
 use Rattle.pfl_language.specs.declared.node_event.NodeOutcome.TheVariants as given
 use Rattle.pfl_language.specs.declared.fate.Fate.TheVariants as fate
 use Rattle.pfl_world.specs.Worlds.{World, new_world}
-use Rattle.pfl_world.proofs.Lab.{limits, rules, opening, pass_out, host, inside, outside, plain, u1, u2, v1, out, into, tcp_out, tcp_in, name, answers, final, computing, queue_at, queued, states_at, names_at, seen, ends, both, tick, purge, passed, clock, flush, counts, NodeShot, shot, dropped, did}
+use Rattle.pfl_world.proofs.Lab.{limits, rules, opening, pass_out, host, inside, outside, plain, u1, u2, v1, out, into, tcp_out, tcp_in, name, answers, final, computing, queue_at, queued, states_at, names_at, seen, ends, both, tick, kill, purge, passed, clock, flush, counts, NodeShot, shot, dropped, did}
 
 abbrev s : World
 s = opening limits
@@ -127,7 +128,7 @@ abbrev any_block : Rule
 any_block = record pass_out { action = Block; direction = Any }
 
 abbrev web : Rule
-web = record pass_out { proto = Some Tcp; to_port = Some 80 }
+web = record pass_out { proto = Some Tcp; to_port = Some (record { first = 80; last = 80 }) }
 
 abbrev not_there : Rule
 not_there = record pass_out { action = Block; quick = true; to = Some (record { addr = V4 0xc0000209; len = 32 }) }
@@ -151,7 +152,7 @@ unfolding computing
 at_most_one = refl
 
 abbrev natting : World
-natting = new_world limits (rules (record pass_out { proto = Some Udp; nat = Some (host 0xc6336401 4000) } ∷ [])) (rules [])
+natting = new_world limits (rules (record pass_out { proto = Some Udp; nat = Some (record { addr = V4 0xc6336401; ports = record { first = 4000; last = 4000 } }) } ∷ [])) (rules [])
 
 translation : answers (natting) (out A u1 ∷ into A (plain Udp (outside 53) (host 0xc6336401 4000) 80) ∷ out A (plain Udp (host 0x0a000002 1000) (outside 53) 40) ∷ []) ≡ passed 1 1 ∷ passed 1 1 ∷ dropped reason.Key ∷ []
 unfolding computing
@@ -160,6 +161,50 @@ translation = refl
 translated : map (λ t. t.wire.near) (states_at (final (natting) (out A u1 ∷ [])) A) ≡ host 0xc6336401 4000 ∷ []
 unfolding computing
 translated = refl
+
+-- ---- a range of ports: the first free one is taken
+
+abbrev pooled : World
+pooled = new_world limits (rules (record pass_out { proto = Some Udp; nat = Some (record { addr = V4 0xc6336401; ports = record { first = 4000; last = 4001 } }) } ∷ [])) (rules [])
+
+abbrev from_second : Event
+from_second = out A (plain Udp (host 0x0a000002 1000) (outside 53) 40)
+
+abbrev from_third : ℕ → Event
+from_third to = out A (plain Udp (host 0x0a000003 1000) (host to 53) 40)
+
+pool_used_up : answers pooled (out A u1 ∷ from_second ∷ from_third 0xc0000209 ∷ from_third 0xc6336407 ∷ []) ≡ passed 1 1 ∷ passed 1 2 ∷ dropped reason.Key ∷ passed 1 3 ∷ []
+unfolding computing
+pool_used_up = refl
+
+-- the third one goes to another host, where the first port is free
+ports_taken : map (λ t. t.wire.near.port) (states_at (final pooled (out A u1 ∷ from_second ∷ from_third 0xc6336407 ∷ [])) A) ≡ 4000 ∷ 4001 ∷ 4000 ∷ []
+unfolding computing
+ports_taken = refl
+
+port_free_again : map (λ t. t.wire.near.port) (states_at (final pooled (out A u1 ∷ from_second ∷ kill A (name 1 1) ∷ from_third 0xc0000209 ∷ [])) A) ≡ 4001 ∷ 4000 ∷ []
+unfolding computing
+port_free_again = refl
+
+-- ---- a redirection: of the way in, on the stack
+
+abbrev redirecting : World
+redirecting = new_world limits (rules (record pass_out { direction = In; proto = Some Udp; rdr = Some (record { addr = V4 0x0a000005; ports = record { first = 8080; last = 8080 } }) } ∷ [])) (rules [])
+
+abbrev to_public : Event
+to_public = into A (plain Udp (outside 5555) (host 0xc6336409 80) 40)
+
+redirection : answers redirecting (to_public ∷ out A (plain Udp (host 0x0a000005 8080) (outside 5555) 80) ∷ []) ≡ passed 1 1 ∷ passed 1 1 ∷ []
+unfolding computing
+redirection = refl
+
+-- the near end on the wire, and that on the stack
+abbrev near_ends : State → End × End
+near_ends t = (t.wire.near, t.stack.near)
+
+redirected : map near_ends (states_at (final redirecting (to_public ∷ [])) A) ≡ (host 0xc6336409 80, host 0x0a000005 8080) ∷ []
+unfolding computing
+redirected = refl
 
 echo : answers (s) (out A (plain Icmp (inside 7) (outside 7) 64) ∷ into A (plain Icmp (outside 7) (inside 7) 64) ∷ tick A 10000 ∷ purge A ∷ []) ≡ passed 1 1 ∷ passed 1 1 ∷ clock 10000 ∷ did (given.Purged 1) ∷ []
 unfolding computing

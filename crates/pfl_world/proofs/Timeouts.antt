@@ -1,13 +1,14 @@
 -- Worked examples of timeouts that shorten as a table fills, computed.
-use Rattle.std.specs.Prelude.{◌≡◌, ℕ, List, [], ◌∷◌, ◌++◌, map, Some, refl}
+use Rattle.std.specs.Prelude.{◌≡◌, ℕ, List, [], ◌∷◌, ◌++◌, map, replicate, Some, None, refl}
 use Rattle.pfl_base.specs.declared.proto.Proto.TheVariants.{Udp}
 use Rattle.pfl_base.specs.declared.packet.Packet.{Packet}
 use Rattle.pfl_base.specs.declared.node_id.NodeId.TheVariants.{A, B}
 use Rattle.pfl_node.specs.queue.declared.Kind.TheVariants.{Delete}
 use Rattle.pfl_language.specs.declared.event.Event.{Event}
 use Rattle.pfl_language.specs.declared.node_event.NodeOutcome.TheVariants as given
-use Rattle.pfl_world.specs.Worlds.{World}
-use Rattle.pfl_world.proofs.Lab.{Answer, limits, opening, inside, outside, plain, u1, u2, u3, out, name, answers, final, computing, queue_at, queued, states_at, times, flush, deliver, tick, purge, passed, sent, taken, clock, did}
+use Rattle.pfl_rules.specs.Rules.{timed}
+use Rattle.pfl_world.specs.Worlds.{World, new_world}
+use Rattle.pfl_world.proofs.Lab.{Answer, limits, opening, pass_out, rules, inside, outside, plain, u1, u2, u3, out, name, answers, final, computing, queue_at, queued, states_at, times, flush, deliver, tick, purge, passed, sent, taken, clock, did}
 
 -- a pair with these limits, whose timeouts shrink between these numbers of states
 abbrev between : ℕ → ℕ → World
@@ -25,6 +26,14 @@ three_passed = passed 1 1 ∷ passed 1 2 ∷ passed 1 3 ∷ []
 
 purged : ℕ → Answer
 purged n = did (given.Purged n)
+
+-- a pair whose rules set five seconds for `udp.first`
+abbrev short : World
+short = let five = timed (replicate 6 None ++ Some 5 ∷ replicate 7 None) (rules (pass_out ∷ [])) in new_world limits five five
+
+set_timeout : answers short (out A u1 ∷ tick A 4999 ∷ purge A ∷ tick A 1 ∷ purge A ∷ []) ≡ passed 1 1 ∷ clock 4999 ∷ purged 0 ∷ clock 5000 ∷ purged 1 ∷ []
+unfolding computing purged
+set_timeout = refl
 
 -- of three between two and four, half of the timeout is left
 half_is_left : answers (between 2 4) (three ++ tick A 29999 ∷ purge A ∷ tick A 1 ∷ purge A ∷ []) ≡ three_passed ++ clock 29999 ∷ purged 0 ∷ clock 30000 ∷ purged 3 ∷ []

@@ -24,6 +24,7 @@ fn pass_out() -> Rule {
         no_sync: false,
         max: None,
         nat: None,
+        rdr: None,
         timeouts: [None; 14],
     }
 }

@@ -38,7 +38,7 @@ node_of limits rules table queue held server client clock creator next_id push c
 
 -- the timeout of a state under the rules, in seconds
 abbrev pub timeout_by : Rules → State → ℕ
-timeout_by rules s = timeout rules.list s.rule s.class
+timeout_by rules s = timeout rules s.rule s.class
 
 -- the table has the node's room, and keeps with each state its timeout
 pub record IsTimely (limits : Limits) (rules : Rules) (table : Table) : Type 0 where

@@ -9,15 +9,14 @@ ghost use Rattle.pfl_receive.specs.desk.inner.Kept.{MayStart};
 ghost use Rattle.pfl_receive.specs.desk.Nodes.{Node as Whole, AreParts};
 ghost use Rattle.pfl_node.specs.Starting.{pass, drop as dropped};
 ghost use Rattle.pfl_node.specs.Starting as starting;
-ghost use Rattle.pfl_receive.specs.table.Tables.{key_in_use as is_in_use};
-ghost use Rattle.pfl_track.specs.Keys.{AreKeys, fits_family};
+ghost use Rattle.pfl_receive.specs.table.Translating.{fits_translation};
 
 use crate::packet::hold::{hold_back, is_deferred};
 use pfl_base::{Dir, Packet, StateName};
 use pfl_language::{Fate, Reason};
 use pfl_receive::{Counter, Desk, Kind, Overfull};
 use pfl_rules::Rule;
-use pfl_track::{KeyPair, State, start_state};
+use pfl_track::{State, start_state};
 use std::alloc::Allocator;
 
 /// A packet that no state takes.
@@ -52,7 +51,7 @@ fn start<A: Allocator>(
     rule: &Rule,
 ) -> Result<Fate, Overfull>
     requires packet { IsPacket packet.now }
-    requires fits { fits_family (flow_of packet.now dir) rule.now.nat ≡ true }
+    requires fits { fits_translation (flow_of packet.now dir) rule.now ≡ true }
     requires stands { slice_get desk.old.node.rules.list number ≡ Some rule.now }
     requires room { 9 ≤ desk.old.edits.spare }
     ensures done { Tried 9 result desk.old desk.new (starting.started desk.old.node dir packet.now number rule.now) }
@@ -63,10 +62,8 @@ fn start<A: Allocator>(
     if desk.states().is_full() {
         return Ok(drop_packet(desk, Reason::Full));
     }
-    let Some(keys) = KeyPair::of_packet(packet, dir, rule.nat) else {
-        unreachable!();
-    };
-    if key_in_use(desk, &keys) {
+    let keys = desk.states().new_keys(rule, packet, dir);
+    if desk.states().has_either(&keys) {
         return Ok(drop_packet(desk, Reason::Key));
     }
     let name = next_name(desk);
@@ -90,14 +87,6 @@ fn is_at_max<A: Allocator>(desk: &Desk<A>, number: u16, rule: &Rule) -> bool
         Some(max) => max as usize <= desk.states().count_of_rule(number),
         None => false,
     }
-}
-
-/// A state has one of the two keys.
-fn key_in_use<A: Allocator>(desk: &Desk<A>, keys: &KeyPair) -> bool
-    ensures used { result ≡ is_in_use desk.now.node.states keys.now.wire keys.now.stack }
-    ensures keys { AreKeys keys.now.wire keys.now.stack }
-{
-    desk.states().by_wire(&keys.wire()).is_some() || desk.states().by_stack(&keys.stack()).is_some()
 }
 
 /// The name of its next state.

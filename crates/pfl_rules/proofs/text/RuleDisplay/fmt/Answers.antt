@@ -11,11 +11,11 @@ returns-clause-writes g c plain done =
     let r = c.args.self.now in
     has_written_of_eq _ _ _ _ _
     (simp append_assoc
-    (line_of _ _ _ _ _ _ _ _ _ _ _ _ _ _ _ _ _ _ _ _ _ _ _ _
+    (line_of _ _ _ _ _ _ _ _ _ _ _ _ _ _ _ _ _ _ _ _ _ _ _ _ _ _
     (marked r.quick (codes "quick" ∷ []))
-    c.proto-proto.ensures c.net-from.ensures c.port-from_port.ensures c.net-to.ensures c.port-to_port.ensures
+    c.proto-proto.ensures c.net-from.ensures c.ports-from_port.ensures c.net-to.ensures c.ports-to_port.ensures
     (marked r.any_flags (codes "flags" ∷ codes "any" ∷ []))
     (marked r.no_sync (codes "no-sync" ∷ []))
-    c.number-max.ensures c.end-nat.ensures
+    c.number-max.ensures c.pool-nat.ensures c.pool-rdr.ensures
     (timeouts_spaced (zip classes r.timeouts))))
     (c.write.ensures.writes plain done)
