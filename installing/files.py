@@ -14,7 +14,7 @@ RUNNABLE, READABLE = 0o755, 0o644
 # What examples say of the checkout's commands, and what stands for it where there is no checkout.
 INSTALLED_WORDS = (
     *((f"./lab {word}", f"pfl_lab {word}") for word in ("run", "check", "serve")),
-    *((f"./lab {word}", f"pfl_shell {word}") for word in ("shell", "verify", "annotate", "chart", "page", "whatif", "compare")),
+    *((f"./lab {word}", f"pfl_shell {word}") for word in ("shell", "verify", "annotate", "chart", "page", "whatif", "compare", "import")),
     ("[docs/FORMATS.md](../docs/FORMATS.md)", "pfl_lab(1)"),
     ("[page](../docs/PAGE.md)", "page"),
 )

@@ -2,11 +2,13 @@
 from __future__ import annotations
 
 import argparse
+import ipaddress
 import os
-from typing import List, Optional
+from typing import List, Optional, Tuple
 
 from .charts.windows import read_flow, read_place
 from .dumps.comparing import Tolerance
+from .importing.firewall import Own
 from .laboratory import Unknown
 from .language.names import Name
 from .shell import STRICT_STATUS
@@ -35,10 +37,18 @@ class Words(Options):
     stats: List[str]
     apart: Optional[int]
     all: bool
+    conf: str
+    on: str
+    address: Optional[List[Tuple[str, Own]]]
+    group: Optional[List[Tuple[str, str]]]
+    node: str
+    rc: Optional[str]
+    output: Optional[str]
+    unopened: bool
 
 
 # The words that run no program.
-WITHOUT_PROGRAM = ("compare",)
+WITHOUT_PROGRAM = ("compare", "import")
 
 
 def parser(name: str = "./lab") -> argparse.ArgumentParser:
@@ -81,6 +91,14 @@ def parser(name: str = "./lab") -> argparse.ArgumentParser:
             usage=f"{name} compare A B [--stats A B] [--apart S] [--all]",
             description="Compares two files with what `pfctl -ss -vv` printed at the firewalls of a pair: which states stand at one alone,"
             " and which differ, field by field. Status: 0 they agree, 1 they differ, 2 a file could not be read.",
+        )
+    )
+    _import(
+        kinds.add_parser(
+            "import",
+            help="takes the rules of an interface in from a pf.conf",
+            description="Writes the rules that a pf.conf(5) has for one interface as a setup of the laboratory, and reports on standard"
+            " error what is approximated or out.",
         )
     )
     return words
@@ -148,6 +166,50 @@ def tolerance(word: str) -> int:
     if not word.isdecimal() or len(word) > 6:
         raise argparse.ArgumentTypeError("S is a number of seconds from 0 to 999999")
     return int(word)
+
+
+def _import(words: argparse.ArgumentParser) -> None:
+    words.add_argument("conf", metavar="PF.CONF", help="the file")
+    words.add_argument("--on", required=True, type=interface, metavar="IF", help="the interface whose rules are taken in")
+    words.add_argument(
+        "--address",
+        action="append",
+        type=own_address,
+        metavar="[IF=]ADDRESS/LENGTH",
+        help="an address of the interface, or of IF; may be there several times",
+    )
+    words.add_argument("--group", action="append", type=group, metavar="GROUP=IF", help="IF is in this group, as egress=em0")
+    words.add_argument("--node", default="both", choices=("a", "b", "both"), help="the node that gets the rules; without it both do")
+    words.add_argument("--rc", metavar="FILE", help="an rc.conf(5), of which `maxupd` and `defer` of pfsync0 are taken in")
+    words.add_argument("--strict", action="store_true", help="writes nothing where a statement is out, with status 4")
+    words.add_argument("-o", "--output", metavar="FILE", help="the setup's file; without it the setup comes on standard output")
+    words.add_argument("--unopened", action="store_true", help="leaves out the last line, `open`, so that a setup can go on")
+
+
+def interface(word: str) -> str:
+    """The name of an interface or of a group."""
+    if not word or not word.isprintable() or " " in word:
+        raise argparse.ArgumentTypeError(f"{word!r} is no name of an interface")
+    return word
+
+
+def own_address(word: str) -> Tuple[str, Own]:
+    """An address with its length, and before it the interface that has it, where that is named."""
+    name, _, address = word.rpartition("=")
+    try:
+        if "/" not in address:
+            raise ValueError
+        return name, ipaddress.ip_interface(address)
+    except ValueError as error:
+        raise argparse.ArgumentTypeError(f"{word} is no [IF=]ADDRESS/LENGTH, as 192.0.2.1/24 or em1=10.0.0.1/8") from error
+
+
+def group(word: str) -> Tuple[str, str]:
+    """A group, and an interface that is in it."""
+    name, _, member = word.partition("=")
+    if not name or not member:
+        raise argparse.ArgumentTypeError(f"{word} is no GROUP=IF, as egress=em0")
+    return name, member
 
 
 def event(word: str) -> int:

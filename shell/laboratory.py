@@ -75,6 +75,11 @@ class Laboratory:
             raise fault
         self.setup.add(line)
 
+    def pass_over(self, line: str) -> None:
+        """Takes a line that is not read, as a comment of the setup."""
+        if not self.is_open:
+            self.setup.pass_over(line)
+
     def open(self) -> None:
         fault = check_setup(self.program, self.setup.lines)
         if fault:

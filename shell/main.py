@@ -1,5 +1,5 @@
-"""The words that need the shell, of `./lab` and of the installed `pfl_shell`: shell, verify, annotate, chart, page, whatif and
-compare."""
+"""The words that need the shell, of `./lab` and of the installed `pfl_shell`: shell, verify, annotate, chart, page, whatif, compare
+and import."""
 from __future__ import annotations
 
 import io
@@ -7,7 +7,8 @@ import os
 import sys
 from contextlib import closing
 from functools import partial
-from typing import Callable, Dict, Iterator, List, Sequence
+from itertools import takewhile
+from typing import Callable, Dict, Iterator, Sequence
 
 from . import scripts
 from .arguments import Words, page_fault, parser
@@ -20,6 +21,7 @@ from .colours import PLAIN, Paint
 from .dumps.command import TROUBLE, NothingRead, compared
 from .dumps.comparing import Tolerance
 from .dumps.report import Shown
+from .importing.command import carry_out as import_
 from .laboratory import Laboratory, Unknown
 from .language.lines import has_word, lines_of, opens
 from .pages.live import OPENING, begun, joined, serve
@@ -229,13 +231,8 @@ def wait(session: Client) -> None:
 
 def setup_from(program: str, path: str) -> Setup:
     """The setup that a file has, up to `open` if it is there, where the program finds no fault in it."""
-    lines: List[str] = []
-    for line in lines_of(scripts.read(path)):
-        if opens(line):
-            break
-        if has_word(line):
-            lines.append(line)
-    fault = check_setup(program, lines)
+    lines = list(takewhile(lambda line: not opens(line), lines_of(scripts.read(path))))
+    fault = check_setup(program, [line for line in lines if has_word(line)])
     if fault:
         raise fault
     return Setup.of(lines)
@@ -289,4 +286,5 @@ WORDS: Dict[str, Callable[[Words], int]] = {
     "page": page,
     "whatif": whatif,
     "compare": compare,
+    "import": import_,
 }

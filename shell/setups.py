@@ -4,7 +4,9 @@ from __future__ import annotations
 from dataclasses import dataclass, field
 from typing import Dict, Iterator, List, NamedTuple, Optional, Sequence, Tuple
 
+from .importing.comments import origin
 from .language.commands import SET
+from .language.lines import has_word
 from .language.names import NODES
 from .language.packets import Key, PacketEvent
 from .language.setups import AEND, ASTART, CLASSES, LIMITS, MAX, NAT, RDR, STATES, TIMEOUT, Limit, Option
@@ -76,13 +78,19 @@ def _translated(packet: PacketEvent, near: str) -> Key:
 
 @dataclass(frozen=True)
 class Rule:
-    """A rule of a node, by its words."""
+    """A rule of a node, by its words, and where it is from where a comment above it says so."""
 
     words: Sequence[str]
+    origin: str = ""
 
     @property
     def text(self) -> str:
         return " ".join(self.words)
+
+    @property
+    def told(self) -> str:
+        """The rule and where it is from, as `pass in proto tcp tport 22; pf.conf:21 @7`."""
+        return f"{self.text}; {self.origin}" if self.origin else self.text
 
     @property
     def action(self) -> str:
@@ -156,16 +164,26 @@ class Setup:
     rules: Dict[str, List[Rule]] = field(default_factory=lambda: {node: [] for node in NODES})
     # Between which numbers of states timeouts shrink.
     adaptive: Adaptive = field(init=False)
+    # Where the rules are from that come next, as the comment above them says.
+    _origin: str = field(default="", init=False)
 
     def __post_init__(self) -> None:
         self._adapt()
 
     @classmethod
     def of(cls, lines: Sequence[str]) -> "Setup":
+        """The setup of some lines, comments among them."""
         setup = cls()
         for line in lines:
-            setup.add(line)
+            if has_word(line):
+                setup.add(line)
+            else:
+                setup.pass_over(line)
         return setup
+
+    def pass_over(self, line: str) -> None:
+        """Takes a line that is not read: a comment may say where the rules below it are from."""
+        self._origin = origin(line)
 
     def add(self, line: str) -> None:
         """Takes a line that the program has found right."""
@@ -175,8 +193,9 @@ class Setup:
         elif words[0] == SET.word:
             self.limits[LIMITS[words[1]]] = int(words[2])
             self._adapt()
+            self._origin = ""
         else:
-            self.rules[words[1]].append(Rule(tuple(words[2:])))
+            self.rules[words[1]].append(Rule(tuple(words[2:]), self._origin))
         self.lines.append(line)
 
     def rule(self, node: str, number: Optional[int]) -> Optional[Rule]:

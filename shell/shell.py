@@ -122,6 +122,7 @@ class Shell(cmd.Cmd):
         words = line.split()
         if not has_word(line):
             self.lines.append((line, ()))
+            self.lab.pass_over(line)
         elif not self.lab.is_open and words[0] not in helps.WORDS:
             raise Unknown(unknown_word(words[0]))
         elif words[0] in SETUP:

@@ -5,6 +5,7 @@ from dataclasses import dataclass, field
 from typing import Callable, Dict, List, NamedTuple, Optional, Sequence, Set
 
 from .branches import Branch
+from .importing.comments import is_of_import
 from .laboratory import Laboratory
 from .language.commands import BACK, DROP, EXCISE, FORK, FORWARD, RESTORE, STEP
 from .language.events import plain_event
@@ -66,7 +67,7 @@ class Story:
 
     def comment(self, line: str) -> None:
         """Takes a line that is not read: a part of a paragraph, or nothing, which ends one."""
-        if is_mark(line):
+        if is_mark(line) or is_of_import(line):
             return
         words = legible(content_of(line).strip().lstrip("#"))
         if words and self._goes_on:
@@ -172,6 +173,7 @@ def story_of(lab: Laboratory, script: Sequence[str]) -> Story:
     for line in script:
         if not has_word(line):
             story.comment(line)
+            lab.pass_over(line)
         elif not lab.is_open:
             lab.tell_setup(line)
             story.setup()

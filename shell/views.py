@@ -88,7 +88,7 @@ def _verbose(state: State, node: Node, setup: Optional[Setup], paint: Paint) -> 
     if state.peer is not None:
         said.append(f"changed by the peer {seconds(node.clock - state.peer)} ago")
     rule = setup.rule(node.id, state.rule) if setup else None
-    return [*said, rule_number(state.rule) + (f": {rule.text}" if rule else "")]
+    return [*said, rule_number(state.rule) + (f": {rule.told}" if rule else "")]
 
 
 def _counters(node: Node) -> str:

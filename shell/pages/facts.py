@@ -107,7 +107,7 @@ class Looker:
             "peer": state.peer,
             "updates": state.updates,
             "flags": "" if state.flags == "-" else FLAGS.get(state.flags, state.flags),
-            "rule": rule_number(state.rule) + (f": {rule.text}" if rule else ""),
+            "rule": rule_number(state.rule) + (f": {rule.told}" if rule else ""),
         }
 
     # ---- both nodes, and the link

@@ -75,9 +75,9 @@ class Question:
         return self.lab.setup.rule(node, number) if self.lab.knows_setup else None
 
     def rule_words(self, node: str, number: Optional[int]) -> str:
-        """A rule by its number with its words, as `rule 1 of a (pass out)`."""
+        """A rule by its number with its words, as `rule 1 of a (pass out)`, and where it is from if that is known."""
         rule = self.rule(node, number)
-        return f"rule {number} of {node}" + (f" ({rule.text})" if rule else "")
+        return f"rule {number} of {node}" + (f" ({rule.told})" if rule else "")
 
 
 def told_state(state: State) -> str:

@@ -7,6 +7,7 @@ from typing import List
 
 from ..colours import PLAIN
 from ..laboratory import Laboratory
+from ..language.lines import has_word
 from ..reasons.why import why_last
 
 TOP = os.path.dirname(os.path.dirname(os.path.dirname(os.path.realpath(__file__))))
@@ -22,7 +23,9 @@ def laboratory(script: str) -> Laboratory:
     lab = Laboratory(program())
     atexit.register(lab.close)
     for line in _lines(script):
-        if lab.is_open:
+        if not has_word(line):
+            lab.pass_over(line)
+        elif lab.is_open:
             lab.ask(line)
         else:
             lab.tell_setup(line)

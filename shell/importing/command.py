@@ -1,0 +1,60 @@
+"""`./lab import`: a pf.conf as a setup of the laboratory."""
+from __future__ import annotations
+
+import sys
+from typing import Iterable, List, Optional
+
+from ..arguments import Words
+from ..language.names import NODES
+from ..shell import STRICT_STATUS
+from ..stories import legible
+from .firewall import Firewall
+from .importer import Import, Verdict
+from .rc import Rc, of_rc
+from .sources import Sources
+from .writing import first_too_many, report, setup_lines
+
+
+def carry_out(words: Words) -> int:
+    """Writes the setup, and reports on standard error what is not exact: the status."""
+    rc = of_rc(words.rc) if words.rc else Rc()
+    its = Import(firewall_of(words), list(Sources().lines(words.conf)))
+    too_many = first_too_many(its)
+    if too_many:
+        say([too_many])
+        return 1
+    say([*report(its, words.conf), *rc.said])
+    if words.strict and (rc.is_out or any(it.verdict is Verdict.OUT for it in its.judged)):
+        say([f"{legible(words.conf)}: nothing is written, since statements are out (--strict)"])
+        return STRICT_STATUS
+    write(words.output, setup_lines(its, NODES if words.node == "both" else [words.node], rc.lines, not words.unopened))
+    return 0
+
+
+def say(lines: Iterable[str]) -> None:
+    for line in lines:
+        print(line, file=sys.stderr)
+
+
+def firewall_of(words: Words) -> Firewall:
+    """What the command line says of the firewall."""
+    told = words.group or []
+    firewall = Firewall(words.on, groups={name: {member for group, member in told if group == name} for name, _ in told})
+    for interface, own in words.address or []:
+        firewall.add_address(interface or words.on, own)
+    return firewall
+
+
+def write(path: Optional[str], lines: List[str]) -> None:
+    """Writes lines to a file, or to standard output where none is named. A fault names the file, also that of a full disk."""
+    text = "".join(f"{line}\n" for line in lines)
+    try:
+        if path:
+            with open(path, "w", encoding="utf-8") as it:
+                it.write(text)
+        else:
+            print(text, end="", flush=True)
+    except BrokenPipeError:
+        raise
+    except OSError as error:
+        raise OSError(error.errno, error.strerror, path or "standard output") from error

@@ -1,0 +1,122 @@
+"""What `set` of a pf.conf(5) is in the laboratory: timeouts, limits, and what the rules after it depend on."""
+from __future__ import annotations
+
+from dataclasses import dataclass, field
+from typing import Dict, List, NamedTuple, Optional, Sequence, Tuple
+
+from ..language.setups import AEND, ASTART, STATES
+from .grammar import Setting
+from .names import number_of
+from .rules import CLASS_WORDS, GREATEST, Context
+
+# pf's own where a pf.conf sets none.
+DEFAULT_LIMIT, DEFAULT_START, DEFAULT_END = 100_000, 60_000, 120_000
+_START, _END = "adaptive.start", "adaptive.end"
+# pfctl's profiles, by the classes that they set.
+_OF_PROFILE = ("tcp.first", "tcp.opening", "tcp.established", "tcp.closing", "tcp.finwait", "tcp.closed")
+_SATELLITE = (180, 35, 86400, 905, 50, 95)
+_PROFILES: Dict[str, Tuple[int, ...]] = {
+    "normal": (120, 30, 86400, 900, 45, 90),
+    "satellite": _SATELLITE,
+    "high-latency": _SATELLITE,
+    "conservative": (3600, 900, 432000, 3600, 600, 180),
+    "aggressive": (30, 5, 18000, 60, 30, 30),
+}
+_LEFT_OUT = {
+    "interval": "`interval`: a purge is an event of the script",
+    "frag": "`frag`: no packet of the laboratory is a fragment",
+    "src.track": "`src.track`: sources are not counted",
+    "tcp.tsdiff": "`tcp.tsdiff`: packets of the laboratory have no timestamps",
+}
+_OTHER_LIMITS = ("frags", "src-nodes", "tables", "table-entries")
+# What changes no state of an interface.
+_WITHOUT_EFFECT = (
+    *("loginterface", "fingerprints", "debug", "ruleset-optimization", "require-order", "keepcounters", "state-policy"),
+    *("skip", "state-defaults", "block-policy"),
+)
+
+
+class Set(NamedTuple):
+    """What became of a setting: its lines, and what is lost, or why it is not taken in."""
+
+    lines: List[str] = []
+    lost: List[str] = []
+    out: str = ""
+
+
+@dataclass
+class Settings:
+    """What was set so far."""
+
+    context: Context = field(default_factory=Context)
+    limit: Optional[int] = None
+    start: Optional[int] = None
+    end: Optional[int] = None
+
+    def take(self, it: Setting) -> Set:
+        if it.word in ("timeout", "limit"):
+            return self._pairs(it)
+        if it.word == "optimization":
+            return _profile(it.values)
+        if it.word == "block-policy":
+            self.context.answer = it.values[0] if it.values else "drop"
+        elif it.word == "state-defaults":
+            self.context.state_defaults = it.options
+        if it.word in _WITHOUT_EFFECT:
+            return Set()
+        if it.word == "hostid":
+            return Set(lost=["`hostid`: a state's creator is the number of its node's boot"])
+        if it.word == "syncookies":
+            return Set(lost=["`syncookies`: the ends shake hands with one another"])
+        return Set(out=f"FreeBSD 13's pf has no `set {it.word}`")
+
+    def _pairs(self, it: Setting) -> Set:
+        """Names, each with its number."""
+        lines: List[str] = []
+        lost: List[str] = []
+        for name, word in zip(it.values[::2], it.values[1::2]):
+            number = number_of(word, GREATEST)
+            if number is None:
+                return Set(out=f"`{name} {word}` has no number up to {GREATEST}")
+            if it.word == "timeout" and name in CLASS_WORDS:
+                lines.append(f"set timeout {name} {number}")
+            elif name in (_START, _END) if it.word == "timeout" else name == "states":
+                lost += self._number(name, number)
+            elif name in (_LEFT_OUT if it.word == "timeout" else _OTHER_LIMITS):
+                lost += [_LEFT_OUT[name]] if name in _LEFT_OUT else []
+            else:
+                return Set(out=f"pf has no {it.word} `{name}`")
+        return Set(lines, lost)
+
+    def _number(self, name: str, number: int) -> List[str]:
+        """Takes a number of states: what is lost where it is beyond the range here."""
+        if name == _START:
+            self.start = number
+        elif name == _END:
+            self.end = number
+        else:
+            self.limit = number
+        most = STATES.most if name == "states" else AEND.most
+        if number > most or (name == "states" and number == 0):
+            return [f"`{name} {number}` becomes {most}, the most that there is here"]
+        return []
+
+    def lines(self) -> List[str]:
+        """The limits of states, and between which numbers timeouts shrink: pfctl's 60% and 120% of a limit that is set, unless either
+        is set as well."""
+        start, end = DEFAULT_START, DEFAULT_END
+        if self.limit is not None and self.start is None and self.end is None:
+            start, end = self.limit // 10 * 6, self.limit // 10 * 12
+        numbers = {
+            STATES: (DEFAULT_LIMIT if self.limit is None else self.limit) or STATES.most,
+            ASTART: start if self.start is None else self.start,
+            AEND: end if self.end is None else self.end,
+        }
+        return [f"set {limit.word} {min(number, limit.most)}" for limit, number in numbers.items()]
+
+
+def _profile(values: Sequence[str]) -> Set:
+    name = values[0] if values else ""
+    if name not in _PROFILES:
+        return Set(out=f"pfctl has no optimization `{name}`")
+    return Set([f"set timeout {it} {seconds}" for it, seconds in zip(_OF_PROFILE, _PROFILES[name])])

@@ -1,0 +1,83 @@
+"""The statements of a pf.conf(5) and of the files that it includes, in order; and the files of tables."""
+from __future__ import annotations
+
+import os
+from typing import Dict, Iterator, List, Optional, Sequence
+
+from ..stories import legible
+from .grammar import Content, Faulty, Host, Include, Line, Macro
+from .parser import host_of, parse
+from .tokens import Lexer, Statement
+
+MOST_INCLUDED = 16
+MOST_FILES = 256
+
+
+def read(path: str) -> str:
+    """A file's text, whatever bytes it has."""
+    try:
+        with open(path, encoding="utf-8", errors="surrogateescape", newline="") as it:
+            return it.read()
+    except ValueError as error:
+        raise OSError(0, str(error), path) from error
+    except OSError as error:
+        raise OSError(error.errno, error.strerror, path) from error
+
+
+def place(path: str, number: int) -> str:
+    """The file of a line without its folder, as one word, and the line's number."""
+    return f"{legible(os.path.basename(path)).replace(' ', '_')}:{number}"
+
+
+class Sources:
+    """Reads a file with those that it includes."""
+
+    def __init__(self) -> None:
+        self._macros: Dict[str, str] = {}
+        self._files = 0
+
+    def lines(self, path: str, depth: int = 0) -> Iterator[Line]:
+        """The statements of a file. Those of a file that is included follow the statement that includes it."""
+        self._files += 1
+        text = read(path)
+        lexer, lines = Lexer(text, self._macros), text.split("\n")
+        for statement in iter(lexer.statement, None):
+            content = self._checked(path, parse(statement), depth)
+            yield Line(path, statement.first, _text(lines, statement), content)
+            if isinstance(content, Macro):
+                self._macros[content.name] = content.value
+            elif isinstance(content, Include):
+                yield from self.lines(_beside(path, content.path), depth + 1)
+
+    def _checked(self, path: str, content: Content, depth: int) -> Content:
+        """A statement; an include that cannot be followed is a faulty one."""
+        if not isinstance(content, Include):
+            return content
+        if depth >= MOST_INCLUDED or self._files >= MOST_FILES:
+            return Faulty("include", f"files are included in one another more than {MOST_INCLUDED} deep, or more than {MOST_FILES} of them")
+        try:
+            read(_beside(path, content.path))
+            return content
+        except OSError as error:
+            return Faulty("include", f"{error.filename}: {error.strerror}")
+
+
+def _text(lines: Sequence[str], statement: Statement) -> str:
+    """The text of a statement in one line."""
+    return legible(" ".join(lines[statement.first - 1 : statement.last]))
+
+
+def _beside(path: str, named: str) -> str:
+    """A file that is named in another one, relative to the folder of that."""
+    return os.path.join(os.path.dirname(path), named)
+
+
+def hosts_in(path: str, named: str) -> Optional[List[Host]]:
+    """The entries of a table's file; None where there is none that can be read."""
+    try:
+        text = read(_beside(path, named))
+    except OSError:
+        return None
+    words = (word for line in text.split("\n") for word in line.partition("#")[0].split())
+    return [it for it in map(host_of, words) if it is not None]
+

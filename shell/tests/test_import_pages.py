@@ -1,0 +1,36 @@
+"""What docs/FIELD.md shows of an import is what it makes."""
+from __future__ import annotations
+
+import unittest
+
+from . import TOP, reasons
+from .imports import taken_in
+
+
+def block(mark: str) -> str:
+    """A block that the page shows, by its mark."""
+    with open(f"{TOP}/docs/FIELD.md", encoding="utf-8") as it:
+        return it.read().partition(f"<!-- import {mark} -->\n```text\n")[2].partition("```")[0]
+
+
+class Page(unittest.TestCase):
+    def test_what_is_said(self) -> None:
+        its = taken_in(block("conf"))
+        self.assertEqual("".join(f"{it}\n" for it in its.said), block("said"))
+
+    def test_what_why_says(self) -> None:
+        setup = "\n".join(taken_in(block("conf")).setup)
+        rule, _, asked = block("why").partition("\n\n")
+        self.assertIn(rule, setup)
+        packet, *said = asked.splitlines()
+        # (a port range and a timeout of a class are in no rule that this packet meets)
+        old = "\n".join(it for it in setup.splitlines() if not it.startswith("set timeout "))
+        self.assertEqual(reasons(f"{old}\nstep main {packet}"), [it.strip() for it in said])
+
+    def test_the_sections_of_translations(self) -> None:
+        its = taken_in(block("gateway"), "--node", "a")
+        self.assertEqual("".join(f"{it}\n" for it in its.setup[5:-1]), block("sections"))
+
+
+if __name__ == "__main__":
+    unittest.main()
