@@ -4,7 +4,7 @@ from __future__ import annotations
 import argparse
 import ipaddress
 import os
-from typing import List, Optional, Tuple
+from typing import Callable, List, Optional, Tuple
 
 from .charts.windows import read_flow, read_place
 from .dumps.comparing import Tolerance
@@ -76,8 +76,14 @@ def parser(name: str = "./lab") -> argparse.ArgumentParser:
             " shows a pair as it goes on, and steps it, to the browsers of this machine.",
         )
     )
+    _further(kinds.add_parser, name)
+    return words
+
+
+def _further(add: Callable[..., argparse.ArgumentParser], name: str) -> None:
+    """The words that ask what else might have happened, and those that read files of real firewalls."""
     _whatif(
-        kinds.add_parser(
+        add(
             "whatif",
             help="tries each single fault of what happened in a script",
             description="Plays what happened in a script again with each single fault by itself, as a lost frame or a restart, and groups"
@@ -85,7 +91,7 @@ def parser(name: str = "./lab") -> argparse.ArgumentParser:
         )
     )
     _compare(
-        kinds.add_parser(
+        add(
             "compare",
             help="compares the state tables of two firewalls, as pfctl printed them",
             usage=f"{name} compare A B [--stats A B] [--apart S] [--all]",
@@ -94,14 +100,13 @@ def parser(name: str = "./lab") -> argparse.ArgumentParser:
         )
     )
     _import(
-        kinds.add_parser(
+        add(
             "import",
             help="takes the rules of an interface in from a pf.conf",
             description="Writes the rules that a pf.conf(5) has for one interface as a setup of the laboratory, and reports on standard"
             " error what is approximated or out.",
         )
     )
-    return words
 
 
 def _shell(words: argparse.ArgumentParser) -> None:

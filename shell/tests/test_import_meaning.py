@@ -70,10 +70,13 @@ def of_port(port: int, text: str) -> bool:
     return {**tests, ">": port > number, ">=": port >= number}[sign]
 
 
-class Random(NamedTuple):
-    """A random rule by its parts."""
+def family_of(address: str) -> str:
+    return "inet6" if ":" in address else "inet"
 
-    direction: str
+
+class Ends(NamedTuple):
+    """The packets that a statement is for."""
+
     family: str
     protocol: str
     source: str
@@ -82,23 +85,36 @@ class Random(NamedTuple):
     destination_port: str
 
     @property
-    def text(self) -> str:
-        words = ["pass", self.direction, self.family, *(["proto", self.protocol] if self.protocol else [])]
+    def words(self) -> List[str]:
+        words = [self.family, *(["proto", self.protocol] if self.protocol else [])]
         words += ["from", self.source, *(["port", self.source_port] if self.source_port else [])]
         words += ["to", self.destination, *(["port", self.destination_port] if self.destination_port else [])]
-        return " ".join(it for it in words if it)
+        return [it for it in words if it]
 
     def matches(self, packet: Packet) -> bool:
-        """Whether a packet is one of the rule, by pf.conf(5)."""
+        """Whether a packet is one of them, by pf.conf(5)."""
         return (
-            self.direction in ("", packet.direction)
-            and self.protocol in ("", packet.protocol)
-            and self.family in ("", "inet6" if ":" in packet.source else "inet")
+            self.protocol in ("", packet.protocol)
+            and self.family in ("", family_of(packet.source))
             and of_host(packet.source, self.source)
             and of_host(packet.destination, self.destination)
             and (not self.source_port or of_port(packet.source_port, self.source_port))
             and (not self.destination_port or of_port(packet.destination_port, self.destination_port))
         )
+
+
+class Random(NamedTuple):
+    """A random rule by its parts."""
+
+    direction: str
+    ends: Ends
+
+    @property
+    def text(self) -> str:
+        return " ".join(["pass", *([self.direction] if self.direction else []), *self.ends.words])
+
+    def matches(self, packet: Packet) -> bool:
+        return self.direction in ("", packet.direction) and self.ends.matches(packet)
 
 
 def line_matches(line: str, packet: Packet) -> bool:
@@ -118,7 +134,7 @@ def random_rule(chance: random.Random) -> Random:
     hosts = (*["any"] * 20, *V4, *V6, *(f"! {it}" for it in (*V4, *V6)), *(f"{mark}<{it}>" for it in TABLES for mark in ("", "! ")))
     ports = [chance.choice((*[""] * 10, *PORTS)) if protocol else "" for _ in range(2)]
     direction, family = chance.choice(("", "in", "out")), chance.choice(("", "", "inet", "inet6"))
-    return Random(direction, family, protocol, chance.choice(hosts), ports[0], chance.choice(hosts), ports[1])
+    return Random(direction, Ends(family, protocol, chance.choice(hosts), ports[0], chance.choice(hosts), ports[1]))
 
 
 def random_packet(chance: random.Random) -> Packet:

@@ -8,7 +8,7 @@ from ipaddress import ip_address, ip_network
 from typing import Dict, List, NamedTuple, Optional, Sequence, Set, Tuple
 
 from .imports import Imported, taken_in
-from .test_import_meaning import Packet, of_host, of_port
+from .test_import_meaning import Ends, Packet, family_of
 
 SEED, ROUNDS, PACKETS = 20261129, 200, 40
 OWN = {"inet": "192.0.2.1", "inet6": ""}
@@ -36,38 +36,6 @@ class Fate(NamedTuple):
     passes: bool
     has_state: bool = False
     near: Optional[Tuple[str, int]] = None
-
-
-class Ends(NamedTuple):
-    """The packets that a statement is for."""
-
-    family: str
-    protocol: str
-    source: str
-    source_port: str
-    destination: str
-    destination_port: str
-
-    @property
-    def words(self) -> List[str]:
-        words = [self.family, *(["proto", self.protocol] if self.protocol else [])]
-        words += ["from", self.source, *(["port", self.source_port] if self.source_port else [])]
-        words += ["to", self.destination, *(["port", self.destination_port] if self.destination_port else [])]
-        return [it for it in words if it]
-
-    def matches(self, packet: Packet) -> bool:
-        return (
-            self.protocol in ("", packet.protocol)
-            and self.family in ("", family_of(packet.source))
-            and of_host(packet.source, self.source)
-            and of_host(packet.destination, self.destination)
-            and (not self.source_port or of_port(packet.source_port, self.source_port))
-            and (not self.destination_port or of_port(packet.destination_port, self.destination_port))
-        )
-
-
-def family_of(address: str) -> str:
-    return "inet6" if ":" in address else "inet"
 
 
 class Translates(NamedTuple):
