@@ -165,12 +165,17 @@ def theorem(family: str, name: str) -> List[str]:
 
 
 def owner(lines: List[str], at: int) -> str:
-    """The type of the `impl` that the line stands in, or nothing."""
+    """The type of the `impl` that the line stands in, or nothing. Its head may have several lines, of which the last begins with `>`."""
     if not lines[at].startswith(" "):
         return ""
     while at > 0 and (lines[at].startswith(" ") or not lines[at].strip()):
         at -= 1
-    head = re.sub(r"<[^<>]*>", "", re.sub(r"<[^<>]*>", "", lines[at])).split("{")[0]
+    start = at
+    while start > 0 and lines[start].startswith((">", " ")):
+        start -= 1
+    head, angles = " ".join(it.strip() for it in lines[start : at + 1]).split("{")[0], re.compile(r"<[^<>]*>")
+    while angles.search(head):
+        head = angles.sub("", head)
     return re.split(r" for |^impl ", head)[-1].strip()
 
 

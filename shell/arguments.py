@@ -71,7 +71,7 @@ def parser(name: str = "./lab") -> argparse.ArgumentParser:
         kinds.add_parser(
             "page",
             help="shows what happens in a script as a page for a browser",
-            usage=f"{name} page SCRIPT OUT.html\n       {name} page --serve PORT [SCRIPT | --port P --setup FILE]",
+            usage=f"{name} page SCRIPT OUT.html\n       {name} page --serve PORT [SCRIPT | --port P [--setup FILE]]",
             description="Writes what happens in a script as a page, which is one file and needs nothing else; or serves a page that"
             " shows a pair as it goes on, and steps it, to the browsers of this machine.",
         )
@@ -112,7 +112,7 @@ def _further(add: Callable[..., argparse.ArgumentParser], name: str) -> None:
 def _shell(words: argparse.ArgumentParser) -> None:
     words.add_argument("files", nargs="*", metavar="FILE", help="scripts that are read first")
     words.add_argument("--port", type=port, metavar="P", help="a session of the server at this port, and no pair of its own")
-    words.add_argument("--setup", metavar="FILE", help="with --port: the setup that the server read, for questions that need it")
+    words.add_argument("--setup", metavar="FILE", help="with --port: the setup that the server read, if it does not report it")
     words.add_argument("--echo", action="store_true", help="tells each line before its reply")
     words.add_argument(
         "--strict", action="store_true", help=f"stops at the first refused or faulty line, with status {STRICT_STATUS}"
@@ -144,7 +144,7 @@ def _page(words: argparse.ArgumentParser) -> None:
     words.add_argument(
         "--port", type=port, metavar="P", help="with --serve: a session of the server at this port, and no pair of its own"
     )
-    words.add_argument("--setup", metavar="FILE", help="with --port: the setup that the server read")
+    words.add_argument("--setup", metavar="FILE", help="with --port: the setup that the server read, if it does not report it")
 
 
 def _whatif(words: argparse.ArgumentParser) -> None:
@@ -257,6 +257,6 @@ def page_fault(words: Words) -> str:
         return "a page needs SCRIPT and OUT.html, or --serve PORT" if not words.page or words.port or words.setup else ""
     if words.page:
         return "a page that is served is not written"
-    if words.port and (words.script or not words.setup):
-        return "--port joins a server that has its pair, and goes with --setup and without a script"
+    if words.port and words.script:
+        return "--port joins a server that has its pair, and goes without a script"
     return "--setup is what a server read, and goes with --port" if words.setup and not words.port else ""

@@ -6,7 +6,7 @@ import re
 from typing import Callable, Dict, Iterable, List, Sequence, Tuple
 
 from .charts.windows import FLOW, WINDOW_WORDS
-from .helps import CHART, SHELL, WHATIF, WHATIF_OPTIONS, WORDS
+from .helps import CHART, NOTES, SHELL, WHATIF, WHATIF_OPTIONS, WORDS
 from .laboratory import Laboratory
 from .language.commands import COMMANDS, FRAME, RULE, SETUP, STEP, TYPED, WHY
 from .language.events import EVENTS
@@ -62,6 +62,8 @@ def candidates(lab: Laboratory, before: Sequence[str], begun: str) -> List[str]:
         return _matching(_chart(lab, words, begun), begun)
     if words[0] == WHATIF:
         return _matching(_whatif(lab, words, begun), begun)
+    if words[0] == NOTES:
+        return _matching(("on", "off") if len(words) == 1 else (), begun)
     # An event follows the branch, which `why` may be without.
     places = {STEP.word: (2,), WHY.word: (1, 2)}.get(words[0], ())
     part = next((words[at:] for at in places if words[at:] and words[at] in EVENTS), words)

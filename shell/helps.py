@@ -21,6 +21,7 @@ class Help(NamedTuple):
 
 
 CHART = "chart"
+NOTES = "notes"
 WHATIF = "whatif"
 WHATIF_OPTIONS = ("--faults KINDS", "--watch WHAT", "--from K", "--to L", "--pairs", "--only N", "--out FILE.pfl")
 WHATIF_PARTS = "\n".join(
@@ -77,7 +78,8 @@ SEARCH_PARTS = "\n".join(
         "EVENT [N times]: this event may happen, at most N times, or once; `lose 2 1 times` loses frame 2.",
         "at most RUNS: give up where more runs than that are to be tried at a depth; the default is 1,000,000.",
         "Runs of no event are searched first, then those of one, and so on. An interrupt (Ctrl-C) ends the search, and it reports how "
-        "far it came. `take` steps what was found. The last form is the program's own line (docs/FORMATS.md). A server does not search.",
+        "far it came. `take` steps what was found. The last form is the program's own line (docs/FORMATS.md). On a server this needs one that "
+        "reports its setup.",
     )
 )
 
@@ -132,6 +134,11 @@ SHELL: Dict[str, Help] = {
         WHATIF_PARTS,
     ),
     "summary": Help("summary", "asks a server for a few numbers of all branches, which is no command and waits for nobody"),
+    NOTES: Help(
+        f"{NOTES} on\n{NOTES} off",
+        "shows what other sessions of a server do, a line for each command but looks, as it does at first; or stops that",
+        "Each comes above the prompt. `notes` alone says whether they are on.",
+    ),
     "use": Help("use BRANCH", "makes a branch the one that events and questions without a branch are meant of"),
     "verify": Help("verify FILE..", "runs scripts by themselves, and tells where their lines `#>` and the replies differ"),
     "annotate": Help("annotate FILE..", "writes the replies into scripts, as lines `#>`"),

@@ -3,7 +3,7 @@ from __future__ import annotations
 
 import contextlib
 from dataclasses import dataclass, replace
-from typing import Iterator, List, Optional, Sequence, Tuple, Union
+from typing import ContextManager, Iterator, List, Optional, Sequence, Tuple, Union
 
 from .branches import Branch, read_log
 from .explanations import Explanation, read_explanation
@@ -16,8 +16,9 @@ from .language.names import NODES
 from .language.readers import LineFault
 from .language.searches import SEARCH
 from .language.setups import Limit
+from .mirror import Shared, joined
 from .pair import Pair, read_shown
-from .programs import Client, Ended, Run, Session, check_setup, run_lines
+from .programs import FOLLOW, VIEW, Client, Ended, Run, Session, check_setup, run_lines
 from .setups import Setup
 
 
@@ -52,6 +53,33 @@ class Laboratory:
         self.last: Optional[Asked] = None
         # The branch that is meant where none is named.
         self.in_use = "main"
+
+    def join(self) -> str:
+        """Follows the server, whose sessions are all connected, if it tells its setup: what there is to say of that."""
+        assert isinstance(self.session, Client)
+        self.session, setup, said = joined(self.session, self.program, self.setup if self.knows_setup else None)
+        if setup:
+            self.setup, self.knows_setup = setup, True
+        return said
+
+    @property
+    def shared(self) -> Optional[Shared]:
+        """The session of a server that is followed."""
+        return self.session if isinstance(self.session, Shared) else None
+
+    @property
+    def is_mirrored(self) -> bool:
+        """Whether looks cost the server nothing."""
+        return self.shared is not None and self.shared.has_mirror
+
+    @property
+    def searches(self) -> bool:
+        """Whether searches are answered; a server does not, and one that is not followed leaves nobody else who could."""
+        return self.port is None or self.shared is not None
+
+    def one_moment(self) -> ContextManager[None]:
+        """Has the questions within be answered of one moment of the pair, where other sessions could change it in between."""
+        return self.shared.one_moment() if self.shared else contextlib.nullcontext()
 
     def limit(self, limit: Limit) -> str:
         """A limit in words, with its number: of a server's own nothing is known without its setup."""
@@ -93,7 +121,9 @@ class Laboratory:
         if self.session is None:
             raise Unknown("the pair is not set up: say `rule NODE ..` for its rules, and then `open`")
         words = line.split()
-        reply = self._searched(line) if words[0] == SEARCH and self.port is None else self.session.ask(line)
+        if words[0] == FOLLOW and self.shared:
+            raise Unknown("this shell follows the server's journal already: `notes` shows what other sessions do")
+        reply = self._searched(line) if words[0] == SEARCH and self.searches else self.session.ask(line)
         self.last = Asked(" ".join(words), tuple(reply))
         if reply[0] == "removed" and words[1] == self.in_use:
             self.in_use = self.names()[0]
@@ -120,8 +150,8 @@ class Laboratory:
         """What a server answers to a viewer, who waits for nobody: a few numbers of one moment, each with its name."""
         if self.port is None:
             raise Unknown("`summary` asks a server; here `view` shows the pair")
-        words = self._quietly("view")[0].split()
-        if words[0] != "view":
+        words = self._quietly(VIEW)[0].split()
+        if words[0] != VIEW:
             return f"overtaken by other sessions in each of three tries, the last one from {words[1]} to {words[2]} commands"
         numbers = zip(SUMMARY, words[2:])
         return f"after {words[1]} commands of all sessions: " + ", ".join(f"{name} {number}" for name, number in numbers)

@@ -108,7 +108,7 @@ def page(words: Words) -> int:
     name = os.path.basename(words.script) if words.script else "A pair of firewalls"
     if words.serve:
         setup = setup_from(words.program, words.setup) if words.setup else None
-        pair = joined(words.port, setup, sys.stdout) if words.port else begun(words.program, script, name)
+        pair = joined(words.program, words.port, setup, sys.stdout) if words.port else begun(words.program, script, name)
         serve(words.program, words.serve, pair, sys.stdout)
     with closing(run_of(words.program, script, name)) as run:
         save(words.page, page_of(run.as_data()))
@@ -205,6 +205,9 @@ def shell(words: Words) -> int:
     if isinstance(lab.session, Client):
         say(words, "connected; the server answers once all its sessions are")
         wait(lab.session)
+        said = lab.join()
+        if said:
+            say(words, said)
     it = Shell(lab, sys.stdout, paint(sys.stdout.isatty()), words.strict, is_typed)
     try:
         ended = any(it.take(lines_of(scripts.read(path)), echo=is_typed or words.echo) for path in words.files)
@@ -242,7 +245,7 @@ def dialogue(it: Shell) -> None:
     """Lines from a terminal, with a history; an interrupt gives up the line alone."""
     history = os.path.expanduser(os.environ.get("PFL_LAB_HISTORY", HISTORY))
     keep_history(history)
-    it.set_prompt()
+    it.watch()
     while True:
         try:
             it.cmdloop()

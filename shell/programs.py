@@ -3,18 +3,29 @@ from __future__ import annotations
 
 import contextlib
 import re
+import select
 import signal
 import socket
 import subprocess
-from typing import IO, Iterable, Iterator, List, Optional, Sequence
+import time
+from collections import deque
+from typing import IO, Deque, Iterable, Iterator, List, Optional, Sequence
 
 from .language.commands import COMMANDS, OPEN
 from .language.faults import LIMIT_FAULTS, LINE_FAULTS, RULE_FAULTS
-from .language.lines import lines_of
+from .language.lines import lines_of, opens
 from .language.searches import FOUND
 
 # The first words of replies that end with a line `end`.
 MANY_LINES = (*(it.replies[0].split()[0] for it in COMMANDS.values() if it.is_long), FOUND)
+# What a session asks a server beside commands: for the lines of its setup, for the entries of its journal until the session's next
+# line comes, and for a few numbers.
+SETUP_WORD, FOLLOW, VIEW = "setup", "follow", "view"
+# How the lines of entries begin, and those before and after them.
+SENT = (ENTRY, BEHIND) = ("entry ", "behind ")
+FOLLOWING, FOLLOWED = "following ", "followed "
+# What a server that has taken all the commands that it can answers to each further one.
+FULL = "full"
 
 
 class Ended(Exception):
@@ -64,12 +75,7 @@ def uninterrupted() -> Iterator[None]:
 
 
 class Session:
-    """A program that answers one line after another."""
-
-    gone = "the program has ended"
-
-    def __init__(self, to: IO[str], replies: Iterator[str]):
-        self._to, self._replies = to, replies
+    """What answers one line after another."""
 
     def ask(self, line: str) -> List[str]:
         """The reply to a line that has one."""
@@ -86,15 +92,34 @@ class Session:
             return self._ask(lines)
 
     def _ask(self, lines: Sequence[str]) -> List[List[str]]:
+        raise NotImplementedError
+
+    def close(self) -> None:
+        raise NotImplementedError
+
+
+class Stream(Session):
+    """A program that reads lines and writes replies."""
+
+    gone = "the program has ended"
+
+    def __init__(self, to: IO[str], replies: Iterator[str]):
+        self._to, self._replies = to, replies
+
+    def _ask(self, lines: Sequence[str]) -> List[List[str]]:
         try:
             self._to.write("".join(f"{line}\n" for line in lines))
             self._to.flush()
-            replies = [read_reply(self._replies) for _ in lines]
+            replies = [self._reply(line) for line in lines]
         except OSError as error:
             raise Ended(self.gone) from error
         if not all(replies):
             raise Ended(self.gone)
         return replies
+
+    def _reply(self, line: str) -> List[str]:
+        """The reply to a line that was sent; empty where none comes."""
+        return read_reply(self._replies)
 
     def close(self) -> None:
         try:
@@ -103,7 +128,7 @@ class Session:
             pass
 
 
-class Run(Session):
+class Run(Stream):
     """A run of the program over a pipe, after its setup."""
 
     def __init__(self, program: str, setup: Sequence[str]):
@@ -133,31 +158,132 @@ class Run(Session):
             self.process.stdout.close()
 
 
-class Client(Session):
+class Incoming:
+    """The lines that come over a connection: those of replies one after another, and those of entries put aside."""
+
+    def __init__(self, connection: socket.socket):
+        self._connection = connection
+        self._rest = b""
+        self._lines: Deque[str] = deque()
+        # What came of entries, and nobody has taken yet; and the entry at which the server ended showing them.
+        self.aside: Deque[str] = deque()
+        self.followed = 0
+        self.has_ended = False
+
+    def __iter__(self) -> Iterator[str]:
+        return self
+
+    def __next__(self) -> str:
+        """The next line of a reply, which is waited for."""
+        while True:
+            self._put_aside()
+            if self._lines:
+                return self._lines.popleft()
+            if not self._receive(0):
+                raise StopIteration
+
+    def take(self, seconds: float = 0) -> None:
+        """Takes what has come, and where no entry has waits for one these seconds at most."""
+        until = time.monotonic() + seconds
+        self._put_aside()
+        while not self.has_ended and self.is_there(0 if self.aside else max(0.0, until - time.monotonic())):
+            with contextlib.suppress(BlockingIOError):
+                self._receive(socket.MSG_DONTWAIT)
+            self._put_aside()
+
+    def is_there(self, seconds: float) -> bool:
+        """Whether something comes, or the end, within these seconds."""
+        poll = select.poll()
+        poll.register(self._connection, select.POLLIN)
+        return bool(poll.poll(1000 * seconds))
+
+    def _put_aside(self) -> None:
+        while self._lines and self._lines[0].startswith((*SENT, FOLLOWING, FOLLOWED)):
+            line = self._lines.popleft()
+            if line.startswith(SENT):
+                self.aside.append(line)
+            elif line.startswith(FOLLOWED):
+                self.followed = int(line.split()[1])
+
+    def _receive(self, flags: int) -> bool:
+        """Takes a part of what comes: whether there was any. A line whose end never comes is none."""
+        part = self._connection.recv(1 << 16, flags)
+        *lines, self._rest = (self._rest + part).split(b"\n")
+        self._lines.extend(it.decode(errors="surrogateescape") for it in lines)
+        self.has_ended = not part
+        return bool(part)
+
+
+class Client(Stream):
     """A session of a server that listens on a port of this machine."""
 
     gone = "the server has ended, or has ended this session"
 
     def __init__(self, port: int):
         self.connection = socket.create_connection(("127.0.0.1", port))
-        stream = self.connection.makefile("rw", encoding="utf-8", errors="surrogateescape", newline="\n")
-        super().__init__(stream, iter(stream))
+        self.incoming = Incoming(self.connection)
+        self._follows = False
+        super().__init__(self.connection.makefile("w", encoding="utf-8", errors="surrogateescape", newline="\n"), self.incoming)
 
     def wait(self) -> None:
         """Waits until the server answers, which it does once all its sessions are connected; an interrupt ends that.
         A `view` is no command, so that nothing is kept of it."""
+        self._ask([VIEW])
+
+    def follow(self) -> None:
+        """Has the server show the entries of its journal from the first on: those that there are, and each as it is made."""
+        self._follows = True
+        self._follow_on()
+
+    def _follow_on(self) -> None:
+        """Follows after the last entry that was shown. The server shows entries until the next line comes, so this is said after each."""
         try:
-            self._to.write("view\n")
+            self._to.write(f"{FOLLOW} {self.incoming.followed}\n")
             self._to.flush()
-            if read_reply(self._replies):
-                return
         except OSError as error:
             raise Ended(self.gone) from error
-        raise Ended(self.gone)
+
+    def _ask(self, lines: Sequence[str]) -> List[List[str]]:
+        replies = super()._ask(lines)
+        if self._follows:
+            self._follow_on()
+        return replies
+
+    def watch(self, seconds: float) -> None:
+        """Waits until something comes, these seconds at most."""
+        with contextlib.suppress(OSError, ValueError):
+            self.incoming.is_there(seconds)
+
+    def come(self, seconds: float = 0) -> List[str]:
+        """What the server has shown of entries, in its order; where there is nothing it is waited for these seconds at most."""
+        try:
+            self.incoming.take(seconds)
+        except (OSError, ValueError) as error:
+            raise Ended(self.gone) from error
+        if self.incoming.has_ended and not self.incoming.aside:
+            raise Ended(self.gone)
+        came, self.incoming.aside = [*self.incoming.aside], deque()
+        return came
+
+    def _reply(self, line: str) -> List[str]:
+        reply = super()._reply(line)
+        if line.split() == [SETUP_WORD] and reply and not reply[0].startswith("bad "):
+            while not opens(reply[-1]):
+                more = super()._reply(line)
+                if not more:
+                    return []
+                reply += more
+        return reply
 
     def close(self) -> None:
         super().close()
         self.connection.close()
+
+
+def commands_of(view: str) -> int:
+    """How many commands a server had taken when it answered this to `view`, or more."""
+    kind, *numbers = view.split()
+    return int(numbers[0 if kind == VIEW else -1])
 
 
 class Result:

@@ -1,12 +1,11 @@
 """The dialogue: lines in, replies out, and the words for people between them."""
 from __future__ import annotations
 
-import cmd
 import difflib
 import os
 import re
 import sys
-from typing import IO, Any, Iterable, List, Sequence, Tuple
+from typing import IO, Iterable, List, Sequence, Tuple
 
 from . import changes, diffs, helps, logs, macros, scripts, views
 from .branches import Branch
@@ -15,7 +14,7 @@ from .charts.picture import draw
 from .charts.text import text as chart_text
 from .charts.windows import read_asked
 from .colours import Paint
-from .completion import candidates
+from .dialogue import Loop
 from .laboratory import Laboratory, Unknown, event_of
 from .language.commands import SETUP, STEP
 from .language.events import BROKEN, DELIVER, DROPPED, EVENTS, TICK
@@ -41,20 +40,17 @@ class Stopped(Exception):
     """A refused or faulty line, where the first one ends the shell."""
 
 
-class Shell(cmd.Cmd):
+class Shell(Loop):
     """A dialogue with a laboratory."""
 
     def __init__(self, lab: Laboratory, out: IO[str], paint: Paint, strict: bool = False, is_typed: bool = False):
-        super().__init__(stdout=out)
-        self.lab, self.out, self.paint = lab, out, paint
-        self.strict, self.is_typed = strict, is_typed
-        self.use_rawinput = is_typed
+        super().__init__(lab, out, paint, is_typed)
+        self.strict = strict
         self.lines: List[Tuple[str, Sequence[str]]] = []
         self.has_faults = False
         # The files that are being read, the newest last.
         self.reading: List[str] = []
         self.finder = Finder(self)
-        self.set_prompt()
 
     # ---- the loop
 
@@ -70,7 +66,8 @@ class Shell(cmd.Cmd):
     def onecmd(self, line: str) -> bool:
         """Takes one line: whether it ends the shell. What goes wrong with a question is told, and nothing has changed."""
         try:
-            return bool(super().onecmd(line))
+            with self.lab.one_moment():
+                return bool(super().onecmd(line))
         except (Stopped, Ended, BrokenPipeError):
             raise
         except SetupFault as fault:
@@ -83,30 +80,6 @@ class Shell(cmd.Cmd):
         except Exception as error:  # a fault of the shell's own must not cost the pair
             self.fault(f"the shell failed here, and the pair is as it was: {error!r}")
         return False
-
-    def postcmd(self, stop: bool, line: str) -> bool:
-        self.set_prompt()
-        return stop
-
-    def emptyline(self) -> bool:
-        return False
-
-    def set_prompt(self) -> None:
-        if not self.is_typed:
-            self.prompt = ""
-            return
-        where = "setup"
-        if self.lab.is_open:
-            where = self.lab.in_use
-            # (a server keeps every command that it was asked, so none is asked for a prompt)
-            if self.lab.port is None:
-                branch = self.lab.branch(where)
-                where = f"{where} {branch.cursor}/{len(branch.events)}"
-        self.prompt = f"{where}> "
-
-    def tell(self, lines: Sequence[str]) -> None:
-        for line in lines:
-            print(line, file=self.out, flush=self.is_typed)
 
     def fault(self, text: str) -> None:
         """Tells what could not be done; where faults stop the shell, this one does."""
@@ -282,12 +255,21 @@ class Shell(cmd.Cmd):
         self.tell([f"written: {path}"])
 
     def story(self) -> Story:
-        """What this dialogue tells of its branches; on a server they are not its own."""
+        """What happened to the branches, as far as it is known."""
         story = Story()
-        for line, reply in self.lines if self.lab.port is None else ():
+        for line, reply in self.lines_of_pair():
             if reply:
                 story.command(line, reply)
         return story
+
+    def lines_of_pair(self) -> Sequence[Tuple[str, Sequence[str]]]:
+        """The lines of the pair with their replies: those of this dialogue, or those of all sessions of a server that is followed."""
+        if self.lab.port is None:
+            return self.lines
+        shared = self.lab.shared
+        if shared:
+            shared.catch_up()
+        return shared.journal if shared and shared.has_mirror else ()
 
     # ---- the shell itself
 
@@ -305,6 +287,16 @@ class Shell(cmd.Cmd):
 
     def do_summary(self, words: str) -> None:
         self.tell([self.lab.summary()])
+
+    def do_notes(self, words: str) -> None:
+        if self.notes is None:
+            raise Unknown("notes are of what other sessions of a server do, in a dialogue with one that reports its journal")
+        said = words.strip()
+        if said not in ("", "on", "off"):
+            raise Unknown(f"usage: {helps.SHELL[helps.NOTES].form}")
+        if said:
+            self.notes.turn(said == "on")
+        self.tell([f"notes are {'on' if self.notes.is_on else 'off'}"])
 
     def do_verify(self, words: str) -> None:
         found = scripts.verified(self.lab.program, self.needed(words, "verify").split())
@@ -335,11 +327,12 @@ class Shell(cmd.Cmd):
         self.tell([f"written: {path}"])
 
     def script(self) -> str:
-        """The setup and the commands of this dialogue with their replies, as a script."""
-        if self.lab.port is not None:
-            raise Unknown("a script begins with the setup of its pair: on a server there is none to save")
+        """The setup and the commands of the pair with their replies, as a script."""
+        lines = self.lines_of_pair()
+        if self.lab.port is not None and not lines:
+            raise Unknown("a script begins with the setup of its pair, and has the commands of all sessions: this server does not report them")
         # (a faulty line is a slip of the dialogue, and no part of its script)
-        kept = ((line, reply) for line, reply in self.lines if not reply or not reply[0].startswith("bad "))
+        kept = ((line, reply) for line, reply in lines if not reply or not reply[0].startswith("bad "))
         return "".join(f"{text}\n" for line, reply in kept for text in (line, *(f"{scripts.REPLY}{part}" for part in reply)))
 
     def do_whatif(self, words: str) -> None:
@@ -378,27 +371,8 @@ class Shell(cmd.Cmd):
             self.tell([""])
         return True
 
-    def completenames(self, text: str, *ignored: object) -> List[str]:
-        return spaced(candidates(self.lab, (), text))
-
-    # (Any, since cmd.Cmd has it)
-    def completedefault(self, *words: Any) -> List[str]:
-        text, line, begun, _ = words
-        try:
-            return spaced(candidates(self.lab, line[:begun].split(), text))
-        except (Unknown, Ended, OSError):
-            return []
-
-    def complete_help(self, *words: Any) -> List[str]:
-        return self.completedefault(*words)
-
 
 def unknown_word(word: str) -> str:
     """That there is no such word, with the nearest one that there is."""
     near = difflib.get_close_matches(word, helps.WORDS, 1)
     return f"there is no word {word}" + (f"; did you mean `{near[0]}`?" if near else "; `help` lists them")
-
-
-def spaced(words: List[str]) -> List[str]:
-    """The words with the space that ends each, which readline leaves to the completer; a folder goes on."""
-    return [it if os.path.isdir(it) else f"{it} " for it in words]

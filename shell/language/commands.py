@@ -138,5 +138,8 @@ LOG = Line(
     "", ("log NAME events E cursor C",), ("NoBranch",), is_long=True, is_hidden=True,
 )
 COMMANDS = {it.word: it for it in (STEP, BACK, FORWARD, FORK, DROP, SHOW, PAST, WHY, FRAME, NAMES, EXCISE, RESTORE, LOG)}
+# Those that change the pair; the others look.
+CHANGING = tuple(it.word for it in (STEP, BACK, FORWARD, FORK, DROP, EXCISE, RESTORE))
+LOOKING = tuple(word for word in COMMANDS if word not in CHANGING)
 # Those that the shell takes as they are.
 TYPED = {word: it for word, it in COMMANDS.items() if not it.is_hidden}

@@ -2,7 +2,6 @@
 one line after another, and makes news of what changed."""
 from __future__ import annotations
 
-import time
 from concurrent.futures import Future, ThreadPoolExecutor, TimeoutError as TookTooLong
 from dataclasses import replace
 from typing import Callable, Dict, List, Sequence, Tuple, TypeVar
@@ -16,7 +15,6 @@ from ..programs import Ended
 from ..reasons.commands import explain_command, explain_done
 from ..reasons.faults import explain_fault
 from ..reasons.why import why_ahead
-from ..setups import Setup
 from .authors import Authors
 from .change import Data, Shown, change
 from .former import FormerRuns, Lost
@@ -28,7 +26,7 @@ from .runs import Run
 from .session import Branches
 from .typed import Typed
 
-# How often the server is asked whether something happened, and how long a browser waits for an answer, in seconds.
+# How often it is looked whether something happened, and how long a browser waits for an answer, in seconds.
 PERIOD = 0.25
 PATIENCE = 60.0
 OTHERS = "another session"
@@ -88,10 +86,10 @@ class Bridge:
         self._submitted(self._begin).result()
 
     def watch(self) -> None:
-        """Looks at what other sessions do, until the server ends."""
+        """Sees what other sessions do, until the server ends."""
         while True:
-            self._submitted(self._look).result()
-            time.sleep(PERIOD)
+            self._submitted(self._hear).result()
+            self._branches.wait(PERIOD)
 
     def do(self, typed: Typed) -> Data:
         """Gives the server a line: its reply, the reasons where there is something to say, and the version after it."""
@@ -143,12 +141,13 @@ class Bridge:
         own, its = self._records[name].laboratory.show(MAIN), self._branches.shown(name)
         return its is None or (own.nodes, own.frames) != (its.nodes, its.frames)
 
-    def _look(self) -> None:
-        self._branches.look()
+    def _hear(self) -> None:
+        self._branches.hear()
         self._publish(OTHERS, "", ())
 
     def _do(self, typed: Typed) -> Data:
-        self._look()
+        self._branches.look()
+        self._publish(OTHERS, "", ())
         newest, name = self._versions.get(typed.takes_from, 0), typed.takes_from
         if typed.version is not None and typed.version < newest:
             raise Overtaken(f"somebody was faster: {name} has changed since this page was told of it")

@@ -6,11 +6,12 @@ import signal
 import socket
 import threading
 from itertools import dropwhile
-from typing import ContextManager, Iterator, Optional, Sequence, TextIO, Tuple
+from typing import ContextManager, Iterator, Optional, Sequence, TextIO, Tuple, Union
 
 from ..laboratory import Unknown
-from ..language.commands import OPEN
+from ..language.commands import CHANGING, OPEN
 from ..language.lines import opens
+from ..mirror import Shared, joined as joined_to
 from ..programs import Client
 from ..setups import Setup
 from .bridge import Bridge
@@ -18,14 +19,14 @@ from .door import HERE, Door, make_room
 from .runs import Run, run_of
 from .server import started
 from .serving import Visit
-from .session import Branches
-from .typed import CHANGING
+from .session import branches_of
 
 # Without a script: a pair whose nodes let everything pass, and make states of it.
 OPENING = ("rule a pass any", "rule b pass any", OPEN.word)
 STOPPED = "the page is served no more: its bridge was stopped"
 # A session of a server, and the run that its page shows.
-Served = ContextManager[Tuple[Client, Run]]
+Pair = Tuple[Union[Client, Shared], Run]
+Served = ContextManager[Pair]
 # How long the end waits for those who watch to hear of it, in seconds.
 GRACE = 2.0
 
@@ -64,7 +65,7 @@ def live(program: str, port: int, pair: Served) -> Iterator[Door]:
         with at_port(port):
             door = ends.enter_context(Door(port, Visit))
         session, run = ends.enter_context(pair)
-        door.bridge = Bridge(program, run, Branches(session), door.tokens.watch)
+        door.bridge = Bridge(program, run, branches_of(session), door.tokens.watch)
         ends.callback(door.bridge.close)
         ends.callback(cut_off, session)
         door.bridge.begin()
@@ -74,12 +75,13 @@ def live(program: str, port: int, pair: Served) -> Iterator[Door]:
 
 
 @contextlib.contextmanager
-def begun(program: str, script: Sequence[str], name: str) -> Iterator[Tuple[Client, Run]]:
+def begun(program: str, script: Sequence[str], name: str) -> Iterator[Pair]:
     """A server for a script, after its lines, and the script as its page has it."""
     with contextlib.ExitStack() as ends:
         run = ends.enter_context(contextlib.closing(run_of(program, script, name)))
         server = ends.enter_context(contextlib.closing(started(program, run.setup.lines)))
-        session = ends.enter_context(contextlib.closing(Client(server.port)))
+        session = joined_to(ends.enter_context(contextlib.closing(Client(server.port))), program, run.setup).session
+        ends.enter_context(contextlib.closing(session))
         for line in dropwhile(lambda it: not opens(it), script):
             if line.split()[:1] and line.split()[0] in CHANGING:
                 session.ask(line)
@@ -87,16 +89,21 @@ def begun(program: str, script: Sequence[str], name: str) -> Iterator[Tuple[Clie
 
 
 @contextlib.contextmanager
-def joined(port: int, setup: Optional[Setup], out: TextIO) -> Iterator[Tuple[Client, Run]]:
+def joined(program: str, port: int, setup: Optional[Setup], out: TextIO) -> Iterator[Pair]:
     """A session of a server that runs already."""
-    if setup is None:
-        raise Unknown("a page of a server needs the setup that the server read: --setup FILE")
     with at_port(port):
-        session = Client(port)
-    with contextlib.closing(session):
+        client = Client(port)
+    with contextlib.ExitStack() as ends:
+        ends.enter_context(contextlib.closing(client))
         print("connected; the server answers once all its sessions are", file=out, flush=True)
-        session.wait()
-        yield session, Run(title=f"The server at port {port}", intro=[], setup=setup, records=[])
+        client.wait()
+        session, known, said = joined_to(client, program, setup)
+        ends.enter_context(contextlib.closing(session))
+        if said:
+            print(said, file=out, flush=True)
+        if known is None:
+            raise Unknown("this server does not report its setup, which a page needs: --setup FILE, the file that it read")
+        yield session, Run(title=f"The server at port {port}", intro=[], setup=known, records=[])
 
 
 @contextlib.contextmanager
@@ -108,7 +115,8 @@ def at_port(port: int) -> Iterator[None]:
         raise OSError(error.errno, error.strerror, f"{HERE}:{port}") from error
 
 
-def cut_off(session: Client) -> None:
+def cut_off(session: Union[Client, Shared]) -> None:
     """Has a session end that may wait for a reply."""
+    client = session.client if isinstance(session, Shared) else session
     with contextlib.suppress(OSError):
-        session.connection.shutdown(socket.SHUT_RDWR)
+        client.connection.shutdown(socket.SHUT_RDWR)

@@ -3,50 +3,42 @@ from __future__ import annotations
 
 import time
 from dataclasses import replace
-from typing import Dict, List, Optional, Sequence
+from typing import Dict, List, Optional, Sequence, Union
 
 from ..branches import Branch, read_log
 from ..language.commands import LOG, NAMES, SHOW, STEP
 from ..language.events import plain_event
+from ..mirror import Entry, Shared
 from ..pair import Pair, read_shown
-from ..programs import Client, Ended
+from ..programs import FULL, VIEW, Client, Ended, Session, commands_of
 
-# What a server that has taken all the commands that it can answers to each further one.
-FULL = "full"
 # How long to wait, at most, before branches are read anew whose numbers look the same.
 LONGEST_PAUSE = 30.0
 
 
 class Branches:
-    """The branches of a session's pair, followed by the replies to its own commands. Where other sessions may have changed
-    something, they are read anew: a `view` says so, which is no command and waits for nobody."""
+    """The branches, followed by the replies to this session's own commands, and read anew where other sessions have changed something."""
 
-    def __init__(self, session: Client):
+    def __init__(self, session: Session):
         self.session = session
         self.by_name: Dict[str, Branch] = {}
-        # The number of commands that the server took, as far as it is known here, and the other numbers of the newest view.
-        self._commands, self._numbers = 0, [""]
-        self._is_stale, self._pause, self._not_before = True, 0.0, 0.0
+        self._is_stale = True
 
     def look(self) -> None:
-        """Reads the branches anew where they may have changed. Others mostly ask questions where no number of the view but that of
-        the commands changes, and take a reading for a command in turn: so each that brings nothing makes the next wait longer."""
-        self._see()
-        if self._is_stale and time.monotonic() >= self._not_before:
-            before = dict(self.by_name)
-            self.read()
-            self._pause = min(LONGEST_PAUSE, 2 * self._pause + 0.5) if self.by_name == before else 0.0
-            self._not_before = time.monotonic() + self._pause
+        """Has the branches be as they are by now."""
+        raise NotImplementedError
+
+    def hear(self) -> None:
+        """Has the branches be as they are, as far as that is to be known without a question to a server that is followed."""
+        raise NotImplementedError
+
+    def wait(self, seconds: float) -> None:
+        """Waits until something may have happened, for these seconds at most."""
+        raise NotImplementedError
 
     def ask(self, line: str) -> List[str]:
         """The reply to a command that changes the pair, with the branches as they are after it."""
-        reply = self._ask(line)
-        self._see()
-        if self._is_stale:
-            self.read()
-        else:
-            self._follow(line.split(), reply[0].split())
-        return reply
+        raise NotImplementedError
 
     def shown(self, name: str) -> Optional[Pair]:
         """The pair that the server shows; none where the branch is gone."""
@@ -60,21 +52,11 @@ class Branches:
         # (one can be gone since)
         self.by_name = {it.name: it for it in map(read_log, (lines for lines in logs if lines[-1] == "end"))}
 
-    def _see(self) -> None:
-        """Looks whether other sessions gave commands, and whether something else than their number changed."""
-        kind, *numbers = self.session.ask("view")[0].split()
-        commands = int(numbers[-1 if kind == "overtaken" else 0])
-        if kind == "overtaken" or numbers[1:] != self._numbers:
-            self._not_before = 0.0
-        self._is_stale = self._is_stale or commands != self._commands
-        self._commands, self._numbers = commands, numbers[1:]
-
     def _ask(self, line: str) -> List[str]:
         """A command's reply."""
         reply = self.session.ask(line)
         if reply == [FULL]:
-            raise Ended(f"the server has taken {self._commands} commands, and takes no more")
-        self._commands += 1
+            raise Ended("the server has taken all the commands that it can, and takes no more")
         return reply
 
     def _follow(self, words: Sequence[str], reply: Sequence[str]) -> None:
@@ -91,3 +73,99 @@ class Branches:
             del self.by_name[it.name]
         elif reply[0] in ("excised", "restored"):
             self.by_name[it.name] = read_log(self._ask(f"{LOG.word} {it.name}"))
+
+
+class FollowedBranches(Branches):
+    """Those of a server that is followed, which sends each command, so that it is asked for a view only before a command of one's own;
+    they are read from the mirror."""
+
+    def __init__(self, session: Shared):
+        super().__init__(session)
+        self._shared = session
+        session.heard = self._hear
+
+    def look(self) -> None:
+        self._shared.level()
+        self._renew()
+
+    def hear(self) -> None:
+        self._shared.hear()
+        self._renew()
+
+    def wait(self, seconds: float) -> None:
+        self._shared.client.watch(seconds)
+
+    def ask(self, line: str) -> List[str]:
+        reply = self._ask(line)
+        if not self._shared.is_level:
+            self._shared.level()
+        if self._is_stale:
+            self.read()
+        else:
+            self._follow(line.split(), reply[0].split())
+        return reply
+
+    def read(self) -> None:
+        with self._shared.one_moment():
+            super().read()
+
+    def _hear(self, it: Entry, reply: Optional[List[str]]) -> None:
+        self._is_stale = True
+
+    def _renew(self) -> None:
+        if self._is_stale:
+            self.read()
+
+
+class PolledBranches(Branches):
+    """Those of a server that does not send its commands: a `view` says whether other sessions gave some, which is no command and waits
+    for nobody."""
+
+    def __init__(self, session: Client):
+        super().__init__(session)
+        # The number of commands that the server took, as far as it is known here, and the other numbers of the newest view.
+        self._commands, self._numbers = 0, [""]
+        self._pause, self._not_before = 0.0, 0.0
+
+    def look(self) -> None:
+        """Reads the branches anew where they may have changed. Others mostly ask questions where no number of the view but that of
+        the commands changes, and take a reading for a command in turn: so each that brings nothing makes the next wait longer."""
+        self._see()
+        if self._is_stale and time.monotonic() >= self._not_before:
+            before = dict(self.by_name)
+            self.read()
+            self._pause = min(LONGEST_PAUSE, 2 * self._pause + 0.5) if self.by_name == before else 0.0
+            self._not_before = time.monotonic() + self._pause
+
+    hear = look
+
+    def wait(self, seconds: float) -> None:
+        time.sleep(seconds)
+
+    def ask(self, line: str) -> List[str]:
+        reply = self._ask(line)
+        self._see()
+        if self._is_stale:
+            self.read()
+        else:
+            self._follow(line.split(), reply[0].split())
+        return reply
+
+    def _see(self) -> None:
+        """Looks whether other sessions gave commands, and whether something else than their number changed."""
+        view = self.session.ask(VIEW)[0]
+        commands, numbers = commands_of(view), view.split()[2:]
+        if not view.startswith(f"{VIEW} ") or numbers != self._numbers:
+            self._not_before = 0.0
+        self._is_stale = self._is_stale or commands != self._commands
+        self._commands, self._numbers = commands, numbers
+
+    def _ask(self, line: str) -> List[str]:
+        reply = super()._ask(line)
+        self._commands += 1
+        return reply
+
+
+def branches_of(session: Union[Client, Shared]) -> Branches:
+    """The branches of a session, by what its server tells."""
+    return FollowedBranches(session) if isinstance(session, Shared) else PolledBranches(session)

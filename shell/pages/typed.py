@@ -4,9 +4,8 @@ from __future__ import annotations
 import json
 from typing import NamedTuple, Optional
 
-from ..language.commands import BACK, DROP, EXCISE, FORK, FORWARD, RESTORE, STEP
+from ..language.commands import BACK, CHANGING, DROP, EXCISE, FORWARD, RESTORE
 
-CHANGING = tuple(it.word for it in (STEP, BACK, FORWARD, FORK, DROP, EXCISE, RESTORE))
 # Those that mean something else after another change of their branch.
 COUNTING = tuple(it.word for it in (BACK, FORWARD, DROP, EXCISE, RESTORE))
 LONGEST_LINE = 4096

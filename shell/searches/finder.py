@@ -63,7 +63,7 @@ class Finder:
 
     def search(self, line: str) -> None:
         """A search in people's words, or the program's own line."""
-        if self.lab.port is not None:
+        if not self.lab.searches:
             raise Unknown(ON_A_SERVER)
         if is_for_people(line):
             self._search(line)

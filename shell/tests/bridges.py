@@ -6,14 +6,15 @@ import http.client
 import json
 import socket
 import threading
+import time
 import unittest
-from typing import Any, Dict, NamedTuple, Union
+from typing import Any, Dict, List, NamedTuple, Union
 from unittest import mock
 
 from ..pages.bridge import Bridge
 from ..pages.door import Door
 from ..pages.live import OPENING, Served, begun, live, watch
-from ..programs import Ended
+from ..programs import Client, Ended
 from . import program
 
 PACKET = "step main packet a out udp 10.0.0.1:1000 192.0.2.9:53 40"
@@ -90,6 +91,20 @@ class Bridged(unittest.TestCase):
         it = Watcher(door, after)
         self.addCleanup(it.close)
         return it
+
+    def session(self, port: int) -> Client:
+        """A session of a server that a page uses too."""
+        it = Client(port)
+        self.addCleanup(it.close)
+        return it
+
+    def order(self, watcher: Watcher, wanted: List[str]) -> List[str]:
+        """The branches as the updates leave them, which are read until they are the wanted ones, or for some seconds."""
+        order: List[str] = []
+        end = time.monotonic() + PROMPT
+        while order != wanted and time.monotonic() < end:
+            order = watcher.update()["order"]
+        return order
 
     def step(self, door: Door, line: str, name: str = "Ann") -> Data:
         """The answer to a line that is sent."""

@@ -13,50 +13,33 @@ import tempfile
 import time
 import unittest
 import urllib.request
-from typing import Iterator, List
+from typing import ContextManager, Iterator
 from unittest import mock
 
 from . import TOP, program
-from .bridges import PACKET, PROMPT, Bridged, Data, Watcher
+from .bridges import PACKET, PROMPT, Bridged, Data
+from .servers import proved_server, standin_server
 from ..laboratory import Unknown
 from ..pages.door import Door
 from ..pages.live import OPENING, begun, joined, live, serve, watch
 from ..pages.runs import Run
-from ..pages.server import free_port
-from ..pages.session import Branches
-from ..programs import Client, Run as ProgramRun
+from ..pages.session import PolledBranches
+from ..programs import Run as ProgramRun
 from ..setups import Setup
 
 RULES = ["rule a pass any", "rule b pass any"]
 
 
-@contextlib.contextmanager
-def server(sessions: int) -> Iterator[int]:
-    """A server that others use too, by its port."""
-    port = free_port()
-    words = [program(), "serve", "--port", str(port), "--sessions", str(sessions)]
-    with subprocess.Popen(words, stdin=subprocess.PIPE, stdout=subprocess.PIPE, stderr=subprocess.DEVNULL, text=True) as its:
-        assert its.stdin and its.stdout
-        its.stdin.write("".join(f"{line}\n" for line in (*RULES, "open")))
-        its.stdin.close()
-        its.stdout.readline()
-        try:
-            yield port
-        finally:
-            its.kill()
-
-
 class Joined(Bridged):
-    def session(self, port: int) -> Client:
-        it = Client(port)
-        self.addCleanup(it.close)
-        return it
+    def server(self, sessions: int) -> ContextManager[int]:
+        """A server that others use too, by its port."""
+        return served_by_program(sessions)
 
     def joining(self, port: int, *rules: str) -> Door:
-        return self.served(joined(port, Setup.of(rules or RULES), io.StringIO()))
+        return self.served(joined(program(), port, Setup.of(rules or RULES), io.StringIO()))
 
     def test_what_another_session_steps_is_seen(self) -> None:
-        with server(2) as port:
+        with self.server(2) as port:
             shell = self.session(port)
             door = self.joining(port)
             watcher, begun = self.watcher(door), time.monotonic()
@@ -70,20 +53,12 @@ class Joined(Bridged):
             self.assertEqual(watcher.update()["who"], "Ann")
             shell.ask("fork main 1 other")
             shell.ask("drop main")
-            self.assertEqual(self.order(watcher), ["other"])
+            self.assertEqual(self.order(watcher, ["other"]), ["other"])
             self.assertEqual(self.step(door, "step main tick a 1")["reply"], ["refused 1 NoBranch"])
             self.ends.close()
 
-    def order(self, watcher: Watcher) -> List[str]:
-        """The branches as the updates of a few seconds leave them."""
-        order: List[str] = []
-        end = time.monotonic() + PROMPT
-        while order != ["other"] and time.monotonic() < end:
-            order = watcher.update()["order"]
-        return order
-
     def test_a_step_of_another_session_right_before_ours_is_seen(self) -> None:
-        with server(2) as port:
+        with self.server(2) as port:
             shell = self.session(port)
             door = self.joining(port)
             shell.ask("step main tick a 1")
@@ -93,8 +68,8 @@ class Joined(Bridged):
             self.ends.close()
 
     def test_the_branches_are_those_of_the_log_whatever_comes_between(self) -> None:
-        with server(2) as port:
-            shell, own = self.session(port), Branches(self.session(port))
+        with self.server(2) as port:
+            shell, own = self.session(port), PolledBranches(self.session(port))
             lines = ["step main tick a 1", "step  main tick a 007", PACKET, "back main 2", "forward main 1", "fork main 02 x"]
             lines += ["step main tick b 1", "step x packet a in tcp 10.0.0.1:1000 192.0.2.9:80 S 100 0 1000 0 07"]
             lines += ["excise main 1", "restore main", "excise x 1", "drop main"]
@@ -110,10 +85,10 @@ class Joined(Bridged):
             self.assertEqual([*own.by_name], ["x", "y"])
 
     def test_two_pages_of_a_server_do_not_keep_each_other_busy(self) -> None:
-        with server(3) as port, mock.patch("shell.pages.bridge.PERIOD", 0.01):
+        with self.server(3) as port, mock.patch("shell.pages.bridge.PERIOD", 0.01):
             shell = self.session(port)
             session = self.session(port)
-            own = Branches(session)
+            own = PolledBranches(session)
             door = self.joining(port)
             own.look()
             shell.ask(PACKET)
@@ -127,7 +102,7 @@ class Joined(Bridged):
             self.ends.close()
 
     def test_a_setup_that_is_not_the_servers_is_found(self) -> None:
-        with server(3) as port:
+        with self.server(3) as port:
             shell, own, again = (self.session(port) for _ in range(3))
             shell.ask(PACKET)
             run = Run("", [], Setup.of(["rule a block any"]), [])
@@ -138,15 +113,30 @@ class Joined(Bridged):
             with self.assertRaisesRegex(Unknown, refused):
                 serve(program(), 0, contextlib.nullcontext((again, run)), io.StringIO())
 
-    def test_a_setup_is_needed(self) -> None:
-        with self.assertRaises(Unknown):
-            serve(program(), 0, joined(1, None, io.StringIO()), io.StringIO())
+
+class JoinedOlder(Joined):
+    """The same at a server of an earlier release, which is polled."""
+
+    def server(self, sessions: int) -> ContextManager[int]:
+        return served_by_standin(sessions)
+
+
+@contextlib.contextmanager
+def served_by_program(sessions: int) -> Iterator[int]:
+    with proved_server(sessions) as its:
+        yield its.port
+
+
+@contextlib.contextmanager
+def served_by_standin(sessions: int) -> Iterator[int]:
+    with standin_server(sessions, knows=False) as its:
+        yield its.port
 
 
 class Ends(Bridged):
     def test_the_end_of_the_server_comes_to_all(self) -> None:
-        with server(1) as port:
-            door = self.served(joined(port, Setup.of(RULES), io.StringIO()))
+        with served_by_program(1) as port:
+            door = self.served(joined(program(), port, Setup.of(RULES), io.StringIO()))
             self.step(door, PACKET)
             watchers = [self.watcher(door, 1) for _ in range(5)]
         ended = {"ended": "the server has ended, or has ended this session"}

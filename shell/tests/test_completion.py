@@ -56,6 +56,8 @@ class Offered(unittest.TestCase):
         self.offers("chart main from 1 fr")
         self.offers("chart to ")
         self.offers("chart flow ", "1.1")
+        self.offers("notes o", "on", "off")
+        self.offers("notes on ")
 
 
 if __name__ == "__main__":

@@ -27,6 +27,7 @@ use Rattle.pfl_run.specs.declared.fault.LabFault.{LabFault}
 use Rattle.pfl_run.specs.declared.fault.LabFault.TheVariants as fault
 use Rattle.pfl_run.specs.Faults.{fault_status, fault_text, of_engine}
 use Rattle.pfl_run.specs.reader.Readers.{Releases}
+use Rattle.pfl_run.specs.script.Setups.{IsSetupText}
 use Rattle.pfl_run.specs.Runs.{IsSetupStop, IsTold, SetsUp}
 
 -- the port is listened on
@@ -83,28 +84,38 @@ pub record ServesAll {K : Type 0} (j : Which.Ghosts K) (first : Option EngineFau
   pub first_is : first ≡ first_fault (map (λ e. e.result) ended)
   pub count : entries ≡ length journal
 
--- a lab over the opening with these counts of its sessions, whose journal has at most 1000000 entries
-abbrev pub lab_over : Timeline → TableId → List TableId → Which.Ghosts Brand
-lab_over opening publisher tallies = record { publisher = publisher; tallies = tallies; opening = opening; limit = 1000000 }
+-- what a lab is opened over: a pair with its branches, and the lines that set it up
+pub record Base : Type 0 where
+  pub opening : Timeline
+  pub setup : List ℕ
 
--- there is a lab of n sessions over the opening that was served over connections and closed, with this first fault and this number of entries
-pub record Closes (opening : Timeline) (n : ℕ) (first : Option EngineFault) (entries : ℕ) : Type 0 where
+-- a lab over these with these counts of its sessions, whose journal has at most 1000000 entries
+abbrev pub lab_over : Base → TableId → List TableId → Which.Ghosts Brand
+lab_over base publisher tallies = record { publisher = publisher; tallies = tallies; opening = base.opening; setup = base.setup; limit = 1000000 }
+
+-- the lines of a reader set up the base, of which number is the last
+pub record SetsUpBase (old new : Option (List ℕ)) (number : ℕ) (base : Base) : Type 0 where
+  pub sets_up : SetsUp old new number base.opening
+  pub text : IsSetupText old new base.setup
+
+-- there is a lab of n sessions over the base that was served over connections and closed, with this first fault and this number of entries
+pub record Closes (base : Base) (n : ℕ) (first : Option EngineFault) (entries : ℕ) : Type 0 where
   pub publisher : TableId
   pub tallies : List TableId
   pub all : length tallies ≡ n
-  pub serves : ServesAll (lab_over opening publisher tallies) first entries
+  pub serves : ServesAll (lab_over base publisher tallies) first entries
 
 -- n sessions have ended, and that was told
-pub record ClosesTold (opening : Timeline) (n : ℕ) (first : Option EngineFault) (w v : Option (List ℕ)) : Type 0 where
+pub record ClosesTold (base : Base) (n : ℕ) (first : Option EngineFault) (w v : Option (List ℕ)) : Type 0 where
   pub entries : ℕ
-  pub closes : Closes opening n first entries
+  pub closes : Closes base n first entries
   pub written : Appends w v (closed_text entries)
 
 -- n sessions have ended, and only a part of that was told
-pub record ClosesPart (opening : Timeline) (n : ℕ) (w v : Option (List ℕ)) : Type 0 where
+pub record ClosesPart (base : Base) (n : ℕ) (w v : Option (List ℕ)) : Type 0 where
   pub first : Option EngineFault
   pub entries : ℕ
-  pub closes : Closes opening n first entries
+  pub closes : Closes base n first entries
   pub part : ℕ
   pub written : Appends w v (take part (closed_text entries))
 
@@ -114,17 +125,17 @@ of_serve serve.NoThread = fault.NoThread
 of_serve serve.NoMemory = fault.NoMemory
 
 -- why it was not told that n sessions have ended: they could not begin, or the writer failed
-abbrev pub IsCloseStop : LabFault → Timeline → ℕ → Option (List ℕ) → Option (List ℕ) → Type 0
-IsCloseStop fault.NoThread opening n w v = Keeps w v
-IsCloseStop fault.NoMemory opening n w v = Keeps w v
-IsCloseStop fault.Write opening n w v = ClosesPart opening n w v
-IsCloseStop _ opening n w v = ⊥
+abbrev pub IsCloseStop : LabFault → Base → ℕ → Option (List ℕ) → Option (List ℕ) → Type 0
+IsCloseStop fault.NoThread base n w v = Keeps w v
+IsCloseStop fault.NoMemory base n w v = Keeps w v
+IsCloseStop fault.Write base n w v = ClosesPart base n w v
+IsCloseStop _ base n w v = ⊥
 
--- a lab over the opening was served to its end: that the port is listened on, and then that the sessions have ended, was written
-pub record HostServesWhole (opening : Timeline) (port n : ℕ) (first : Option EngineFault) (w v : Option (List ℕ)) : Type 0 where
+-- a lab over the base was served to its end: that the port is listened on, and then that the sessions have ended, was written
+pub record HostServesWhole (base : Base) (port n : ℕ) (first : Option EngineFault) (w v : Option (List ℕ)) : Type 0 where
   pub mid : Option (List ℕ)
   pub listens : Appends w mid (listening_text port)
-  pub closes : ClosesTold opening n first mid v
+  pub closes : ClosesTold base n first mid v
 
 -- why no connections came: the port was not listened on, or that was told, whole or in part
 abbrev pub IsAwaitStop : LabFault → ℕ → Option (List ℕ) → Option (List ℕ) → Type 0
@@ -134,19 +145,19 @@ IsAwaitStop fault.Write port w v = (part : ℕ) × Appends w v (take part (liste
 IsAwaitStop _ port w v = ⊥
 
 -- the port was listened on and that was told, and then it stopped
-abbrev pub StopsListening : LabFault → Timeline → ℕ → ℕ → Option (List ℕ) → Option (List ℕ) → Type 0
-StopsListening why opening port n w v = (mid : Option (List ℕ)) × Appends w mid (listening_text port) × IsCloseStop why opening n mid v
+abbrev pub StopsListening : LabFault → Base → ℕ → ℕ → Option (List ℕ) → Option (List ℕ) → Type 0
+StopsListening why base port n w v = (mid : Option (List ℕ)) × Appends w mid (listening_text port) × IsCloseStop why base n mid v
 
--- why serving a lab over the opening stopped: there was no memory for it, no connections came, or it stopped behind them
-abbrev pub IsLabStop : LabFault → Timeline → ℕ → ℕ → Option (List ℕ) → Option (List ℕ) → Type 0
-IsLabStop why opening port n w v = ((why ≡ fault.NoMemory) × Keeps w v) ⊎ (IsAwaitStop why port w v ⊎ StopsListening why opening port n w v)
+-- why serving a lab over the base stopped: there was no memory for it, no connections came, or it stopped after that
+abbrev pub IsLabStop : LabFault → Base → ℕ → ℕ → Option (List ℕ) → Option (List ℕ) → Type 0
+IsLabStop why base port n w v = ((why ≡ fault.NoMemory) × Keeps w v) ⊎ (IsAwaitStop why port w v ⊎ StopsListening why base port n w v)
 
 -- a pair was set up by the first lines, and a lab over it was served to its end; the other lines are left
 pub record ServesToEnd (old new : Option (List ℕ)) (port n : ℕ) (w v : Option (List ℕ)) (first : Option EngineFault) : Type 0 where
   pub number : ℕ
-  pub opening : Timeline
-  pub sets_up : SetsUp old new number opening
-  pub whole : HostServesWhole opening port n first w v
+  pub base : Base
+  pub sets_up : SetsUpBase old new number base
+  pub whole : HostServesWhole base port n first w v
 
 -- the same of a device: the other lines are left in it, but for the bytes of one block at most, which it gave and no line took
 pub record ServesFromDevice (old new : Option (List ℕ)) (port n : ℕ) (w v : Option (List ℕ)) (first : Option EngineFault) : Type 0 where
@@ -158,11 +169,11 @@ pub record ServesFromDevice (old new : Option (List ℕ)) (port n : ℕ) (w v : 
 pub record StopsServing (fault : LabFault) (old : Option (List ℕ)) (port n : ℕ) (w v : Option (List ℕ)) : Type 0 where
   pub mid : Option (List ℕ)
   pub number : ℕ
-  pub opening : Timeline
-  pub sets_up : SetsUp old mid number opening
-  pub stop : IsLabStop fault opening port n w v
+  pub base : Base
+  pub sets_up : SetsUpBase old mid number base
+  pub stop : IsLabStop fault base port n w v
 
--- why serving stopped: no pair was set up, and nothing was written; or it stopped behind the setup
+-- why serving stopped: no pair was set up, and nothing was written; or it stopped after the setup
 abbrev pub IsServeStop : LabFault → Option (List ℕ) → ℕ → ℕ → Option (List ℕ) → Option (List ℕ) → Type 0
 IsServeStop fault old port n w v = (IsSetupStop fault old × Keeps w v) ⊎ StopsServing fault old port n w v
 

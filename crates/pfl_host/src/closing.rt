@@ -6,9 +6,10 @@ ghost use Rattle.pfl_host.specs.Servers.{fault_in, first_fault, first_of, of_ser
 
 use crate::doors::Doors;
 use crate::network::seats;
+use crate::server::Server;
 use pfl_base::{Input, Output};
 use pfl_run::{Ended, EngineFault, LabFault};
-use pfl_serve::{EndedSeat, Gate, Opened, ServeFault, Service, Which, serve_and_close};
+use pfl_serve::{Closing, EndedSeat, Gate, Opened, ServeFault, Service, Which};
 use std::alloc::Global;
 use std::net::TcpStream;
 use std::sync::Wait;
@@ -47,12 +48,12 @@ fn first_fault<I: Input + Drop, O: Output + Drop>(
     fault
 }
 
-/// The outcome of a service.
-fn outcome_of<I: Input + Drop, O: Output + Drop>(service: Service<Global, I, O>) -> Outcome
-    ensures entries { result.entries ≡ length service.closed.journal.items }
-    ensures fault { result.fault ≡ first_fault (map (λ e. e.result) service.ended.items) }
+/// The outcome of sessions that have been served.
+fn outcome_of<I: Input + Drop, O: Output + Drop>(closing: Closing<Global, I, O>) -> Outcome
+    ensures entries { result.entries ≡ length closing.closed.journal.items }
+    ensures fault { result.fault ≡ first_fault (map (λ e. e.result) closing.ended.items) }
 {
-    let Service { closed, ended } = service;
+    let Closing { closed, ended } = closing;
     Outcome {
         entries: closed.journal.len(),
         fault: first_fault(ended),
@@ -69,24 +70,29 @@ fn lab_fault(why: ServeFault) -> LabFault
     }
 }
 
-/// Serves a session over each stream, and closes the lab.
-pub(crate) fn serve_streams<J: Which + Send + Sync, G: Gate + Sync, R: Threads + Wait + Sync>(
-    rt: &R,
-    alloc: Global,
-    opened: Opened<Global>,
-    streams: &[TcpStream],
-    gate: &G,
-) -> Result<Outcome, LabFault>
-    requires tables { (opened.publisher ≡ J.publisher) × (opened.tallies ≡ J.tallies) }
-    requires opening { (opened.opening ≡ J.opening) × (opened.limit ≡ J.limit) }
-    requires all { length streams.now ≡ length J.tallies }
-    ensures serves { IfOk result (λ o. ServesAll J.Which o.fault o.entries) }
-    ensures fault { IfErr result (λ f. (f ≡ fault.NoThread) ⊎ (f ≡ fault.NoMemory)) }
-{
-    let (lab, passes) = opened.named::<J>();
-    let seats = seats(alloc, passes, streams)?;
-    match serve_and_close(rt, alloc, lab, seats, &Doors::new(gate, streams)) {
-        Ok(service) => Ok(outcome_of(service)),
-        Err(why) => Err(lab_fault(why)),
+impl<G: Gate + Sync, R: Threads + Wait + Sync> Server<'_, G, R> {
+    /// Serves a session over each stream, and closes the lab.
+    pub(crate) fn serve_streams<J: Which + Send + Sync>(
+        &self,
+        opened: Opened<Global>,
+        streams: &[TcpStream],
+    ) -> Result<Outcome, LabFault>
+        requires tables { (opened.publisher ≡ J.publisher) × (opened.tallies ≡ J.tallies) }
+        requires opening { (opened.opening ≡ J.opening) × (opened.setup ≡ J.setup) × (opened.limit ≡ J.limit) }
+        requires all { length streams.now ≡ length J.tallies }
+        ensures serves { IfOk result (λ o. ServesAll J.Which o.fault o.entries) }
+        ensures fault { IfErr result (λ f. (f ≡ fault.NoThread) ⊎ (f ≡ fault.NoMemory)) }
+    {
+        let (lab, passes) = opened.named::<J>();
+        let seats = seats(self.alloc, passes, streams)?;
+        let service = Service {
+            rt: self.rt,
+            alloc: self.alloc,
+            gate: &Doors::new(self.gate, streams),
+        };
+        match service.serve_and_close(lab, seats) {
+            Ok(closing) => Ok(outcome_of(closing)),
+            Err(why) => Err(lab_fault(why)),
+        }
     }
 }

@@ -11,5 +11,5 @@ mod server;
 
 pub use pfl_run::{LabFault, tell};
 pub use pfl_serve::{Gate, Open};
-pub use program::obey;
-pub use server::serve_lab;
+pub use program::Program;
+pub use server::Server;

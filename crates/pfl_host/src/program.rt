@@ -4,7 +4,7 @@ ghost use Rattle.std.specs.Prelude.{map};
 ghost use Rattle.pfl_host.specs.Obeys.{seen, seen_reader, Obeys};
 
 use crate::report::tell_words;
-use crate::server::serve_lab;
+use crate::server::Server;
 use pfl_base::{Input, Output};
 use pfl_run::{Mode, check_lab, mode_of, run_lab};
 use pfl_serve::Gate;
@@ -14,36 +14,46 @@ use std::net::{Net, TcpListener, TcpStream};
 use std::sync::Wait;
 use std::thread::Threads;
 
-/// Does what the words ask for, of which the first is the program's name, and answers the exit status: it runs or checks the
-/// lines of the reader, or serves sessions over the pair that they set up, whose calls go through the gate; or it tells why the
-/// words ask for none of these.
-pub fn obey<
-    'a,
-    S: AsStr,
-    R: Net<Listener = TcpListener, Stream = TcpStream> + Threads + Wait + Sync,
-    I: Input,
-    O: Output,
-    F: Output,
+/// What the program runs with: the runtime, the allocator, and the gate that the calls of sessions go through.
+#[derive(Drop)]
+pub struct Program<'a, G: Gate, R> {
+    pub rt: &'a R,
+    pub alloc: Global,
+    pub gate: &'a G,
+}
+
+impl<
     G: Gate + Sync,
->(
-    rt: &R,
-    alloc: Global,
-    words: &'a [S],
-    reader: &mut I,
-    writer: &mut O,
-    faults: &mut F,
-    gate: &G,
-) -> u8
-    ensures { Obeys (map S.text words.now) (seen_reader I.left I.reads I.has_failed reader.old reader.new)
-        (seen O.written O.has_failed writer.old writer.new)
-        (seen F.written F.has_failed faults.old faults.new) result }
-{
-    match mode_of(alloc, words) {
-        Ok(Mode::Run) => run_lab(alloc, reader, writer, faults),
-        Ok(Mode::Check) => check_lab(alloc, reader, writer, faults),
-        Ok(Mode::Serve { port, sessions }) => {
-            serve_lab(rt, alloc, reader, writer, faults, port, sessions, gate)
+    R: Net<Listener = TcpListener, Stream = TcpStream> + Threads + Wait + Sync,
+> Program<'_, G, R> {
+    /// Does what the words ask for, of which the first is the program's name, and gives the exit status: it runs or checks the lines
+    /// of the reader, or serves sessions over the pair that they set up; or it reports why the words ask for none of these.
+    pub fn obey<S: AsStr, I: Input, O: Output, F: Output>(
+        &self,
+        words: &[S],
+        reader: &mut I,
+        writer: &mut O,
+        faults: &mut F,
+    ) -> u8
+        ensures { Obeys (map S.text words.now) (seen_reader I.left I.reads I.has_failed reader.old reader.new)
+            (seen O.written O.has_failed writer.old writer.new)
+            (seen F.written F.has_failed faults.old faults.new) result }
+    {
+        let Program { rt, alloc, gate } = self;
+        match mode_of(*alloc, words) {
+            Ok(Mode::Run) => run_lab(*alloc, reader, writer, faults),
+            Ok(Mode::Check) => check_lab(*alloc, reader, writer, faults),
+            Ok(Mode::Serve { port, sessions }) => {
+                let server = Server {
+                    rt: *rt,
+                    alloc: *alloc,
+                    gate: *gate,
+                    port,
+                    sessions,
+                };
+                server.serve_lab(reader, writer, faults)
+            }
+            Err(fault) => tell_words(*alloc, &fault, writer, faults),
         }
-        Err(fault) => tell_words(alloc, &fault, writer, faults),
     }
 }

@@ -5,7 +5,7 @@
 ghost use Rattle.std.specs.Prelude.{◌≡◌};
 
 use pfl_base::Std;
-use pfl_host::{LabFault, Open, obey, tell};
+use pfl_host::{LabFault, Open, Program, tell};
 use std::env;
 use std::io::{self, ErrorKind};
 use std::process::ExitCode;
@@ -26,15 +26,17 @@ fn tell_no_memory(rt: &HostRuntime) -> u8
 }
 
 fn main(rt: HostRuntime) -> ExitCode {
+    let program = Program {
+        rt: &rt,
+        alloc: rt.alloc(),
+        gate: &Open,
+    };
     ExitCode::from(match words_of(&rt) {
-        Ok(words) => obey(
-            &rt,
-            rt.alloc(),
+        Ok(words) => program.obey(
             words.as_slice(),
             &mut Std::new(rt.stdin()),
             &mut Std::new(rt.stdout()),
             &mut Std::new(rt.stderr()),
-            &Open,
         ),
         Err(error) if error.kind() == ErrorKind::OutOfMemory => tell_no_memory(&rt),
         Err(error) => match eprintln!(rt; "pfl_lab: words: {error}") {

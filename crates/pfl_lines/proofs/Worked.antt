@@ -1,5 +1,7 @@
--- Worked cases of searches, and of commands that ask for an earlier pair, why of an event, or for a frame, computed.
-use Rattle.std.specs.Prelude.{◌≡◌, ℕ, zero, suc, List, [], ◌∷◌, ◌++◌, replicate, Ok, Err, None, refl, codes}
+-- Worked cases, computed: searches, commands that ask for an earlier pair, why of an event, or for a frame, the lines of commands, and
+-- what sessions say.
+use Rattle.std.specs.Fmt.{decimal}
+use Rattle.std.specs.Prelude.{◌≡◌, ℕ, zero, suc, List, [], ◌∷◌, ◌++◌, replicate, Ok, Err, Some, None, refl, codes}
 use Rattle.pfl_base.specs.declared.addr.Addr.TheVariants.{V4}
 use Rattle.pfl_base.specs.declared.direction.Dir.TheVariants.{Inbound}
 use Rattle.pfl_base.specs.declared.node_id.NodeId.TheVariants.{A, B}
@@ -21,11 +23,14 @@ use Rattle.pfl_language.specs.declared.node_event.NodeEvent.TheVariants as own
 use Rattle.pfl_lines.specs.declared.fault.LineFault.TheVariants.{Unknown, Missing, Number, Extra, Packet}
 use Rattle.pfl_lines.specs.declared.search.ScriptLine.{ScriptLine}
 use Rattle.pfl_lines.specs.declared.search.ScriptLine.TheVariants as script
+use Rattle.pfl_lines.specs.declared.session.SessionLine.TheVariants as session
 use Rattle.pfl_lines.specs.Addresses.{end_of, v4_end, v4_of}
 use Rattle.pfl_lines.specs.Commands.{event_at, flush_at, packet_at, bare_frame_event_at, command_of, command_at, past_at, why_event_at, why_place_at, why_at, frame_at, step_at, whole_step, whole_why, parsed}
 use Rattle.pfl_lines.specs.Numbers.{number_of}
 use Rattle.pfl_lines.specs.Packets.{fields_at, plain_at}
 use Rattle.pfl_lines.specs.Search.{parsed_script, script_of, search_of, choices_of, each_choice, choice_of, move_of, move_at, given_at, any_frame_at, any_cut_at, goal_of, goal_at, question_at, passed_at, unpassed_at, judged_at}
+use Rattle.pfl_lines.specs.Written.{command_text, event_text}
+use Rattle.pfl_lines.specs.Session.{follow_after, session_of, parsed_session}
 
 -- what events and commands need to compute on literals
 unfoldable of_commands : ℕ
@@ -243,3 +248,88 @@ frame_no_ticket = refl
 frame_left_over : parsed (codes "frame main 7 8") ≡ Err Extra
 unfolding computing parsed
 frame_left_over = refl
+
+-- ---- the lines of commands
+
+abbrev aside : List ℕ
+aside = codes "aside-2"
+
+back_line : (n : ℕ) → command_text (command.Back main_name n) ≡ codes "back main " ++ decimal n
+back_line n = refl
+
+fork_line : (k : ℕ) → command_text (command.Fork main_name k aside) ≡ codes "fork main " ++ decimal k ++ codes " " ++ codes "aside-2"
+fork_line k = refl
+
+drop_line : command_text (command.Drop aside) ≡ codes "drop aside-2"
+drop_line = refl
+
+why_line : (k : ℕ) → command_text (command.Why main_name k) ≡ codes "why main " ++ decimal k
+why_line k = refl
+
+why_event_line : command_text (command.WhyStep main_name (event.Flush A)) ≡ codes "why main flush a"
+unfolding event_text
+why_event_line = refl
+
+names_line : command_text command.Names ≡ codes "names"
+names_line = refl
+
+-- ---- what sessions say beside commands
+
+-- what lines of sessions need
+unfoldable of_sessions : ℕ
+unfolding of_commands follow_after session_of parsed_session
+of_sessions = 0
+
+viewed : parsed_session (codes "view") ≡ Ok session.View
+unfolding of_sessions
+viewed = refl
+
+set_up : parsed_session (codes "  setup ") ≡ Ok session.Setup
+unfolding of_sessions
+set_up = refl
+
+setup_left_over : parsed_session (codes "setup x") ≡ Err Extra
+unfolding of_sessions
+setup_left_over = refl
+
+followed : parsed_session (codes "follow") ≡ Ok (session.Follow None)
+unfolding of_sessions
+followed = refl
+
+followed_from_the_first : parsed_session (codes "follow 0") ≡ Ok (session.Follow (Some 0))
+unfolding of_sessions
+followed_from_the_first = refl
+
+followed_greatest : parsed_session (codes "follow 4294967295") ≡ Ok (session.Follow (Some 4294967295))
+unfolding of_sessions
+followed_greatest = refl
+
+follow_too_great : parsed_session (codes "follow 4294967296") ≡ Err Number
+unfolding of_sessions
+follow_too_great = refl
+
+follow_no_number : parsed_session (codes "follow x") ≡ Err Number
+unfolding of_sessions
+follow_no_number = refl
+
+follow_left_over : parsed_session (codes "follow 1 2") ≡ Err Extra
+unfolding of_sessions
+follow_left_over = refl
+
+-- the word of a fault that comes first is the first from the left
+follow_no_number_left_over : parsed_session (codes "follow x 2") ≡ Err Number
+unfolding of_sessions
+follow_no_number_left_over = refl
+
+asked : parsed_session (codes "step main flush a") ≡ Ok (session.Ask (command.Step main_name (event.Flush A)))
+unfolding of_sessions
+asked = refl
+
+-- a script knows neither word
+setup_in_a_script : parsed_script (codes "setup") ≡ Err Unknown
+unfolding computing
+setup_in_a_script = refl
+
+follow_in_a_script : parsed_script (codes "follow") ≡ Err Unknown
+unfolding computing
+follow_in_a_script = refl

@@ -14,9 +14,9 @@ use Rattle.pfl_lines.specs.declared.fault.LineFault.{LineFault}
 use Rattle.pfl_lines.specs.Addresses.{v4_of, hex_digit, hex_at, group_at, pair_at, quad_at, v6_at, v4_end, v6_end, end_of}
 use Rattle.pfl_lines.specs.Numbers.{is_digit, number_of, cut_at}
 use Rattle.pfl_lines.specs.Readings.{◌>>=◌}
-use Rattle.pfl_lines.specs.Laws.{IsAddr, IsEnd}
+use Rattle.pfl_lines.specs.Laws.{IsAddr, IsEnd, is_mark}
 use Rattle.pfl_lines.proofs.WrittenNumbers.{is_read, reads_by, holds_below, and-first, and-second, and-both, all_weaker, all_digits, number-reads, lacks, cut-reads, number_lacks, digit_is_above}
-use Rattle.pfl_lines.proofs.WrittenWords.{is_mark, IsPlain}
+use Rattle.pfl_lines.proofs.WrittenWords.{IsPlain}
 
 not-true : (b : Bool) → not b ≡ true → b ≡ false
 not-true true e = cc

@@ -21,12 +21,12 @@ use Rattle.pfl_language.specs.declared.event.FrameEvent.TheVariants as frame
 use Rattle.pfl_lines.specs.declared.draft.EventDraft.{EventDraft}
 use Rattle.pfl_lines.specs.declared.draft.EventDraft.TheVariants as event_draft
 use Rattle.pfl_lines.specs.Commands.{packet_at, tick_at, kill_at, bare_node_event_at, flush_at, restart_at, cut_event_at, bare_frame_event_at, event_at, whole_event, packet_unless}
-use Rattle.pfl_lines.specs.Laws.{IsTyped, IsStateName, IsTypedEvent}
+use Rattle.pfl_lines.specs.Laws.{IsTyped, IsStateName, IsTypedEvent, is_mark}
 use Rattle.pfl_lines.specs.Numbers.{number_of, cut_at}
 use Rattle.pfl_lines.specs.Parts.{node_at, dir_at, name_of}
 use Rattle.pfl_lines.specs.Written.{fields_words, event_words}
 use Rattle.pfl_lines.proofs.WrittenNumbers.{and-both, number-reads, cut-reads, number_lacks}
-use Rattle.pfl_lines.proofs.WrittenWords.{is_mark, IsPlain, ArePlain}
+use Rattle.pfl_lines.proofs.WrittenWords.{IsPlain, ArePlain}
 use Rattle.pfl_lines.proofs.WrittenAddresses.{number-plain}
 use Rattle.pfl_lines.proofs.WrittenPackets.{plain-is, fields-read, fields-plain, fields_bounds}
 
@@ -92,7 +92,7 @@ packet_reads : (node : NodeId) (dir : Dir) (p : PacketFields) → IsTyped p → 
 unfolding packet_at
 packet_reads node dir p is = rw (node-reads node (dir_text dir ∷ fields_words p), dir-reads dir (fields_words p), fields-read p is) refl
 
-number : (n : ℕ) → n ≤ greatest → number_of greatest (decimal n) ≡ Ok n
+pub number : (n : ℕ) → n ≤ greatest → number_of greatest (decimal n) ≡ Ok n
 number n small = number-reads greatest n small (omega arith)
 
 pub event-reads : (e : Event) → IsTypedEvent e → event_at (event_words e) ≡ Ok (draft_of e, [])
@@ -138,7 +138,7 @@ dir-plain : (dir : Dir) → IsPlain 3 (dir_text dir)
 dir-plain Inbound = plain-is 3 (codes "in") refl
 dir-plain Outbound = plain-is 3 (codes "out") refl
 
-number_plain : (n : ℕ) → n ≤ greatest → IsPlain 10 (decimal n)
+pub number_plain : (n : ℕ) → n ≤ greatest → IsPlain 10 (decimal n)
 number_plain n small = number-plain 10 n (omega arith) (omega arith) (omega arith)
 
 long_plain : (n : ℕ) → n < 2 ^ 64 → IsPlain 20 (decimal n)

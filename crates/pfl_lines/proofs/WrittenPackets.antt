@@ -15,13 +15,13 @@ use Rattle.pfl_base.specs.Packets.{is_tcp, has_tcp_part}
 use Rattle.pfl_base.specs.Texts.{proto_text}
 use Rattle.pfl_base.specs.Words.{proto_at_word}
 use Rattle.pfl_lines.specs.declared.draft.Segment.{Segment}
-use Rattle.pfl_lines.specs.Laws.{IsTyped}
+use Rattle.pfl_lines.specs.Laws.{IsTyped, is_plain}
 use Rattle.pfl_lines.specs.Numbers.{is_digit}
 use Rattle.pfl_lines.specs.Parts.{proto_of, numbered_proto, flags_at_word, letters_of}
 use Rattle.pfl_lines.specs.Packets.{plain_at, last_scale, scale_at, tcp_at, segment_at, fields_at}
 use Rattle.pfl_lines.specs.Written.{flags_text, scale_words, segment_words, fields_words}
 use Rattle.pfl_lines.proofs.WrittenNumbers.{and-first, and-second, all_digits, number-reads, is_read, reads_by, holds_below}
-use Rattle.pfl_lines.proofs.WrittenWords.{is_mark, IsPlain, ArePlain}
+use Rattle.pfl_lines.proofs.WrittenWords.{IsPlain, ArePlain}
 use Rattle.pfl_lines.proofs.WrittenAddresses.{end-reads, end-plain, number-plain}
 
 -- ---- flags
@@ -29,10 +29,6 @@ use Rattle.pfl_lines.proofs.WrittenAddresses.{end-reads, end-plain, number-plain
 pub flags-read : (flags : ℕ) → flags < 64 → flags_at_word (flags_text flags) ≡ Ok flags
 unfolding flags_text letters_of
 flags-read flags h = reads_by (flags_at_word (flags_text flags)) flags (holds_below (λ k. is_read (flags_at_word (flags_text k)) k) 64 flags h refl)
-
--- a word is one of at most so many bytes
-abbrev pub is_plain : ℕ → List ℕ → Bool
-is_plain most word = (nat_le 1 (length word) && nat_le (length word) most) && list_all is_mark word
 
 pub plain-is : (most : ℕ) (word : List ℕ) → is_plain most word ≡ true → IsPlain most word
 plain-is most word is =

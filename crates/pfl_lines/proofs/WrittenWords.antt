@@ -1,17 +1,14 @@
 -- Words that are joined by one space are the words of that line.
-use Rattle.std.proofs.Common.{◌≡◌, ℕ, ◌+◌, ◌<◌, ◌≤◌, Bool, true, false, ◌&&◌, List, [], ◌∷◌, ◌++◌, length, refl, ◌∙◌, ap, arith, le-leb, leb-true, ne_eqb, le-ltb, length-append}
+use Rattle.std.proofs.Common.{◌≡◌, ℕ, ◌+◌, ◌<◌, ◌≤◌, true, false, List, [], ◌∷◌, ◌++◌, length, refl, ◌∙◌, ap, arith, le-leb, leb-true, ne_eqb, le-ltb, length-append}
 use Rattle.std.specs.Prelude.{⊤, Ok, Err, nat_le, not, ◌==◌, ◌||◌, if◌then◌else◌}
 use Rattle.std.specs.List.{list_all, join_with_byte}
 use Rattle.std.proofs.lemmas.List.Folds.{list_all-append}
 use Rattle.std.proofs.Math.Bool.{or-true}
 use Rattle.pfl_lines.specs.declared.fault.LineFault.TheVariants.{Long, NotAscii}
 use Rattle.pfl_lines.specs.Commands.{is_text, checked}
+use Rattle.pfl_lines.specs.Laws.{is_mark}
 use Rattle.pfl_lines.specs.Words.{words, is_blank, with_first}
 use Rattle.pfl_lines.proofs.WrittenNumbers.{and-first, and-second, and-both, all_weaker}
-
--- a byte that prints and is no space
-abbrev pub is_mark : ℕ → Bool
-is_mark b = nat_le 33 b && nat_le b 126
 
 -- a word of at most so many bytes
 pub record IsPlain (most : ℕ) (word : List ℕ) : Type 0 where

@@ -1,5 +1,6 @@
 -- Laws of lines, in their own words (this project's profile).
-use Rattle.std.specs.Prelude.{⊤, ◌≡◌, ◌<◌, ◌≤◌, ◌^◌, ℕ, List, IsTrue, Ok, Err}
+use Rattle.std.specs.Prelude.{⊤, ◌≡◌, ◌<◌, ◌≤◌, ◌^◌, ◌&&◌, nat_le, ℕ, Bool, List, length, IsTrue, Ok, Err}
+use Rattle.std.specs.List.{list_all}
 use Rattle.pfl_base.specs.declared.addr.Addr.{Addr}
 use Rattle.pfl_base.specs.declared.addr.Addr.TheVariants.{V4, V6}
 use Rattle.pfl_base.specs.declared.addr.End.{End}
@@ -14,13 +15,14 @@ use Rattle.pfl_language.specs.declared.node_event.NodeEvent.TheVariants as own
 use Rattle.pfl_language.specs.declared.event.Event.TheVariants as events
 use Rattle.pfl_language.specs.declared.event.FrameEvent.{FrameEvent}
 use Rattle.pfl_language.specs.declared.event.FrameEvent.TheVariants as frame
+use Rattle.pfl_language.specs.declared.command.Command.{Command}
 use Rattle.pfl_language.specs.declared.command.Command.TheVariants as commands
 use Rattle.pfl_language.specs.BranchWords.{is_branch_name}
 use Rattle.pfl_lines.specs.declared.fault.LineFault.TheVariants.{Number}
 use Rattle.pfl_lines.specs.Commands.{parsed}
 use Rattle.pfl_lines.specs.EventWords.{is_event_word}
 use Rattle.pfl_lines.specs.Numbers.{number_of}
-use Rattle.pfl_lines.specs.Written.{step_text, why_text}
+use Rattle.pfl_lines.specs.Written.{command_text, step_text, why_text}
 
 -- ---- which events there are: each number is one of its type's, and a packet is one
 
@@ -68,7 +70,46 @@ IsTypedEvent (events.At node e) = IsTypedNodeEvent e
 IsTypedEvent (events.Of ticket e) = (ticket ≤ greatest) × IsTypedFrameEvent e
 IsTypedEvent _ = ⊤
 
+-- ---- which commands a line may say: with any words for branches, names of branches among them
+
+-- a byte that prints and is no space
+abbrev pub is_mark : ℕ → Bool
+is_mark b = nat_le 33 b && nat_le b 126
+
+-- a word of at most `most` bytes
+abbrev pub is_plain : ℕ → List ℕ → Bool
+is_plain most word = (nat_le 1 (length word) && nat_le (length word) most) && list_all is_mark word
+
+-- a word that a line may have for a branch
+abbrev pub IsBranchWord : List ℕ → Type 0
+IsBranchWord word = IsTrue (is_plain 32 word)
+
+-- a command
+abbrev pub IsTypedCommand : Command → Type 0
+IsTypedCommand (commands.Step name e) = IsBranchWord name × IsTypedEvent e
+IsTypedCommand (commands.Back name n) = IsBranchWord name × (n ≤ greatest)
+IsTypedCommand (commands.Forward name n) = IsBranchWord name × (n ≤ greatest)
+IsTypedCommand (commands.Fork from place name) = IsBranchWord from × (place ≤ greatest) × IsBranchWord name
+IsTypedCommand (commands.Drop name) = IsBranchWord name
+IsTypedCommand (commands.Show name) = IsBranchWord name
+IsTypedCommand (commands.Past name place) = IsBranchWord name × (place ≤ greatest)
+IsTypedCommand (commands.Why name place) = IsBranchWord name × (place ≤ greatest)
+IsTypedCommand (commands.WhyStep name e) = IsBranchWord name × IsTypedEvent e
+IsTypedCommand (commands.Frame name ticket) = IsBranchWord name × (ticket ≤ greatest)
+IsTypedCommand commands.Names = ⊤
+IsTypedCommand (commands.Excise name place) = IsBranchWord name × (place ≤ greatest)
+IsTypedCommand (commands.Restore name) = IsBranchWord name
+IsTypedCommand (commands.Log name) = IsBranchWord name
+
 -- ---- laws
+
+-- the line of a command is read as that command
+abbrev pub CommandsReadBack : Type 0
+CommandsReadBack = (c : Command) → IsTypedCommand c → parsed (command_text c) ≡ Ok c
+
+-- a branch's name is such a word
+abbrev pub NamesAreWords : Type 0
+NamesAreWords = (name : List ℕ) → IsTrue (is_branch_name name) → IsBranchWord name
 
 -- the line that steps an event is read as that command
 abbrev pub StepsReadBack : Type 0

@@ -1,4 +1,4 @@
--- How an event is written, word by word: in the form of its line, with numbers in plain decimal and one space between two words
+-- How events and commands are written: in the form of their lines, with numbers in plain decimal and one space between two words
 -- (this project's profile).
 use Rattle.std.specs.Prelude.{ℕ, List, [], ◌∷◌, ◌++◌, codes, Option, Some, None, ◌==◌, if◌then◌else◌}
 use Rattle.std.specs.Fmt.{decimal}
@@ -15,6 +15,8 @@ use Rattle.pfl_language.specs.declared.node_event.NodeEvent.TheVariants as own
 use Rattle.pfl_language.specs.declared.event.Event.TheVariants as events
 use Rattle.pfl_language.specs.declared.event.FrameEvent.{FrameEvent}
 use Rattle.pfl_language.specs.declared.event.FrameEvent.TheVariants as frame
+use Rattle.pfl_language.specs.declared.command.Command.{Command}
+use Rattle.pfl_language.specs.declared.command.Command.TheVariants as commands
 use Rattle.pfl_lines.specs.EventWords.{frame_event_word, node_event_word}
 use Rattle.pfl_lines.specs.Parts.{flag_letters}
 
@@ -81,3 +83,28 @@ step_text name e = codes "step " ++ name ++ codes " " ++ event_text e
 -- the command that asks what would come of an event on a branch, and why
 abbrev pub why_text : List ℕ → Event → List ℕ
 why_text name e = codes "why " ++ name ++ codes " " ++ event_text e
+
+-- a command's word and a branch
+abbrev pub on_branch : List ℕ → List ℕ → List ℕ
+on_branch word name = word ++ codes " " ++ name
+
+-- a command's word, a branch and a number
+abbrev pub on_branch_with : List ℕ → List ℕ → ℕ → List ℕ
+on_branch_with word name n = on_branch word name ++ codes " " ++ decimal n
+
+-- a command
+abbrev pub command_text : Command → List ℕ
+command_text (commands.Step name e) = step_text name e
+command_text (commands.Back name n) = on_branch_with (codes "back") name n
+command_text (commands.Forward name n) = on_branch_with (codes "forward") name n
+command_text (commands.Fork from place name) = on_branch_with (codes "fork") from place ++ codes " " ++ name
+command_text (commands.Drop name) = on_branch (codes "drop") name
+command_text (commands.Show name) = on_branch (codes "show") name
+command_text (commands.Past name place) = on_branch_with (codes "past") name place
+command_text (commands.Why name place) = on_branch_with (codes "why") name place
+command_text (commands.WhyStep name e) = why_text name e
+command_text (commands.Frame name ticket) = on_branch_with (codes "frame") name ticket
+command_text commands.Names = codes "names"
+command_text (commands.Excise name place) = on_branch_with (codes "excise") name place
+command_text (commands.Restore name) = on_branch (codes "restore") name
+command_text (commands.Log name) = on_branch (codes "log") name

@@ -19,7 +19,7 @@ mod written;
 
 pub use commands::{LONGEST, parse_line};
 pub use fault::LineFault;
-pub use laws::{steps_read_back, whys_read_back};
+pub use laws::{commands_read_back, steps_read_back, whys_read_back};
 pub use search::{ScriptLine, SearchLine, is_search, parse_plain, parse_script};
 pub use session::{SessionLine, parse_session};
 pub use setup::{SetupLine, parse_setup};

@@ -138,11 +138,11 @@ impl<R: Input> Feed<R> {
         }
     }
 
-    /// No byte that was read waits to be taken.
-    fn is_drained(&self) -> bool
-        ensures { IsTrue result ↔ (self.now.waiting ≡ 0) }
+    /// Whether a byte that was read waits to be taken.
+    pub(crate) fn waits(&self) -> bool
+        ensures { IsTrue result ↔ (0 < self.now.waiting) }
     {
-        self.start == self.end
+        self.start < self.end
     }
 
     /// Takes a byte that waits.
@@ -170,10 +170,10 @@ impl<R: Input> Feed<R> {
         ensures stays { OnOk result (self.new.failed ≡ self.old.failed) }
         ensures fault { IfErr result (λ e. IsReadFault e (idle self.new)) }
     {
-        if self.is_drained() {
+        if !self.waits() {
             self.fill()?;
         }
-        Ok(!self.is_drained())
+        Ok(self.waits())
     }
 
     /// Takes a byte, or nothing at the end.

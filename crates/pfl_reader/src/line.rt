@@ -39,6 +39,13 @@ impl<'a> Line<'a> {
         Line { bytes, long, head }
     }
 
+    /// What is kept of the line: its first 512 bytes, without its end.
+    pub fn text(&self) -> &[u8]
+        ensures { result.now ≡ self.now.bytes }
+    {
+        self.bytes
+    }
+
     /// The line has a word and is no comment.
     pub fn has_word(&self) -> bool
         ensures { result ≡ has_word self.now.head }

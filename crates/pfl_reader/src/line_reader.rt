@@ -1,6 +1,6 @@
 //! A reader of lines.
 
-ghost use Rattle.std.specs.Prelude.{◌≡◌, ◌+◌, ◌<◌, ◌≤◌, ◌^◌, true, false, IfOk, IfErr, OnOk, OnErr};
+ghost use Rattle.std.specs.Prelude.{◌≡◌, ◌+◌, ◌<◌, ◌≤◌, ◌^◌, ◌↔◌, true, false, IfOk, IfErr, IsTrue, OnOk, OnErr};
 ghost use Rattle.std.specs.Io.KnownBytes.{Keeps, IsAtEnd};
 ghost use Rattle.pfl_reader.specs.Readers.{room, CountsTurns, IsReadFault, Releases, one_more, lines_after};
 ghost use Rattle.pfl_reader.specs.Scans.{Gives};
@@ -81,6 +81,13 @@ impl<R: Input> LineReader<R> {
         ensures few { result ≤ 16777216 }
     {
         self.feed.turns()
+    }
+
+    /// Whether a byte that was read waits to be taken. If not, the next `advance` reads.
+    pub fn waits(&self) -> bool
+        ensures { IsTrue result ↔ (0 < self.now.waiting) }
+    {
+        self.feed.waits()
     }
 
     /// Begins a run: no call of `read` counts yet.

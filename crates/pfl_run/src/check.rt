@@ -6,8 +6,8 @@ ghost use Rattle.pfl_run.specs.Checks.{ChecksToEnd, IsCheckStop};
 ghost use Rattle.pfl_run.specs.Runs.{Ends, HasFailed, IsDeviceFault, Stops};
 
 use crate::fault::LabFault;
-use crate::opening::read_opening;
 use crate::run::{ended_status, tell};
+use crate::setups::read_opening;
 use pfl_base::{Input, Output};
 use pfl_script::{Checked, LineReader, check_lines};
 use std::alloc::Allocator;

@@ -1,56 +1,15 @@
 //! Runs of the laboratory.
 
-ghost use Rattle.std.specs.Prelude.{◌≡◌, ◌≤◌, ◌*◌, ◌⊎◌, None, false, IfOk, IfErr};
-ghost use Rattle.pfl_base.specs.Counts.{Counts, CountsWithin};
-ghost use Rattle.pfl_script.specs.world.Worlds.{new_world, world_fault};
-ghost use Rattle.pfl_script.specs.timeline.Timelines.{new_timeline};
+ghost use Rattle.std.specs.Prelude.{◌≡◌, ◌*◌, ◌⊎◌, IfOk, IfErr};
+ghost use Rattle.pfl_base.specs.Counts.{CountsWithin};
 ghost use Rattle.pfl_run.specs.Faults.{fault_status, fault_text};
-ghost use Rattle.pfl_run.specs.Runs.{Ends, HasFailed, IsDeviceFault, IsSetupStop, IsStop, IsTold, RunsToEnd, SetsUp, Stops, ended_status};
+ghost use Rattle.pfl_run.specs.Runs.{Ends, HasFailed, IsDeviceFault, IsStop, IsTold, RunsToEnd, Stops, ended_status};
 
 use crate::fault::LabFault;
-use crate::opening::read_opening;
+use crate::opened::set_up;
 use pfl_base::{Input, Output};
-use pfl_edits::NoMemory;
-use pfl_script::{Ended, LineReader, Setup, Timeline, World, WorldFault, run_lines, write_text};
+use pfl_script::{Ended, LineReader, run_lines, write_text};
 use std::alloc::Allocator;
-
-/// The pair of a setup, with an empty branch `main`.
-fn open_timeline<A: Allocator + Copy>(alloc: A, setup: Setup<A>) -> Result<Timeline<A>, NoMemory>
-    requires faultless { world_fault setup.limits ≡ None }
-    ensures { IfOk result (λ timeline. timeline ≡ new_timeline (new_world setup.limits setup.rules_a setup.rules_b)) }
-{
-    let Setup {
-        limits,
-        rules_a,
-        rules_b,
-    } = setup;
-    match World::new(alloc, limits, rules_a, rules_b) {
-        Ok(world) => Timeline::new(alloc, world),
-        Err(WorldFault::NoMemory) => Err(NoMemory),
-        Err(WorldFault::TooSmall | WorldFault::TooLarge) => unreachable!(),
-    }
-}
-
-/// Sets a pair up by the first lines that the reader has, up to `open`.
-pub fn set_up<A: Allocator + Copy, R: Input>(
-    alloc: A,
-    reader: &mut LineReader<R>,
-) -> Result<Timeline<A>, LabFault>
-    requires fresh { reader.old.lines ≡ 0 }
-    ensures sets_up { IfOk result (λ timeline. SetsUp reader.old.left reader.new.left reader.new.lines timeline) }
-    ensures stop { IfErr result (λ fault. IsSetupStop fault reader.old.left) }
-    ensures device { IfErr result (λ fault. IsDeviceFault fault reader.new.failed (reader.new.turns ≡ 16777216) false) }
-    ensures reads { Counts reader.old.reads reader.new.reads reader.new.turns }
-    ensures few { reader.new.turns ≤ 16777216 }
-{
-    match read_opening(alloc, reader) {
-        Ok(setup) => match open_timeline(alloc, setup) {
-            Ok(timeline) => Ok(timeline),
-            Err(NoMemory) => Err(LabFault::NoMemory),
-        },
-        Err(fault) => Err(fault),
-    }
-}
 
 /// Sets a pair up by the first lines of the reader, and executes the others: their replies go to the writer.
 #[tactic(auto, using(crate::proofs::Devices::of_setup, crate::proofs::Devices::of_both))]

@@ -2,4 +2,4 @@
 
 /// The release, the sum of its sources, and the logic that proves them.
 pub(crate) const VERSION: &str =
-    "release 12, sources 4c2a155ca0ef9d4acc1d76bc919f4c0f07191f57254add81189cde2b3af51fef, logic dac8208d650f15bf";
+    "release 13, sources 8acde4b86526831062b30c052a75dca0aa7cabbd402cdcd510b77988751374f7, logic dac8208d650f15bf";

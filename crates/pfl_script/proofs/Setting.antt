@@ -1,18 +1,20 @@
 -- A setup is read line by line.
 use Rattle.std.proofs.Common.{◌≡◌, ℕ, ◌+◌, Bool, true, false, List, [], ◌∷◌, ◌++◌, length, refl, sym, ◌∙◌, ap, subst, arith, length-append, inl, inr, cond, Option, Some, None, Ok, Err}
-use Rattle.std.specs.Prelude.{◌&&◌, Result, IfOk, IfErr, OnErr, unwrap_or}
+use Rattle.std.specs.Prelude.{◌&&◌, Result, IfOk, IfErr, IfSome, OnErr, unwrap_or}
+use Rattle.std.specs.List.{flat_map}
 use Rattle.pfl_rules.specs.declared.fault.RuleFault.{RuleFault}
 use Rattle.pfl_rules.specs.declared.fault.RuleFault.TheVariants as rule
 use Rattle.pfl_rules.specs.declared.rule.Rule.{Rule}
 use Rattle.pfl_rules.specs.Rules.{rule_fault}
-use Rattle.std.specs.Option.{option_or}
+use Rattle.std.specs.Option.{option_map, option_or}
 use Rattle.std.proofs.lemmas.Bool.{lt-ltb, le-ltb, cases_lt}
-use Rattle.std.proofs.lemmas.List.{take_all}
+use Rattle.std.proofs.lemmas.List.{flat_map_more, take_all}
 use Rattle.std.proofs.lemmas.List.Folds.{list_all-append}
 use Rattle.std.proofs.lemmas.List.Sums.{fold-append}
 use Rattle.pfl_lines.specs.declared.fault.LineFault.{LineFault}
 use Rattle.pfl_lines.specs.Setup.{parsed_setup}
 use Rattle.pfl_lines.specs.declared.setup.SetupLine.{SetupLine}
+use Rattle.pfl_lines.specs.declared.setup.SetupLine.TheVariants as setup
 use Rattle.pfl_reader.specs.Scans.{Kept, Keeps, ReadsLine, TakesLines, IsOver, has_word}
 use Rattle.pfl_reader.specs.Saids.{kept_setup}
 use Rattle.pfl_script.specs.declared.setup_fault.SetupFault.{SetupFault}
@@ -21,8 +23,8 @@ use Rattle.pfl_reader.specs.Readers.{Source, IsReadFault}
 use Rattle.pfl_reader.specs.declared.fault.ReadFault.{ReadFault}
 use Rattle.pfl_reader.specs.declared.fault.ReadFault.TheVariants as read
 use Rattle.pfl_script.specs.Readers.{setup_of_read}
-use Rattle.pfl_script.specs.Setups.{is_rule, says_rule, IsSetupFault, Draft, nothing_set, said, kept_words, set_by_said, goes_on, drafted, all_go_on, Opens, IsFaultyAt, IsUnopened, WantsRule, GoOn, StopsAt}
-use Rattle.pfl_script.specs.inner.Setups.{IsTakeFault, IsRuleStop, IsFinishStop, Takes}
+use Rattle.pfl_script.specs.Setups.{is_rule, says_rule, kept_line, IsSetupFault, IsSetupText, Draft, nothing_set, said, kept_words, set_by_said, goes_on, drafted, all_go_on, Opens, IsFaultyAt, IsUnopened, WantsRule, GoOn, StopsAt}
+use Rattle.pfl_script.specs.inner.Setups.{Grows, IsTakeFault, IsRuleStop, IsFinishStop, Takes}
 use Rattle.pfl_script.proofs.Running.{taken-none, taken-line, taken-first, taken-all}
 
 -- lines were taken so far that set this
@@ -229,6 +231,65 @@ take-short (Ok b) n k s h e none rule = tt
 take-short (Err f) n k s h e none rule =
     let said : says_rule (kept_words k) ≡ true = ap says_rule (words-said k (Ok s) h e) ∙ rule in
     rw none said
+
+-- ---- the text of the lines
+
+-- the text of lines that were taken so far
+pub record Texted (old new : Option (List ℕ)) (text : List ℕ) : Type 0 where
+  pub lines : List (List ℕ)
+  pub taken : TakesLines old new lines
+  pub whole : text ≡ flat_map kept_line lines
+
+-- one line more
+text-push : (lines : List (List ℕ)) (k : Kept) (body before text : List ℕ) → Keeps k body → before ≡ flat_map kept_line lines →
+    text ≡ before ++ (k.bytes ++ 10 ∷ []) → text ≡ flat_map kept_line (lines ++ body ∷ [])
+text-push lines k body before text keeps whole is =
+    is
+    ∙ ap (λ (bytes : List ℕ). before ++ (bytes ++ 10 ∷ [])) keeps.bytes
+    ∙ ap (λ (t : List ℕ). t ++ kept_line body) whole
+    ∙ flat_map_more kept_line [] lines body
+
+Texted-more : (old mid new : Option (List ℕ)) (k : Kept) (before text : List ℕ) → Texted old mid before → ReadsLine k mid new →
+    text ≡ before ++ (k.bytes ++ 10 ∷ []) → Texted old new text
+Texted-more old mid new k before text h reads is = record {
+  lines = h.lines ++ reads.body ∷ [];
+  taken = taken-line old mid new h.lines reads.body h.taken reads.takes;
+  whole = text-push h.lines k reads.body before text reads.keeps h.whole is;
+}
+
+Texted-open : (old mid new : Option (List ℕ)) (k : Kept) (before text : List ℕ) → Texted old mid before → ReadsLine k mid new →
+    text ≡ before ++ (k.bytes ++ 10 ∷ []) → kept_words k ≡ Some (Ok setup.Open) → IsSetupText old new text
+Texted-open old mid new k before text h reads is opens = record {
+  before = h.lines;
+  last = reads.body;
+  taken = taken-line old mid new h.lines reads.body h.taken reads.takes;
+  opened = sym (words-kept k reads.body reads.keeps) ∙ opens;
+  whole = text-push h.lines k reads.body before text reads.keeps h.whole is;
+}
+
+-- no line yet
+pub Text-none : (old mid : Option (List ℕ)) (text : List ℕ) → mid ≡ old → text ≡ [] → Texted old mid text
+Text-none old mid text e none = record { lines = []; taken = rw e (taken-none old); whole = none }
+
+-- the line that was shown is what is kept
+with-bytes : (text before : List ℕ) (k : Kept) (line : List ℕ) → line ≡ k.bytes → text ≡ before ++ (line ++ 10 ∷ []) → text ≡ before ++ (k.bytes ++ 10 ∷ [])
+with-bytes text before k line same is = is ∙ ap (λ (bytes : List ℕ). before ++ (bytes ++ 10 ∷ [])) same
+
+-- one line more, as long as there is memory
+pub Text-more : {V : Type 0} (items : V → List ℕ) (t u : Option V) (old mid new : Option (List ℕ)) (k : Kept) (line : List ℕ) → line ≡ k.bytes →
+    IfSome t (λ v. Texted old mid (items v)) → ReadsLine k mid new → Grows (option_map items t) (option_map items u) (line ++ 10 ∷ []) →
+    IfSome u (λ v. Texted old new (items v))
+Text-more items t None old mid new k line is h reads grows = tt
+Text-more items None (Some v) old mid new k line is h reads grows = absurd grows
+Text-more items (Some w) (Some v) old mid new k line is h reads grows = Texted-more old mid new k (items w) (items v) h reads (with-bytes _ _ k line is grows)
+
+-- the line that ends the setup
+pub Text-open : {V : Type 0} (items : V → List ℕ) (t u : Option V) (old mid new : Option (List ℕ)) (k : Kept) (line : List ℕ) → line ≡ k.bytes →
+    IfSome t (λ v. Texted old mid (items v)) → ReadsLine k mid new → Grows (option_map items t) (option_map items u) (line ++ 10 ∷ []) →
+    kept_words k ≡ Some (Ok setup.Open) → IfSome u (λ v. IsSetupText old new (items v))
+Text-open items t None old mid new k line is h reads grows opens = tt
+Text-open items None (Some v) old mid new k line is h reads grows opens = absurd grows
+Text-open items (Some w) (Some v) old mid new k line is h reads grows opens = Texted-open old mid new k (items w) (items v) h reads (with-bytes _ _ k line is grows) opens
 
 -- what is true of each good value
 pub on-ok : {X E : Type 0} {P Q : X → Type 0} (r : Result X E) → ((x : X) → P x → Q x) → IfOk r P → IfOk r Q

@@ -2,6 +2,7 @@ pub mod Readers
 pub mod Texts
 pub mod Shows
 pub mod Logs
+pub mod Entries
 pub mod Reasons
 pub mod Frames
 pub mod Searches

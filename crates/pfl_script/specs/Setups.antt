@@ -1,6 +1,6 @@
 -- How lines set up a pair (this project's profile).
-use Rattle.std.specs.Prelude.{◌≡◌, ℕ, ◌+◌, Bool, true, false, not, List, [], ◌∷◌, ◌++◌, length, set, if◌then◌else◌, Option, Some, None, ◌⊎◌, Result, Ok, Err}
-use Rattle.std.specs.List.{fold, list_all}
+use Rattle.std.specs.Prelude.{◌≡◌, ℕ, ◌+◌, Bool, true, false, not, List, [], ◌∷◌, ◌++◌, length, set, take, if◌then◌else◌, Option, Some, None, ◌⊎◌, Result, Ok, Err}
+use Rattle.std.specs.List.{flat_map, fold, list_all}
 use Rattle.std.specs.Option.{option_or}
 use Rattle.pfl_base.specs.declared.node_id.NodeId.{NodeId}
 use Rattle.pfl_base.specs.declared.node_id.NodeId.TheVariants.{A, B}
@@ -142,6 +142,18 @@ pub record ReadsSetupTo (old new : Option (List ℕ)) (n : ℕ) (limits : Limits
   pub draft : Draft
   pub opens : Opens old new n draft
   pub finishes : Finishes draft limits a b
+
+-- a line as a setup's text has it: its first 512 bytes, with a line feed after them
+abbrev pub kept_line : List ℕ → List ℕ
+kept_line line = take 512 line ++ 10 ∷ []
+
+-- the text of the lines that were taken, up to `open`
+pub record IsSetupText (old new : Option (List ℕ)) (text : List ℕ) : Type 0 where
+  pub before : List (List ℕ)
+  pub last : List ℕ
+  pub taken : TakesLines old new (before ++ last ∷ [])
+  pub opened : said last ≡ Some (Ok setup.Open)
+  pub whole : text ≡ flat_map kept_line (before ++ last ∷ [])
 
 -- rules were set that are no rule sets
 pub record HasRuleFault (old new : Option (List ℕ)) (n : ℕ) (why : RuleFault) : Type 0 where

@@ -4,6 +4,7 @@
 mod against_lines;
 mod answer;
 mod check;
+mod command_lines;
 mod engine;
 mod expiry_lines;
 mod explained;
@@ -32,6 +33,7 @@ mod state_lines;
 mod traced;
 
 pub use check::{Checked, check_lines};
+pub use command_lines::entry_line;
 pub use engine::{Ended, run_lines};
 pub use fault::EngineFault;
 pub use link_lines::{FrameLine, LinkLine};

@@ -25,7 +25,7 @@ fn push_head<A: Allocator>(
 }
 
 /// Puts the line that steps an event behind a text.
-fn push_step<A: Allocator>(
+pub(crate) fn push_step<A: Allocator>(
     text: &mut Vec<u8, A>,
     name: &[u8],
     event: &Event,

@@ -1,15 +1,12 @@
 -- A session is served line by line.
-use Rattle.std.proofs.Common.{◌≡◌, ℕ, ◌+◌, List, [], ◌∷◌, ◌++◌, length, take, refl, sym, ◌∙◌, ap, subst, arith, length-append, append_assoc, inl, inr, Option, Some, None, Ok, Err}
+use Rattle.std.proofs.Common.{◌≡◌, ℕ, ◌+◌, List, [], ◌∷◌, ◌++◌, length, take, refl, sym, ◌∙◌, ap, subst, arith, length-append, append_assoc, inl, inr, Option}
 use Rattle.std.specs.Prelude.{Result}
-use Rattle.std.specs.Io.KnownBytes.{Appends, Keeps as KeepsBytes}
+use Rattle.std.specs.Io.KnownBytes.{Appends}
 use Rattle.std.proofs.lemmas.Bool.{lt-ltb, le-ltb, cases_lt}
 use Rattle.std.proofs.lemmas.List.{append-nil, take_all}
-use Rattle.pfl_session.proofs.ForCallers.publish.{begun_all, loads-none}
-use Rattle.pfl_script.specs.timeline.Timelines.{Timeline}
-use Rattle.pfl_session.specs.Passes.{Seen, GoesOn}
+use Rattle.pfl_session.specs.Passes.{Seen}
 use Rattle.pfl_script.specs.lines.declared.fault.LineFault.{LineFault}
 use Rattle.pfl_script.specs.lines.declared.session.SessionLine.{SessionLine}
-use Rattle.pfl_script.specs.lines.declared.session.SessionLine.TheVariants.{View, Ask}
 use Rattle.pfl_script.specs.lines.Session.{parsed_session}
 use Rattle.pfl_script.specs.reader.Saids.{kept_session}
 use Rattle.pfl_script.specs.Answers.{one_if}
@@ -19,9 +16,9 @@ use Rattle.pfl_script.specs.declared.fault.EngineFault.TheVariants as engine
 use Rattle.pfl_script.specs.reader.declared.fault.ReadFault.{ReadFault}
 use Rattle.pfl_script.specs.reader.declared.fault.ReadFault.TheVariants as read
 use Rattle.pfl_script.specs.Readers.{of_read}
-use Rattle.pfl_script.proofs.ForCallers.{appends_none, appends_then, taken-none, taken-line, taken-first, taken-all, taken-drained, appends-keeps}
-use Rattle.pfl_serve.specs.Sessions.{said, is_fault, bad_lines, IsAnswer, Serves, ServesWhole, ServesFirst, ServesPart, ServesUnanswered, ServesUntil}
-use Rattle.pfl_serve.specs.inner.Answers.{kept_said, Writes, Breaks, Lacks}
+use Rattle.pfl_script.proofs.ForCallers.{appends_none, appends_then, taken-none, taken-line, taken-first, taken-all, taken-drained}
+use Rattle.pfl_serve.specs.Sessions.{said, is_fault, bad_lines, IsAnswer, IsBegun, Lacks, Serves, Site, ServesWhole, ServesFirst, ServesPart, ServesUnanswered, ServesUntil}
+use Rattle.pfl_serve.specs.inner.Answers.{kept_said, Writes, Breaks}
 
 -- what is kept of a line says to a session what the line says
 session-kept : (k : Kept) (body : List ℕ) → Keeps k body → kept_session k ≡ parsed_session body
@@ -41,17 +38,13 @@ bad_lines-push [] line = omega arith
 bad_lines-push (x ∷ lines) line = omega (arith, bad_lines-push lines line)
 
 module _ {M : Type 0} where
-  -- a pass goes on from itself
-  pub goes-none : (p : Seen M) → GoesOn p p
-  goes-none p = record { session = refl; tally = refl; publisher = refl; seen = begun_all p.viewer.seen; loads = loads-none p.viewer }
-
-  module _ (opening : Timeline) (n limit : ℕ) where
+  module _ (site : Site) where
     -- one line more
     serves-push : (lines : List (List ℕ)) (line : List ℕ) (old mid new : Seen M) (text answer : List ℕ) →
-        Serves opening n limit lines old mid text → IsAnswer opening n limit (said line) mid new answer →
-        Serves opening n limit (lines ++ line ∷ []) old new (text ++ answer)
+        Serves site lines old mid text → IsAnswer site (said line) mid new answer →
+        Serves site (lines ++ line ∷ []) old new (text ++ answer)
     serves-push [] line old mid new text answer h a =
-        (new, answer, [], subst (λ (p : Seen M). IsAnswer opening n limit (said line) p new answer) h.0 a, (refl, refl), rw h.1 (sym (append-nil answer)))
+        (new, answer, [], subst (λ (p : Seen M). IsAnswer site (said line) p new answer) h.0 a, (refl, refl), rw h.1 (sym (append-nil answer)))
     serves-push (x ∷ lines) line old mid new text answer h a =
         let m = h.0 in
         let first = h.1 in
@@ -69,7 +62,7 @@ module _ {M : Type 0} where
       pub lines : List (List ℕ)
       pub taken : TakesLines left rest lines
       pub text : List ℕ
-      pub serves : Serves opening n limit lines old new text
+      pub serves : Serves site lines old new text
       pub written : Appends w v text
       pub counted : count ≡ length lines
       pub faulty : bad ≡ bad_lines lines
@@ -88,14 +81,14 @@ module _ {M : Type 0} where
 
     module _ (left mid rest : Option (List ℕ)) (old p q : Seen M) (w v x : Option (List ℕ)) (count bad : ℕ) (k : Kept) (so_far : Served left mid old p w v count bad) (reads : ReadsLine k mid rest) where
       -- the answer to what is kept of the line is the answer to the line
-      answered : (text : List ℕ) → IsAnswer opening n limit (kept_said k) p q text → IsAnswer opening n limit (said reads.body) p q text
-      answered text a = subst (λ (s : Option (Result SessionLine LineFault)). IsAnswer opening n limit s p q text) (said-kept k reads.body reads.keeps) a
+      answered : (text : List ℕ) → IsAnswer site (kept_said k) p q text → IsAnswer site (said reads.body) p q text
+      answered text a = subst (λ (s : Option (Result SessionLine LineFault)). IsAnswer site s p q text) (said-kept k reads.body reads.keeps) a
 
       taken-more : TakesLines left rest (so_far.lines ++ reads.body ∷ [])
       taken-more = taken-line left mid rest so_far.lines reads.body so_far.taken reads.takes
 
       -- one line more
-      pub Served-more : Writes (IsAnswer opening n limit (kept_said k) p q) v x → Served left rest old q w x (count + 1) (bad + one_if (is_fault (kept_said k)))
+      pub Served-more : Writes (IsAnswer site (kept_said k) p q) v x → Served left rest old q w x (count + 1) (bad + one_if (is_fault (kept_said k)))
       Served-more writes = record {
         lines = so_far.lines ++ reads.body ∷ [];
         taken = taken-more;
@@ -107,7 +100,7 @@ module _ {M : Type 0} where
       }
 
       -- the last line's text was written in part
-      served-part : (text : List ℕ) (part : ℕ) → IsAnswer opening n limit (kept_said k) p q text → Appends v x (take part text) → ServesPart opening n limit left rest old q w x
+      served-part : (text : List ℕ) (part : ℕ) → IsBegun site (kept_said k) p q text → Appends v x (take part text) → ServesPart site left rest old q w x
       served-part text part a appends = record {
         lines = so_far.lines;
         last = reads.body;
@@ -116,39 +109,35 @@ module _ {M : Type 0} where
         text = so_far.text;
         serves = so_far.serves;
         answer = text;
-        answers = answered text a;
+        answers = subst (λ (s : Option (Result SessionLine LineFault)). IsBegun site s p q text) (said-kept k reads.body reads.keeps) a;
         part = part;
         written = appends_then w v x so_far.text (take part text) so_far.written appends;
       }
 
-      -- the last line has no answer
-      served-unanswered : (s : Option (Result SessionLine LineFault)) → kept_said k ≡ s → Lacks opening n limit s p q → KeepsBytes v x → ServesUnanswered opening n limit left rest old q w x
-      served-unanswered None is lacks same = absurd lacks
-      served-unanswered (Some (Err fault)) is lacks same = absurd lacks
-      served-unanswered (Some (Ok View)) is lacks same = absurd lacks
-      served-unanswered (Some (Ok (Ask command))) is lacks same = record {
+      -- the last line's answer wanted memory
+      served-unanswered : (text : List ℕ) → Lacks site (kept_said k) p q text → Appends v x text → ServesUnanswered site left rest old q w x
+      served-unanswered text lacks appends = record {
         lines = so_far.lines;
         last = reads.body;
         taken = taken-more;
         mid = p;
         text = so_far.text;
         serves = so_far.serves;
-        command = command;
-        asks = sym (said-kept k reads.body reads.keeps) ∙ is;
-        unanswered = lacks;
-        written = appends-keeps w v x so_far.text so_far.written same;
+        answer = text;
+        lacks = subst (λ (s : Option (Result SessionLine LineFault)). Lacks site s p q text) (said-kept k reads.body reads.keeps) lacks;
+        written = appends_then w v x so_far.text text so_far.written appends;
       }
 
       -- the last line's answer failed, for this reason
-      pub until-answer : (e : EngineFault) → Breaks (IsAnswer opening n limit (kept_said k) p q) (Lacks opening n limit (kept_said k) p q) e v x → ServesUntil opening n limit e left rest old q w x
+      pub until-answer : (e : EngineFault) → Breaks (IsBegun site (kept_said k) p q) (Lacks site (kept_said k) p q) e v x → ServesUntil site e left rest old q w x
       until-answer engine.Write breaks = served-part breaks.0 breaks.2.0 breaks.1 breaks.2.1
-      until-answer engine.NoMemory breaks = served-unanswered (kept_said k) refl breaks.0 breaks.1
+      until-answer engine.NoMemory breaks = served-unanswered breaks.0 breaks.1 breaks.2
       until-answer engine.Read breaks = absurd breaks
       until-answer engine.TooManyTurns breaks = absurd breaks
 
     module _ (left mid : Option (List ℕ)) (old new : Seen M) (w v : Option (List ℕ)) (count bad : ℕ) (so_far : Served left mid old new w v count bad) where
       -- the end was reached
-      pub Served-whole : (rest : Option (List ℕ)) → IsOver mid rest → ServesWhole opening n limit left rest old new w v count bad
+      pub Served-whole : (rest : Option (List ℕ)) → IsOver mid rest → ServesWhole site left rest old new w v count bad
       Served-whole rest over = record {
         lines = so_far.lines;
         all = taken-all left mid rest so_far.lines so_far.taken over;
@@ -160,7 +149,7 @@ module _ {M : Type 0} where
         faulty = so_far.faulty;
       }
 
-      served-first : ServesFirst opening n limit left old new w v
+      served-first : ServesFirst site left old new w v
       served-first = record {
         lines = so_far.lines;
         first = taken-first left mid so_far.lines so_far.taken;
@@ -170,6 +159,6 @@ module _ {M : Type 0} where
       }
 
       -- no further line came, for this reason
-      pub until-read : (e : ReadFault) (rest : Option (List ℕ)) → ServesUntil opening n limit (of_read e) left rest old new w v
+      pub until-read : (e : ReadFault) (rest : Option (List ℕ)) → ServesUntil site (of_read e) left rest old new w v
       until-read read.Read rest = served-first
       until-read read.TooManyTurns rest = served-first

@@ -1,5 +1,5 @@
 -- What a session is told are the replies of its own entries.
-use Rattle.std.proofs.Common.{◌≡◌, ℕ, ◌+◌, ◌≤◌, Bool, true, false, cond, List, [], ◌∷◌, ◌++◌, length, drop, refl, sym, ◌∙◌, ap, subst, arith, append_assoc, eq-eqb, inl, inr, Option, Some, None, Ok, Err}
+use Rattle.std.proofs.Common.{◌≡◌, ℕ, ◌+◌, ◌≤◌, Bool, true, false, cond, List, [], ◌∷◌, ◌++◌, length, drop, refl, sym, ◌∙◌, ap, subst, arith, length-append, append_assoc, eq-eqb, inl, inr, Option, Some, None, Ok, Err}
 use Rattle.std.specs.Prelude.{nat_eq, Result, ◌⊎◌}
 use Rattle.std.proofs.lemmas.List.{append-nil}
 use Rattle.pfl_language.specs.declared.command.Command.{Command}
@@ -8,13 +8,16 @@ use Rattle.pfl_script.specs.timeline.Timelines.{Timeline}
 use Rattle.pfl_session.specs.declared.entry.Entry.{Entry}
 use Rattle.pfl_session.specs.Journals.{revisions_of, calls_in, count_of}
 use Rattle.pfl_session.specs.Labs.{HasSeenOwn}
-use Rattle.pfl_session.specs.Passes.{Seen, seen_in, HasSeenItsCalls}
-use Rattle.pfl_session.proofs.ForCallers.{calls-history, calls-since, count-append, count-begun, count-own}
+use Rattle.pfl_session.specs.Passes.{Seen, seen_in, GoesOn, HasSeenItsCalls}
+use Rattle.pfl_session.proofs.ForCallers.{calls-history, calls-since, count-append, count-begun, count-own, goes-on}
 use Rattle.pfl_script.specs.lines.declared.fault.LineFault.{LineFault}
 use Rattle.pfl_script.specs.lines.declared.session.SessionLine.{SessionLine}
-use Rattle.pfl_script.specs.lines.declared.session.SessionLine.TheVariants.{View, Ask}
-use Rattle.pfl_serve.specs.Sessions.{said, IsAnswer, IsViewed, IsReplied, IsCalled, IsNotCalled, TellsRevision, TellsOvertaken, Serves}
-use Rattle.pfl_serve.specs.Laws.{Call, calls_of, TellsLine, TellsView, Tells, SessionsAreToldTheirCalls, SessionsAreToldAllTheirCalls, RunsAreOne}
+use Rattle.pfl_script.specs.lines.declared.session.SessionLine.TheVariants.{View, Setup, Follow, Ask}
+use Rattle.pfl_serve.proofs.Entries.{told-in-longer}
+use Rattle.pfl_serve.proofs.Passed.{goes-none, not-called-own, own}
+use Rattle.pfl_serve.specs.Sessions.{said, told_lines, IsAnswer, IsFollowed, IsViewed, IsReplied, IsCalled, TellsRevision, TellsOvertaken, Serves, Site}
+use Rattle.pfl_serve.specs.Texts.{first_told, followed_text, following_text}
+use Rattle.pfl_serve.specs.Laws.{Call, calls_of, ShowsEntries, TellsLine, TellsView, Tells, SessionsAreToldTheirCalls, SessionsAreToldAllTheirCalls, RunsAreOne}
 
 -- a list that may begin with one element more, before another list
 cond-append : {X : Type 0} (b : Bool) (x : X) (xs ys : List X) → cond b (x ∷ xs ++ ys) (xs ++ ys) ≡ cond b (x ∷ xs) xs ++ ys
@@ -53,10 +56,6 @@ module _ {M : Type 0} where
       calls_of-append s (js ++ others) (e ∷ [])
       ∙ (ap (λ (l : List Call). l ++ calls_of s (e ∷ [])) (calls-others s js others none) ∙ ap (λ (l : List Call). calls_of s js ++ l) (calls_of-one s e own))
 
-  -- how many entries of its session the pass has seen
-  abbrev own : Seen M → ℕ
-  own p = count_of p.session (seen_in p)
-
   view-told : {old new : Seen M} {text : List ℕ} → (TellsRevision old new text ⊎ TellsOvertaken old new text) → TellsView text
   view-told (inl t) = inl (t.words, t.told)
   view-told (inr t) = inr (t.at, t.now, t.told)
@@ -75,50 +74,44 @@ module _ {M : Type 0} where
         is.call.none_own,
       )
 
-  not-called-own : (old new : Seen M) → new.session ≡ old.session → IsNotCalled old new → own new ≡ own old
-  not-called-own old new same is =
-      omega (
-        arith,
-        ap (λ (s : ℕ). count_of s (seen_in new)) same,
-        ap (count_of old.session) is.others.seen,
-        count-append old.session (seen_in old) is.others.others,
-        is.others.none_own,
-      )
-
-  module _ (opening : Timeline) (n limit : ℕ) where
+  module _ (site : Site) where
     -- whoever was answered a command has seen its calls
-    replied-seen : (old new : Seen M) (c : Command) (text : List ℕ) → IsReplied opening n limit old new c text → HasSeenItsCalls new
+    replied-seen : (old new : Seen M) (c : Command) (text : List ℕ) → IsReplied site old new c text → HasSeenItsCalls new
     replied-seen old new c text is = elim is.told [
       | inl t ↦ omega (arith, called-own old new c t.reply is.asked.goes_on.session t.called, is.asked.own, ap (λ h. h.count) t.called.half)
       | inr t ↦ omega (arith, not-called-own old new is.asked.goes_on.session t.not_called, is.asked.own, ap (λ h. h.count) t.not_called.half)
     ]
 
     -- no pass has called more than it has seen of its session
-    forward : (what : Option (Result SessionLine LineFault)) (old new : Seen M) (text : List ℕ) → IsAnswer opening n limit what old new text → old.half.count ≤ own old → new.half.count ≤ own new
+    forward : (what : Option (Result SessionLine LineFault)) (old new : Seen M) (text : List ℕ) → IsAnswer site what old new text → old.half.count ≤ own old → new.half.count ≤ own new
     forward None old new text is below = subst (λ (p : Seen M). p.half.count ≤ own p) (sym is.0) below
     forward (Some (Err fault)) old new text is below = subst (λ (p : Seen M). p.half.count ≤ own p) (sym is.0) below
+    forward (Some (Ok Setup)) old new text is below = subst (λ (p : Seen M). p.half.count ≤ own p) (sym is.0) below
+    forward (Some (Ok (Follow k))) old new text is below =
+        let tells = is.follows.tells in
+        omega (arith, below, not-called-own old new tells.asked.goes_on.session tells.not_called, ap (λ h. h.count) tells.not_called.half)
     forward (Some (Ok View)) old new text is below =
         let more = count-begun old.session old.half.count new.viewer.seen old.viewer.seen is.goes_on.seen below in
         omega (arith, more, ap (λ h. h.count) is.half, ap (λ (s : ℕ). count_of s (seen_in new)) is.goes_on.session)
     forward (Some (Ok (Ask command))) old new text is below = let same = replied-seen old new command text is in omega (arith, same)
 
-    -- an answer, where the pass has seen its calls behind it: so it has before it, and the line is told the calls between
-    pub record Told (what : Option (Result SessionLine LineFault)) (old new : Seen M) (text : List ℕ) : Type 0 where
+    -- an answer, where the pass has seen its calls after it, and a journal that begins with what it has seen then: so it has before it, and the line is told the calls between
+    pub record Told (js : List (Entry M)) (what : Option (Result SessionLine LineFault)) (old new : Seen M) (text : List ℕ) : Type 0 where
       pub before : HasSeenItsCalls old
       pub calls : List Call
       pub all : calls_of new.session (seen_in new) ≡ calls_of old.session (seen_in old) ++ calls
-      pub tells : (rest : List Call) → TellsLine what (calls ++ rest) rest text
+      pub tells : (rest : List Call) → TellsLine site js what (calls ++ rest) rest text
 
-    told-same : (what : Option (Result SessionLine LineFault)) (old new : Seen M) (text : List ℕ) → new ≡ old → HasSeenItsCalls new → ((rest : List Call) → TellsLine what rest rest text) → Told what old new text
-    told-same what old new text same seen tells = record {
+    told-same : (js : List (Entry M)) (what : Option (Result SessionLine LineFault)) (old new : Seen M) (text : List ℕ) → new ≡ old → HasSeenItsCalls new → ((rest : List Call) → TellsLine site js what rest rest text) → Told js what old new text
+    told-same js what old new text same seen tells = record {
       before = subst HasSeenItsCalls same seen;
       calls = [];
       all = ap (λ (p : Seen M). calls_of p.session (seen_in p)) same ∙ sym (append-nil (calls_of old.session (seen_in old)));
       tells = tells;
     }
 
-    told-view : (old new : Seen M) (text : List ℕ) → IsViewed old new text → old.half.count ≤ own old → HasSeenItsCalls new → Told (Some (Ok View)) old new text
-    told-view old new text is below seen =
+    told-view : (js : List (Entry M)) (old new : Seen M) (text : List ℕ) → IsViewed old new text → old.half.count ≤ own old → HasSeenItsCalls new → Told js (Some (Ok View)) old new text
+    told-view js old new text is below seen =
         let later = calls_in (drop (length old.viewer.seen) new.viewer.seen) in
         let parts : seen_in new ≡ seen_in old ++ later = calls-since new.viewer.seen old.viewer.seen is.goes_on.seen in
         let s = ap (λ (s : ℕ). count_of s (seen_in new)) is.goes_on.session in
@@ -133,8 +126,8 @@ module _ {M : Type 0} where
           tells = λ rest. (refl, view-told is.told);
         }
 
-    told-reply : (old new : Seen M) (c : Command) (text : List ℕ) → IsReplied opening n limit old new c text → Told (Some (Ok (Ask c))) old new text
-    told-reply old new c text is = elim is.told [
+    told-reply : (js : List (Entry M)) (old new : Seen M) (c : Command) (text : List ℕ) → IsReplied site old new c text → Told js (Some (Ok (Ask c))) old new text
+    told-reply js old new c text is = elim is.told [
       | inl t ↦ record {
         before = is.asked.own;
         calls = record { command = c; reply = t.reply } ∷ [];
@@ -154,23 +147,70 @@ module _ {M : Type 0} where
       }
     ]
 
-    told : (what : Option (Result SessionLine LineFault)) (old new : Seen M) (text : List ℕ) → IsAnswer opening n limit what old new text → old.half.count ≤ own old → HasSeenItsCalls new → Told what old new text
-    told None old new text is below seen = told-same None old new text is.0 seen (λ rest. (refl, is.1))
-    told (Some (Err fault)) old new text is below seen = told-same (Some (Err fault)) old new text is.0 seen (λ rest. (refl, is.1))
-    told (Some (Ok View)) old new text is below seen = told-view old new text is below seen
-    told (Some (Ok (Ask command))) old new text is below seen = told-reply old new command text is
+    -- the entries that are told are the journal's
+    told-follow : (js more : List (Entry M)) (k : Option ℕ) (old new : Seen M) (text : List ℕ) → js ≡ seen_in new ++ more → IsFollowed site k old new text → Told js (Some (Ok (Follow k))) old new text
+    told-follow js more k old new text begins is =
+        let tells = is.follows.tells in
+        let others = tells.not_called.others in
+        let n = first_told k is.start in
+        let lines : is.first ≡ following_text n ++ told_lines n tells.tellings = is.follows.told ∙ ap (λ (t : List ℕ). following_text n ++ t) tells.told in
+        let there : is.start ≤ length js = omega (arith, is.follows.within, ap (λ (l : List (Entry M)). length l) begins, length-append (seen_in new) more) in
+        let shown : ShowsEntries is.start n js text = (
+          tells.tellings,
+          told-in-longer is.start n tells.tellings (seen_in new) more js begins tells.are,
+          omega (arith, is.all, tells.number),
+          is.told ∙ (ap (λ (t : List ℕ). t ++ followed_text is.number) lines ∙ ap (λ (m : ℕ). (following_text n ++ told_lines n tells.tellings) ++ followed_text m) tells.number),
+        ) in
+        record {
+          before = tells.asked.own;
+          calls = [];
+          all = ap (λ (s : ℕ). calls_of s (seen_in new)) tells.asked.goes_on.session
+              ∙ (ap (calls_of old.session) others.seen
+              ∙ (calls-others old.session (seen_in old) others.others others.none_own ∙ sym (append-nil (calls_of old.session (seen_in old)))));
+          tells = λ rest. (refl, (is.start, there, shown));
+        }
+
+    told : (js more : List (Entry M)) (what : Option (Result SessionLine LineFault)) (old new : Seen M) (text : List ℕ) → js ≡ seen_in new ++ more
+        → IsAnswer site what old new text → old.half.count ≤ own old → HasSeenItsCalls new → Told js what old new text
+    told js more None old new text begins is below seen = told-same js None old new text is.0 seen (λ rest. (refl, is.1))
+    told js more (Some (Err fault)) old new text begins is below seen = told-same js (Some (Err fault)) old new text is.0 seen (λ rest. (refl, is.1))
+    told js more (Some (Ok View)) old new text begins is below seen = told-view js old new text is below seen
+    told js more (Some (Ok Setup)) old new text begins is below seen = told-same js (Some (Ok Setup)) old new text is.0 seen (λ rest. (refl, is.1))
+    told js more (Some (Ok (Follow k))) old new text begins is below seen = told-follow js more k old new text begins is
+    told js more (Some (Ok (Ask command))) old new text begins is below seen = told-reply js old new command text is
+
+    -- a pass goes on with each answer
+    answered-on : (what : Option (Result SessionLine LineFault)) (old new : Seen M) (text : List ℕ) → IsAnswer site what old new text → GoesOn old new
+    answered-on None old new text is = subst (GoesOn old) (sym is.0) (goes-none old)
+    answered-on (Some (Err fault)) old new text is = subst (GoesOn old) (sym is.0) (goes-none old)
+    answered-on (Some (Ok View)) old new text is = is.goes_on
+    answered-on (Some (Ok Setup)) old new text is = subst (GoesOn old) (sym is.0) (goes-none old)
+    answered-on (Some (Ok (Follow k))) old new text is = is.follows.tells.asked.goes_on
+    answered-on (Some (Ok (Ask command))) old new text is = is.asked.goes_on
+
+    served-on : (lines : List (List ℕ)) (old new : Seen M) (text : List ℕ) → Serves site lines old new text → GoesOn old new
+    served-on [] old new text is = subst (GoesOn old) (sym is.0) (goes-none old)
+    served-on (line ∷ lines) old new text is = goes-on old is.0 new (answered-on (said line) old is.0 is.1 is.3) (served-on lines is.0 new is.2 is.4)
+
+    -- a journal that begins with what the pass has seen at the end begins with what it had seen before
+    began-with : (js more : List (Entry M)) (old new : Seen M) → GoesOn old new → js ≡ seen_in new ++ more → (later : List (Entry M)) × (js ≡ seen_in old ++ later)
+    began-with js more old new on begins =
+        let later = calls_in (drop (length old.viewer.seen) new.viewer.seen) in
+        let parts : seen_in new ≡ seen_in old ++ later = calls-since new.viewer.seen old.viewer.seen on.seen in
+        (later ++ more, begins ∙ (ap (λ (l : List (Entry M)). l ++ more) parts ∙ append_assoc (seen_in old) later more))
 
     -- the same of lines
-    told-lines : (lines : List (List ℕ)) (old new : Seen M) (text : List ℕ) → Serves opening n limit lines old new text → old.half.count ≤ own old → HasSeenItsCalls new
-        → HasSeenItsCalls old × ((calls : List Call) × (calls_of new.session (seen_in new) ≡ calls_of old.session (seen_in old) ++ calls) × Tells lines calls text)
-    told-lines [] old new text is below seen =
+    told-lines : (js more : List (Entry M)) (lines : List (List ℕ)) (old new : Seen M) (text : List ℕ) → js ≡ seen_in new ++ more → Serves site lines old new text → old.half.count ≤ own old → HasSeenItsCalls new
+        → HasSeenItsCalls old × ((calls : List Call) × (calls_of new.session (seen_in new) ≡ calls_of old.session (seen_in old) ++ calls) × Tells site js lines calls text)
+    told-lines js more [] old new text begins is below seen =
         (subst HasSeenItsCalls is.0 seen, ([], ap (λ (p : Seen M). calls_of p.session (seen_in p)) is.0 ∙ sym (append-nil (calls_of old.session (seen_in old))), (refl, is.1)))
-    told-lines (line ∷ lines) old new text is below seen =
+    told-lines js more (line ∷ lines) old new text begins is below seen =
         let mid = is.0 in
         let first = is.1 in
         let others = is.2 in
-        let next = told-lines lines mid new others is.4 (forward (said line) old mid first is.3 below) seen in
-        let here = told (said line) old mid first is.3 below next.0 in (
+        let next = told-lines js more lines mid new others begins is.4 (forward (said line) old mid first is.3 below) seen in
+        let began = began-with js more mid new (served-on lines mid new others is.4) begins in
+        let here = told js began.0 (said line) old mid first began.1 is.3 below next.0 in (
           here.before,
           (
             here.calls ++ next.1.0,
@@ -179,45 +219,38 @@ module _ {M : Type 0} where
           ),
         )
 
-    -- a session keeps its number
-    answered-by : (what : Option (Result SessionLine LineFault)) (old new : Seen M) (text : List ℕ) → IsAnswer opening n limit what old new text → new.session ≡ old.session
-    answered-by None old new text is = ap (λ (p : Seen M). p.session) is.0
-    answered-by (Some (Err fault)) old new text is = ap (λ (p : Seen M). p.session) is.0
-    answered-by (Some (Ok View)) old new text is = is.goes_on.session
-    answered-by (Some (Ok (Ask command))) old new text is = is.asked.goes_on.session
-
-    served-by : (lines : List (List ℕ)) (old new : Seen M) (text : List ℕ) → Serves opening n limit lines old new text → new.session ≡ old.session
-    served-by [] old new text is = ap (λ (p : Seen M). p.session) is.0
-    served-by (line ∷ lines) old new text is = served-by lines is.0 new is.2 is.4 ∙ answered-by (said line) old is.0 is.1 is.3
+  -- what the pass has seen begins the journal
+  seen-begins : (opening : Timeline) (js : List (Entry M)) (p : Seen M) → HasSeenOwn opening js p → js ≡ seen_in p ++ calls_in (drop (length p.viewer.seen) (revisions_of opening js))
+  seen-begins opening js p is = sym (calls-history opening js) ∙ calls-since (revisions_of opening js) p.viewer.seen is.begun
 
   -- the pass has seen all calls of its session in the journal
   calls-seen : (opening : Timeline) (js : List (Entry M)) (p : Seen M) → HasSeenOwn opening js p → calls_of p.session (seen_in p) ≡ calls_of p.session js
   calls-seen opening js p is =
       let later = calls_in (drop (length p.viewer.seen) (revisions_of opening js)) in
-      let parts : js ≡ seen_in p ++ later = sym (calls-history opening js) ∙ calls-since (revisions_of opening js) p.viewer.seen is.begun in
+      let parts = seen-begins opening js p is in
       let none : count_of p.session later ≡ 0 = omega (arith, is.all_own, ap (count_of p.session) parts, count-append p.session (seen_in p) later) in
       sym (ap (calls_of p.session) parts ∙ calls-others p.session (seen_in p) later none)
 
   pub sessions-are-told : SessionsAreToldTheirCalls M
-  sessions-are-told opening n limit lines old new text serves below behind = (told-lines opening n limit lines old new text serves below behind).1
+  sessions-are-told site lines old new text serves below behind = (told-lines site (seen_in new) [] lines old new text (sym (append-nil (seen_in new))) serves below behind).1
 
   pub sessions-are-told-all : SessionsAreToldAllTheirCalls M
-  sessions-are-told-all opening n limit session publisher tally lines old new text js fresh serves back =
-      let told = sessions-are-told opening n limit lines old new text serves (omega (arith, fresh.called)) back.called in
+  sessions-are-told-all site session publisher tally lines old new text js fresh serves back =
+      let told = (told-lines site js _ lines old new text (seen-begins site.opening js new back) serves (omega (arith, fresh.called)) back.called).1 in
       let none : calls_of old.session (seen_in old) ≡ [] = ap (λ l. calls_of old.session (calls_in l)) fresh.seen_is in
-      let same : new.session ≡ session = served-by opening n limit lines old new text serves ∙ fresh.session_is in
+      let same : new.session ≡ session = (served-on site lines old new text serves).session ∙ fresh.session_is in
       let calls : told.0 ≡ calls_of session js =
-      sym (told.1 ∙ ap (λ (l : List Call). l ++ told.0) none) ∙ (calls-seen opening js new back ∙ ap (λ (s : ℕ). calls_of s js) same) in
-      subst (λ (l : List Call). Tells lines l text) calls told.2
+      sym (told.1 ∙ ap (λ (l : List Call). l ++ told.0) none) ∙ (calls-seen site.opening js new back ∙ ap (λ (s : ℕ). calls_of s js) same) in
+      subst (λ (l : List Call). Tells site js lines l text) calls told.2
 
   pub runs-are-one : RunsAreOne M
-  runs-are-one opening n limit [] more old mid new text rest first second =
-      subst (λ (t : List ℕ). Serves opening n limit more old new (t ++ rest)) (sym first.1) (subst (λ (p : Seen M). Serves opening n limit more p new rest) first.0 second)
-  runs-are-one opening n limit (line ∷ lines) more old mid new text rest first second = (
+  runs-are-one site [] more old mid new text rest first second =
+      subst (λ (t : List ℕ). Serves site more old new (t ++ rest)) (sym first.1) (subst (λ (p : Seen M). Serves site more p new rest) first.0 second)
+  runs-are-one site (line ∷ lines) more old mid new text rest first second = (
     first.0,
     first.1,
     first.2 ++ rest,
     first.3,
-    runs-are-one opening n limit lines more first.0 mid new first.2 rest first.4 second,
+    runs-are-one site lines more first.0 mid new first.2 rest first.4 second,
     ap (λ (t : List ℕ). t ++ rest) first.5 ∙ append_assoc first.1 first.2 rest,
   )

@@ -1,15 +1,16 @@
 -- What serving a session does, line by line (this project's profile).
-use Rattle.std.specs.Prelude.{◌≡◌, ◌≤◌, ◌<◌, ℕ, ◌+◌, Bool, true, false, is_err, List, [], ◌∷◌, ◌++◌, length, take, slice_index, if◌then◌else◌, Option, Some, None, Result, Ok, Err, ◌⊎◌}
+use Rattle.std.specs.Prelude.{◌≡◌, ◌≤◌, ◌<◌, ℕ, ◌+◌, Bool, true, false, is_err, List, [], ◌∷◌, ◌++◌, length, take, slice_get, slice_index, if◌then◌else◌, Option, Some, None, Result, Ok, Err, ⊤, ◌⊎◌}
 use Rattle.std.specs.Io.KnownBytes.{Appends}
 use Rattle.pfl_language.specs.declared.command.Command.{Command}
 use Rattle.pfl_session.specs.publish.Seats.{IsRead, IsOvertaken, OvertakenBefore, MakesTries}
 use Rattle.pfl_script.specs.timeline.Replies.{Reply}
 use Rattle.pfl_script.specs.timeline.Timelines.{Timeline}
+use Rattle.pfl_session.specs.declared.entry.Entry.{Entry}
 use Rattle.pfl_session.specs.Desks.{one_more_counted}
 use Rattle.pfl_session.specs.Passes.{Seen, seen_in, GoesOn, HasSeenItsCalls, HasSeenJournal, AddsOthers, AddsCall}
 use Rattle.pfl_script.specs.lines.declared.fault.LineFault.{LineFault}
 use Rattle.pfl_script.specs.lines.declared.session.SessionLine.{SessionLine}
-use Rattle.pfl_script.specs.lines.declared.session.SessionLine.TheVariants.{View, Ask}
+use Rattle.pfl_script.specs.lines.declared.session.SessionLine.TheVariants.{View, Setup, Follow, Ask}
 use Rattle.pfl_script.specs.lines.Session.{parsed_session}
 use Rattle.pfl_script.specs.Answers.{AreLines, AreFirst, Drains, one_if}
 use Rattle.pfl_script.specs.Replies.{reply_text, takes_memory}
@@ -17,7 +18,14 @@ use Rattle.pfl_script.specs.reader.Scans.{head_of, has_word, TakesLines}
 use Rattle.pfl_script.specs.Texts.{bad_text}
 use Rattle.pfl_script.specs.declared.fault.EngineFault.{EngineFault}
 use Rattle.pfl_script.specs.declared.fault.EngineFault.TheVariants as engine
-use Rattle.pfl_serve.specs.Texts.{view_text, overtaken_text, full_text}
+use Rattle.pfl_serve.specs.Texts.{first_told, following_text, followed_text, full_text, overtaken_text, told_text, view_text}
+
+-- what sessions are served over: the opening of their lab, how many there are, the most entries of its journal, and the lines that set the pair up
+pub record Site : Type 0 where
+  pub opening : Timeline
+  pub sessions : ℕ
+  pub limit : ℕ
+  pub setup : List ℕ
 
 -- what a line says to a session, or its fault; nothing, where it has no word or is a comment
 unfoldable pub said : List ℕ → Option (Result SessionLine LineFault)
@@ -32,6 +40,21 @@ is_fault (Some r) = is_err r
 abbrev pub bad_lines : List (List ℕ) → ℕ
 bad_lines [] = 0
 bad_lines (line ∷ lines) = one_if (is_fault (said line)) + bad_lines lines
+
+-- an entry that a session is shown, and how many entries there were then
+pub record Telling (M : Type 0) : Type 0 where
+  pub entry : Entry M
+  pub now : ℕ
+
+-- the lines of entries, which count on from this number
+abbrev pub told_lines : {M : Type 0} → ℕ → List (Telling M) → List ℕ
+told_lines n [] = []
+told_lines n (t ∷ ts) = told_text (n + 1) t.now t.entry.session t.entry.command ++ told_lines (n + 1) ts
+
+-- they are the entries of the journal after its first n, one after another; when each was shown there were `now` entries, it among them, and `low` at least
+abbrev pub AreTold : {M : Type 0} → ℕ → ℕ → List (Telling M) → List (Entry M) → Type 0
+AreTold low n [] js = ⊤
+AreTold low n (t ∷ ts) js = (slice_get js n ≡ Some t.entry) × (n < t.now) × (low ≤ t.now) × (t.now ≤ length js) × AreTold low (n + 1) ts js
 
 module _ {M : Type 0} where
   -- a revision was read, in at most three tries, and the text tells its words
@@ -71,9 +94,9 @@ module _ {M : Type 0} where
     pub half : new.half ≡ old.half
 
   -- the pass has asked, called or not: it goes on, what it has seen is a journal that keeps to its limit, and what it had seen has as many entries of its session as it had called
-  pub record HasAsked (opening : Timeline) (n limit : ℕ) (old new : Seen M) : Type 0 where
+  pub record HasAsked (site : Site) (old new : Seen M) : Type 0 where
     pub goes_on : GoesOn old new
-    pub journal : HasSeenJournal opening n limit new
+    pub journal : HasSeenJournal site.opening site.sessions site.limit new
     pub own : HasSeenItsCalls old
 
   -- the call's reply
@@ -83,44 +106,89 @@ module _ {M : Type 0} where
     pub told : text ≡ reply_text reply
 
   -- no call: the pass has seen a full journal
-  pub record TellsFull (limit : ℕ) (old new : Seen M) (text : List ℕ) : Type 0 where
+  pub record TellsFull (site : Site) (old new : Seen M) (text : List ℕ) : Type 0 where
     pub not_called : IsNotCalled old new
-    pub full : length (seen_in new) ≡ limit
+    pub full : length (seen_in new) ≡ site.limit
     pub told : text ≡ full_text
 
   -- the answer to a command
-  pub record IsReplied (opening : Timeline) (n limit : ℕ) (old new : Seen M) (command : Command) (text : List ℕ) : Type 0 where
-    pub asked : HasAsked opening n limit old new
-    pub told : TellsReply old new command text ⊎ TellsFull limit old new text
+  pub record IsReplied (site : Site) (old new : Seen M) (command : Command) (text : List ℕ) : Type 0 where
+    pub asked : HasAsked site old new
+    pub told : TellsReply old new command text ⊎ TellsFull site old new text
 
   -- no answer to a command, for want of memory: it was called and its reply takes memory, or the journal has room
-  pub record IsUnanswered (opening : Timeline) (n limit : ℕ) (old new : Seen M) (command : Command) : Type 0 where
-    pub asked : HasAsked opening n limit old new
-    pub done : ((reply : Reply) × IsCalled old new command reply × (takes_memory reply ≡ true)) ⊎ (IsNotCalled old new × (length (seen_in new) < limit))
+  pub record IsUnanswered (site : Site) (old new : Seen M) (command : Command) : Type 0 where
+    pub asked : HasAsked site old new
+    pub done : ((reply : Reply) × IsCalled old new command reply × (takes_memory reply ≡ true)) ⊎ (IsNotCalled old new × (length (seen_in new) < site.limit))
+
+  -- the entries after the first n were shown, up to the one of number m, and meanwhile the pass saw calls of other sessions alone
+  pub record IsTold (site : Site) (low n m : ℕ) (old new : Seen M) (text : List ℕ) : Type 0 where
+    pub asked : HasAsked site old new
+    pub not_called : IsNotCalled old new
+    pub tellings : List (Telling M)
+    pub are : AreTold low n tellings (seen_in new)
+    pub number : m ≡ n + length tellings
+    pub told : text ≡ told_lines n tellings
+
+  -- the session follows the journal, from the entry that it asked for on, where there is one, and else from the end: it has been shown the entries up to number m; the pass looked once it was asked, and there were `start` of them
+  pub record Follows (site : Site) (k : Option ℕ) (start m : ℕ) (old new : Seen M) (text : List ℕ) : Type 0 where
+    pub since : length (seen_in old) ≤ start
+    pub within : start ≤ length (seen_in new)
+    pub looked : (later : List ℕ) × (new.viewer.loads ≡ old.viewer.loads ++ start ∷ later)
+    pub lines : List ℕ
+    pub tells : IsTold site start (first_told k start) m old new lines
+    pub told : text ≡ following_text (first_told k start) ++ lines
+
+  -- the answer to `follow`: all entries that there were when the pass looked first were shown at least
+  pub record IsFollowed (site : Site) (k : Option ℕ) (old new : Seen M) (text : List ℕ) : Type 0 where
+    pub start : ℕ
+    pub number : ℕ
+    pub first : List ℕ
+    pub follows : Follows site k start number old new first
+    pub all : start ≤ number
+    pub told : text ≡ first ++ followed_text number
+
+  -- an answer to `follow` without its last line
+  pub record IsFollowing (site : Site) (k : Option ℕ) (old new : Seen M) (text : List ℕ) : Type 0 where
+    pub start : ℕ
+    pub number : ℕ
+    pub follows : Follows site k start number old new text
 
   -- the answer to what a line says
-  abbrev pub IsAnswer : Timeline → ℕ → ℕ → Option (Result SessionLine LineFault) → Seen M → Seen M → List ℕ → Type 0
-  IsAnswer opening n limit None old new text = (new ≡ old) × (text ≡ [])
-  IsAnswer opening n limit (Some (Err fault)) old new text = (new ≡ old) × (text ≡ bad_text fault)
-  IsAnswer opening n limit (Some (Ok View)) old new text = IsViewed old new text
-  IsAnswer opening n limit (Some (Ok (Ask command))) old new text = IsReplied opening n limit old new command text
+  abbrev pub IsAnswer : Site → Option (Result SessionLine LineFault) → Seen M → Seen M → List ℕ → Type 0
+  IsAnswer site None old new text = (new ≡ old) × (text ≡ [])
+  IsAnswer site (Some (Err fault)) old new text = (new ≡ old) × (text ≡ bad_text fault)
+  IsAnswer site (Some (Ok View)) old new text = IsViewed old new text
+  IsAnswer site (Some (Ok Setup)) old new text = (new ≡ old) × (text ≡ site.setup)
+  IsAnswer site (Some (Ok (Follow k))) old new text = IsFollowed site k old new text
+  IsAnswer site (Some (Ok (Ask command))) old new text = IsReplied site old new command text
+
+  -- an answer of which a first part is written: one to `follow` may lack its last line
+  abbrev pub IsBegun : Site → Option (Result SessionLine LineFault) → Seen M → Seen M → List ℕ → Type 0
+  IsBegun site (Some (Ok (Follow k))) old new text = IsFollowing site k old new text ⊎ IsFollowed site k old new text
+  IsBegun site what old new text = IsAnswer site what old new text
+
+  -- what was written where memory was wanting for the answer: nothing of a reply; of an answer to `follow` the lines before the one that wanted it
+  abbrev pub Lacks : Site → Option (Result SessionLine LineFault) → Seen M → Seen M → List ℕ → Type 0
+  Lacks site (Some (Ok (Ask command))) old new text = IsUnanswered site old new command × (text ≡ [])
+  Lacks site (Some (Ok (Follow k))) old new text = IsFollowing site k old new text
+  Lacks site what old new text = ⊥
 
   -- the answers to lines, one after another
-  abbrev pub Serves : Timeline → ℕ → ℕ → List (List ℕ) → Seen M → Seen M → List ℕ → Type 0
-  Serves opening n limit [] old new text = (new ≡ old) × (text ≡ [])
-  Serves opening n limit (line ∷ lines) old new text =
-      (mid : Seen M) × (first : List ℕ) × (rest : List ℕ) × IsAnswer opening n limit (said line) old mid first
-      × Serves opening n limit lines mid new rest × (text ≡ first ++ rest)
+  abbrev pub Serves : Site → List (List ℕ) → Seen M → Seen M → List ℕ → Type 0
+  Serves site [] old new text = (new ≡ old) × (text ≡ [])
+  Serves site (line ∷ lines) old new text =
+      (mid : Seen M) × (first : List ℕ) × (rest : List ℕ) × IsAnswer site (said line) old mid first
+      × Serves site lines mid new rest × (text ≡ first ++ rest)
 
-  -- a lab of n sessions, whose journal has at most so many entries
-  module _ (opening : Timeline) (n limit : ℕ) where
+  module _ (site : Site) where
     -- all lines were answered, the whole text was written, and they were counted
     pub record ServesWhole (left rest : Option (List ℕ)) (old new : Seen M) (w v : Option (List ℕ)) (count bad : ℕ) : Type 0 where
       pub lines : List (List ℕ)
       pub all : AreLines left lines
       pub end : Drains left rest
       pub text : List ℕ
-      pub serves : Serves opening n limit lines old new text
+      pub serves : Serves site lines old new text
       pub written : Appends w v text
       pub counted : count ≡ length lines
       pub faulty : bad ≡ bad_lines lines
@@ -130,7 +198,7 @@ module _ {M : Type 0} where
       pub lines : List (List ℕ)
       pub first : AreFirst left lines
       pub text : List ℕ
-      pub serves : Serves opening n limit lines old new text
+      pub serves : Serves site lines old new text
       pub written : Appends w v text
 
     -- first lines were answered, and their whole text was written, but of the last one's only a part
@@ -140,24 +208,23 @@ module _ {M : Type 0} where
       pub taken : TakesLines left rest (lines ++ last ∷ [])
       pub mid : Seen M
       pub text : List ℕ
-      pub serves : Serves opening n limit lines old mid text
+      pub serves : Serves site lines old mid text
       pub answer : List ℕ
-      pub answers : IsAnswer opening n limit (said last) mid new answer
+      pub answers : IsBegun site (said last) mid new answer
       pub part : ℕ
       pub written : Appends w v (text ++ take part answer)
 
-    -- first lines were answered and their whole text was written, but for the last one, a command that has no answer for want of memory
+    -- first lines were answered and their whole text was written, but for the last one, whose answer wanted memory
     pub record ServesUnanswered (left rest : Option (List ℕ)) (old new : Seen M) (w v : Option (List ℕ)) : Type 0 where
       pub lines : List (List ℕ)
       pub last : List ℕ
       pub taken : TakesLines left rest (lines ++ last ∷ [])
       pub mid : Seen M
       pub text : List ℕ
-      pub serves : Serves opening n limit lines old mid text
-      pub command : Command
-      pub asks : said last ≡ Some (Ok (Ask command))
-      pub unanswered : IsUnanswered opening n limit mid new command
-      pub written : Appends w v text
+      pub serves : Serves site lines old mid text
+      pub answer : List ℕ
+      pub lacks : Lacks site (said last) mid new answer
+      pub written : Appends w v (text ++ answer)
 
     -- what was done before this fault
     abbrev pub ServesUntil : EngineFault → Option (List ℕ) → Option (List ℕ) → Seen M → Seen M → Option (List ℕ) → Option (List ℕ) → Type 0

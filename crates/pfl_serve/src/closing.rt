@@ -7,7 +7,8 @@ ghost use Rattle.pfl_serve.specs.Services.{ended_seat, pass_of, IsService};
 
 use crate::gate::Gate;
 use crate::seat::{Seat, ServeFault, Served};
-use crate::threads::{list_for, serve_all};
+use crate::service::Service;
+use crate::threads::list_for;
 use pfl_base::{Input, Output};
 use pfl_script::{Ended, EngineFault, LineReader};
 use pfl_session::{Closed, Lab, Pass, Which};
@@ -23,9 +24,9 @@ pub struct EndedSeat<I: Input, O: Output> {
     pub result: Result<Ended, EngineFault>,
 }
 
-/// What a service leaves: the lab, closed, and what is left of each seat, in its place.
+/// What is left when all sessions have been served: the lab, closed, and what is left of each seat, in its place.
 #[derive(Drop)]
-pub struct Service<A: Allocator, I: Input, O: Output> {
+pub struct Closing<A: Allocator, I: Input, O: Output> {
     pub closed: Closed<A>,
     pub ended: Vec<EndedSeat<I, O>, A>,
 }
@@ -58,32 +59,30 @@ fn take_passes<A: Allocator, I: Input + Drop, O: Output + Drop>(
     (passes, ended)
 }
 
-/// Serves all seats at the same time, one thread each, and closes the lab with their passes when each session has ended. Where
-/// there is no memory for the lists, no session begins; where there is no thread for one of them, those that began have ended.
-/// The lab is then gone, and so are the seats.
-pub fn serve_and_close<
-    J: Which + Send + Sync,
-    A: Allocator + Copy + Send + Sync,
-    I: Input + Send + Drop,
-    O: Output + Send + Drop,
-    G: Gate + Sync,
-    R: Threads + Wait + Sync,
->(
-    rt: &R,
-    alloc: A,
-    lab: Lab<J, A>,
-    seats: Vec<Seat<A, I, O>, A>,
-    gate: &G,
-) -> Result<Service<A, I, O>, ServeFault>
-    requires lab { AllByRecursion (λ s. IsPassOf J.publisher J.tallies s.pass) seats.items }
-    ensures service { IfOk result (λ s. IsService J.Which O.Output seats.items s.closed.timeline s.closed.journal.items s.ended.items) }
-{
-    let passes = list_for(alloc, seats.len())?;
-    let ended = list_for(alloc, seats.len())?;
-    let served = serve_all(rt, alloc, &lab, seats, gate)?;
-    let (passes, ended) = take_passes(served, passes, ended);
-    Ok(Service {
-        closed: lab.close(passes),
-        ended,
-    })
+impl<A: Allocator + Copy + Send + Sync, G: Gate + Sync, R: Threads + Wait + Sync> Service<
+    '_,
+    A,
+    G,
+    R,
+> {
+    /// Serves all seats at the same time, one thread each, and closes the lab with their passes when each session has ended. Where
+    /// there is no memory for the lists, no session begins; where there is no thread for one of them, those that began have ended.
+    /// The lab is then gone, and so are the seats.
+    pub fn serve_and_close<J: Which + Send + Sync, I: Input + Send + Drop, O: Output + Send + Drop>(
+        &self,
+        lab: Lab<J, A>,
+        seats: Vec<Seat<A, I, O>, A>,
+    ) -> Result<Closing<A, I, O>, ServeFault>
+        requires lab { AllByRecursion (λ s. IsPassOf J.publisher J.tallies s.pass) seats.items }
+        ensures service { IfOk result (λ s. IsService J.Which O.Output seats.items s.closed.timeline s.closed.journal.items s.ended.items) }
+    {
+        let passes = list_for(self.alloc, seats.len())?;
+        let ended = list_for(self.alloc, seats.len())?;
+        let served = self.serve_all(&lab, seats)?;
+        let (passes, ended) = take_passes(served, passes, ended);
+        Ok(Closing {
+            closed: lab.close(passes),
+            ended,
+        })
+    }
 }

@@ -10,6 +10,12 @@ pub trait Gate {
     /// After the answer to its nth call was written.
     fn leave<R: Wait>(&self, rt: &R, session: u32, nth: u64);
 
+    /// Whether the session's next line has come, or its end, while it follows the journal. It may wait for that a short while. A gate
+    /// that knows nothing of lines takes it that each has come.
+    fn hears<R: Wait>(&self, _rt: &R, _session: u32) -> bool {
+        true
+    }
+
     /// After the session has ended, whose writer then gets nothing more.
     fn end<R: Wait>(&self, rt: &R, session: u32);
 }

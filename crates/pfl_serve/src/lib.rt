@@ -1,22 +1,22 @@
 //! Sessions that are served by lines, over any readers and writers.
 //!
-//! A session reads commands as a run of lines does, and is answered alike; beside that it may ask for a `view`, which waits for
-//! nobody. Several sessions are served at the same time, one thread each.
+//! A session reads commands as a run of lines does, and is answered alike. Beside that it may ask for a `view`, which waits for
+//! nobody, for the lines of the `setup`, and to `follow` the journal. Several sessions are served at the same time, one thread each.
 #![tactic(auto)]
 
-mod answer;
 mod closing;
+mod following;
 mod gate;
 mod laws;
 mod seat;
-mod session;
+mod service;
+mod serving;
 mod texts;
 mod threads;
 
-pub use closing::{EndedSeat, Service, serve_and_close};
+pub use closing::{Closing, EndedSeat};
 pub use gate::{Gate, Open};
 pub use laws::sessions_are_told_their_calls;
 pub use pfl_session::{Closed, Entry, Lab, LabFault, Opened, Pass, Which};
 pub use seat::{Seat, ServeFault, Served};
-pub use session::serve_session;
-pub use threads::serve_all;
+pub use service::Service;

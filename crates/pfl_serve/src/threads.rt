@@ -9,7 +9,8 @@ ghost use Rattle.pfl_serve.specs.inner.Promises.{seats_of};
 
 use crate::gate::Gate;
 use crate::seat::{Seat, ServeFault, Served};
-use crate::session::serve_session;
+use crate::service::Service;
+use crate::serving::Serving;
 use pfl_base::{Input, Output};
 use pfl_session::{Lab, Which};
 use std::alloc::Allocator;
@@ -31,30 +32,6 @@ impl<J: Which, A: Allocator, I: Input, O: Output> Promise<Served<A, I, O>>
     ghost kept_by = { λ p served. IsServed J.Which O.Output p.seat.value served };
 }
 
-/// Serves one seat, and tells the gate that its session has ended.
-fn serve_seat<J: Which, A: Allocator + Copy, I: Input, O: Output, G: Gate, R: Wait>(
-    rt: &R,
-    alloc: A,
-    lab: &Lab<J, A>,
-    mut seat: Seat<A, I, O>,
-    gate: &G,
-) -> Served<A, I, O>
-    requires lab { IsPassOf J.publisher J.tallies seat.pass }
-    ensures { IsServed J.Which O.Output seat result }
-{
-    let result = serve_session(
-        rt,
-        alloc,
-        lab,
-        &mut seat.pass,
-        &mut seat.reader,
-        &mut seat.writer,
-        gate,
-    );
-    gate.end(rt, seat.pass.session());
-    Served { seat, result }
-}
-
 /// The threads of the sessions that have begun.
 #[derive(Drop)]
 struct Started<J: Which, A: Allocator, I: Input, O: Output> {
@@ -63,79 +40,11 @@ struct Started<J: Which, A: Allocator, I: Input, O: Output> {
     refused: bool,
 }
 
-/// Starts a thread for one seat. Where there is none the gate is told that the session has ended, so that no other waits for it.
-fn start<
-    's,
-    E,
-    J: Which + Send + Sync + 's,
-    A: Allocator + Copy + Send + Sync + 's,
-    I: Input + Send + Drop + 's,
-    O: Output + Send + Drop + 's,
-    G: Gate + Sync,
-    R: Threads + Wait + Sync,
->(
-    scope: &Scope<'s, E>,
-    rt: &'s R,
-    alloc: A,
-    lab: &'s Lab<J, A>,
-    seat: Seat<A, I, O>,
-    gate: &'s G,
-) -> Option<PromisedHandle<Served<A, I, O>, ServedFrom<J, A, I, O>>>
-    requires lab { IsPassOf J.publisher J.tallies seat.pass }
-    ensures promise { IfSome result (λ h. h.promise.seat.value ≡ seat) }
-{
-    let session = seat.pass.session();
-    let promise = ServedFrom {
-        seat: Snapshot::of(&seat),
-        of: PhantomData,
-    };
-    match scope.spawn_with(promise, move || serve_seat(rt, alloc, lab, seat, gate)) {
-        Ok(handle) => Some(handle),
-        Err(_) => {
-            gate.end(rt, session);
-            None
-        }
-    }
-}
-
-/// Starts a thread for each seat, as long as there are threads.
-fn start_all<
-    's,
-    E,
-    J: Which + Send + Sync + 's,
-    A: Allocator + Copy + Send + Sync + 's,
-    I: Input + Send + Drop + 's,
-    O: Output + Send + Drop + 's,
-    G: Gate + Sync,
-    R: Threads + Wait + Sync,
->(
-    scope: &Scope<'s, E>,
-    rt: &'s R,
-    alloc: A,
-    lab: &'s Lab<J, A>,
-    seats: Vec<Seat<A, I, O>, A>,
-    gate: &'s G,
-    mut handles: Vec<PromisedHandle<Served<A, I, O>, ServedFrom<J, A, I, O>>, A>,
-) -> Started<J, A, I, O>
-    requires lab { AllByRecursion (λ s. IsPassOf J.publisher J.tallies s.pass) seats.items }
-    requires none { handles.items ≡ [] }
-    requires room { vec_len seats ≤ vec_capacity handles }
-    ensures started { IsTrue result.refused ⊎ (seats_of result.handles.items ≡ seats.items) }
-    ensures refused { IsTrue result.refused → vec_len result.handles < vec_len seats }
-    ensures few { vec_len result.handles ≤ vec_len seats }
-{
-    let mut refused = false;
-    for seat in seats {
-        if refused {
-            gate.end(rt, seat.pass.session());
-            continue;
-        }
-        match start(scope, rt, alloc, lab, seat, gate) {
-            Some(handle) => handles.push_reserved(handle),
-            None => refused = true,
-        }
-    }
-    Started { handles, refused }
+/// Lists that have room for the threads of some seats, and for what these served.
+#[derive(Drop)]
+struct Lists<J: Which, A: Allocator, I: Input, O: Output> {
+    handles: Vec<PromisedHandle<Served<A, I, O>, ServedFrom<J, A, I, O>>, A>,
+    all: Vec<Served<A, I, O>, A>,
 }
 
 /// Joins all threads, into a list that has room for what they served.
@@ -154,76 +63,126 @@ fn join_all<J: Which, A: Allocator, I: Input + Drop, O: Output + Drop, R: Thread
     all
 }
 
-/// Serves all seats in threads of a scope, with lists of threads and of results that have room for them.
-fn serve_within<
-    's,
-    E,
-    J: Which + Send + Sync + 's,
-    A: Allocator + Copy + Send + Sync + 's,
-    I: Input + Send + Drop + 's,
-    O: Output + Send + Drop + 's,
-    G: Gate + Sync,
-    R: Threads + Wait + Sync,
->(
-    scope: &Scope<'s, E>,
-    rt: &'s R,
-    alloc: A,
-    lab: &'s Lab<J, A>,
-    seats: Vec<Seat<A, I, O>, A>,
-    gate: &'s G,
-    handles: Vec<PromisedHandle<Served<A, I, O>, ServedFrom<J, A, I, O>>, A>,
-    all: Vec<Served<A, I, O>, A>,
-) -> Result<Vec<Served<A, I, O>, A>, ServeFault>
-    requires lab { AllByRecursion (λ s. IsPassOf J.publisher J.tallies s.pass) seats.items }
-    requires none { (handles.items ≡ []) × (all.items ≡ []) }
-    requires room { (vec_len seats ≤ vec_capacity handles) × (vec_len seats ≤ vec_capacity all) }
-    ensures served { IfOk result (λ all. AreServed J.Which O.Output seats.items all.items) }
-    ensures refused { IfErr result (λ why. why ≡ fault.NoThread) }
+/// Serves one seat, and has the gate know that its session has ended.
+fn serve_seat<J: Which, A: Allocator + Copy, I: Input, O: Output, G: Gate, R: Wait>(
+    serving: &Serving<'_, J, A, A, G, R>,
+    mut seat: Seat<A, I, O>,
+) -> Served<A, I, O>
+    requires lab { IsPassOf J.publisher J.tallies seat.pass }
+    ensures { IsServed J.Which O.Output seat result }
 {
-    let started = start_all(scope, rt, alloc, lab, seats, gate, handles);
-    let all = join_all(rt, started.handles, all);
-    if started.refused {
-        Err(ServeFault::NoThread)
-    } else {
-        Ok(all)
-    }
+    let result = serving.serve(&mut seat);
+    serving
+        .service
+        .gate
+        .end(serving.service.rt, seat.pass.session());
+    Served { seat, result }
 }
 
-/// Serves all seats in threads of a new scope, with lists that have room for them.
-fn serve_in_threads<
-    'a,
-    J: Which + Send + Sync + 'a,
-    A: Allocator + Copy + Send + Sync + 'a,
-    I: Input + Send + Drop + 'a,
-    O: Output + Send + Drop + 'a,
+impl<
+    J: Which + Send + Sync,
+    A: Allocator + Copy + Send + Sync,
     G: Gate + Sync,
     R: Threads + Wait + Sync,
->(
-    rt: &'a R,
-    alloc: A,
-    lab: &'a Lab<J, A>,
-    seats: Vec<Seat<A, I, O>, A>,
-    gate: &'a G,
-    handles: Vec<PromisedHandle<Served<A, I, O>, ServedFrom<J, A, I, O>>, A>,
-    all: Vec<Served<A, I, O>, A>,
-) -> Result<Vec<Served<A, I, O>, A>, ServeFault>
-    requires lab { AllByRecursion (λ s. IsPassOf J.publisher J.tallies s.pass) seats.items }
-    requires none { (handles.items ≡ []) × (all.items ≡ []) }
-    requires room { (vec_len seats ≤ vec_capacity handles) × (vec_len seats ≤ vec_capacity all) }
-    ensures served { IfOk result (λ all. AreServed J.Which O.Output seats.items all.items) }
-    ensures refused { IfErr result (λ why. why ≡ fault.NoThread) }
-{
-    thread::scope(
-        thread::scope_env(),
-        rt,
-        move |scope| -> Result<Vec<Served<A, I, O>, A>, ServeFault>
-            requires lab { AllByRecursion (λ s. IsPassOf J.publisher J.tallies s.pass) seats.items }
-            requires none { (handles.items ≡ []) × (all.items ≡ []) }
-            requires room { (vec_len seats ≤ vec_capacity handles) × (vec_len seats ≤ vec_capacity all) }
-            ensures served { IfOk result (λ all. AreServed J.Which O.Output seats.items all.items) }
-            ensures refused { IfErr result (λ why. why ≡ fault.NoThread) }
-        { serve_within(scope, rt, alloc, lab, seats, gate, handles, all) },
-    )
+> Serving<'_, J, A, A, G, R> {
+    /// Starts a thread for one seat. Where there is none the gate knows that the session has ended, so that no other waits for it.
+    fn start<'s, E, I: Input + Send + Drop + 's, O: Output + Send + Drop + 's>(
+        &'s self,
+        scope: &Scope<'s, E>,
+        seat: Seat<A, I, O>,
+    ) -> Option<PromisedHandle<Served<A, I, O>, ServedFrom<J, A, I, O>>>
+        requires lab { IsPassOf J.publisher J.tallies seat.pass }
+        ensures promise { IfSome result (λ h. h.promise.seat.value ≡ seat) }
+    {
+        let session = seat.pass.session();
+        let promise = ServedFrom {
+            seat: Snapshot::of(&seat),
+            of: PhantomData,
+        };
+        match scope.spawn_with(promise, move || serve_seat(self, seat)) {
+            Ok(handle) => Some(handle),
+            Err(_) => {
+                self.service.gate.end(self.service.rt, session);
+                None
+            }
+        }
+    }
+
+    /// Starts a thread for each seat, as long as there are threads.
+    fn start_all<'s, E, I: Input + Send + Drop + 's, O: Output + Send + Drop + 's>(
+        &'s self,
+        scope: &Scope<'s, E>,
+        seats: Vec<Seat<A, I, O>, A>,
+        mut handles: Vec<PromisedHandle<Served<A, I, O>, ServedFrom<J, A, I, O>>, A>,
+    ) -> Started<J, A, I, O>
+        requires lab { AllByRecursion (λ s. IsPassOf J.publisher J.tallies s.pass) seats.items }
+        requires none { handles.items ≡ [] }
+        requires room { vec_len seats ≤ vec_capacity handles }
+        ensures started { IsTrue result.refused ⊎ (seats_of result.handles.items ≡ seats.items) }
+        ensures refused { IsTrue result.refused → vec_len result.handles < vec_len seats }
+        ensures few { vec_len result.handles ≤ vec_len seats }
+    {
+        let mut refused = false;
+        for seat in seats {
+            if refused {
+                self.service.gate.end(self.service.rt, seat.pass.session());
+                continue;
+            }
+            match self.start(scope, seat) {
+                Some(handle) => handles.push_reserved(handle),
+                None => refused = true,
+            }
+        }
+        Started { handles, refused }
+    }
+
+    /// Serves all seats in threads of a scope, with lists that have room for them.
+    fn serve_within<'s, E, I: Input + Send + Drop + 's, O: Output + Send + Drop + 's>(
+        &'s self,
+        scope: &Scope<'s, E>,
+        seats: Vec<Seat<A, I, O>, A>,
+        lists: Lists<J, A, I, O>,
+    ) -> Result<Vec<Served<A, I, O>, A>, ServeFault>
+        requires lab { AllByRecursion (λ s. IsPassOf J.publisher J.tallies s.pass) seats.items }
+        requires none { (lists.handles.items ≡ []) × (lists.all.items ≡ []) }
+        requires room { (vec_len seats ≤ vec_capacity lists.handles) × (vec_len seats ≤ vec_capacity lists.all) }
+        ensures served { IfOk result (λ all. AreServed J.Which O.Output seats.items all.items) }
+        ensures refused { IfErr result (λ why. why ≡ fault.NoThread) }
+    {
+        let Lists { handles, all } = lists;
+        let started = self.start_all(scope, seats, handles);
+        let all = join_all(self.service.rt, started.handles, all);
+        if started.refused {
+            Err(ServeFault::NoThread)
+        } else {
+            Ok(all)
+        }
+    }
+
+    /// Serves all seats in threads of a new scope, with lists that have room for them.
+    fn serve_in_threads<'s, I: Input + Send + Drop + 's, O: Output + Send + Drop + 's>(
+        &'s self,
+        seats: Vec<Seat<A, I, O>, A>,
+        lists: Lists<J, A, I, O>,
+    ) -> Result<Vec<Served<A, I, O>, A>, ServeFault>
+        requires lab { AllByRecursion (λ s. IsPassOf J.publisher J.tallies s.pass) seats.items }
+        requires none { (lists.handles.items ≡ []) × (lists.all.items ≡ []) }
+        requires room { (vec_len seats ≤ vec_capacity lists.handles) × (vec_len seats ≤ vec_capacity lists.all) }
+        ensures served { IfOk result (λ all. AreServed J.Which O.Output seats.items all.items) }
+        ensures refused { IfErr result (λ why. why ≡ fault.NoThread) }
+    {
+        thread::scope(
+            thread::scope_env(),
+            self.service.rt,
+            move |scope| -> Result<Vec<Served<A, I, O>, A>, ServeFault>
+                requires lab { AllByRecursion (λ s. IsPassOf J.publisher J.tallies s.pass) seats.items }
+                requires none { (lists.handles.items ≡ []) × (lists.all.items ≡ []) }
+                requires room { (vec_len seats ≤ vec_capacity lists.handles) × (vec_len seats ≤ vec_capacity lists.all) }
+                ensures served { IfOk result (λ all. AreServed J.Which O.Output seats.items all.items) }
+                ensures refused { IfErr result (λ why. why ≡ fault.NoThread) }
+            { self.serve_within(scope, seats, lists) },
+        )
+    }
 }
 
 /// An empty list with room for `count` elements.
@@ -238,26 +197,27 @@ pub(crate) fn list_for<T, A: Allocator>(alloc: A, count: usize) -> Result<Vec<T,
     }
 }
 
-/// Serves all seats at the same time, one thread each, and answers when each session has ended: the seats in the same order, with
-/// how their sessions ended. Where there is no thread for one of them, or no memory for the lists, no seat comes back.
-pub fn serve_all<
-    J: Which + Send + Sync,
-    A: Allocator + Copy + Send + Sync,
-    I: Input + Send + Drop,
-    O: Output + Send + Drop,
-    G: Gate + Sync,
-    R: Threads + Wait + Sync,
->(
-    rt: &R,
-    alloc: A,
-    lab: &Lab<J, A>,
-    seats: Vec<Seat<A, I, O>, A>,
-    gate: &G,
-) -> Result<Vec<Served<A, I, O>, A>, ServeFault>
-    requires lab { AllByRecursion (λ s. IsPassOf J.publisher J.tallies s.pass) seats.items }
-    ensures served { IfOk result (λ all. AreServed J.Which O.Output seats.items all.items) }
-{
-    let handles = list_for(alloc, seats.len())?;
-    let all = list_for(alloc, seats.len())?;
-    serve_in_threads(rt, alloc, lab, seats, gate, handles, all)
+impl<A: Allocator + Copy + Send + Sync, G: Gate + Sync, R: Threads + Wait + Sync> Service<
+    '_,
+    A,
+    G,
+    R,
+> {
+    /// Serves all seats of a lab at the same time, one thread each, and answers when each session has ended: the seats in the same
+    /// order, with how their sessions ended. Where there is no thread for one of them, or no memory for the lists, no seat comes back.
+    pub fn serve_all<J: Which + Send + Sync, I: Input + Send + Drop, O: Output + Send + Drop>(
+        &self,
+        lab: &Lab<J, A>,
+        seats: Vec<Seat<A, I, O>, A>,
+    ) -> Result<Vec<Served<A, I, O>, A>, ServeFault>
+        requires lab { AllByRecursion (λ s. IsPassOf J.publisher J.tallies s.pass) seats.items }
+        ensures served { IfOk result (λ all. AreServed J.Which O.Output seats.items all.items) }
+    {
+        let lists = Lists {
+            handles: list_for(self.alloc, seats.len())?,
+            all: list_for(self.alloc, seats.len())?,
+        };
+        let serving = Serving { service: self, lab };
+        serving.serve_in_threads(seats, lists)
+    }
 }

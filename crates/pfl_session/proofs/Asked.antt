@@ -36,6 +36,9 @@ module _ {M : Type 0} where
     pub met-journal : HasSeenJournal opening n limit met
     met-journal = seen-journal opening n limit js met is.seen is.journal
 
+    pub met-seen : seen_in met ≡ js
+    met-seen = seen-is opening js met is.seen
+
     pub met-length : length (seen_in met) ≡ length js
     met-length = ap (λ (l : List (Entry M)). length l) (seen-is opening js met is.seen)
 

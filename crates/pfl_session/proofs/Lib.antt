@@ -1,11 +1,14 @@
 pub mod Asked
 pub mod Falling
 pub mod Growth
+pub mod KeptEntries
 pub mod Listed
+pub mod LongWords
 pub mod Looks
 pub mod Replays
 pub mod Seatings
 pub mod Shown
 pub mod Sums
 pub mod Telling
+pub mod Worked
 pub mod ForCallers

@@ -13,7 +13,7 @@ use Rattle.pfl_timeline.specs.world.Events.{step}
 use Rattle.pfl_timeline.specs.world.Runs.{run}
 use Rattle.pfl_timeline.specs.world.Worlds.{World}
 use Rattle.pfl_timeline.specs.reasons.Frames.{traced}
-use Rattle.pfl_timeline.specs.Commands.{replied, reply_unless, with_branch, with_changed, undone, at_cursor, step_answered, step_reply, back_reply, forward_reply, first_events, fork_refusal, fork_reply, drop_reply, show_reply, past_reply, event_at, explanation, why_answer, why_reply, why_step_reply, frame_reply, excise_reply, restore_reply, step_command, back_command, forward_command, fork_command, drop_command, show_command, past_command, why_command, why_step_command, frame_command, excise_command, restore_command, log_reply, log_command, names_command, command_step}
+use Rattle.pfl_timeline.specs.Commands.{replied, reply_unless, with_branch, with_changed, undone, at_cursor, step_answered, step_reply, back_reply, forward_reply, first_events, fork_refusal, fork_reply, drop_reply, show_reply, past_reply, event_at, explanation, why_reply, why_step_reply, frame_reply, excise_reply, restore_reply, step_command, back_command, forward_command, fork_command, drop_command, show_command, past_command, why_command, why_step_command, frame_command, excise_command, restore_command, log_reply, log_command, names_command, command_step}
 use Rattle.pfl_timeline.specs.Excisions.{has_event, excised, fallen_places, restored}
 use Rattle.pfl_timeline.specs.Replies.{Reply, Replied, Forked, Removed, Shown, Excised, Restored, Traced, Refused as Refusing}
 use Rattle.pfl_timeline.specs.Rooted.{Rooted}

@@ -19,18 +19,25 @@ table_prop = Coded-set table_id_coded
 pub tables_prop : (a b : List TableId) → IsProp (a ≡ b)
 tables_prop = Coded-set (coded_list table_id_coded)
 
--- a lab that has no name yet: its publisher, the count of each session, its opening, and the most entries of its journal
+-- equations of texts are facts
+pub text_prop : (a b : List ℕ) → IsProp (a ≡ b)
+text_prop = Coded-set (coded_list coded_ℕ)
+
+-- a lab that has no name yet: its publisher, the count of each session, its opening, the lines that set that up, and the most entries of its journal
 pub record Setup : Type 0 where
   pub publisher : TableId
   pub tallies : List TableId
   pub opening : Timeline
+  pub setup : List ℕ
   pub limit : ℕ
 
--- as its four fields
+-- as its five fields
 abbrev pub coded_setup : Coded Setup
 coded_setup =
-    code_by (TableId × (List TableId × (Timeline × ℕ))) (coded× table_id_coded (coded× (coded_list table_id_coded) (coded× coded_timeline coded_ℕ)))
-    (λ s. (s.publisher, (s.tallies, (s.opening, s.limit)))) (λ p. record { publisher = p.0; tallies = p.1.0; opening = p.1.1.0; limit = p.1.1.1 }) (λ _. refl)
+    code_by (TableId × (List TableId × (Timeline × (List ℕ × ℕ))))
+    (coded× table_id_coded (coded× (coded_list table_id_coded) (coded× coded_timeline (coded× (coded_list coded_ℕ) coded_ℕ))))
+    (λ s. (s.publisher, (s.tallies, (s.opening, (s.setup, s.limit)))))
+    (λ p. record { publisher = p.0; tallies = p.1.0; opening = p.1.1.0; setup = p.1.1.1.0; limit = p.1.1.1.1 }) (λ _. refl)
 
 -- why there is no such lab, unless memory is wanting
 abbrev pub lab_fault : ℕ → ℕ → Option LabFault

@@ -2,9 +2,11 @@ pub mod Totals
 pub mod Journals
 pub mod Listings
 pub mod Passes
+pub mod Made
 pub mod Desks
 pub mod Labs
 pub mod Laws
+pub mod inner
 pub use Rattle.pfl_edits.specs as edits
 pub use Rattle.pfl_publish.specs as publish
 pub use Rattle.pfl_timeline.specs.queue as queue

@@ -8,12 +8,15 @@ ghost use Rattle.pfl_timeline.specs.Replies.{reply_of};
 ghost use Rattle.pfl_session.specs.Totals.{HasFewEvents};
 ghost use Rattle.pfl_session.specs.Journals.{after_entry, replay, IsJournal, revisions_of, count_of};
 ghost use Rattle.pfl_session.specs.Passes.{seen_in, IsPassOf, GoesOn, HasSeenJournal, AddsOthers, AddsCall, IsAskFault};
+ghost use Rattle.pfl_session.specs.Made.{made_after};
 ghost use Rattle.pfl_session.specs.Desks.{one_more_counted, HasMet, IsEntered};
 ghost use Rattle.pfl_session.specs.Labs.{HasSeenOwn, IsClosed};
 
-use crate::entry::{Closed, Entry};
+use crate::entry::Closed;
 use crate::execution::execute;
 use crate::fault::AskFault;
+use crate::kept::KeptEntry;
+use crate::made::{Made, Next};
 use crate::mark::{Called, Mark};
 use crate::pass::Pass;
 use crate::revision::revision_of;
@@ -30,7 +33,7 @@ use std::marker::{Model, PhantomData};
 #[derive(Drop)]
 pub(crate) struct Desk<J: Which, A: Allocator> {
     pub(crate) timeline: Timeline<A>,
-    pub(crate) journal: Vec<Entry<A>, A>,
+    pub(crate) journal: Vec<KeptEntry<A>, A>,
     pub(crate) limit: usize,
     pub(crate) halves: Vec<Half, A>,
     pub(crate) writer: Option<WriterSeat<Mark<A>>>,
@@ -43,6 +46,7 @@ impl<J: Which, A: Allocator> Model for Desk<J, A> {
     ghost use Rattle.pfl_session.specs.declared.entry.Entry.{Entry};
     ghost use Rattle.pfl_session.specs.declared.mark.Mark.{Mark};
     ghost use Rattle.pfl_session.specs.Journals.{revisions_of, counts_of};
+    ghost use Rattle.pfl_session.specs.Made.{made_after};
     ghost use Rattle.pfl_session.specs.Desks.{IsDesk};
 
     ghost Value = { List (Entry A) };
@@ -56,10 +60,10 @@ impl<J: Which, A: Allocator> Model for Desk<J, A> {
 fn append<J: Which, A: Allocator>(
     publisher: &Publisher<Mark<A>, A>,
     timeline: &Timeline<A>,
-    journal: &mut Vec<Entry<A>, A>,
+    journal: &mut Vec<KeptEntry<A>, A>,
     mut writer: WriterSeat<Mark<A>>,
     viewer: ViewerSeat<Mark<A>>,
-    entry: Entry<A>,
+    entry: KeptEntry<A>,
 ) -> (WriterSeat<Mark<A>>, ViewerSeat<Mark<A>>)
     requires tables { (writer.table ≡ publisher.now) × (viewer.table ≡ publisher.now) }
     requires closed { viewer.trying ≡ false }
@@ -181,6 +185,41 @@ impl<J: Which, A: Allocator> Desk<J, A> {
     {
         self.compare(tally, pass);
         self.meet(publisher, pass)
+    }
+
+    /// The entry after the first `from` ones, if there is one.
+    fn made_after(&self, from: u64) -> Option<Made>
+        ensures { result ≡ made_after from self.now }
+    {
+        let entry = self.journal.get(from as usize)?;
+        Some(Made {
+            number: from + 1,
+            session: entry.session(),
+            command: entry.command(),
+        })
+    }
+
+    /// Lets the pass see the journal, as `catch_up` does, and answers the entry after the first `from` ones, if there is one, and how
+    /// many entries the journal has.
+    pub(crate) fn entry_after(
+        &mut self,
+        publisher: &Publisher<Mark<A>, A>,
+        tally: &Tally<A>,
+        pass: &mut Pass<A>,
+        from: u64,
+    ) -> Next
+        requires publisher { publisher.now ≡ J.publisher }
+        requires lab { IsPassOf J.publisher J.tallies pass.old }
+        requires tally { pass.old.half.table ≡ tally.now }
+        ensures journal { self.new ≡ self.old }
+        ensures met { HasMet J.opening (length J.tallies) J.limit self.new pass.old pass.new }
+        ensures loaded { LoadsOnce pass.old.viewer pass.new.viewer }
+        ensures made { result.made ≡ made_after from self.new }
+        ensures entries { result.entries ≡ length self.new }
+    {
+        let entries = self.catch_up(publisher, tally, pass);
+        let made = self.made_after(from);
+        Next { made, entries }
     }
 }
 

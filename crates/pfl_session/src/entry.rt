@@ -2,6 +2,7 @@
 
 ghost use Rattle.std.specs.Prelude.{◌≡◌};
 
+use crate::kept::KeptEntry;
 use pfl_language::Command;
 use pfl_timeline::{Reply, Timeline};
 use std::alloc::Allocator;
@@ -31,5 +32,5 @@ impl<A: Allocator> Entry<A> {
 #[derive(Drop)]
 pub struct Closed<A: Allocator> {
     pub timeline: Timeline<A>,
-    pub journal: Vec<Entry<A>, A>,
+    pub journal: Vec<KeptEntry<A>, A>,
 }

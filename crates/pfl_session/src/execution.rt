@@ -5,15 +5,16 @@ ghost use Rattle.pfl_timeline.specs.Commands.{command_step, replied};
 ghost use Rattle.pfl_timeline.specs.Replies.{reply_of};
 ghost use Rattle.pfl_session.specs.Listings.{is_listing, places_in};
 
-use crate::entry::Entry;
+use crate::kept::KeptEntry;
 use crate::room::{filled, most_places};
 use pfl_edits::NoMemory;
 use pfl_language::Command;
-use pfl_timeline::{Reply, Timeline, boxed_copy};
+use pfl_timeline::{Reply, Timeline};
 use std::alloc::Allocator;
+use std::sync::Arc;
 
-/// An equal reply, whose places are in the room that was made for them. It wants memory only for what shows a branch, lists its
-/// events, explains an event or shows what became of a frame, or names the branches.
+/// An equal reply, whose places are in the room that was made for them, and whose world is the same one. It can want memory only for
+/// what shows a branch, lists its events, explains an event or shows what became of a frame, or names the branches.
 fn copy_reply<A: Allocator + Copy>(
     reply: &Reply<A>,
     room: Vec<usize, A>,
@@ -40,7 +41,7 @@ fn copy_reply<A: Allocator + Copy>(
             name: *name,
             events: *events,
             cursor: *cursor,
-            world: boxed_copy(*room.allocator(), world)?,
+            world: Arc::try_clone(world)?,
         },
         Reply::Names(names) => Reply::Names(Vec::from_slice(*names.allocator(), names)?),
         Reply::Excised(places) => Reply::Excised(filled(room, places)),
@@ -68,19 +69,22 @@ fn copy_reply<A: Allocator + Copy>(
 
 /// Executes a command of a session, and gives its reply with the entry that keeps it. Where there is no memory, nothing
 /// changes: room for the places that the reply tells is made first, and a reply that wants memory for its copy even so comes
-/// of a command that changes nothing.
+/// of a command that changes nothing. So does an entry that wants memory: it has such a reply, or a word that no branch has
+/// as its name.
 pub(crate) fn execute<A: Allocator + Copy>(
     alloc: A,
     timeline: &mut Timeline<A>,
     session: u32,
     command: &Command,
-) -> Result<(Reply<A>, Entry<A>), NoMemory>
+) -> Result<(Reply<A>, KeptEntry<A>), NoMemory>
     ensures step { IfOk result (λ r. command_step timeline.old command.now ≡ replied timeline.new (reply_of r.0)) }
     ensures entry { IfOk result (λ r. (r.1.session ≡ session) × (r.1.command ≡ command.now) × (reply_of r.1.reply ≡ reply_of r.0)) }
     ensures unchanged { OnErr result (timeline.new ≡ timeline.old) }
 {
+    timeline.known();
     let room = Vec::with_capacity(alloc, most_places(timeline, command))?;
     let reply = timeline.command(*command)?;
     let kept = copy_reply(&reply, room)?;
-    Ok((reply, Entry::new(session, *command, kept)))
+    let entry = KeptEntry::new(alloc, session, command, kept)?;
+    Ok((reply, entry))
 }

@@ -7,11 +7,13 @@ ghost use Rattle.pfl_timeline.specs.Replies.{reply_of};
 ghost use Rattle.pfl_session.specs.Passes.{IsPassOf, GoesOn, HasSeenJournal, AddsOthers, AddsCall, IsAskFault, seen_in};
 ghost use Rattle.pfl_session.specs.Journals.{count_of};
 ghost use Rattle.pfl_session.specs.Desks.{one_more_counted};
-ghost use Rattle.pfl_session.specs.Labs.{table_prop, tables_prop, HasSeenOwn, IsClosed};
+ghost use Rattle.pfl_session.specs.Made.{made_after};
+ghost use Rattle.pfl_session.specs.Labs.{table_prop, tables_prop, text_prop, HasSeenOwn, IsClosed};
 
 use crate::desk::Desk;
 use crate::entry::Closed;
 use crate::fault::AskFault;
+use crate::made::Next;
 use crate::mark::Mark;
 use crate::pass::Pass;
 use crate::which::Which;
@@ -25,9 +27,11 @@ use std::sync::{Mutex, Wait};
 pub struct Lab<J: Which, A: Allocator> {
     pub(crate) publisher: Publisher<Mark<A>, A>,
     pub(crate) tallies: Vec<Tally<A>, A>,
+    pub(crate) setup: Vec<u8, A>,
     pub(crate) desk: Mutex<Desk<J, A>>,
     ghost publishes: { publisher ≡ J.publisher } by { table_prop publisher J.publisher },
     ghost counts: { tallies.items ≡ J.tallies } by { tables_prop tallies.items J.tallies },
+    ghost shows: { setup.items ≡ J.setup } by { text_prop setup.items J.setup },
 }
 
 // Not derived: to a proof a written drop is one call, where a derived one is opened again on every way out.
@@ -36,6 +40,7 @@ impl<J: Which, A: Allocator> Drop for Lab<J, A> {
         let Lab {
             publisher: _,
             tallies: _,
+            setup: _,
             desk: _,
         } = self;
     }
@@ -78,6 +83,13 @@ impl<J: Which, A: Allocator + Copy> Lab<J, A> {
 }
 
 impl<J: Which, A: Allocator> Lab<J, A> {
+    /// The lines that set the lab's opening up.
+    pub fn setup(&self) -> &[u8]
+        ensures { result.now ≡ J.setup }
+    {
+        self.setup.as_slice()
+    }
+
     /// Reads a revision that is not older than the pass's floor, in at most `tries` tries, or in one where `tries` is 0. It
     /// waits for nobody.
     pub fn view(&self, pass: &mut Pass<A>, tries: u64) -> Result<Revision, Overtaken>
@@ -134,6 +146,27 @@ impl<J: Which, A: Allocator> Lab<J, A> {
         self.desk.lock(rt).catch_up(&self.publisher, tally, pass)
     }
 
+    /// The entry after the first `from` ones, if there is one, and how many entries the journal has, in the pass's turn. The pass has
+    /// then seen that journal, as after `meet`. A session that hands in the number of the entry that it was given last, and 0 at
+    /// first, is given each entry once, in their order.
+    pub fn entry_after<R: Wait>(&self, rt: &R, pass: &mut Pass<A>, from: u64) -> Next
+        requires lab { IsPassOf J.publisher J.tallies pass.old }
+        ensures goes_on { GoesOn pass.old pass.new }
+        ensures lab { IsPassOf J.publisher J.tallies pass.new }
+        ensures journal { HasSeenJournal J.opening (length J.tallies) J.limit pass.new }
+        ensures others { AddsOthers pass.old pass.new }
+        ensures counted { pass.old.half.count ≡ count_of pass.old.session (seen_in pass.old) }
+        ensures half { pass.new.half ≡ pass.old.half }
+        ensures loaded { LoadsOnce pass.old.viewer pass.new.viewer }
+        ensures made { result.made ≡ made_after from (seen_in pass.new) }
+        ensures entries { result.entries ≡ length (seen_in pass.new) }
+    {
+        let tally = tally_of(&self.tallies, pass);
+        self.desk
+            .lock(rt)
+            .entry_after(&self.publisher, tally, pass, from)
+    }
+
     /// Closes the lab: the timeline, and the journal whose replay gives it. Each pass has seen a beginning of it, in which each
     /// entry of its session stands, and these are its calls. It waits for nobody, and takes no memory.
     pub fn close(self, passes: Vec<Pass<A>, A>) -> Closed<A>
@@ -144,6 +177,7 @@ impl<J: Which, A: Allocator> Lab<J, A> {
         let Lab {
             publisher,
             tallies,
+            setup: _,
             desk,
         } = self;
         let mut desk = desk.into_inner();

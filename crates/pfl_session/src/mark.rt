@@ -1,5 +1,6 @@
 //! What a revision stands for.
 use crate::entry::Entry;
+use crate::kept::KeptEntry;
 use pfl_publish::Naming;
 use pfl_timeline::Timeline;
 use std::alloc::Allocator;
@@ -27,7 +28,7 @@ impl<A: Allocator> Naming<Mark<A>> for Opening<'_, A> {
 /// Names a revision by its entry.
 #[derive(Drop)]
 pub(crate) struct Called<'a, A: Allocator> {
-    pub(crate) entry: &'a Entry<A>,
+    pub(crate) entry: &'a KeptEntry<A>,
 }
 
 impl<A: Allocator> Naming<Mark<A>> for Called<'_, A> {

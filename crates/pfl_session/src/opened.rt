@@ -9,8 +9,8 @@ ghost use Rattle.pfl_session.specs.Passes.{IsPassOf};
 ghost use Rattle.pfl_session.specs.Labs.{lab_fault, IsLabFault, AreNewPasses};
 
 use crate::desk::Desk;
-use crate::entry::Entry;
 use crate::fault::LabFault;
+use crate::kept::KeptEntry;
 use crate::lab::Lab;
 use crate::mark::{Mark, Opening};
 use crate::pass::Pass;
@@ -41,12 +41,13 @@ fn fault_of(sessions: u32, journal: usize) -> Option<LabFault>
     }
 }
 
-/// A lab that has no name yet, with its passes. Contracts see its publisher, the counts of its sessions, its opening, and the
-/// most entries of its journal.
+/// A lab that has no name yet, with its passes. Contracts see its publisher, the counts of its sessions, its opening, the lines
+/// that set the opening up, and the most entries of its journal.
 pub struct Opened<A: Allocator> {
     publisher: Publisher<Mark<A>, A>,
     timeline: Timeline<A>,
-    journal: Vec<Entry<A>, A>,
+    setup: Vec<u8, A>,
+    journal: Vec<KeptEntry<A>, A>,
     limit: usize,
     tallies: Vec<Tally<A>, A>,
     halves: Vec<Half, A>,
@@ -61,6 +62,7 @@ impl<A: Allocator> Drop for Opened<A> {
         let Opened {
             publisher: _,
             timeline: _,
+            setup: _,
             journal: _,
             limit: _,
             tallies: _,
@@ -86,7 +88,7 @@ impl<A: Allocator> Model for Opened<A> {
     ghost use Rattle.pfl_session.specs.Journals.{revisions_of, counts_of};
     ghost use Rattle.pfl_session.specs.Labs.{AreNewPasses};
 
-    ghost view = { λ o. record { publisher = o.publisher; tallies = o.tallies.items; opening = o.timeline; limit = o.limit } };
+    ghost view = { λ o. record { publisher = o.publisher; tallies = o.tallies.items; opening = o.timeline; setup = o.setup.items; limit = o.limit } };
 
     ghost invariant = { λ o. ((v : Viewer (Mark A)) × (o.viewer ≡ Some v) × (v.table ≡ o.publisher) × (v.seen ≡ revisions_of o.timeline o.journal.items) × (v.trying ≡ false)) × (o.journal.items ≡ []) × (o.writer.table ≡ o.publisher) × (o.writer.list ≡ revisions_of o.timeline o.journal.items) × (o.halves.items ≡ counts_of 1 o.tallies.items o.journal.items) × AreNewPasses o.publisher (revisions_of o.timeline o.journal.items) 1 o.tallies.items o.passes.items × HasFewEvents 4294967295 o.timeline × (o.limit ≤ 1000000) };
 }
@@ -94,7 +96,7 @@ impl<A: Allocator> Model for Opened<A> {
 impl<A: Allocator + Copy> Opened<A> {
     /// Opens a lab of so many sessions, from 1 to 8, over a timeline in which no branch has more than 4294967295 events, nor
     /// can more be brought back on one. Its journal has at most so many entries, from 1 to 1000000. There are no entries yet,
-    /// and no pass has seen any.
+    /// no pass has seen any, and there are no lines of a setup.
     pub fn new(
         alloc: A,
         timeline: Timeline<A>,
@@ -104,7 +106,7 @@ impl<A: Allocator + Copy> Opened<A> {
         requires few { HasFewEvents 4294967295 timeline }
         ensures refused { IfErr result (IsLabFault (lab_fault sessions journal)) }
         ensures not_refused { OnOk result (lab_fault sessions journal ≡ None) }
-        ensures opened { IfOk result (λ o. (o.opening ≡ timeline) × (o.limit ≡ journal) × (length o.tallies ≡ sessions)) }
+        ensures opened { IfOk result (λ o. (o.opening ≡ timeline) × (o.setup ≡ []) × (o.limit ≡ journal) × (length o.tallies ≡ sessions)) }
     {
         if let Some(fault) = fault_of(sessions, journal) {
             return Err(fault);
@@ -124,7 +126,7 @@ impl<A: Allocator + Copy> Opened<A> {
     ) -> Result<Opened<A>, pfl_publish::NoMemory>
         requires few { HasFewEvents 4294967295 timeline }
         requires small { limit ≤ 1000000 }
-        ensures opened { IfOk result (λ o. (o.opening ≡ timeline) × (o.limit ≡ limit) × (o.tallies ≡ [])) }
+        ensures opened { IfOk result (λ o. (o.opening ≡ timeline) × (o.setup ≡ []) × (o.limit ≡ limit) × (o.tallies ≡ [])) }
     {
         let first = revision_of(&timeline, 0);
         let (publisher, writer, viewer) = Publisher::new(
@@ -137,6 +139,7 @@ impl<A: Allocator + Copy> Opened<A> {
         Ok(Opened {
             publisher,
             timeline,
+            setup: Vec::new(alloc),
             journal: Vec::new(alloc),
             limit,
             tallies: Vec::new(alloc),
@@ -174,17 +177,26 @@ impl<A: Allocator + Copy> Opened<A> {
 }
 
 impl<A: Allocator> Opened<A> {
+    /// The same lab, with these lines as those that set its opening up.
+    pub fn with_setup(mut self, setup: Vec<u8, A>) -> Opened<A>
+        ensures { result ≡ record self { setup = setup.items } }
+    {
+        self.setup = setup;
+        self
+    }
+
     /// Gives the lab its name, by which contracts know it, and the pass of each session in the order of their numbers. It
     /// takes no memory.
     pub fn named<J: Which>(self) -> (Lab<J, A>, Vec<Pass<A>, A>)
         requires tables { (self.publisher ≡ J.publisher) × (self.tallies ≡ J.tallies) }
-        requires opening { (self.opening ≡ J.opening) × (self.limit ≡ J.limit) }
+        requires opening { (self.opening ≡ J.opening) × (self.setup ≡ J.setup) × (self.limit ≡ J.limit) }
         ensures new { AreNewPasses J.publisher (revisions_of J.opening []) 1 J.tallies result.1.items }
         ensures lab { AllByRecursion (IsPassOf J.publisher J.tallies) result.1.items }
     {
         let Opened {
             publisher,
             timeline,
+            setup,
             journal,
             limit,
             tallies,
@@ -204,6 +216,7 @@ impl<A: Allocator> Opened<A> {
         let lab = Lab {
             publisher,
             tallies,
+            setup,
             desk: Mutex::new(desk),
         };
         (lab, passes)

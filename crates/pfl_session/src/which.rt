@@ -1,8 +1,8 @@
 //! Which lab it is.
 use std::marker::Brand;
 
-/// Tells contracts a lab's publisher, the counts of its sessions, its opening, and the most entries of its journal. It has
-/// no call, and so costs nothing.
+/// What contracts know of a lab: its publisher, the counts of its sessions, its opening, the lines that set the opening up, and
+/// the most entries of its journal. It has no call, and so costs nothing.
 pub trait Which {
     ghost use Rattle.std.specs.Prelude.{ℕ, List};
     ghost use Rattle.atomic_table.specs.Seated.{TableId};
@@ -16,6 +16,9 @@ pub trait Which {
 
     /// The timeline that the lab opened with.
     ghost opening: { Timeline };
+
+    /// The lines that set the opening up, as sessions are shown them.
+    ghost setup: { List ℕ };
 
     /// The most entries of the journal.
     ghost limit: { ℕ };
@@ -32,6 +35,8 @@ impl Which for Brand {
     ghost tallies = { [] };
 
     ghost opening = { timeline_of [] };
+
+    ghost setup = { [] };
 
     ghost limit = { 0 };
 }

@@ -9,6 +9,7 @@ pub mod Dues
 pub mod Setting
 pub mod Tables
 pub mod Pooled
+pub mod Translated
 pub mod Expiries
 pub mod Keyed
 pub mod Ranked

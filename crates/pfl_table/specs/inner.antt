@@ -8,3 +8,4 @@ pub mod Filed
 pub mod Heads
 pub mod Ordering
 pub mod Scales
+pub mod Translated

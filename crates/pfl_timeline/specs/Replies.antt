@@ -1,5 +1,6 @@
 -- What a timeline answers (this project's profile).
 use Rattle.std.specs.Prelude.{ℕ, List, Result}
+use Rattle.std.specs.Arc.{arc_value}
 use Rattle.pfl_base.specs.declared.refusal.Refusal.{Refusal as EventRefusal}
 use Rattle.pfl_language.specs.declared.event.Event.{Event}
 use Rattle.pfl_language.specs.declared.outcome.Outcome.{Outcome}
@@ -42,7 +43,7 @@ reply_of (given.Stepped outcome dropped) = Stepped outcome dropped
 reply_of (given.At cursor) = At cursor
 reply_of given.Forked = Forked
 reply_of given.Removed = Removed
-reply_of (given.Shown name events cursor world) = Shown name events cursor world.value
+reply_of (given.Shown name events cursor world) = Shown name events cursor (arc_value world)
 reply_of (given.Names names) = Names names.items
 reply_of (given.Excised places) = Excised places.items
 reply_of (given.Restored cursor) = Restored cursor

@@ -23,5 +23,5 @@ pub use pfl_reasons::{
     TakenRecord,
 };
 pub use pfl_search::{Counters, Node, World, WorldFault};
-pub use reply::{Explanation, FrameTrace, Reply, boxed_copy};
+pub use reply::{Explanation, FrameTrace, Reply};
 pub use timeline::Timeline;

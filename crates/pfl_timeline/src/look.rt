@@ -1,6 +1,6 @@
 //! Looks at the world that a branch shows, or would show if it stood at another place.
 
-use crate::reply::{Explanation, Reply, boxed_copy};
+use crate::reply::{Explanation, Reply, shared_copy};
 use pfl_edits::NoMemory;
 use pfl_language::{BranchWord, Event, Refused};
 use pfl_reasons::{InFlight, explain};
@@ -75,7 +75,7 @@ impl<A: Allocator + Copy> Look<A, ()> for CopiedSight<A> {
         ensures sees { IfOk result (λ reply. reply_of reply ≡ Shown sight.now.name.now sight.now.events sight.now.cursor world.old) }
         ensures still { world.new ≡ world.old }
     {
-        let world = boxed_copy(self.alloc, world)?;
+        let world = shared_copy(self.alloc, world)?;
         Ok(Reply::Shown {
             name: *sight.name,
             events: sight.events,

@@ -1,6 +1,7 @@
 //! Replies.
 
 ghost use Rattle.std.specs.Prelude.{◌≡◌, IfOk};
+ghost use Rattle.std.specs.Arc.{arc_value};
 ghost use Rattle.pfl_timeline.specs.Replies.{explanation_of, reply_of, trace_of};
 
 use pfl_base::Refusal;
@@ -9,6 +10,7 @@ use pfl_language::{BranchWord, Event, Outcome, Refused};
 use pfl_reasons::{Explained, FrameStep, InFlight};
 use pfl_search::World;
 use std::alloc::{AllocError, Allocator};
+use std::sync::Arc;
 
 /// What comes of an event of a branch, and why: the branch's name, the event and its place, counted from 1, its outcome or its
 /// refusal, and the reason for that. Clauses say by `explanation_of` what it tells.
@@ -85,8 +87,8 @@ impl<A: Allocator + Copy> FrameTrace<A> {
     }
 }
 
-/// The reply to a command. Clauses say by `reply_of` what it tells. The world that one shows is in a box, and so are an
-/// explanation and the trace of a frame, so that the others are small.
+/// The reply to a command. Clauses say by `reply_of` what it tells. The world that one shows can have several owners, so that who keeps
+/// a reply and who reads it need one copy; an explanation and the trace of a frame are in a box. So the others are small.
 #[derive(Drop)]
 pub enum Reply<A: Allocator> {
     /// The event happened, and so many events that had been undone were cut.
@@ -105,7 +107,7 @@ pub enum Reply<A: Allocator> {
         name: BranchWord,
         events: usize,
         cursor: usize,
-        world: Box<World<A>, A>,
+        world: Arc<World<A>, A>,
     },
     /// The names of the branches, in the order of their making.
     Names(Vec<BranchWord, A>),
@@ -127,13 +129,13 @@ pub enum Reply<A: Allocator> {
     Refused(Refused),
 }
 
-/// An equal world in a box, in memory of its own.
-pub fn boxed_copy<A: Allocator + Copy>(
+/// An equal world that can have several owners, in memory of its own.
+pub(crate) fn shared_copy<A: Allocator + Copy>(
     alloc: A,
     world: &World<A>,
-) -> Result<Box<World<A>, A>, NoMemory>
-    ensures same { IfOk result (λ boxed. boxed.value ≡ world.now) }
+) -> Result<Arc<World<A>, A>, NoMemory>
+    ensures same { IfOk result (λ shared. arc_value shared ≡ world.now) }
 {
     let copied = world.copy()?;
-    Ok(Box::new(alloc, copied).map_err(AllocError::from)?)
+    Ok(Arc::new(alloc, copied).map_err(AllocError::from)?)
 }

@@ -16,7 +16,7 @@ ghost use Rattle.pfl_search.specs.world.Worlds.{World as Pair};
 use crate::branch::Branch;
 use crate::finding::Finding;
 use crate::look::{CopiedSight, Look, NotSeen};
-use crate::reply::{Reply, boxed_copy};
+use crate::reply::{Reply, shared_copy};
 use indexmap::IndexMap;
 use pfl_base::Refusal;
 use pfl_edits::NoMemory;
@@ -292,7 +292,7 @@ impl<A: Allocator + Copy> Timeline<A> {
             Ok(branch) => branch,
             Err(why) => return Ok(Reply::Refused(why)),
         };
-        let world = boxed_copy(*self.branches.allocator(), branch.world())?;
+        let world = shared_copy(*self.branches.allocator(), branch.world())?;
         Ok(Reply::Shown {
             name: *branch.name(),
             events: branch.events().len(),

@@ -32,6 +32,7 @@ fn set_up_late<A: Allocator + Copy, R: Input>(
         limits,
         rules_a,
         rules_b,
+        ..
     } = read_setup(alloc, reader)?;
     let line = reader.lines();
     match World::new_at(alloc, limits, rules_a, rules_b, start.max(3)) {

@@ -103,3 +103,22 @@ fn a_setup_without_open_is_told(rt: HostRuntime) -> Result<(), Fail> {
     assert!(rt; outcome.is(1, b"", b"pfl_lab: setup line 1: no open\n"));
     Ok(())
 }
+
+/// A session is shown the lines of the setup as they stood, its own commands, and what comes after them until it ends.
+#[test]
+fn setup_and_journal_over_loopback(rt: HostRuntime) -> Result<(), Fail> {
+    let setup = b"# two nodes\nrule a pass out\n\nrule b pass out\nopen\n";
+    let text = b"setup\nback main 0\nfollow 0\nnames\nfollow 1\n";
+    let port = free_port(&rt)?;
+    let (outcome, heard) = join(
+        &rt,
+        || served(&rt, rt.alloc(), port, "1", setup, &Open),
+        || asked(&rt, port, text),
+    );
+    let outcome = outcome.ok_or("no outcome")?;
+    assert!(rt; has_closed(&outcome, rt.alloc(), port, 2));
+    let answers =
+        b"# two nodes\nrule a pass out\n\nrule b pass out\nopen\nat 0\nfollowing 0\nentry 1 1 back main 0\nfollowed 1\nnames main\nfollowing 1\nentry 2 1 names\nfollowed 2\n";
+    assert!(rt; is_heard(heard, answers));
+    Ok(())
+}

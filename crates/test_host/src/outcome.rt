@@ -1,7 +1,7 @@
 //! What the program gives with some words, over lines in memory.
 
 use pfl_base::Std;
-use pfl_host::{Gate, obey};
+use pfl_host::{Gate, Program};
 use std::alloc::Global;
 use std::net::{Net, TcpListener, TcpStream};
 use std::sync::Wait;
@@ -32,15 +32,8 @@ pub(crate) fn outcome_of<
     let mut reader = Std::new(lines);
     let mut writer = Std::new(Vec::new(alloc));
     let mut faults = Std::new(Vec::new(alloc));
-    let status = obey(
-        rt,
-        alloc,
-        words,
-        &mut reader,
-        &mut writer,
-        &mut faults,
-        gate,
-    );
+    let program = Program { rt, alloc, gate };
+    let status = program.obey(words, &mut reader, &mut writer, &mut faults);
     Outcome {
         status,
         written: writer.into_inner(),

@@ -2,10 +2,10 @@
 ghost use Rattle.std.specs.Prelude.{◌≡◌};
 ghost use Rattle.pfl_serve.specs.session.Passes.{IsPassOf};
 
-use super::lab::{opened, speak, take, tells};
+use super::lab::{entries, opened, speak, take, tells};
 use pfl_base::Std;
 use pfl_run::{EngineFault, LineReader};
-use pfl_serve::{Closed, Lab, Open, Opened, Pass, Which, serve_session};
+use pfl_serve::{Closed, Lab, Open, Opened, Pass, Seat, Served, Service, Which};
 use std::alloc::Global;
 use std::marker::Brand;
 use std::sync::Wait;
@@ -40,23 +40,31 @@ fn cut_session<J: Which, R: Wait>(
     rt: &R,
     alloc: Global,
     lab: &Lab<J, Global>,
-    pass: &mut Pass<Global>,
+    pass: Pass<Global>,
     places: (u32, usize),
 ) -> Cut
-    requires { IsPassOf J.publisher J.tallies pass.old }
-    ensures { IsPassOf J.publisher J.tallies pass.new }
+    requires { IsPassOf J.publisher J.tallies pass }
 {
     let (given, taken) = places;
-    let mut reader = LineReader::new(Std::new(Bytewise {
+    let bytes = Bytewise {
         bytes: LINES,
         good: given,
-    }));
-    let mut writer = Std::new(Narrow::new(taken));
-    let fault = serve_session(rt, alloc, lab, pass, &mut reader, &mut writer, &Open).err();
-    let on = speak(rt, alloc, lab, pass, b"names\n", &Open);
+    };
+    let seat = Seat {
+        pass,
+        reader: LineReader::new(Std::new(bytes)),
+        writer: Std::new(Narrow::new(taken)),
+    };
+    let service = Service {
+        rt,
+        alloc,
+        gate: &Open,
+    };
+    let Served { seat, result } = service.serve_session(lab, seat);
+    let (on, _) = speak(rt, alloc, lab, seat.pass, b"names\n", &Open);
     Cut {
-        fault,
-        writer: writer.into_inner(),
+        fault: result.err(),
+        writer: seat.writer.into_inner(),
         on: on.is(b"names main\n", 1, 0),
     }
 }
@@ -69,11 +77,11 @@ fn cut_all<J: Which, R: Wait>(
     places: (u32, usize),
 ) -> (Option<Cut>, Closed<Global>)
     requires tables { (opened.publisher ≡ J.publisher) × (opened.tallies ≡ J.tallies) }
-    requires opening { (opened.opening ≡ J.opening) × (opened.limit ≡ J.limit) }
+    requires opening { (opened.opening ≡ J.opening) × (opened.setup ≡ J.setup) × (opened.limit ≡ J.limit) }
 {
     let (lab, mut passes) = opened.named::<J>();
     let cut = match take::<J, _>(&mut passes) {
-        Some(mut pass) => Some(cut_session(rt, alloc, &lab, &mut pass, places)),
+        Some(pass) => Some(cut_session(rt, alloc, &lab, pass, places)),
         None => None,
     };
     (cut, lab.close(passes))
@@ -100,7 +108,10 @@ fn ends<R: Wait>(
     let (cut, closed) = cut_all::<Brand, _>(rt, alloc, opened, places);
     let (fault, written, replies) = wanted;
     let cut_so = cut.is_some_and(|cut| cut.is(fault, written));
-    cut_so && tells(alloc, &closed.journal, replies)
+    let Some(journal) = entries(alloc, closed) else {
+        return false;
+    };
+    cut_so && tells(alloc, &journal, replies)
 }
 
 /// The writer fails in each byte of the answers: all before it was written, and the call whose reply it is was made.

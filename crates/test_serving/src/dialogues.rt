@@ -16,11 +16,11 @@ fn one_speaks<J: Which, R: Wait>(
     lines: &[u8],
 ) -> Option<Spoken>
     requires tables { (opened.publisher ≡ J.publisher) × (opened.tallies ≡ J.tallies) }
-    requires opening { (opened.opening ≡ J.opening) × (opened.limit ≡ J.limit) }
+    requires opening { (opened.opening ≡ J.opening) × (opened.setup ≡ J.setup) × (opened.limit ≡ J.limit) }
 {
     let (lab, mut passes) = opened.named::<J>();
     match take::<J, _>(&mut passes) {
-        Some(mut pass) => Some(speak(rt, alloc, &lab, &mut pass, lines, &Open)),
+        Some(pass) => Some(speak(rt, alloc, &lab, pass, lines, &Open).0),
         None => None,
     }
 }
@@ -66,5 +66,41 @@ fn an_excision_and_its_restoration_are_answered(rt: HostRuntime) -> Result<(), F
 fn a_full_journal_says_full(rt: HostRuntime) -> Result<(), Fail> {
     let spoken = alone(&rt, rt.alloc(), 1, b"names\nnames\nview\n")?;
     assert!(rt; spoken.is(b"names main\nfull\nview 1 1 0 0 0 0 0 0\n", 3, 0));
+    Ok(())
+}
+
+/// The gate takes each next line as there, so an answer to `follow` ends with the entries that there are. From entry 7 on there are none
+/// yet, and `follow` begins at the end.
+#[test]
+fn a_journal_is_followed(rt: HostRuntime) -> Result<(), Fail> {
+    let lines =
+        b"step main tick a 1\nfollow 0\nback main 1\nfollow 1\nfollow\nfollow 7\nfollow x\nfollow 0 0\nsetup main\nview\n";
+    let answers =
+        b"step clock 1 dropped 0\nfollowing 0\nentry 1 1 step main tick a 1\nfollowed 1\nat 0\nfollowing 1\nentry 2 1 back main 1\nfollowed 2\nfollowing 2\nfollowed 2\nfollowing 2\nfollowed 2\nbad 5 Number\nbad 6 Extra\nbad 6 Extra\nview 2 1 1 0 0 0 0 0\n";
+    let spoken = alone(&rt, rt.alloc(), 1_000_000, lines)?;
+    assert!(rt; spoken.is(answers, 10, 3));
+    Ok(())
+}
+
+/// At each hundredth entry a session is told how many there are, where a hundred are still to come.
+#[test]
+fn a_session_behind_is_told(rt: HostRuntime) -> Result<(), Fail> {
+    let mut lines = Vec::new(rt.alloc());
+    for _ in 0..250 {
+        lines.extend_from_slice(b"names\n")?;
+    }
+    lines.extend_from_slice(b"follow 98\n")?;
+    let spoken = alone(&rt, rt.alloc(), 1_000_000, &lines)?;
+    let text = spoken.text.as_slice();
+    let names = b"names main\n".len() * 250;
+    let first =
+        b"following 98\nentry 99 1 names\nentry 100 1 names\nbehind 100 250\nentry 101 1 names\n";
+    let last = b"entry 199 1 names\nentry 200 1 names\nentry 201 1 names\n";
+    assert!(rt;
+        text.get(names..)
+            .is_some_and(|told| told.starts_with(first))
+    );
+    assert!(rt; text.ends_with(b"entry 250 1 names\nfollowed 250\n"));
+    assert!(rt; text.windows(last.len()).any(|told| told == last.as_slice()));
     Ok(())
 }

@@ -5,7 +5,7 @@ ghost use Rattle.pfl_serve.specs.session.Passes.{IsPassOf};
 use super::lab::{Spoken, opened, speak, take};
 use pfl_base::Std;
 use pfl_run::{EngineFault, LineReader};
-use pfl_serve::{Gate, Lab, Opened, Pass, Which, serve_session};
+use pfl_serve::{Gate, Lab, Opened, Pass, Seat, Service, Which};
 use std::alloc::Global;
 use std::marker::Brand;
 use std::sync::{Mutex, Wait};
@@ -49,14 +49,18 @@ fn unheard<J: Which, G: Gate, R: Wait>(
     rt: &R,
     alloc: Global,
     lab: &Lab<J, Global>,
-    pass: &mut Pass<Global>,
+    pass: Pass<Global>,
     gate: &G,
 ) -> Option<EngineFault>
-    requires { IsPassOf J.publisher J.tallies pass.old }
+    requires { IsPassOf J.publisher J.tallies pass }
 {
-    let mut reader = LineReader::new(Std::new(b"view now\nnames\n".as_slice()));
-    let mut writer = Std::new(Narrow::new(12));
-    serve_session(rt, alloc, lab, pass, &mut reader, &mut writer, gate).err()
+    let seat = Seat {
+        pass,
+        reader: LineReader::new(Std::new(b"view now\nnames\n".as_slice())),
+        writer: Std::new(Narrow::new(12)),
+    };
+    let service = Service { rt, alloc, gate };
+    service.serve_session(lab, seat).result.err()
 }
 
 /// Two sessions of a lab.
@@ -67,14 +71,14 @@ fn two_pass<J: Which, G: Gate, R: Wait>(
     gate: &G,
 ) -> Option<(Spoken, Option<EngineFault>)>
     requires tables { (opened.publisher ≡ J.publisher) × (opened.tallies ≡ J.tallies) }
-    requires opening { (opened.opening ≡ J.opening) × (opened.limit ≡ J.limit) }
+    requires opening { (opened.opening ≡ J.opening) × (opened.setup ≡ J.setup) × (opened.limit ≡ J.limit) }
 {
     let (lab, mut passes) = opened.named::<J>();
-    let mut second = take::<J, _>(&mut passes)?;
-    let mut first = take::<J, _>(&mut passes)?;
+    let second = take::<J, _>(&mut passes)?;
+    let first = take::<J, _>(&mut passes)?;
     let lines = b"names\nview\nfly\n\nnames\n# names\nnames\n".as_slice();
-    let spoken = speak(rt, alloc, &lab, &mut first, lines, gate);
-    let fault = unheard(rt, alloc, &lab, &mut second, gate);
+    let (spoken, _) = speak(rt, alloc, &lab, first, lines, gate);
+    let fault = unheard(rt, alloc, &lab, second, gate);
     Some((spoken, fault))
 }
 

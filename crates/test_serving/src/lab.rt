@@ -6,7 +6,7 @@ ghost use Rattle.pfl_serve.specs.session.Totals.{HasFewEvents};
 
 use pfl_base::Std;
 use pfl_run::{Ended, EngineFault, LineReader, Timeline, set_up, write_reply};
-use pfl_serve::{Entry, Gate, Lab, LabFault, Opened, Pass, Which, serve_session};
+use pfl_serve::{Closed, Entry, Gate, Lab, LabFault, Opened, Pass, Seat, Served, Service, Which};
 use std::alloc::{Allocator, Global};
 use std::sync::Wait;
 
@@ -60,45 +60,62 @@ impl Spoken {
     }
 }
 
-/// Serves a session over memory, whose text lies in the heap, wherever the lab lies.
+/// Serves a session over memory, whose text lies in the heap, wherever the lab lies. The pass comes back.
 pub(super) fn speak_to_heap<J: Which, A: Allocator + Copy, G: Gate, R: Wait>(
     rt: &R,
     heap: Global,
     alloc: A,
     lab: &Lab<J, A>,
-    pass: &mut Pass<A>,
+    pass: Pass<A>,
     lines: &[u8],
     gate: &G,
-) -> Spoken
-    requires { IsPassOf J.publisher J.tallies pass.old }
-    ensures { IsPassOf J.publisher J.tallies pass.new }
+) -> (Spoken, Pass<A>)
+    requires { IsPassOf J.publisher J.tallies pass }
+    ensures { IsPassOf J.publisher J.tallies result.1 }
 {
-    let mut reader = LineReader::new(Std::new(lines));
-    let mut writer = Std::new(Vec::new(heap));
-    let result = serve_session(rt, alloc, lab, pass, &mut reader, &mut writer, gate);
-    Spoken {
-        text: writer.into_inner(),
-        result,
-    }
+    let seat = Seat {
+        pass,
+        reader: LineReader::new(Std::new(lines)),
+        writer: Std::new(Vec::new(heap)),
+    };
+    let Served { seat, result } = Service { rt, alloc, gate }.serve_session(lab, seat);
+    let text = seat.writer.into_inner();
+    (Spoken { text, result }, seat.pass)
 }
 
-/// Serves a session over memory.
+/// Serves a session over memory. The pass comes back.
 pub(super) fn speak<J: Which, G: Gate, R: Wait>(
     rt: &R,
     alloc: Global,
     lab: &Lab<J, Global>,
-    pass: &mut Pass<Global>,
+    pass: Pass<Global>,
     lines: &[u8],
     gate: &G,
-) -> Spoken
-    requires { IsPassOf J.publisher J.tallies pass.old }
-    ensures { IsPassOf J.publisher J.tallies pass.new }
+) -> (Spoken, Pass<Global>)
+    requires { IsPassOf J.publisher J.tallies pass }
+    ensures { IsPassOf J.publisher J.tallies result.1 }
 {
     speak_to_heap(rt, alloc, alloc, lab, pass, lines, gate)
 }
 
 /// A text, or nothing where there was no memory for it.
 pub(super) type Text = Option<Vec<u8, Global>>;
+
+/// The entries of the lab's journal.
+pub(super) fn entries<A: Allocator>(
+    alloc: Global,
+    closed: Closed<A>,
+) -> Option<Vec<Entry<A>, Global>> {
+    let Closed {
+        timeline: _,
+        journal,
+    } = closed;
+    let mut entries = Vec::new(alloc);
+    for kept in journal {
+        entries.push(kept.entry()).ok()?;
+    }
+    Some(entries)
+}
 
 /// The replies of a session's entries in the journal, or of all entries.
 pub(super) fn told<A: Allocator + Copy>(

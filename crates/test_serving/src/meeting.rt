@@ -3,7 +3,7 @@ ghost use Rattle.std.specs.Prelude.{◌≡◌};
 
 use super::lab::opened;
 use super::served::{Heard, served, spoken};
-use pfl_serve::{Gate, Service};
+use pfl_serve::{Closing, Gate};
 use std::alloc::{AllocError, Global};
 use std::marker::Brand;
 use std::sync::Wait;
@@ -90,8 +90,8 @@ fn two_sessions_meet(rt: HostRuntime) -> Result<(), Fail> {
     let gate = Meeting::new();
     let opened = opened(rt.alloc(), 2, 1_000_000)?;
     let lines = lines(rt.alloc())?;
-    let service = served::<Brand, _, _>(&rt, rt.alloc(), opened, lines.as_slice(), &gate);
-    let Service { closed, ended } = service.ok_or("not served")?;
+    let closing = served::<Brand, _, _>(&rt, rt.alloc(), opened, lines.as_slice(), &gate);
+    let Closing { closed, ended } = closing.ok_or("not served")?;
     assert!(rt; are_answered(ended));
     assert!(rt; closed.journal.len() == 2);
     assert!(rt; !gate.in_vain.into_inner());

@@ -1,10 +1,10 @@
 //! Eight sessions that are served at once, whose lines are made from seeds.
 ghost use Rattle.std.specs.Prelude.{◌≡◌, ◌<◌};
 
-use super::lab::{opened, replays, told};
+use super::lab::{entries, opened, replays, told};
 use super::served::{Heard, served, spoken};
 use pfl_run::Ended;
-use pfl_serve::{Entry, Open, Service};
+use pfl_serve::{Closing, Entry, Open};
 use std::alloc::{AllocError, Global};
 use std::fmt::Write;
 use std::marker::Brand;
@@ -204,9 +204,10 @@ fn are_answered(alloc: Global, heard: Vec<Heard<'_>, Global>, journal: &[Entry<G
 fn eight_sessions_from_seeds(rt: HostRuntime) -> Result<(), Fail> {
     let opened = opened(rt.alloc(), SESSIONS, 1_000_000)?;
     let lines = all_lines(rt.alloc())?;
-    let service = served::<Brand, _, _>(&rt, rt.alloc(), opened, lines.as_slice(), &Open);
-    let Service { closed, ended } = service.ok_or("not served")?;
-    assert!(rt; are_answered(rt.alloc(), ended, &closed.journal));
-    assert!(rt; replays(rt.alloc(), &closed.journal));
+    let closing = served::<Brand, _, _>(&rt, rt.alloc(), opened, lines.as_slice(), &Open);
+    let Closing { closed, ended } = closing.ok_or("not served")?;
+    let journal = entries(rt.alloc(), closed).ok_or("no memory")?;
+    assert!(rt; are_answered(rt.alloc(), ended, &journal));
+    assert!(rt; replays(rt.alloc(), &journal));
     Ok(())
 }

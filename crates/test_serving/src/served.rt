@@ -6,7 +6,7 @@ ghost use Rattle.pfl_serve.specs.session.Passes.{IsPassOf};
 use super::lab::{Spoken, take};
 use pfl_base::Std;
 use pfl_run::LineReader;
-use pfl_serve::{EndedSeat, Gate, Opened, Pass, Seat, Service, Which, serve_and_close};
+use pfl_serve::{Closing, EndedSeat, Gate, Opened, Pass, Seat, Service, Which};
 use std::alloc::Global;
 use std::sync::Wait;
 use std::thread::Threads;
@@ -18,7 +18,7 @@ type MemorySeat<'a> = Seat<Global, Std<&'a [u8]>, Std<Vec<u8, Global>>>;
 pub(super) type Heard<'a> = EndedSeat<Std<&'a [u8]>, Std<Vec<u8, Global>>>;
 
 /// What is left of such sessions and of their lab.
-pub(super) type MemoryService<'a> = Service<Global, Std<&'a [u8]>, Std<Vec<u8, Global>>>;
+pub(super) type MemoryClosing<'a> = Closing<Global, Std<&'a [u8]>, Std<Vec<u8, Global>>>;
 
 /// Seats a session behind the others: whether there is memory for it.
 fn sit<'a, J: Which>(
@@ -65,13 +65,13 @@ pub(super) fn served<'a, J: Which + Send + Sync, G: Gate + Sync, R: Threads + Wa
     opened: Opened<Global>,
     lines: &'a [String],
     gate: &G,
-) -> Option<MemoryService<'a>>
+) -> Option<MemoryClosing<'a>>
     requires tables { (opened.publisher ≡ J.publisher) × (opened.tallies ≡ J.tallies) }
-    requires opening { (opened.opening ≡ J.opening) × (opened.limit ≡ J.limit) }
+    requires opening { (opened.opening ≡ J.opening) × (opened.setup ≡ J.setup) × (opened.limit ≡ J.limit) }
 {
     let (lab, mut passes) = opened.named::<J>();
     let seats = seats::<J>(alloc, &mut passes, lines)?;
-    serve_and_close(rt, alloc, lab, seats, gate).ok()
+    Service { rt, alloc, gate }.serve_and_close(lab, seats).ok()
 }
 
 /// What such a session was answered, and how it ended.

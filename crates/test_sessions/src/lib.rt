@@ -6,6 +6,8 @@ mod dice;
 #[cfg(test)]
 mod faults;
 #[cfg(test)]
+mod following;
+#[cfg(test)]
 mod lab;
 #[cfg(test)]
 mod meeting;
@@ -19,3 +21,5 @@ mod same;
 mod seeds;
 #[cfg(test)]
 mod sessions;
+#[cfg(test)]
+mod shapes;

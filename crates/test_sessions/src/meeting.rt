@@ -91,14 +91,23 @@ fn first_session(one: u64, two: u64) -> Option<u32> {
 }
 
 /// The entry is the session's, and tells the number of its state.
-fn tells(entry: &Entry<Global>, session: u32, number: u64) -> bool {
+fn tells(entry: Entry<Global>, session: u32, number: u64) -> bool {
     entry.session == session && state_of(&entry.reply) == number
 }
 
 /// The journal has one call of each session, in the order in which they made their states.
-fn in_order(closed: &Closed<Global>, first: u32) -> bool {
+fn in_order(closed: Closed<Global>, first: u32) -> bool {
     let second = if first == 1 { 2 } else { 1 };
-    matches!(&*closed.journal, [a, b] if tells(a, first, 1) && tells(b, second, 2))
+    let Closed {
+        timeline: _,
+        mut journal,
+    } = closed;
+    match (journal.pop(), journal.pop(), journal.pop()) {
+        (Some(later), Some(earlier), None) => {
+            tells(earlier.entry(), first, 1) && tells(later.entry(), second, 2)
+        }
+        _ => false,
+    }
 }
 
 /// Each of two sessions steps its packet and meets: which of them called first. Who called later has then seen both calls, and
@@ -149,12 +158,15 @@ fn two_meet<J: Which + Send + Sync, R: Threads + Wait + Sync>(
     steps: (Command, Command),
 ) -> bool
     requires tables { (opened.publisher ≡ J.publisher) × (opened.tallies ≡ J.tallies) }
-    requires opening { (opened.opening ≡ J.opening) × (opened.limit ≡ J.limit) }
+    requires opening { (opened.opening ≡ J.opening) × (opened.setup ≡ J.setup) × (opened.limit ≡ J.limit) }
 {
     let (lab, mut passes) = opened.named::<J>();
     let first = meet_in(rt, &lab, &mut passes, steps);
     let closed = lab.close(passes);
-    first.is_some_and(|first| in_order(&closed, first))
+    match first {
+        Some(first) => in_order(closed, first),
+        None => false,
+    }
 }
 
 #[test]

@@ -10,7 +10,7 @@ use super::rows::{Answer, Row, is_wanted};
 use super::same::{replays, same_command};
 use pfl_base::{Dir, NodeId};
 use pfl_language::{BranchWord, Command, Event, FrameEvent, NodeEvent, Refused};
-use pfl_session::{AskFault, Closed, Entry, Lab, LabFault, Opened, Pass, Which};
+use pfl_session::{AskFault, Closed, KeptEntry, Lab, LabFault, Opened, Pass, Which};
 use std::alloc::Allocator;
 use std::marker::Brand;
 use std::sync::Wait;
@@ -286,7 +286,7 @@ fn closed_without<'a, J: Which, R: Wait>(
     n: u64,
 ) -> (Closed<&'a RefusesOne>, Option<Try>)
     requires tables { (opened.publisher ≡ J.publisher) × (opened.tallies ≡ J.tallies) }
-    requires opening { (opened.opening ≡ J.opening) × (opened.limit ≡ J.limit) }
+    requires opening { (opened.opening ≡ J.opening) × (opened.setup ≡ J.setup) × (opened.limit ≡ J.limit) }
 {
     let (lab, mut passes) = opened.named::<J>();
     let tried = session_asks_without(rt, memory, &lab, &mut passes, trial, n);
@@ -304,16 +304,16 @@ fn answered<A: Allocator>(alloc: A, trial: &Trial, tried: Option<Try>) -> Option
 }
 
 /// The journal has these commands of the first session, and no more.
-fn has_these<A: Allocator>(journal: &[Entry<A>], commands: &[Command]) -> bool {
-    let agree = journal.iter().zip(commands).all(|(entry, command)| entry.session == 1
-        && same_command(&entry.command, command));
+fn has_these<A: Allocator>(journal: &[KeptEntry<A>], commands: &[Command]) -> bool {
+    let agree = journal.iter().zip(commands).all(|(entry, command)| entry.session() == 1
+        && same_command(&entry.command(), command));
     journal.len() == commands.len() && agree
 }
 
 /// The journal has the commands that were answered, and they give the timeline.
 fn tells_no_more<A: Allocator + Copy>(
     alloc: A,
-    closed: &Closed<A>,
+    closed: Closed<A>,
     trial: &Trial,
     tried: Option<Try>,
 ) -> bool {
@@ -327,7 +327,7 @@ fn tells_no_more<A: Allocator + Copy>(
 fn call_without<R: Wait>(rt: &R, memory: &RefusesOne, trial: &Trial, n: u64) -> Option<Try> {
     let opened = opened(memory, limits(), 1, 1000).ok()?;
     let (closed, tried) = closed_without::<Brand, _>(rt, memory, opened, trial, n);
-    if tells_no_more(memory, &closed, trial, tried) {
+    if tells_no_more(memory, closed, trial, tried) {
         tried
     } else {
         None

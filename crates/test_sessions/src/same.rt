@@ -197,7 +197,7 @@ pub(super) fn same_command(one: &Command, two: &Command) -> bool {
 }
 
 /// The command of the entry, as the next one of a timeline, gives the entry's reply.
-fn follows<A: Allocator + Copy>(timeline: &mut Timeline<A>, entry: &Entry<A>) -> bool {
+fn follows<A: Allocator + Copy>(timeline: &mut Timeline<A>, entry: Entry<A>) -> bool {
     match timeline.command(entry.command) {
         Ok(reply) => same_reply(&reply, &entry.reply),
         Err(_) => false,
@@ -206,13 +206,17 @@ fn follows<A: Allocator + Copy>(timeline: &mut Timeline<A>, entry: &Entry<A>) ->
 
 /// The commands of the journal, one after another, give the replies of their entries, and the timeline of the lab, which was
 /// opened within these limits.
-pub(super) fn replays<A: Allocator + Copy>(alloc: A, limits: Limits, closed: &Closed<A>) -> bool {
+pub(super) fn replays<A: Allocator + Copy>(alloc: A, limits: Limits, closed: Closed<A>) -> bool {
     let Some(mut timeline) = opening(alloc, limits) else {
         return false;
     };
+    let Closed {
+        timeline: left,
+        journal,
+    } = closed;
     let mut same = true;
-    for entry in &closed.journal {
-        same = follows(&mut timeline, entry) && same;
+    for entry in journal {
+        same = follows(&mut timeline, entry.entry()) && same;
     }
-    same && same_timeline(&timeline, &closed.timeline)
+    same && same_timeline(&timeline, &left)
 }

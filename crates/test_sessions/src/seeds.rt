@@ -10,7 +10,7 @@ use super::dice::Dice;
 use super::lab::{limits, opened, put, take};
 use super::same::replays;
 use pfl_language::{Limits, Outcome};
-use pfl_session::{Closed, Entry, Lab, Opened, Pass, Reply, Which};
+use pfl_session::{Closed, KeptEntry, Lab, Opened, Pass, Reply, Which};
 use std::alloc::Global;
 use std::marker::{Brand, PhantomData};
 use std::sync::Wait;
@@ -187,7 +187,7 @@ fn played<J: Which + Send + Sync, R: Threads + Wait + Sync>(
     opened: Opened<Global>,
 ) -> (Closed<Global>, bool)
     requires tables { (opened.publisher ≡ J.publisher) × (opened.tallies ≡ J.tallies) }
-    requires opening { (opened.opening ≡ J.opening) × (opened.limit ≡ J.limit) }
+    requires opening { (opened.opening ≡ J.opening) × (opened.setup ≡ J.setup) × (opened.limit ≡ J.limit) }
 {
     let (lab, mut passes) = opened.named::<J>();
     let good = play_all(rt, alloc, &lab, &mut passes);
@@ -195,15 +195,15 @@ fn played<J: Which + Send + Sync, R: Threads + Wait + Sync>(
 }
 
 /// How many entries are of the session.
-fn entries_of(journal: &[Entry<Global>], session: u32) -> usize {
+fn entries_of(journal: &[KeptEntry<Global>], session: u32) -> usize {
     journal
         .iter()
-        .filter(|entry| entry.session == session)
+        .filter(|entry| entry.session() == session)
         .count()
 }
 
 /// Each session has as many entries as it asked commands.
-fn counts_are_exact(journal: &[Entry<Global>]) -> bool {
+fn counts_are_exact(journal: &[KeptEntry<Global>]) -> bool {
     let each = (1..SESSIONS + 1).all(|session| entries_of(journal, session) == COMMANDS);
     each && journal.len() == SESSIONS as usize * COMMANDS
 }
@@ -213,7 +213,7 @@ fn eight_sessions_from_seeds(rt: HostRuntime) -> Result<(), Fail> {
     let opened = opened(rt.alloc(), few(), SESSIONS, 1_000_000)?;
     let (closed, good) = played::<Brand, _>(&rt, rt.alloc(), opened);
     let exact = counts_are_exact(&closed.journal);
-    let same = replays(rt.alloc(), few(), &closed);
+    let same = replays(rt.alloc(), few(), closed);
     assert!(rt; (good, exact, same) == (true, true, true));
     Ok(())
 }

@@ -139,7 +139,7 @@ fn three_calls<J: Which, R: Wait>(
 /// The journal has the three calls in their order, and the timeline the event of the last one.
 fn ends_well(closed: &Closed<Global>) -> bool {
     let sessions =
-        matches!(&*closed.journal, [a, b, c] if a.session == 1 && b.session == 2 && c.session == 3);
+        matches!(&*closed.journal, [a, b, c] if a.session() == 1 && b.session() == 2 && c.session() == 3);
     let event =
         matches!(closed.timeline.branches(), [main] if main.events().len() == 1 && main.cursor() == 1);
     sessions && event
@@ -152,7 +152,7 @@ fn step_back_step<J: Which, R: Wait>(
     steps: (Command, Command),
 ) -> bool
     requires tables { (opened.publisher ≡ J.publisher) × (opened.tallies ≡ J.tallies) }
-    requires opening { (opened.opening ≡ J.opening) × (opened.limit ≡ J.limit) }
+    requires opening { (opened.opening ≡ J.opening) × (opened.setup ≡ J.setup) × (opened.limit ≡ J.limit) }
 {
     let (lab, mut passes) = opened.named::<J>();
     let found = three_calls(rt, &lab, &mut passes, steps);
@@ -206,12 +206,12 @@ fn two_calls<J: Which, R: Wait>(
 /// Whether a lab whose journal has room for one entry has that one alone at its end.
 fn one_entry<J: Which, R: Wait>(rt: &R, opened: Opened<Global>) -> bool
     requires tables { (opened.publisher ≡ J.publisher) × (opened.tallies ≡ J.tallies) }
-    requires opening { (opened.opening ≡ J.opening) × (opened.limit ≡ J.limit) }
+    requires opening { (opened.opening ≡ J.opening) × (opened.setup ≡ J.setup) × (opened.limit ≡ J.limit) }
 {
     let (lab, mut passes) = opened.named::<J>();
     let found = two_calls(rt, &lab, &mut passes);
     let closed = lab.close(passes);
-    found == Some(true) && matches!(&*closed.journal, [only] if only.session == 1)
+    found == Some(true) && matches!(&*closed.journal, [only] if only.session() == 1)
 }
 
 #[test]

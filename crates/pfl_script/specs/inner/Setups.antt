@@ -1,5 +1,5 @@
 -- What the parts of a setup stop at.
-use Rattle.std.specs.Prelude.{◌≡◌, Bool, true, false, Option, Some, Result, Ok, ℕ, Err, None}
+use Rattle.std.specs.Prelude.{⊤, ◌≡◌, Bool, true, false, List, ◌++◌, Option, Some, Result, Ok, ℕ, Err, None}
 use Rattle.pfl_rules.specs.declared.fault.RuleFault.{RuleFault}
 use Rattle.pfl_rules.specs.Rules.{rule_fault}
 use Rattle.pfl_lines.specs.declared.fault.LineFault.{LineFault}
@@ -31,3 +31,9 @@ abbrev pub IsFinishStop : SetupFault → ℕ → Draft → Type 0
 IsFinishStop (fault.Rule m why) n d = (m ≡ n) × (first_rule_fault d ≡ Some why)
 IsFinishStop fault.NoMemory n d = rule_fault d.a ≡ None
 IsFinishStop _ n d = ⊥
+
+-- a text, as long as there is memory for it, has this more at its end
+abbrev pub Grows : Option (List ℕ) → Option (List ℕ) → List ℕ → Type 0
+Grows old None more = ⊤
+Grows None (Some text) more = ⊥
+Grows (Some before) (Some text) more = text ≡ before ++ more

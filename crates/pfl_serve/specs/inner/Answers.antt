@@ -1,8 +1,6 @@
 -- The answer to one line, and how it fails.
-use Rattle.std.specs.Prelude.{ℕ, Bool, true, false, List, take, if◌then◌else◌, Option, Some, None, Result, Ok}
-use Rattle.std.specs.Io.KnownBytes.{Appends, Keeps as KeepsBytes}
-use Rattle.pfl_script.specs.timeline.Timelines.{Timeline}
-use Rattle.pfl_session.specs.Passes.{Seen}
+use Rattle.std.specs.Prelude.{◌≡◌, ℕ, Bool, true, false, List, [], length, take, if◌then◌else◌, Option, Some, None, Result, Ok, ◌⊎◌}
+use Rattle.std.specs.Io.KnownBytes.{Appends}
 use Rattle.pfl_script.specs.lines.declared.fault.LineFault.{LineFault}
 use Rattle.pfl_script.specs.lines.declared.session.SessionLine.{SessionLine}
 use Rattle.pfl_script.specs.lines.declared.session.SessionLine.TheVariants.{Ask}
@@ -10,7 +8,9 @@ use Rattle.pfl_script.specs.reader.Saids.{kept_session}
 use Rattle.pfl_script.specs.reader.Scans.{Kept, has_word}
 use Rattle.pfl_script.specs.declared.fault.EngineFault.{EngineFault}
 use Rattle.pfl_script.specs.declared.fault.EngineFault.TheVariants as engine
-use Rattle.pfl_serve.specs.Sessions.{IsUnanswered}
+use Rattle.pfl_language.specs.declared.command.Command.{Command}
+use Rattle.pfl_session.specs.Passes.{Seen, seen_in}
+use Rattle.pfl_serve.specs.Sessions.{IsFollowed, IsFollowing, IsTold, IsUnanswered, Site}
 
 -- what a line of which this is kept says to a session
 unfoldable pub kept_said : Kept → Option (Result SessionLine LineFault)
@@ -25,14 +25,25 @@ is_command _ = false
 abbrev pub Writes : (List ℕ → Type 0) → Option (List ℕ) → Option (List ℕ) → Type 0
 Writes Is w v = (text : List ℕ) × Is text × Appends w v text
 
--- a text of this kind was written in part; or, for want of memory, nothing was written
-abbrev pub Breaks : (List ℕ → Type 0) → Type 0 → EngineFault → Option (List ℕ) → Option (List ℕ) → Type 0
+-- a text of this kind was written in part; or, for want of memory, one of the other kind was written
+abbrev pub Breaks : (List ℕ → Type 0) → (List ℕ → Type 0) → EngineFault → Option (List ℕ) → Option (List ℕ) → Type 0
 Breaks Is Lacks engine.Write w v = (text : List ℕ) × Is text × ((part : ℕ) × Appends w v (take part text))
-Breaks Is Lacks engine.NoMemory w v = Lacks × KeepsBytes w v
+Breaks Is Lacks engine.NoMemory w v = (text : List ℕ) × Lacks text × Appends w v text
 Breaks Is Lacks engine.Read w v = ⊥
 Breaks Is Lacks engine.TooManyTurns w v = ⊥
 
--- what a line says has no answer for want of memory
-abbrev pub Lacks : {M : Type 0} → Timeline → ℕ → ℕ → Option (Result SessionLine LineFault) → Seen M → Seen M → Type 0
-Lacks opening n limit (Some (Ok (Ask command))) old new = IsUnanswered opening n limit old new command
-Lacks opening n limit _ old new = ⊥
+-- no text is written for want of memory
+abbrev pub Nothing : List ℕ → Type 0
+Nothing text = ⊥
+
+-- nothing was written, for want of memory for the command or its reply
+abbrev pub Unanswered : {M : Type 0} → Site → Command → Seen M → Seen M → List ℕ → Type 0
+Unanswered site command old new text = IsUnanswered site old new command × (text ≡ [])
+
+-- entries after the first n were shown
+abbrev pub IsToldOn : {M : Type 0} → Site → ℕ → Seen M → Seen M → List ℕ → Type 0
+IsToldOn site n old new text = (m : ℕ) × IsTold site (length (seen_in old)) n m old new text
+
+-- an answer to `follow` that may lack its last line
+abbrev pub IsFollowingOn : {M : Type 0} → Site → Option ℕ → Seen M → Seen M → List ℕ → Type 0
+IsFollowingOn site k old new text = IsFollowing site k old new text ⊎ IsFollowed site k old new text

@@ -1,13 +1,15 @@
 use Rattle.std.proofs.Common.{◌≡◌, ◌+◌, ◌≤◌, ◌^◌}
+use Rattle.std.specs.Prelude.{IfSome}
 use Rattle.pfl_base.specs.Counts.{Counts}
 use Rattle.pfl_reader.specs.Readers.{room}
 use Rattle.pfl_script.specs.Readers.{counted_on}
-use Rattle.pfl_script.proofs.Setting.{Going}
+use Rattle.pfl_script.proofs.Setting.{Going, Texted}
 use Rattle.pfl_script.proofs.setup.read_setup.Given as goal
 
-abbrev pub invariant-loop-draft : goal.invariant-loop-draft
-invariant-loop-draft g l = record {
+abbrev pub invariant-loop-text : goal.invariant-loop-text
+invariant-loop-text g l = record {
   going : Going l.fn.reader.left l.reader.left l.number l.draft;
+  text : IfSome l.text (λ text. Texted l.fn.reader.left l.reader.left text.items);
   counted : l.fn.reader.lines ≡ 0 → l.reader.lines ≡ l.number;
   lines : l.reader.lines ≡ counted_on l.fn.reader.lines l.number;
   few : l.number + room l.reader ≤ 2 ^ 41;
@@ -16,5 +18,5 @@ invariant-loop-draft g l = record {
   stays : l.reader.failed ≡ l.fn.reader.failed;
 }
 
-abbrev pub decreases-loop-draft : goal.decreases-loop-draft
-decreases-loop-draft g l = room l.reader
+abbrev pub decreases-loop-text : goal.decreases-loop-text
+decreases-loop-text g l = room l.reader

@@ -71,4 +71,4 @@ returns g c =
     let tallies : c.push_reserved.new.self.items ≡ c.args.self.now.tallies ++ c.in_ok-tally.tally ∷ [] =
     c.push_reserved.ensures.items
     ∙ (ap (λ (l : List TableId). l ++ c.in_ok-tally.tally ∷ []) c.in_ok-reserve.ensures.items ∙ ap (λ (s : Setup). s.tallies ++ c.in_ok-tally.tally ∷ []) is) in
-    record { added = (c.in_ok-tally.tally, λ z. record { publisher = (is z).publisher; tallies = tallies z; opening = (is z).opening; limit = (is z).limit }) }
+    record { added = (c.in_ok-tally.tally, λ z. record { publisher = (is z).publisher; tallies = tallies z; opening = (is z).opening; setup = (is z).setup; limit = (is z).limit }) }

@@ -17,7 +17,7 @@ invariant_of-desk g c =
     let publisher : c.self.inside.publisher ≡ g.J.Which.publisher = ap (λ (s : Setup). s.publisher) c.self.view_is ∙ c.requires.tables.0 in
     let tallies : c.self.inside.tallies.items ≡ g.J.Which.tallies = ap (λ (s : Setup). s.tallies) c.self.view_is ∙ c.requires.tables.1 in
     let opening : c.self.inside.timeline ≡ g.J.Which.opening = ap (λ (s : Setup). s.opening) c.self.view_is ∙ c.requires.opening.0 in
-    let limit : c.self.inside.limit ≡ g.J.Which.limit = ap (λ (s : Setup). s.limit) c.self.view_is ∙ c.requires.opening.1 in
+    let limit : c.self.inside.limit ≡ g.J.Which.limit = ap (λ (s : Setup). s.limit) c.self.view_is ∙ c.requires.opening.2 in
     let small = is.7 in (
       (c.self.inside.writer, refl, is.2 ∙ publisher, is.3 ∙ ap (λ (t : Timeline). revisions_of t js) opening),
       is.4 ∙ ap (λ (ts : List TableId). counts_of 1 ts js) tallies,

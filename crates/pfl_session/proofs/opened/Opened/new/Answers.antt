@@ -12,6 +12,7 @@ loop-session-preserved g c =
     let many = c.loop-session.invariant.many in
     record {
       opening = ap (λ (o : Setup). o.opening) added.1 ∙ c.loop-session.invariant.opening;
+      setup = ap (λ (o : Setup). o.setup) added.1 ∙ c.loop-session.invariant.setup;
       limit = ap (λ (o : Setup). o.limit) added.1 ∙ c.loop-session.invariant.limit;
       many = omega (arith, ap (λ (o : Setup). length o.tallies) added.1, length-append c.loop-session.opened.tallies (added.0 ∷ []), many);
     }

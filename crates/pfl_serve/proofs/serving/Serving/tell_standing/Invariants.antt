@@ -1,0 +1,20 @@
+use Rattle.std.proofs.Common.{◌-◌, ◌≡◌, ◌≤◌, length}
+use Rattle.pfl_session.specs.Passes.{GoesOn, IsPassOf, seen_in}
+use Rattle.pfl_serve.specs.Seats.{site_of}
+use Rattle.pfl_serve.specs.Sessions.{IsTold}
+use Rattle.pfl_serve.specs.inner.Answers.{Writes}
+use Rattle.pfl_serve.proofs.serving.Serving.tell_standing.Given as goal
+
+-- the entries up to here were told; the pass has seen all that there were at first
+abbrev pub invariant-loop-told : goal.invariant-loop-told
+invariant-loop-told g l = record {
+  lab : IsPassOf g.J.Which.publisher g.J.Which.tallies l.pass;
+  goes_on : GoesOn l.fn.pass l.pass;
+  there : l.entries ≤ length (seen_in l.pass);
+  all : length (seen_in l.fn.pass) ≤ l.entries;
+  told : Writes (IsTold (site_of g.J.Which) (length (seen_in l.fn.pass)) l.fn.told l.told l.fn.pass l.pass) (g.W.Output.written l.fn.writer) (g.W.Output.written l.writer);
+  stays : g.W.Output.has_failed l.writer ≡ g.W.Output.has_failed l.fn.writer;
+}
+
+abbrev pub decreases-loop-told : goal.decreases-loop-told
+decreases-loop-told g l = l.entries - l.told

@@ -1,0 +1,142 @@
+//! Sessions that follow the journal.
+
+ghost use Rattle.std.specs.Prelude.{◌≡◌, ◌+◌, ◌<◌, ◌≤◌, length, IfOk, IfErr, OnOk};
+ghost use Rattle.pfl_script.specs.Readers.{IsWriteFault};
+ghost use Rattle.pfl_session.specs.Passes.{GoesOn, IsPassOf, seen_in};
+ghost use Rattle.pfl_serve.specs.Seats.{site_of};
+ghost use Rattle.pfl_serve.specs.Sessions.{IsFollowed, IsFollowing, IsTold};
+ghost use Rattle.pfl_serve.specs.inner.Answers.{Breaks, IsFollowingOn, IsToldOn, Writes};
+
+use crate::gate::Gate;
+use crate::seat::Seat;
+use crate::serving::Serving;
+use crate::texts::{first_told, followed_line, following_line, told_text};
+use pfl_base::{Input, Output};
+use pfl_script::{EngineFault, write_text};
+use pfl_session::{Next, Pass, Which};
+use std::alloc::Allocator;
+use std::sync::Wait;
+
+impl<J: Which, A: Allocator + Copy, B: Allocator + Copy, G: Gate, R: Wait> Serving<
+    '_,
+    J,
+    A,
+    B,
+    G,
+    R,
+> {
+    /// Writes the line of the entry after the first `told`, of which the pass has seen that there is one, and answers its number.
+    fn tell<W: Output>(
+        &self,
+        pass: &mut Pass<A>,
+        writer: &mut W,
+        told: u64,
+    ) -> Result<u64, EngineFault>
+        requires lab { IsPassOf J.publisher J.tallies pass.old }
+        requires there { told < length (seen_in pass.old) }
+        ensures lab { IsPassOf J.publisher J.tallies pass.new }
+        ensures goes_on { GoesOn pass.old pass.new }
+        ensures number { IfOk result (λ n. n ≡ told + 1) }
+        ensures whole { IfOk result (λ n. Writes (IsTold (site_of J.Which) (length (seen_in pass.old)) told n pass.old pass.new) (W.written writer.old) (W.written writer.new)) }
+        ensures breaks { IfErr result (λ e. Breaks (IsToldOn (site_of J.Which) told pass.old pass.new)
+            (IsToldOn (site_of J.Which) told pass.old pass.new) e (W.written writer.old) (W.written writer.new)) }
+        ensures stays { OnOk result (W.has_failed writer.new ≡ W.has_failed writer.old) }
+        ensures fault { IfErr result (λ e. IsWriteFault e (W.has_failed writer.new)) }
+    {
+        let Next { made, entries } = self.lab.entry_after(self.service.rt, pass, told);
+        let Some(made) = made else {
+            unreachable!();
+        };
+        let Ok(text) = told_text(self.service.alloc, &made, entries) else {
+            return Err(EngineFault::NoMemory);
+        };
+        write_text(writer, text.as_slice())?;
+        Ok(made.number)
+    }
+
+    /// Writes the lines of all entries after the first `told` that there are when it begins, and answers the number of the last.
+    fn tell_standing<W: Output>(
+        &self,
+        pass: &mut Pass<A>,
+        writer: &mut W,
+        told: u64,
+    ) -> Result<u64, EngineFault>
+        requires lab { IsPassOf J.publisher J.tallies pass.old }
+        ensures lab { IsPassOf J.publisher J.tallies pass.new }
+        ensures goes_on { GoesOn pass.old pass.new }
+        ensures all { IfOk result (λ n. length (seen_in pass.old) ≤ n) }
+        ensures whole { IfOk result (λ n. Writes (IsTold (site_of J.Which) (length (seen_in pass.old)) told n pass.old pass.new) (W.written writer.old) (W.written writer.new)) }
+        ensures breaks { IfErr result (λ e. Breaks (IsToldOn (site_of J.Which) told pass.old pass.new)
+            (IsToldOn (site_of J.Which) told pass.old pass.new) e (W.written writer.old) (W.written writer.new)) }
+        ensures stays { OnOk result (W.has_failed writer.new ≡ W.has_failed writer.old) }
+        ensures fault { IfErr result (λ e. IsWriteFault e (W.has_failed writer.new)) }
+    {
+        let entries = self.lab.meet(self.service.rt, pass);
+        let mut told = told;
+        while told < entries {
+            told = self.tell(pass, writer, told)?;
+        }
+        Ok(told)
+    }
+
+    /// Whether the session's next line has come, or its end. It may wait for that a short while.
+    fn hears<I: Input, O: Output>(&self, seat: &Seat<A, I, O>) -> bool {
+        seat.reader.waits()
+            || self
+                .service
+                .gate
+                .hears(self.service.rt, seat.pass.session())
+    }
+
+    /// Writes the lines of the entries after the first `told`, and of those that are made until the session's next line comes, and
+    /// answers the number of the last.
+    fn follow<I: Input, O: Output>(
+        &self,
+        seat: &mut Seat<A, I, O>,
+        told: u64,
+    ) -> Result<u64, EngineFault>
+        requires lab { IsPassOf J.publisher J.tallies seat.old.pass }
+        ensures lab { IsPassOf J.publisher J.tallies seat.new.pass }
+        ensures goes_on { GoesOn seat.old.pass seat.new.pass }
+        ensures reader { seat.new.reader ≡ seat.old.reader }
+        ensures all { IfOk result (λ n. length (seen_in seat.old.pass) ≤ n) }
+        ensures whole { IfOk result (λ n. Writes (IsTold (site_of J.Which) (length (seen_in seat.old.pass)) told n seat.old.pass seat.new.pass) (O.written seat.old.writer) (O.written seat.new.writer)) }
+        ensures breaks { IfErr result (λ e. Breaks (IsToldOn (site_of J.Which) told seat.old.pass seat.new.pass)
+            (IsToldOn (site_of J.Which) told seat.old.pass seat.new.pass) e (O.written seat.old.writer) (O.written seat.new.writer)) }
+        ensures stays { OnOk result (O.has_failed seat.new.writer ≡ O.has_failed seat.old.writer) }
+        ensures fault { IfErr result (λ e. IsWriteFault e (O.has_failed seat.new.writer)) }
+    {
+        let mut told = self.tell_standing(&mut seat.pass, &mut seat.writer, told)?;
+        for _ in self.service.rt.forever() {
+            if self.hears(seat) {
+                return Ok(told);
+            }
+            told = self.tell_standing(&mut seat.pass, &mut seat.writer, told)?;
+        }
+        unreachable!()
+    }
+
+    /// Answers `follow`: shows the session the journal's entries after the first `from`, or after all that there are, one by one as
+    /// they are made, until its next line comes.
+    pub(crate) fn answer_follow<I: Input, O: Output>(
+        &self,
+        seat: &mut Seat<A, I, O>,
+        from: Option<u32>,
+    ) -> Result<(), EngineFault>
+        requires lab { IsPassOf J.publisher J.tallies seat.old.pass }
+        ensures lab { IsPassOf J.publisher J.tallies seat.new.pass }
+        ensures goes_on { GoesOn seat.old.pass seat.new.pass }
+        ensures reader { seat.new.reader ≡ seat.old.reader }
+        ensures whole { IfOk result (λ _. Writes (IsFollowed (site_of J.Which) from seat.old.pass seat.new.pass) (O.written seat.old.writer) (O.written seat.new.writer)) }
+        ensures breaks { IfErr result (λ e. Breaks (IsFollowingOn (site_of J.Which) from seat.old.pass seat.new.pass)
+            (IsFollowing (site_of J.Which) from seat.old.pass seat.new.pass) e (O.written seat.old.writer) (O.written seat.new.writer)) }
+        ensures stays { OnOk result (O.has_failed seat.new.writer ≡ O.has_failed seat.old.writer) }
+        ensures fault { IfErr result (λ e. IsWriteFault e (O.has_failed seat.new.writer)) }
+    {
+        let entries = self.lab.meet(self.service.rt, &mut seat.pass);
+        let first = first_told(from, entries);
+        write_text(&mut seat.writer, following_line(first).as_str().as_bytes())?;
+        let told = self.follow(seat, first)?;
+        write_text(&mut seat.writer, followed_line(told).as_str().as_bytes())
+    }
+}

@@ -1,0 +1,106 @@
+"""The loop of a dialogue: lines from a terminal or a file, its prompt, the key that completes words, and notes of other sessions."""
+from __future__ import annotations
+
+import cmd
+import contextlib
+import os
+from typing import IO, Any, List, Optional, Sequence
+
+from .colours import Paint
+from .completion import candidates
+from .laboratory import Laboratory, Unknown
+from .notes import Notes
+from .programs import Ended
+from .terminal import Watch, watch
+
+
+class Loop(cmd.Cmd):
+    """A dialogue over a laboratory; a subclass has the words."""
+
+    def __init__(self, lab: Laboratory, out: IO[str], paint: Paint, is_typed: bool):
+        super().__init__(stdout=out)
+        self.lab, self.out, self.paint = lab, out, paint
+        self.is_typed = self.use_rawinput = is_typed
+        # Of a server that is followed, where somebody types.
+        self.notes: Optional[Notes] = Notes(lab.shared, self.tell, paint) if lab.shared and is_typed else None
+        self._watch: Optional[Watch] = None
+        self.set_prompt()
+
+    def tell(self, lines: Sequence[str]) -> None:
+        for line in lines:
+            print(line, file=self.out, flush=self.is_typed)
+
+    # ---- prompts
+
+    def watch(self) -> None:
+        """Has notes come above the prompt while a line is typed there, where the terminal can show that."""
+        if self.notes:
+            self._watch = watch(self.notes, self.out, lambda: self.prompt)
+
+    def set_prompt(self) -> None:
+        self.prompt = f"{self.where()}> " if self.is_typed else ""
+
+    def where(self) -> str:
+        """The branch in use, and how many of its events stand."""
+        if not self.lab.is_open:
+            return "setup"
+        # (a server keeps every command that it was asked, so none is asked for a prompt)
+        if self.lab.port is None or self.lab.is_mirrored:
+            with contextlib.suppress(Unknown):
+                branch = self.lab.branch(self.lab.in_use)
+                return f"{branch.name} {branch.cursor}/{len(branch.events)}"
+        return self.lab.in_use
+
+    def preloop(self) -> None:
+        self._type(False)
+        self._prompt()
+
+    def precmd(self, line: str) -> str:
+        self._type(False)
+        return line
+
+    def postcmd(self, stop: bool, line: str) -> bool:
+        if not stop:
+            self._prompt()
+        return stop
+
+    def _prompt(self) -> None:
+        """Readies the next prompt, with the notes above it."""
+        self.set_prompt()
+        if self.notes:
+            self.notes.show()
+        self._type(True)
+
+    def _type(self, is_typing: bool) -> None:
+        if self._watch:
+            self._watch.typing(is_typing)
+
+    def emptyline(self) -> bool:
+        return False
+
+    # ---- completed words
+
+    def complete(self, text: str, state: int) -> Optional[List[str]]:
+        if not self._watch:
+            return super().complete(text, state)
+        with self._watch.turn:
+            return super().complete(text, state)
+
+    def completenames(self, text: str, *ignored: object) -> List[str]:
+        return spaced(candidates(self.lab, (), text))
+
+    # (Any, since cmd.Cmd has it)
+    def completedefault(self, *words: Any) -> List[str]:
+        text, line, begun, _ = words
+        try:
+            return spaced(candidates(self.lab, line[:begun].split(), text))
+        except (Unknown, Ended, OSError):
+            return []
+
+    def complete_help(self, *words: Any) -> List[str]:
+        return self.completedefault(*words)
+
+
+def spaced(words: List[str]) -> List[str]:
+    """The words with the space that ends each, which readline leaves to the completer; a folder goes on."""
+    return [it if os.path.isdir(it) else f"{it} " for it in words]

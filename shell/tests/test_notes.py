@@ -1,0 +1,243 @@
+"""Notes of what other sessions do: what they say, when they come, and that they leave the line alone that somebody types."""
+from __future__ import annotations
+
+import io
+import sys
+import time
+import unittest
+from typing import List
+from unittest import mock
+
+from . import TOP, program
+from .followers import QUERY, STEP, Followers, ProvedFollowers, shared
+from .terminals import Terminal
+from ..colours import PLAIN
+from ..laboratory import Laboratory
+from ..mirror import Entry
+from ..notes import MOST, PAUSE, Notes, in_short
+from ..shell import Shell
+from ..terminal import above
+
+NOTE = "[session 2] step main flush a -> sent 1 148"
+
+
+class Told(Followers):
+    def test_commands_of_others_come_before_the_prompt(self) -> None:
+        one, two = self.shells(self.serve(2), 2)
+        self.said(one, QUERY)
+        self.said(two, "flush a", "view", "show main", "back main 9", "frob", "step main flush")
+        refused = "[session 2] back main 9 -> refused 4 TooFarBack"
+        self.assertEqual(self.said(one, "names"), ["names main", NOTE, refused])
+        self.assertEqual(one.prompt, "main 2/2> ")
+        self.assertEqual(self.said(one, "names"), ["names main"])
+        self.said(two, "back main 2", "tick a 7", "fork main 1 other", "excise other 1")
+        notes = ["back main 2 -> at 0", "step main tick a 7 -> clock 7 dropped 2", "fork main 1 other -> forked", "excise other 1 -> excised"]
+        self.assertEqual(self.said(one, ""), [f"[session 2] {it}" for it in notes])
+
+    def test_own_commands_are_no_notes(self) -> None:
+        one, two = self.shells(self.serve(2), 2)
+        said: List[str] = []
+        for number in range(5):
+            self.said(two, f"tick b {number}")
+            said += self.said(one, f"tick a {number}", "flush a")
+        said += self.said(one, "")
+        notes = [it for it in said if it.startswith("[")]
+        self.assertEqual([it.split(" ->")[0] for it in notes], [f"[session 2] step main tick b {it}" for it in range(5)])
+
+    def test_many_are_one_line(self) -> None:
+        one, two = self.shells(self.serve(2), 2)
+        for _ in range(MOST):
+            two.lab.ask("step main tick a 1")
+        self.assertEqual(len(self.said(one, "")), MOST)
+        for _ in range(MOST + 1):
+            two.lab.ask("step main tick a 1")
+        newest = f"[session 2] step main tick a 1 -> clock {2 * MOST + 1}"
+        self.assertEqual(self.said(one, ""), [f"{MOST + 1} commands of session 2; the newest: {newest}"])
+
+    def test_they_can_be_turned_off(self) -> None:
+        one, two = self.shells(self.serve(2), 2)
+        self.assertEqual(self.said(one, "notes"), ["notes are on"])
+        self.assertEqual(self.said(one, "notes off"), ["notes are off"])
+        self.said(two, QUERY)
+        self.assertEqual(self.said(one, "", "notes", "notes on"), ["notes are off", "notes are on"])
+        self.said(two, "flush a")
+        self.assertEqual(self.said(one, ""), [NOTE])
+        self.assertEqual(self.said(one, "notes maybe"), ["usage: notes on", "notes off"])
+
+    def test_a_shell_that_reads_a_script_has_none(self) -> None:
+        port = self.serve(2)
+        one, two = self.shells(port, 2, is_typed=False)
+        self.said(two, QUERY)
+        self.assertEqual(self.said(one, "names"), ["names main"])
+        self.assertRegex(self.said(one, "notes")[0], "^notes are of what other sessions of a server do, in a dialogue")
+
+    def test_a_pair_of_ones_own_has_none(self) -> None:
+        lab = Laboratory(program())
+        self.addCleanup(lab.close)
+        self.assertRegex(self.said(Shell(lab, io.StringIO(), PLAIN, is_typed=True), "notes")[0], "^notes are of what other sessions")
+
+    def test_a_branch_in_use_that_another_session_dropped(self) -> None:
+        one, two = self.shells(self.serve(2), 2)
+        self.said(one, "fork main 0 other", "use other")
+        self.assertEqual(one.prompt, "other 0/0> ")
+        self.said(two, "drop other")
+        self.assertEqual(self.said(one, ""), ["[session 2] drop other -> removed"])
+        self.assertEqual(one.prompt, "other> ")
+
+    def test_replies_in_short(self) -> None:
+        replies = {"step pass 1.1 dropped 0": "pass 1.1", "step sent 1 148 dropped 3": "sent 1 148 dropped 3", "at 0": "at 0"}
+        replies.update({"step drop block dropped 0": "drop block", "refused 8 Event 2 NothingPending": "refused 8 Event 2 NothingPending"})
+        self.assertEqual({it: in_short(it) for it in replies}, replies)
+
+
+class Due(Followers):
+    """When notes come while somebody types."""
+
+    def test_a_few_come_at_once_and_many_in_a_pause(self) -> None:
+        lab = self.laboratory(self.serve(1))
+        lab.join()
+        said: List[str] = []
+        notes = Notes(shared(lab), said.extend, PLAIN)
+
+        def hear(number: int) -> None:
+            shared(lab).heard(Entry(number, 2, "step main tick a 1"), ["step clock 1 dropped 0"])
+
+        with mock.patch("time.monotonic", return_value=100.0) as clock:
+            self.assertFalse(notes.are_due)
+            for number in range(MOST):
+                hear(number)
+                self.assertTrue(notes.are_due)
+                notes.show()
+            self.assertEqual(len(said), MOST)
+            for number in range(200):
+                hear(number)
+                self.assertFalse(notes.are_due)
+                clock.return_value += PAUSE / 2
+            clock.return_value += PAUSE
+            self.assertTrue(notes.are_due)
+            shared(lab).behind = 100
+            self.assertFalse(notes.are_due)
+            shared(lab).behind = 0
+            notes.show()
+            self.assertEqual(said[MOST:], ["200 commands of session 2; the newest: [session 2] step main tick a 1 -> clock 1"])
+            hear(1)
+            self.assertTrue(notes.are_due)
+
+
+class Typing(Followers):
+    """A shell at a terminal, beside another session."""
+
+    def terminal(self, port: int, **more: str) -> Terminal:
+        words = [sys.executable, f"{TOP}/lab", "shell", "--port", str(port)]
+        it = Terminal(words, {"PFL_LAB": program(), "PFL_LAB_HISTORY": "", "PYTHONDONTWRITEBYTECODE": "1", **more})
+        self.ends.callback(it.close)
+        return it
+
+    def test_what_is_typed_stays_as_it_is(self) -> None:
+        port = self.serve(2)
+        it = self.terminal(port)
+        other = self.client(port)
+        it.wait_for("main 0/0>")
+        it.type(QUERY[:-1])
+        it.wait_for(f"main 0/0> {QUERY[:-1]}")
+        # The cursor goes to the second word.
+        it.type("\x01\x1bf\x1bf")
+        notes: List[str] = []
+        # (the screen scrolls before the last of them)
+        for number in range(1, 16):
+            other.ask("step main tick a 1")
+            other.ask("show main")
+            notes.append(f"[session {self.number(notes, it)}] step main tick a 1 -> clock {number}")
+            rows = it.wait(lambda rows: rows[-2] == notes[-1])
+            self.assertEqual(rows[-1], f"main 0/0> {QUERY[:-1]}")
+            time.sleep(0.05 if number % 5 else PAUSE)
+        self.assertEqual(it.screen.text[1:-1], notes)
+        self.assertEqual(it.screen.column, len("main 0/0> packet a"))
+        it.type("\x050\r")
+        it.wait_for("main 16/16>")
+        self.assertEqual(it.screen.text[-3:-1], [f"main 0/0> {QUERY}", "step pass 1.1 dropped 0"])
+
+    def number(self, notes: List[str], it: Terminal) -> int:
+        """The number of the other session: that of the first note."""
+        if notes:
+            return int(notes[0].split("]")[0].split()[1])
+        rows = it.wait(lambda rows: len(rows) > 2)
+        return int(rows[-2].split("]")[0].split()[1])
+
+    def test_a_line_of_several_rows_has_its_notes_later(self) -> None:
+        port = self.serve(2)
+        it = self.terminal(port)
+        other = self.client(port)
+        it.wait_for("main 0/0>")
+        it.type("x" * 120)
+        it.wait(lambda rows: rows[-1] == "x" * 30)
+        other.ask(STEP)
+        time.sleep(0.4)
+        it.type("\x15")
+        rows = it.wait(lambda rows: rows[-1] == "main 0/0>" and "pass 1.1" in rows[-2])
+        self.assertEqual(len(rows), 3)
+        it.type("names\r")
+        it.wait_for("main 1/1>")
+        self.assertEqual(it.screen.text[-2], "names main")
+
+    def test_a_terminal_that_inserts_no_lines_has_them_before_the_next_prompt(self) -> None:
+        port = self.serve(2)
+        it = self.terminal(port, TERM="dumb")
+        other = self.client(port)
+        it.wait_for("main 0/0>")
+        other.ask(STEP)
+        it.type("names\r")
+        self.assertRegex(it.wait_for("main 1/1>")[-2], "step main packet .* -> pass 1.1$")
+
+    def test_many_are_one_line_and_an_interrupt_gives_up_the_line(self) -> None:
+        port = self.serve(2)
+        it = self.terminal(port)
+        other = self.client(port)
+        it.wait_for("main 0/0>")
+        it.type("view")
+        for _ in range(300):
+            other.ask("step main tick a 1")
+        rows = it.wait(lambda rows: "clock 300" in rows[-2])
+        self.assertEqual(rows[-1], "main 0/0> view")
+        self.assertLess(len(rows), 100)
+        it.type("\x03")
+        it.wait_for("main 300/300>")
+        self.assertEqual(it.screen.text[-2], "main 0/0> view^C")
+        it.type("notes off\r")
+        it.wait(lambda rows: rows[-2:] == ["notes are off", "main 300/300>"])
+        other.ask("step main tick a 1")
+        it.type("\r")
+        it.wait_for("main 301/301>")
+        self.assertEqual(it.screen.text[-2], "main 300/300>")
+
+    def test_the_end_of_the_server_comes_above_the_line(self) -> None:
+        port = self.serve(1)
+        it = self.terminal(port)
+        it.wait_for("main 0/0>")
+        it.type("vi")
+        it.wait_for("main 0/0> vi")
+        self.end_server()
+        rows = it.wait(lambda rows: rows[-2] == "the server has ended, or has ended this session")
+        self.assertEqual(rows[-1], "main 0/0> vi")
+
+    def end_server(self) -> None:
+        for it in self.server.visits:
+            it.connection.shutdown(2)
+
+
+class TypingProved(ProvedFollowers, Typing):
+    """The same over the program's own server."""
+
+    def end_server(self) -> None:
+        self.proved.process.kill()
+
+
+class Sequences(unittest.TestCase):
+    def test_rows_are_made_for_all_of_a_text(self) -> None:
+        self.assertEqual(above(["a", "b"], 80), "\033D\033D\033[2A\0337\r\033[2La\r\nb\0338\033[2B")
+        self.assertIn("\033[3L", above(["x" * 80, "x" * 81], 80))
+        self.assertIn("\033[1L", above(["\033[33m" + "x" * 80 + "\033[0m"], 80))
+
+
+if __name__ == "__main__":
+    unittest.main()
