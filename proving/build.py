@@ -16,6 +16,8 @@ from .costs import checks_at_once, files_of, jobs_of_check
 from .crates import PARTS, TOP, Crate, Crates, below, chains
 
 LOGS = f"{TOP}/out/lab"
+# How many seconds may pass without a line where the progress does not go to a terminal.
+SILENCE = 300.0
 # How much a check that is not on the dearest chain gives way to the one that is.
 NICE = "10"
 
@@ -39,11 +41,18 @@ def functions_of(name: str) -> Optional[List[int]]:
     return None
 
 
+def failed_log(name: str) -> str:
+    """What the checker said of a crate when it failed, until it fails again."""
+    return f"{LOGS}/{name}.failed.log"
+
+
 class Progress:
-    """Says on standard error how far the work is: on a terminal in one line that renews itself, elsewhere in a line a crate."""
+    """Says on standard error how far the work is: on a terminal in one line that renews itself, elsewhere in a line a crate, and in one
+    where nothing was said for long."""
 
     def __init__(self, costs: Dict[str, float]):
         self.costs, self.done, self.start = costs, 0.0, time.monotonic()
+        self.said = self.start
         self.is_terminal = sys.stderr.isatty()
 
     def so_far(self, running: List[str]) -> str:
@@ -55,15 +64,23 @@ class Progress:
         return f"{(time.monotonic() - self.start) / 60:.0f} min, {100 * done / sum(self.costs.values()):.0f} % of the work"
 
     def show(self, running: List[str]) -> None:
-        if self.is_terminal:
-            each = ", ".join(f"{name} {'/'.join(map(str, functions_of(name) or []))}".strip() for name in running)
-            line = f"lab: {self.so_far(running)}: {each}"
+        if not self.is_terminal and time.monotonic() - self.said < SILENCE:
+            return
+        each = ", ".join(f"{name} {'/'.join(map(str, functions_of(name) or []))}".strip() for name in running)
+        line = f"lab: {self.so_far(running)}: {each}"
+        if not self.is_terminal:
+            self._say(line)
+        else:
             print(f"\r\033[K{line[: shutil.get_terminal_size().columns - 1]}", end="", file=sys.stderr, flush=True)
 
     def proved(self, name: str, running: List[str]) -> None:
         self.done += self.costs[name]
         if not self.is_terminal:
-            print(f"lab: {self.so_far(running)}: {name} is proved", file=sys.stderr, flush=True)
+            self._say(f"lab: {self.so_far(running)}: {name} is proved")
+
+    def _say(self, line: str) -> None:
+        self.said = time.monotonic()
+        print(line, file=sys.stderr, flush=True)
 
     def end(self) -> None:
         if self.is_terminal:
@@ -189,6 +206,8 @@ class Build:
             del self.running[name]
             self.seconds[name] = seconds
             if check.process.returncode:
+                # (the next check of the crate has a log of its own)
+                os.replace(f"{LOGS}/{name}.log", failed_log(name))
                 return name
             check.lane.give(self.crates[name])
             self.idle.append(check.lane)

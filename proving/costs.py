@@ -79,10 +79,11 @@ def jobs_of_check() -> int:
 
 
 class Estimate:
-    """The course of a build, second by second, as it would be where the checks under way took equal shares of the processors."""
+    """The course of a build, second by second, as it would be where the checks under way took equal shares of the processors, and
+    none of them more than it has jobs."""
 
-    def __init__(self, crates: Crates, seconds: Dict[str, float], at_once: int):
-        self.crates, self.at_once = crates, at_once
+    def __init__(self, crates: Crates, seconds: Dict[str, float], at_once: int, jobs: int):
+        self.crates, self.at_once, self.jobs = crates, at_once, jobs
         self.chains = chains(crates, seconds)
         self.alone = {name: ALONE * seconds[name] for name in crates}
         self.shared = {name: seconds[name] - self.alone[name] for name in crates}
@@ -103,6 +104,6 @@ class Estimate:
             if self.alone[name] > 0:
                 self.alone[name] -= min(1.0, share)
             else:
-                self.shared[name] -= share
+                self.shared[name] -= min(share, self.jobs)
             if self.alone[name] <= 0 and self.shared[name] <= 0:
                 del self.alone[name]

@@ -26,6 +26,7 @@ class Words(Options):
     setup: Optional[str]
     echo: bool
     strict: bool
+    version: bool
     file: str
     picture: Optional[str]
     script: Optional[str]
@@ -47,7 +48,7 @@ class Words(Options):
     unopened: bool
 
 
-# The words that run no program.
+# The words that run no program, beside those that ask for help.
 WITHOUT_PROGRAM = ("compare", "import")
 
 
@@ -56,7 +57,8 @@ def parser(name: str = "./lab") -> argparse.ArgumentParser:
     words = argparse.ArgumentParser(prog=name, description="What stands around the laboratory's program.")
     words.set_defaults(name=os.path.basename(name))
     words.add_argument("--program", required=True, help=argparse.SUPPRESS)
-    kinds = words.add_subparsers(dest="word", required=True)
+    _version(words, False)
+    kinds = words.add_subparsers(dest="word")
     _shell(
         kinds.add_parser(
             "shell",
@@ -109,7 +111,13 @@ def _further(add: Callable[..., argparse.ArgumentParser], name: str) -> None:
     )
 
 
+def _version(words: argparse.ArgumentParser, default: object) -> None:
+    """The version is the program's: the shell that comes with it has none of its own."""
+    words.add_argument("-V", "--version", action="store_true", default=default, help="prints the version of the program that is run")
+
+
 def _shell(words: argparse.ArgumentParser) -> None:
+    _version(words, argparse.SUPPRESS)
     words.add_argument("files", nargs="*", metavar="FILE", help="scripts that are read first")
     words.add_argument("--port", type=port, metavar="P", help="a session of the server at this port, and no pair of its own")
     words.add_argument("--setup", metavar="FILE", help="with --port: the setup that the server read, if it does not report it")

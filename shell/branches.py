@@ -2,7 +2,7 @@
 from __future__ import annotations
 
 from dataclasses import dataclass, field
-from typing import List, NamedTuple, Sequence
+from typing import List, NamedTuple, Sequence, Tuple
 
 from .language.events import EVENTS, Event
 
@@ -25,6 +25,16 @@ def read_log(lines: Sequence[str]) -> Branch:
 def common(one: Sequence[str], two: Sequence[str]) -> int:
     """How many events two branches have in common before they part."""
     return next((at for at, (its, other) in enumerate(zip(one, two)) if its != other), min(len(one), len(two)))
+
+
+class Mark(NamedTuple):
+    """A place in a branch to which somebody gave a name: the branch, and the events that stood there."""
+
+    branch: str
+    stood: Tuple[str, ...]
+
+    def __str__(self) -> str:
+        return f"{self.branch}, after {len(self.stood)} event{'s' * (len(self.stood) != 1)}"
 
 
 class Happened(NamedTuple):

@@ -1,7 +1,12 @@
 """Colours, on a terminal alone."""
 from __future__ import annotations
 
+import re
 from dataclasses import dataclass
+
+# What begins a colour, and what ends it.
+CODE = re.compile("\033\\[[0-9;]*m")
+END = "\033[0m"
 
 
 @dataclass(frozen=True)
@@ -11,7 +16,7 @@ class Paint:
     on: bool = False
 
     def _as(self, code: str, text: str) -> str:
-        return f"\033[{code}m{text}\033[0m" if self.on and text else text
+        return f"\033[{code}m{text}{END}" if self.on and text else text
 
     def head(self, text: str) -> str:
         """A heading."""

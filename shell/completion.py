@@ -2,17 +2,20 @@
 from __future__ import annotations
 
 import glob
+import os
 import re
 from typing import Callable, Dict, Iterable, List, Sequence, Tuple
 
 from .charts.windows import FLOW, WINDOW_WORDS
-from .helps import CHART, NOTES, SHELL, WHATIF, WHATIF_OPTIONS, WORDS
+from .helps import CHART, NOTES, SHELL, VIEW, WHATIF, WHATIF_OPTIONS, WORDS
 from .laboratory import Laboratory
-from .language.commands import COMMANDS, FRAME, RULE, SETUP, STEP, TYPED, WHY
+from .language.commands import BACK, COMMANDS, FORK, FRAME, RULE, SETUP, STEP, TYPED, WHY
 from .language.events import EVENTS
 from .language.forms import ACTION, NODE, RULE_DIRECTION
+from .language.names import NODES
 from .language.searches import SEARCH
 from .language.setups import LIMITS, OPTIONS, TIMEOUT
+from .marks import HERE, TO
 from .pair import Pair
 from .searches.offers import offers
 from .whatif.faults import KINDS
@@ -62,6 +65,10 @@ def candidates(lab: Laboratory, before: Sequence[str], begun: str) -> List[str]:
         return _matching(_chart(lab, words, begun), begun)
     if words[0] == WHATIF:
         return _matching(_whatif(lab, words, begun), begun)
+    if words[0] == VIEW:
+        return _matching(_view(lab, words), begun)
+    if words[0] in (BACK.word, FORK.word):
+        return _matching(_places(lab, words, begun), begun)
     if words[0] == NOTES:
         return _matching(("on", "off") if len(words) == 1 else (), begun)
     # An event follows the branch, which `why` may be without.
@@ -74,11 +81,13 @@ def _following(lab: Laboratory, words: Sequence[str], part: Sequence[str], begun
     """What can follow the words of a part of a line, by the first of them."""
     word, at = part[0], len(part) - 1
     values = _values(part)
+    if word in SHELL and SHELL[word].form.endswith("FILE.."):
+        at = min(at, len(values) - 1)
     if at >= len(values):
         return _options(part[-1]) if word == RULE.word else ()
     name, fixed = values[at]
     if name == "FILE":
-        return glob.glob(glob.escape(begun) + "*")
+        return _paths(begun)
     others = (EVENTS[word].every,) if word in EVENTS else EVENTS if word == WHY.word else ()
     return [*(CHOICES[name](lab, words) if name in CHOICES else fixed), *(it for it in others if it and at == 0)]
 
@@ -97,18 +106,39 @@ def _values(part: Sequence[str]) -> List[Tuple[str, Sequence[str]]]:
 def _chart(lab: Laboratory, words: Sequence[str], begun: str) -> Iterable[str]:
     """What can follow the words of a chart: a branch, parts of it in their order, and a file."""
     if words[-1] == FLOW:
-        branch = words[1] if words[1] in lab.names() else lab.in_use
-        return sorted({str(it) for node in lab.show(branch).nodes.values() for it in node.states})
+        return _states_of_both(lab, words)
     if words[-1] in WINDOW_WORDS:
         return ()
     said = [WINDOW_WORDS.index(it) for it in words if it in WINDOW_WORDS]
     branches = _branches(lab, words) if len(words) == 1 else ()
-    return [*branches, *WINDOW_WORDS[max(said, default=-1) + 1 :], *glob.glob(glob.escape(begun) + "*")]
+    return [*branches, *WINDOW_WORDS[max(said, default=-1) + 1 :], *_paths(begun)]
+
+
+def _states_of_both(lab: Laboratory, words: Sequence[str]) -> List[str]:
+    """The names of the states at both nodes, in the branch that may be the second word."""
+    branch = words[1] if len(words) > 1 and words[1] in lab.names() else lab.in_use
+    return sorted({str(it) for node in lab.show(branch).nodes.values() for it in node.states})
+
+
+def _view(lab: Laboratory, words: Sequence[str]) -> Iterable[str]:
+    """What can follow the words of a `view`: a branch, a number that is not completed, and a node or a state."""
+    if words[-1] in NODES or "." in words[-1]:
+        return ()
+    return [*(_branches(lab, words) if len(words) == 1 else ()), *NODES, *_states_of_both(lab, words)]
+
+
+def _places(lab: Laboratory, words: Sequence[str], begun: str) -> Iterable[str]:
+    """What can follow `back` and `fork`: the marks after `back to` and `back BRANCH to`, else what the program takes and these words."""
+    if words[0] == BACK.word and words[-1] == TO and len(words) < 4:
+        return lab.marks
+    own = {BACK.word: TO, FORK.word: HERE}[words[0]]
+    is_place = len(words) == 1 or len(words) == 2 and own == TO
+    return [*_following(lab, words, words, begun), *[own] * is_place]
 
 
 def _whatif(lab: Laboratory, words: Sequence[str], begun: str) -> Iterable[str]:
     """What can follow the words of a `whatif`: a branch, options that are not there yet, and what these say."""
-    values: Dict[str, Iterable[str]] = {"--faults": KINDS, "--watch": WATCHED, "--out": glob.glob(glob.escape(begun) + "*")}
+    values: Dict[str, Iterable[str]] = {"--faults": KINDS, "--watch": WATCHED, "--out": _paths(begun)}
     options = {it.split()[0]: it.split()[1:] for it in WHATIF_OPTIONS}
     if options.get(words[-1]):
         return values.get(words[-1], ())
@@ -131,6 +161,11 @@ def _search(lab: Laboratory, words: Sequence[str], begun: str) -> List[str]:
     offered = _following(lab, (STEP.word, branch, *found.event), found.event, begun)
     every = () if found.is_for_people else [it.every for it in EVENTS.values()]
     return _matching((it for it in offered if it not in every), begun)
+
+
+def _paths(begun: str) -> List[str]:
+    """The paths that begin so. That of a folder ends with a slash, since it goes on."""
+    return [f"{it}/" if os.path.isdir(it) else it for it in glob.glob(glob.escape(begun) + "*")]
 
 
 def _matching(words: Iterable[str], begun: str) -> List[str]:

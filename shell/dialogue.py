@@ -3,13 +3,14 @@ from __future__ import annotations
 
 import cmd
 import contextlib
-import os
 from typing import IO, Any, List, Optional, Sequence
 
 from .colours import Paint
 from .completion import candidates
+from .fitting import columns_of, fitted
 from .laboratory import Laboratory, Unknown
 from .notes import Notes
+from .paging import paged
 from .programs import Ended
 from .terminal import Watch, watch
 
@@ -26,7 +27,26 @@ class Loop(cmd.Cmd):
         self._watch: Optional[Watch] = None
         self.set_prompt()
 
+    @property
+    def columns(self) -> Optional[int]:
+        """The columns of the terminal that the output goes to, where it goes to one."""
+        return columns_of(self.out)
+
     def tell(self, lines: Sequence[str]) -> None:
+        """Prints lines for people, which fit a terminal."""
+        self.tell_whole(fitted(lines, self.columns))
+
+    def answer(self, lines: Sequence[str]) -> None:
+        """Prints the answer to a question. A long one goes through a pager where somebody types."""
+        self.answer_whole(fitted(lines, self.columns))
+
+    def answer_whole(self, lines: Sequence[str]) -> None:
+        """Prints such an answer in lines that are as they should be."""
+        if not self.is_typed or not paged(lines, self.out):
+            self.tell_whole(lines)
+
+    def tell_whole(self, lines: Sequence[str]) -> None:
+        """Prints lines as they are, such as those of the language, which somebody may copy."""
         for line in lines:
             print(line, file=self.out, flush=self.is_typed)
 
@@ -102,5 +122,5 @@ class Loop(cmd.Cmd):
 
 
 def spaced(words: List[str]) -> List[str]:
-    """The words with the space that ends each, which readline leaves to the completer; a folder goes on."""
-    return [it if os.path.isdir(it) else f"{it} " for it in words]
+    """The words with the space that ends each, which readline leaves to the completer; the path of a folder goes on."""
+    return [it if it.endswith("/") else f"{it} " for it in words]

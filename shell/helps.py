@@ -3,7 +3,7 @@ from __future__ import annotations
 
 import re
 import textwrap
-from typing import Dict, List, NamedTuple
+from typing import Dict, List, NamedTuple, Optional
 
 from .language import commands, events
 from .language.commands import Line
@@ -20,9 +20,12 @@ class Help(NamedTuple):
     more: str = ""
 
 
+# The columns of a line.
+WIDEST = 100
 CHART = "chart"
 NOTES = "notes"
 WHATIF = "whatif"
+VIEW = "view"
 WHATIF_OPTIONS = ("--faults KINDS", "--watch WHAT", "--from K", "--to L", "--pairs", "--only N", "--out FILE.pfl")
 WHATIF_PARTS = "\n".join(
     (
@@ -61,6 +64,16 @@ def _of_event(it: Event) -> Help:
 
 SETUP = {word: _of_line(it) for word, it in commands.SETUP.items()}
 COMMANDS = {word: _of_line(it) for word, it in commands.TYPED.items()}
+# What the shell takes beside the forms of the laboratory's own words.
+ADDED = {
+    "back to": Help(
+        "back [BRANCH] to K\nback [BRANCH] to MARK",
+        "goes to where the first K events stand, or to a mark, by `back` or `forward`",
+        "Without BRANCH it goes there in the branch in use, or in the one where the mark was set. In another one a mark is found where the "
+        "same events are. A branch that is called `to` takes the two forms without BRANCH for itself.",
+    ),
+    "fork here": Help("fork here NEW", "makes a branch NEW of the events that stand in the branch in use"),
+}
 EVENTS = {word: _of_event(it) for word, it in events.EVENTS.items()}
 
 SEARCH_PARTS = "\n".join(
@@ -84,9 +97,9 @@ SEARCH_PARTS = "\n".join(
 )
 
 SHELL: Dict[str, Help] = {
-    "view": Help(
-        "view [BRANCH] [K]",
-        "shows the pair in the words of pfctl: states, counters, queues, held packets, frames",
+    VIEW: Help(
+        "view [BRANCH] [K]\nview [BRANCH] [K] NODE\nview [BRANCH] [K] NAME",
+        "shows the pair in the words of pfctl: states, counters, queues, held packets, frames; or a node alone, or a state at both nodes",
         "With K it shows the pair as it was after the first K events, those after the cursor too; the branch stays as it is.",
     ),
     "diff": Help(
@@ -139,6 +152,11 @@ SHELL: Dict[str, Help] = {
         "shows what other sessions of a server do, a line for each command but looks, as it does at first; or stops that",
         "Each comes above the prompt. `notes` alone says whether they are on.",
     ),
+    "mark": Help(
+        "mark [NAME]",
+        "gives the place where the branch in use stands a name, for `back to NAME`; without NAME lists the marks",
+        "Marks last as long as the dialogue, and `save` does not write them.",
+    ),
     "use": Help("use BRANCH", "makes a branch the one that events and questions without a branch are meant of"),
     "verify": Help("verify FILE..", "runs scripts by themselves, and tells where their lines `#>` and the replies differ"),
     "annotate": Help("annotate FILE..", "writes the replies into scripts, as lines `#>`"),
@@ -152,26 +170,34 @@ GROUPS = (
     ("Setup, up to `open`", SETUP),
     ("Commands of the laboratory", COMMANDS),
     ("Events: `step BRANCH EVENT`, or the event alone for the branch in use", EVENTS),
-    ("Words of the shell", SHELL),
+    ("Words of the shell", {**SHELL, **ADDED}),
 )
 WORDS: Dict[str, Help] = {**SETUP, **COMMANDS, **EVENTS, **SHELL}
 
 
-def overview() -> List[str]:
-    """All words, each with what it does."""
+def overview(columns: Optional[int] = None) -> List[str]:
+    """All words, each with what it does; in lines for a terminal of these columns, where there is one."""
     lines: List[str] = []
     for title, group in GROUPS:
-        lines.append(title)
+        lines += _wrapped(title, columns)
         for word, it in group.items():
-            lines += textwrap.wrap(it.what, 100, initial_indent=f"  {word:10}", subsequent_indent=" " * 12)
+            lines += _wrapped(it.what, columns, f"  {word:10}", " " * 12)
     return [*lines, "`help WORD` tells its form and what it answers."]
 
 
-def about(word: str) -> List[str]:
+def about(word: str, columns: Optional[int] = None) -> List[str]:
     """All about one word."""
-    it = WORDS[word]
-    lines = [part for form in it.form.split("\n") for part in textwrap.wrap(form, 100, subsequent_indent="    ")]
-    lines += textwrap.wrap(it.what, 100, initial_indent="  ", subsequent_indent="  ")
-    first, *parts = it.more.split("\n")
-    lines += textwrap.wrap(first, 100, initial_indent="  ", subsequent_indent="  ")
-    return lines + [line for part in parts for line in textwrap.wrap(part, 100, initial_indent="  ", subsequent_indent="    ")]
+    lines: List[str] = []
+    for it in (WORDS[word], *(its for added, its in ADDED.items() if added.split()[0] == word)):
+        lines += [part for form in it.form.split("\n") for part in _wrapped(form, columns, "", "    ")]
+        lines += _wrapped(it.what, columns, "  ", "  ")
+        first, *parts = it.more.split("\n")
+        lines += _wrapped(first, columns, "  ", "  ")
+        lines += [line for part in parts for line in _wrapped(part, columns, "  ", "    ")]
+    return lines
+
+
+def _wrapped(text: str, columns: Optional[int], first: str = "", others: str = "") -> List[str]:
+    """A text in lines that begin so, which no word is broken for."""
+    width = min(WIDEST, columns or WIDEST)
+    return textwrap.wrap(text, width, initial_indent=first, subsequent_indent=others, break_long_words=False, break_on_hyphens=False)

@@ -6,6 +6,7 @@ import shutil
 import sys
 
 from .arguments import WITHOUT_PROGRAM
+from .chosen import NoProgram, chosen
 from .main import main as shell
 
 NAME = "pfl_shell"
@@ -16,9 +17,19 @@ NO_PROGRAM_STATUS = 125
 def main() -> int:
     """Carries out the words of the command line, `shell` where there is none, by the program beside it or that of PFL_LAB."""
     words = sys.argv[1:] or ["shell"]
-    program = os.environ.get("PFL_LAB") or os.path.join(os.path.dirname(os.path.realpath(sys.argv[0])), PROGRAM)
     needs_none = {"-h", "--help"} & {*words} or words[0] in WITHOUT_PROGRAM
-    if not shutil.which(program) and not needs_none:
-        print(f"{NAME}: there is no program at {program}; PFL_LAB names another one", file=sys.stderr)
+    try:
+        program = "" if needs_none else program_of(os.path.dirname(os.path.realpath(sys.argv[0])))
+    except NoProgram as why:
+        print(f"{NAME}: {why}", file=sys.stderr)
         return NO_PROGRAM_STATUS
     return shell(["--program", program, *words], NAME)
+
+
+def program_of(folder: str) -> str:
+    """The program that PFL_LAB names, else the one in this folder."""
+    beside = os.path.join(folder, PROGRAM)
+    program = chosen() or shutil.which(beside)
+    if not program:
+        raise NoProgram(f"there is no program at {beside}; PFL_LAB names another one")
+    return program

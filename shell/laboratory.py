@@ -3,9 +3,9 @@ from __future__ import annotations
 
 import contextlib
 from dataclasses import dataclass, replace
-from typing import ContextManager, Iterator, List, Optional, Sequence, Tuple, Union
+from typing import ContextManager, Dict, Iterator, List, Optional, Sequence, Tuple, Union
 
-from .branches import Branch, read_log
+from .branches import Branch, Mark, read_log
 from .explanations import Explanation, read_explanation
 from .flights import Flight, read_flight
 from .held import held_packets, tell_packets
@@ -53,6 +53,8 @@ class Laboratory:
         self.last: Optional[Asked] = None
         # The branch that is meant where none is named.
         self.in_use = "main"
+        # The places that have names.
+        self.marks: Dict[str, Mark] = {}
 
     def join(self) -> str:
         """Follows the server, whose sessions are all connected, if it tells its setup: what there is to say of that."""
@@ -244,7 +246,7 @@ class Laboratory:
 def no_branch(name: str) -> str:
     """That there is no such branch; a node is none."""
     if name in NODES:
-        return f"{name} is a node, and there is no branch of that name: `view` shows both nodes, and `diff` compares them"
+        return f"{name} is a node, and there is no branch of that name: `view {name}` shows it, and `diff` compares both"
     return f"there is no branch {name}; `names` lists them"
 
 

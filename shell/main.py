@@ -4,6 +4,7 @@ from __future__ import annotations
 
 import io
 import os
+import subprocess
 import sys
 from contextlib import closing
 from functools import partial
@@ -15,18 +16,21 @@ from .arguments import Words, page_fault, parser
 from .charts.chart import NO_TEXTS, chart as chart_of
 from .charts.picture import draw
 from .charts.rows import Chart
-from .charts.text import text as chart_text
+from .charts.text import WIDEST, text as chart_text
 from .charts.windows import WHOLE, Window
 from .colours import PLAIN, Paint
 from .dumps.command import TROUBLE, NothingRead, compared
 from .dumps.comparing import Tolerance
 from .dumps.report import Shown
+from .fitting import columns_of, fitted
 from .importing.command import carry_out as import_
 from .laboratory import Laboratory, Unknown
+from .language.forms import one_of
 from .language.lines import has_word, lines_of, opens
 from .pages.live import OPENING, begun, joined, serve
 from .pages.packing import NotPacked, page as page_of
 from .pages.runs import run_of
+from .paging import paged
 from .programs import Client, Ended, SetupFault, check_setup, run_lines, setup_fault
 from .setups import Setup
 from .shell import STRICT_STATUS, Shell, Stopped
@@ -42,6 +46,8 @@ def main(arguments: Sequence[str], name: str = "./lab") -> int:
     """Carries out the words after the command's name: the status."""
     kinds = parser(name)
     words = kinds.parse_args(arguments, Words())
+    if not words.word and not words.version:
+        kinds.error(f"a word is missing: {one_of(WORDS)}")
     if words.word == "shell" and words.setup and not words.port:
         kinds.error("--setup tells what a server read, and goes with --port; a pair of your own has its setup from lines")
     if words.word == "page" and page_fault(words):
@@ -51,7 +57,7 @@ def main(arguments: Sequence[str], name: str = "./lab") -> int:
             # A line has whatever bytes it has: the program judges them.
             stream.reconfigure(errors="surrogateescape")
     try:
-        return WORDS[words.word](words)
+        return (version if words.version else WORDS[words.word])(words)
     except KeyboardInterrupt:
         return INTERRUPTED_STATUS
     except BrokenPipeError:
@@ -73,18 +79,34 @@ def discard_output() -> None:
 
 def say(words: Words, what: object) -> None:
     """A line on standard error, with the command's name before it."""
-    print(f"{words.name}: {what}", file=sys.stderr)
+    print("\n".join(fitted([f"{words.name}: {what}"], columns_of(sys.stderr))), file=sys.stderr)
+
+
+def show(lines: Sequence[str]) -> None:
+    """Lines for people, which fit a terminal."""
+    show_whole(fitted(lines, columns_of(sys.stdout)))
+
+
+def show_whole(lines: Sequence[str]) -> None:
+    """Lines that are as they should be, through a pager where they are more than a terminal has room for."""
+    if not paged(lines, sys.stdout):
+        print("\n".join(lines), flush=True)
+
+
+def version(words: Words) -> int:
+    """Prints the version of the program."""
+    return subprocess.run([words.program, "--version"]).returncode
 
 
 def verify(words: Words) -> int:
     found = scripts.verified(words.program, words.files)
-    print("\n".join(found.lines))
+    show(found.lines)
     return int(found.differing > 0)
 
 
 def annotate(words: Words) -> int:
     for line in scripts.annotated_all(words.program, words.files):
-        print(line)
+        show([line])
     return 0
 
 
@@ -96,7 +118,8 @@ def chart(words: Words) -> int:
     if words.picture:
         save(words.picture, draw(drawn, scripts.title_of(script) or os.path.basename(words.file)))
     else:
-        print("\n".join(chart_text(drawn, paint(sys.stdout.isatty()))))
+        width = min(WIDEST, columns_of(sys.stdout) or WIDEST)
+        show_whole(chart_text(drawn, paint(sys.stdout.isatty()), width))
     return 0
 
 
@@ -129,10 +152,10 @@ def whatif(words: Words) -> int:
             found = answer(lab, lab.branch(words.branch), asked(words), paint(sys.stdout.isatty()), counter, lambda: text)
         finally:
             counter.clear()
-    print("\n".join(found.lines))
+    show(found.lines)
     if found.written and words.out:
         scripts.write(words.out, found.written.text)
-        print(found.written.told(words.out))
+        show([found.written.told(words.out)])
     if found.fault:
         say(words, found.fault)
     return INTERRUPTED_STATUS if found.is_interrupted else int(bool(found.fault))
@@ -144,7 +167,7 @@ def compare(words: Words) -> int:
     how = Shown(paint(sys.stdout.isatty()), tolerance, words.all)
     answer = compared(words.dumps, words.stats, how, partial(say, words))
     try:
-        print("\n".join(answer.lines), flush=True)
+        show(answer.lines)
     except BrokenPipeError:
         raise
     except OSError as error:

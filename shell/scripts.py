@@ -192,6 +192,8 @@ def verified(program: str, paths: Sequence[str]) -> Verified:
         try:
             found = [f"{path}:{it}" for it in verify(program, read(path))]
         except OSError as error:
+            if error.filename == program:
+                raise
             found = [f"{path}: {error.strerror}"]
         differing += bool(found)
         lines += found

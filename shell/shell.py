@@ -7,20 +7,22 @@ import re
 import sys
 from typing import IO, Iterable, List, Sequence, Tuple
 
-from . import changes, diffs, helps, logs, macros, scripts, views
+from . import changes, diffs, helps, logs, macros, marks, scripts, views
 from .branches import Branch
 from .charts.chart import NO_TEXTS, chart
 from .charts.picture import draw
-from .charts.text import text as chart_text
+from .charts.text import WIDEST, text as chart_text
 from .charts.windows import read_asked
 from .colours import Paint
 from .dialogue import Loop
+from .fitting import shortened
 from .laboratory import Laboratory, Unknown, event_of
+from .language import pf_conf
 from .language.commands import SETUP, STEP
 from .language.events import BROKEN, DELIVER, DROPPED, EVENTS, TICK
-from .language.forms import GREATEST
+from .language.forms import GREATEST, NAME as STATE_NAME
 from .language.lines import has_word, lines_of, opens
-from .language.names import NODES
+from .language.names import NODES, Name
 from .language.searches import GAVE_UP, SEARCH
 from .programs import Ended, SetupFault
 from .reasons.faults import explain_fault
@@ -32,6 +34,8 @@ from .whatif.asked import read as read_whatif
 
 STRICT_STATUS = 4
 BAD_WORDS = ("bad", "refused")
+# What other programs have for a word.
+OTHERS_SAY = {"undo": "back", "redo": "forward", "next": "forward"}
 # Outcomes of an event that a person wants to look at.
 BAD_OUTCOMES = (DROPPED.word, BROKEN.word)
 
@@ -58,7 +62,7 @@ class Shell(Loop):
         """Takes lines one after another: whether one of them ends the shell."""
         for line in lines:
             if echo:
-                self.tell([self.paint.dim(f"> {line}")])
+                self.tell_whole([self.paint.dim(f"> {line}")])
             if self.onecmd(line):
                 return True
         return False
@@ -71,7 +75,7 @@ class Shell(Loop):
         except (Stopped, Ended, BrokenPipeError):
             raise
         except SetupFault as fault:
-            self.tell(explain_fault(line, fault.fault))
+            self.tell(explain_fault(line, fault.fault, self.columns))
             self.fault(f"the setup is without this line: {fault.words}")
         except OSError as error:
             self.fault(f"{error.filename}: {error.strerror}" if error.filename else str(error))
@@ -84,7 +88,7 @@ class Shell(Loop):
     def fault(self, text: str) -> None:
         """Tells what could not be done; where faults stop the shell, this one does."""
         self.has_faults = True
-        self.tell([self.paint.bad(text)])
+        self.tell([self.paint.bad(shortened(text))])
         if self.strict:
             raise Stopped(text)
 
@@ -107,7 +111,13 @@ class Shell(Loop):
         elif words[0] == STEP.word and len(words) > 2:
             self.events(words[1], " ".join(words[2:]), line)
         else:
-            self.ask(line)
+            own = marks.line_for(self.lab, words)
+            self.stand_in(own) if own else self.ask(line)
+
+    def stand_in(self, line: str) -> bool:
+        """Asks a line that stands for what was asked: whether it was neither refused nor faulty."""
+        self.tell_whole([self.paint.dim(f"> {line}")])
+        return self.ask(line)
 
     def setup_line(self, line: str) -> None:
         if self.lab.is_open:
@@ -138,16 +148,14 @@ class Shell(Loop):
 
     def step(self, branch: str, event: str) -> bool:
         """A step that stands for a part of what was asked: whether it was accepted."""
-        line = f"step {branch} {event}"
-        self.tell([self.paint.dim(f"> {line}")])
-        return self.ask(line)
+        return self.stand_in(f"step {branch} {event}")
 
     def ask(self, line: str) -> bool:
         """Asks a line and tells the reply: whether it was neither refused nor faulty."""
         in_use = self.lab.in_use
         reply = self.lab.ask(line)
         self.lines.append((line, tuple(reply)))
-        self.tell([self.painted(it) for it in reply])
+        self.tell_whole([self.painted(it) for it in reply])
         if self.lab.in_use != in_use:
             self.tell([self.paint.note(f"the branch in use is now {self.lab.in_use}")])
         words = reply[0].split()
@@ -156,7 +164,7 @@ class Shell(Loop):
         self.has_faults = self.has_faults or words[0] == "bad"
         if self.is_typed and words[0] == "bad":
             word = line.split()[0]
-            self.tell(explain_fault(line, reply[0]) if word in helps.WORDS else [unknown_word(word)])
+            self.tell(explain_fault(line, reply[0], self.columns) if word in helps.WORDS else [shortened(unknown_word(word))])
         if self.strict:
             raise Stopped(f"`{line}`: {reply[0]}")
         return False
@@ -177,7 +185,7 @@ class Shell(Loop):
         rest = list(words)
         number = rest.pop() if rest and rest[-1].isdecimal() else ""
         if len(rest) > 1:
-            raise Unknown(f"usage: {helps.SHELL[what].form}")
+            raise Unknown(usage(what))
         branch = self.branch(rest[0] if rest else "")
         if not branch.events:
             raise Unknown(f"{branch.name} has no events")
@@ -189,12 +197,20 @@ class Shell(Loop):
     def do_view(self, words: str) -> None:
         setup = self.lab.setup if self.lab.knows_setup else None
         names = words.split()
+        part = names.pop() if names and self.is_part(names) else ""
         place = int(names.pop()) if names and names[-1].isdecimal() else None
         if len(names) > 1:
-            raise Unknown(f"usage: {helps.SHELL['view'].form}")
+            raise Unknown(usage(helps.VIEW))
         name = names[0] if names else self.lab.in_use
         pair = self.lab.show(name) if place is None else self.lab.past(name, place)
-        self.tell(views.view(self.lab.with_contents(pair), setup, self.paint))
+        if part and part not in NODES and not any(Name.read(part) in node.states for node in pair.nodes.values()):
+            raise Unknown(f"neither node has a state {part}")
+        self.answer(views.view(self.lab.with_contents(pair), setup, self.paint, self.columns, part))
+
+    def is_part(self, names: Sequence[str]) -> bool:
+        """Whether the last of these words is a state or a node, and not a branch of the same name."""
+        is_node = names[-1] in NODES and (len(names) > 1 or names[0] not in self.lab.names())
+        return is_node or STATE_NAME.wrong(names[-1]) is None
 
     def do_diff(self, words: str) -> None:
         names = words.split()
@@ -202,36 +218,36 @@ class Shell(Loop):
         if names == list(NODES) and not {*names} <= {*self.lab.names()}:
             names = []
         if len(names) > 2:
-            raise Unknown(f"usage: {helps.SHELL['diff'].form}")
+            raise Unknown(usage("diff"))
         if len(names) == 2:
-            self.tell(diffs.between_branches(self.lab, self.branch(names[0]), self.branch(names[1]), self.paint))
+            self.answer(diffs.between_branches(self.lab, self.branch(names[0]), self.branch(names[1]), self.paint))
         else:
-            self.tell(diffs.between_nodes(self.lab.show(names[0] if names else self.lab.in_use), setup, self.paint))
+            self.answer(diffs.between_nodes(self.lab.show(names[0] if names else self.lab.in_use), setup, self.paint))
 
     def do_log(self, words: str) -> None:
-        self.tell(logs.log(self.lab, self.branch(words.strip()), self.paint))
+        self.answer(logs.log(self.lab, self.branch(words.strip()), self.paint))
 
     def do_changes(self, words: str) -> None:
         branch, number = self.place(words.split(), "changes")
-        self.tell(changes.changes(self.lab, branch, number, self.paint))
+        self.answer(changes.changes(self.lab, branch, number, self.paint))
 
     def do_why(self, words: str) -> None:
         said = words.split()
         # An event that has not happened begins with its word, which a branch may stand before.
         begin = next((at for at, word in enumerate(said[:2]) if word in EVENTS), None)
         if not said:
-            self.tell(why_last(self.lab, self.paint))
+            self.answer(why_last(self.lab, self.paint, self.columns))
         elif begin is not None:
-            self.tell(why_ahead(self.lab, said[0] if begin else self.lab.in_use, event_of(said[begin:]), self.paint))
+            self.answer(why_ahead(self.lab, said[0] if begin else self.lab.in_use, event_of(said[begin:]), self.paint))
         else:
-            self.tell(why_event(self.lab, *self.place(said, "why"), self.paint))
+            self.answer(why_event(self.lab, *self.place(said, "why"), self.paint))
 
     def do_frame(self, words: str) -> None:
         *names, ticket = self.needed(words, "frame").split()
         if len(names) > 1 or not re.fullmatch("[0-9]{1,10}", ticket) or int(ticket) > GREATEST:
-            raise Unknown(f"usage: {helps.SHELL['frame'].form}")
+            raise Unknown(usage("frame"))
         branch, setup = self.branch(names[0] if names else ""), self.lab.setup if self.lab.knows_setup else None
-        self.tell(views.flight(self.lab.flight(branch.name, int(ticket)), branch.cursor, setup, self.paint))
+        self.answer(views.flight(self.lab.flight(branch.name, int(ticket)), branch.cursor, setup, self.paint))
 
     def do_quiet(self, words: str) -> None:
         name = words.strip() or self.lab.in_use
@@ -244,11 +260,11 @@ class Shell(Loop):
     def do_chart(self, words: str) -> None:
         asked = read_asked(words.split())
         if asked is None:
-            raise Unknown(f"usage: {helps.SHELL['chart'].form}")
+            raise Unknown(usage("chart"))
         branch, path = self.branch(asked.branch), asked.file
         drawn = chart(self.lab, branch, NO_TEXTS, self.story().forks(branch.name), asked.window)
         if not path:
-            self.tell(chart_text(drawn, self.paint))
+            self.answer_whole(chart_text(drawn, self.paint, min(WIDEST, self.columns or WIDEST)))
             return
         with open(path, "w", encoding="utf-8") as it:
             it.write(draw(drawn, os.path.splitext(os.path.basename(path))[0]))
@@ -276,7 +292,7 @@ class Shell(Loop):
     def needed(self, words: str, what: str) -> str:
         """The words after one that needs some."""
         if not words.strip():
-            raise Unknown(f"usage: {helps.SHELL[what].form}")
+            raise Unknown(usage(what))
         return words.strip()
 
     def do_use(self, words: str) -> None:
@@ -284,6 +300,9 @@ class Shell(Loop):
         if name not in self.lab.names():
             raise Unknown(f"there is no branch {name}; `names` lists them")
         self.lab.in_use = name
+
+    def do_mark(self, words: str) -> None:
+        self.tell(marks.mark(self.lab, words.strip()))
 
     def do_summary(self, words: str) -> None:
         self.tell([self.lab.summary()])
@@ -293,7 +312,7 @@ class Shell(Loop):
             raise Unknown("notes are of what other sessions of a server do, in a dialogue with one that reports its journal")
         said = words.strip()
         if said not in ("", "on", "off"):
-            raise Unknown(f"usage: {helps.SHELL[helps.NOTES].form}")
+            raise Unknown(usage(helps.NOTES))
         if said:
             self.notes.turn(said == "on")
         self.tell([f"notes are {'on' if self.notes.is_on else 'off'}"])
@@ -342,7 +361,7 @@ class Shell(Loop):
             found = answer(self.lab, self.branch(name), asked, self.paint, counter, self.script)
         finally:
             counter.clear()
-        self.tell(found.lines)
+        self.answer(found.lines)
         if found.written and asked.out:
             scripts.write(asked.out, found.written.text)
             self.tell([found.written.told(asked.out)])
@@ -355,9 +374,9 @@ class Shell(Loop):
     def do_help(self, words: str) -> None:
         word = {"exit": "quit"}.get(words.strip(), words.strip())
         if not word:
-            self.tell(helps.overview())
+            self.answer(helps.overview(self.columns))
         elif word in helps.WORDS:
-            self.tell(helps.about(word))
+            self.answer(helps.about(word, self.columns))
         else:
             raise Unknown(unknown_word(word))
 
@@ -372,7 +391,14 @@ class Shell(Loop):
         return True
 
 
+def usage(word: str) -> str:
+    """How a word of the shell is used."""
+    return f"usage: {', or '.join(helps.SHELL[word].form.splitlines())}"
+
+
 def unknown_word(word: str) -> str:
     """That there is no such word, with the nearest one that there is."""
-    near = difflib.get_close_matches(word, helps.WORDS, 1)
+    if word in pf_conf.RULES:
+        return f"there is no word {word}; a rule begins with `rule a` or `rule b`"
+    near = [OTHERS_SAY[word]] if word in OTHERS_SAY else difflib.get_close_matches(word, helps.WORDS, 1)
     return f"there is no word {word}" + (f"; did you mean `{near[0]}`?" if near else "; `help` lists them")

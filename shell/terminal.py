@@ -2,10 +2,10 @@
 from __future__ import annotations
 
 import os
-import re
 import threading
 from typing import IO, Callable, Optional, Sequence
 
+from .fitting import fitted, length_of
 from .notes import Notes
 from .programs import Ended, uninterrupted
 
@@ -13,12 +13,11 @@ from .programs import Ended, uninterrupted
 PERIOD = 0.1
 # Terminals that do not know the control sequences of a VT100.
 PLAIN_TERMINALS = ("", "dumb", "unknown")
-_COLOUR = re.compile("\033\\[[0-9;]*m")
 
 
 def above(lines: Sequence[str], columns: int) -> str:
     """What has a terminal show lines above the one in which the cursor stands. That has one row, and there it stays."""
-    rows = sum(max(1, -(-len(_COLOUR.sub("", it)) // columns)) for it in lines)
+    rows = sum(max(1, -(-length_of(it) // columns)) for it in lines)
     # (rows are made below, where the terminal may have to scroll, and inserted here; then the cursor returns to its column, and down)
     text = "\r\n".join(lines)
     return "\033D" * rows + f"\033[{rows}A\0337\r\033[{rows}L{text}\0338\033[{rows}B"
@@ -75,7 +74,7 @@ class Watch(threading.Thread):
 
     def _show(self, lines: Sequence[str]) -> None:
         if lines:
-            self._out.write(above(lines, self._columns()))
+            self._out.write(above(fitted(lines, self._columns()), self._columns()))
             self._out.flush()
 
 

@@ -9,7 +9,7 @@ from .colours import Paint
 from .flights import Flight
 from .frames import HEADER, Frame
 from .language.events import MOST_TRIES
-from .language.names import COUNTERS, NODES
+from .language.names import COUNTERS, NODES, Name
 from .language.records import BULK_STATUS, CLEAR, QUEUES, UPDATE_REQUEST
 from .language.setups import BULK_MS, DEFER_MS
 from .pair import Held, Node, Pair, other
@@ -35,25 +35,39 @@ from .words import (
     state_line,
 )
 
-WIDTH = 120
+# The lines of a long list, and how far in it goes on.
+WIDTH, FURTHER = 120, 4
 
 
-def view(pair: Pair, setup: Optional[Setup], paint: Paint) -> List[str]:
-    """All of a pair: both nodes, and what is in flight."""
+def view(pair: Pair, setup: Optional[Setup], paint: Paint, columns: Optional[int] = None, part: str = "") -> List[str]:
+    """All of a pair: both nodes, and what is in flight; or a node or a state by its name alone. Long lists are in lines for these
+    columns, where they are known."""
     undone = pair.events - pair.cursor
     behind = f", {undone} undone" if undone else ""
     lines = [paint.head(f"branch {pair.branch}") + f"  {counted(pair.cursor, 'event')}{behind}"]
     if setup is None:
         lines.append(paint.note(UNKNOWN_SETUP))
-    for node in NODES:
-        lines += _node(pair.nodes[node], setup, paint)
-    return lines + _link(pair, setup, paint)
+    if part and part not in NODES:
+        return [*lines, *_both(pair, Name.read(part), setup, paint)]
+    for node in [part] if part else NODES:
+        lines += _node(pair.nodes[node], setup, paint, columns)
+    return lines if part else lines + _link(pair, setup, paint)
+
+
+def _both(pair: Pair, name: Name, setup: Optional[Setup], paint: Paint) -> List[str]:
+    """A state at both nodes, or that one has none of this name."""
+    lines: List[str] = []
+    for node in pair.nodes.values():
+        state = node.states.get(name)
+        lines.append(paint.head(f"node {node.id}") + ("" if state else f"  no state {name}"))
+        lines += _state(state, node, setup, paint) if state else []
+    return lines
 
 
 # ---- nodes
 
 
-def _node(node: Node, setup: Optional[Setup], paint: Paint) -> List[str]:
+def _node(node: Node, setup: Optional[Setup], paint: Paint, columns: Optional[int]) -> List[str]:
     numbers = f"clock {seconds(node.clock)}, boot {node.boot}, next id {node.next_id}, next queueing number {node.next_number}"
     lines = [paint.head(f"node {node.id}") + f"  {numbers}"]
     if not node.states:
@@ -63,7 +77,7 @@ def _node(node: Node, setup: Optional[Setup], paint: Paint) -> List[str]:
     for name in sorted(node.states):
         lines += _state(node.states[name], node, setup, paint)
     lines.append(_counters(node))
-    lines += _to_be_told(node, paint)
+    lines += _to_be_told(node, paint, min(WIDTH, columns - FURTHER) if columns else WIDTH)
     lines += [paint.note(f"  {held_packet(it, node, setup)}") for it in node.held]
     return lines + _bulk_update(node, setup, paint)
 
@@ -100,7 +114,7 @@ def _counters(node: Node) -> str:
     return f"  counters: {', '.join(said)}" + (f"; the other {rest} are 0" if rest else "")
 
 
-def _to_be_told(node: Node, paint: Paint) -> List[str]:
+def _to_be_told(node: Node, paint: Paint, width: int) -> List[str]:
     """What a flush has to send, by kind, and whether it is wanted soon."""
     kinds: Dict[str, List[str]] = {}
     for it in node.queue:
@@ -115,8 +129,8 @@ def _to_be_told(node: Node, paint: Paint) -> List[str]:
     if not kinds:
         return [paint.note("  nothing to be told to the peer, push asked")] if push else []
     text = "; ".join(f"{kind} {', '.join(those)}" for kind, those in kinds.items())
-    lines = textwrap.wrap(f"to be told to {other(node.id)} ({node.pending}{push}): {text}", WIDTH, break_long_words=False)
-    return [paint.note(("  " if at == 0 else "    ") + it) for at, it in enumerate(lines)]
+    lines = textwrap.wrap(f"to be told to {other(node.id)} ({node.pending}{push}): {text}", width, break_long_words=False)
+    return [paint.note(" " * (FURTHER if at else 2) + it) for at, it in enumerate(lines)]
 
 
 def held_packet(it: Held, node: Node, setup: Optional[Setup]) -> str:

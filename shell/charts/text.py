@@ -37,7 +37,7 @@ ASCII = Glyphs("|", "|", "|", "-", ">", "<", "X", ".", "*", "=", "^", "v", "->")
 Piece = Tuple[str, str]
 # Of the events' numbers at the left, for up to 99 events.
 NUMBERS = 6
-NARROWEST = 72
+NARROWEST, WIDEST = 72, 100
 # What happens to a frame on its way.
 FRAME_STYLES = {REPEAT.word: "note", CUT.word: "bad"}
 # Between a lane and the words at its side: an arrow and a space.
@@ -271,7 +271,7 @@ def _spaced(pieces: Sequence[Piece]) -> List[Piece]:
     return [it for piece in pieces for it in ((" ", ""), piece)][1:]
 
 
-def text(chart: Chart, paint: Paint, width: int = 100, encoding: Optional[str] = None) -> List[str]:
+def text(chart: Chart, paint: Paint, width: int = WIDEST, encoding: Optional[str] = None) -> List[str]:
     """The chart as lines of at most the width, but for a narrow one; for standard output where no encoding is given."""
     glyphs = glyphs_of(encoding or getattr(sys.stdout, "encoding", None))
     return [it.printed(paint) for it in _Drawing(chart, max(width, NARROWEST), glyphs).drawn()]

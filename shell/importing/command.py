@@ -5,6 +5,7 @@ import sys
 from typing import Iterable, List, Optional
 
 from ..arguments import Words
+from ..fitting import columns_of, fitted
 from ..language.names import NODES
 from ..shell import STRICT_STATUS
 from ..stories import legible
@@ -32,7 +33,7 @@ def carry_out(words: Words) -> int:
 
 
 def say(lines: Iterable[str]) -> None:
-    for line in lines:
+    for line in fitted(lines, columns_of(sys.stderr)):
         print(line, file=sys.stderr)
 
 

@@ -29,6 +29,20 @@ class Form:
     def __str__(self) -> str:
         return f"[{self.name}]" if self.is_optional else self.name
 
+    @property
+    def missing(self) -> str:
+        """What is said where there is no word."""
+        return f"expected {self.what}, found nothing" if self.words else f"{self.name} is missing: {self.what}"
+
+    def fault(self, word: str, meant: str = "") -> Optional[str]:
+        """What is said of a word that has not the form, and what to write in its place where that is known."""
+        wrong = self.wrong(word)
+        if wrong is None:
+            return None
+        if self.words:
+            return f"expected {self.what}, found `{word}`" + (f": {meant}" if meant else nearest(word, self.words))
+        return f"`{word}` is no {self.name}: {meant}" if meant else f"`{word}` {wrong}; {self.name} is {self.what}"
+
     def named(self, name: str) -> "Form":
         """The same form under another name."""
         return replace(self, name=name)
@@ -44,6 +58,11 @@ def one_of(words: Iterable[str]) -> str:
     """Words of which one is wanted: `a`, `a or b`, `a, b or c`."""
     *others, last = words
     return f"{', '.join(others)} or {last}" if others else last
+
+
+def quoted(words: Iterable[str]) -> str:
+    """Words of which one is wanted, as they are typed: `a` or `b`, each with its marks."""
+    return one_of(f"`{it}`" for it in words)
 
 
 def plain_number(word: str) -> str:
@@ -65,9 +84,9 @@ def choice(name: str, words: Tuple[str, ...]) -> Form:
     """One of some words."""
 
     def wrong(word: str) -> Optional[str]:
-        return None if word in words else f"is no {name}{nearest(word, words)}"
+        return None if word in words else f"is no {name}"
 
-    return Form(name, one_of(words), wrong, words=words)
+    return Form(name, quoted(words), wrong, words=words)
 
 
 def _v4_wrong(word: str) -> Optional[str]:
@@ -86,7 +105,7 @@ def _v6_wrong(word: str) -> Optional[str]:
 
 def _port_wrong(word: str) -> Optional[str]:
     if not re.fullmatch("[0-9]+", word):
-        return "has no port number behind its last colon"
+        return "has no port number after its last colon"
     return f"has port {word}, above 65535" if int(word) > 65535 else None
 
 
@@ -105,7 +124,7 @@ def _bracketed_wrong(word: str, name: str, after_wrong: Callable[[str], Optional
     """What is wrong with an IPv6 address in brackets, and with what follows its colon, which has this name."""
     address, bracket, after = word[1:].partition("]:")
     if not bracket:
-        return f"has no `]:{name}` behind its address"
+        return f"has no `]:{name}` after its address"
     return _v6_wrong(address) or after_wrong(after)
 
 
@@ -134,12 +153,12 @@ def _pool_wrong(word: str) -> Optional[str]:
 def _net_wrong(word: str) -> Optional[str]:
     address, slash, length = word.partition("/")
     if not slash:
-        return "has no length behind a slash: a single IPv4 address is ADDRESS/32"
+        return "has no length after a slash: a single IPv4 address is ADDRESS/32"
     is_v6 = ":" in address
     wrong = _v6_wrong(address) if is_v6 else _v4_wrong(address)
     most = 128 if is_v6 else 32
     if wrong is None and not re.fullmatch("[0-9]+", length):
-        return "has no number behind its slash"
+        return "has no number after its slash"
     if wrong is None and int(length) > most:
         return f"has the length {length}, above {most}"
     return wrong
@@ -167,9 +186,7 @@ def _name_wrong(word: str) -> Optional[str]:
 def _protocol_wrong(word: str) -> Optional[str]:
     if word in PROTOCOLS.values() or re.fullmatch("[0-9]+", word) and int(word) <= 255:
         return None
-    if word.isdigit():
-        return "is above 255"
-    return f"is no protocol{nearest(word, list(PROTOCOLS.values()))}"
+    return "is no protocol"
 
 
 def _branch_wrong(word: str) -> Optional[str]:
@@ -217,7 +234,7 @@ RULE_DIRECTION = choice("in|out|any", ("in", "out", "any"))
 ACTION = choice("pass|block", ("pass", "block"))
 ANY = choice("any", ("any",))
 PROTOCOL = Form(
-    "PROTO", "tcp, udp, icmp or a number from 0 to 255", _protocol_wrong, _protocol_plain, ("tcp", "udp", "icmp")
+    "PROTO", "`tcp`, `udp`, `icmp` or a number from 0 to 255", _protocol_wrong, _protocol_plain, ("tcp", "udp", "icmp")
 )
 END = Form("END", _END, _end_wrong, _plain_around(":"))
 SOURCE = replace(END, name="SRC", what=f"the source, {_END}")

@@ -8,6 +8,7 @@ from .commands import COMMANDS, EVENT, OPEN, RULE, SET, SETUP, STEP, WHY
 from .events import CUT, CUT_LENGTH, EVENTS, OF_FRAME, PACKET, read_packet
 from .forms import nearest, number
 from .packets import PacketEvent
+from .pf_conf import hint
 from .readers import LineFault, Reader
 from .searches import ANY, APART, FORM, GOALS, HEAD, MOST_CHOICES, SCOPES, SEARCH, words_of
 from .setups import CLASSES, LIMITS, OPTIONS, TIMEOUT
@@ -17,19 +18,6 @@ LONGEST_LINE = 512
 KNOWN = (*COMMANDS, SEARCH)
 # What the shell takes in place of a search.
 FOR_PEOPLE = (f"{SEARCH} drops packet .. [, PART]..", f"{SEARCH} passes packet .. [, PART]..", f"{SEARCH} {APART} [, PART]..")
-# What an operator's pf.conf has, and a rule here has not.
-_OF_PF_CONF = {
-    "port": "a port is `fport PORTS` behind `from`, `tport PORTS` behind `to`",
-    "nat-to": "the translation is `nat POOL`, on a rule that is `out`",
-    "rdr-to": "the redirection is `rdr POOL`, on a rule that is `in`",
-    "keep": "a pass rule always keeps state",
-    "on": "a node has no interfaces",
-    "log": "nothing is logged",
-    "inet": "the family is that of the nets",
-    "inet6": "the family is that of the nets",
-    "return": "a block rule sends nothing back",
-    "all": "a rule without `from` and `to` is for all",
-}
 
 
 def lines_of(text: str) -> List[str]:
@@ -83,8 +71,8 @@ def _check_command(line: str) -> None:
 
 
 def _check_setup(reader: Reader) -> None:
-    hint = ": it is a command, and those come behind `open`" if reader.next in KNOWN else ""
-    word = reader.known("line of a setup", SETUP, hint)
+    meant = ": it is a command, and those come after `open`" if reader.next in KNOWN else ""
+    word = reader.known("line of a setup", SETUP, meant)
     if word == SET.word:
         _check_set(reader)
     elif word == RULE.word:
@@ -126,7 +114,7 @@ def _check_rule_end(reader: Reader) -> None:
         raise LineFault("Extra", place, "the timeouts stand in the order of their classes' numbers, each class once")
     if word in OPTIONS:
         raise LineFault("Extra", place, f"`{word}` is out of its order, or there twice: the order is {' '.join(OPTIONS)}")
-    meant = f": {_OF_PF_CONF[word]}" if word in _OF_PF_CONF else nearest(word, OPTIONS)
+    meant = f": {hint(word)}" if hint(word) else nearest(word, OPTIONS)
     raise LineFault("Unknown", place, f"`{word}` is no option of a rule{meant}")
 
 

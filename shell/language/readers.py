@@ -3,7 +3,8 @@ from __future__ import annotations
 
 from typing import Collection, Optional, Sequence
 
-from .forms import Form, nearest, one_of
+from .forms import Form, nearest, one_of, quoted
+from .pf_conf import hint
 
 
 class LineFault(Exception):
@@ -26,23 +27,23 @@ class Reader:
         return self.words[self.at] if self.at < self.end else None
 
     def take(self, wanted: Form) -> str:
-        word = self._one(wanted.name, wanted.what)
-        wrong = wanted.wrong(word)
-        if wrong is not None:
-            raise LineFault("Number", self.at - 1, f"`{word}` {wrong}; {wanted.name} is {wanted.what}")
+        word = self._one(wanted.missing)
+        fault = wanted.fault(word, hint(word, wanted.name))
+        if fault is not None:
+            raise LineFault("Number", self.at - 1, fault)
         return word
 
-    def known(self, what: str, words: Collection[str], hint: str = "") -> str:
-        """A word out of a list, by which the rest is read."""
-        word = self._one(f"the {what}", one_of(words))
+    def known(self, what: str, words: Collection[str], meant: str = "") -> str:
+        """A word out of a list, by which the rest is read; what was meant by another is found in the list where that is not given."""
+        word = self._one(f"the {what} is missing: {one_of(words)}")
         if word not in words:
-            meant = hint or nearest(word, words) or f"; it is {one_of(words)}"
+            meant = meant or nearest(word, words) or f": expected {quoted(words)}"
             raise LineFault("Unknown", self.at - 1, f"`{word}` is no {what}{meant}")
         return word
 
-    def _one(self, name: str, what: str) -> str:
+    def _one(self, missing: str) -> str:
         if self.next is None:
-            raise LineFault("Missing", self.end, f"{name} is missing: {what}")
+            raise LineFault("Missing", self.end, missing)
         self.at += 1
         return self.words[self.at - 1]
 

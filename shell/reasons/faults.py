@@ -4,6 +4,7 @@ from __future__ import annotations
 
 from typing import List, Optional, Sequence
 
+from ..fitting import shortened
 from ..language.lines import check_line, wanted_form
 from ..language.readers import LineFault
 from ..language.searches import words_of
@@ -28,9 +29,10 @@ _OF_SETUPS = {
 }
 
 
-def explain_fault(line: str, reply: str) -> List[str]:
+def explain_fault(line: str, reply: str, columns: Optional[int] = None) -> List[str]:
     """What is wrong with a line, and where. The reply is the program's, `bad 5 Number`, or of a setup, `line 5 Number`, or of
-    what a line of good form says, like `rule 2 NatNotOut` or `world 1 TooSmall`."""
+    what a line of good form says, like `rule 2 NatNotOut` or `world 1 TooSmall`. The line is shown in
+    rows of at most these columns."""
     kind, name = reply.split()[0], reply.split()[-1]
     if kind not in ("bad", "line"):
         return _of_content(line.split(), name)
@@ -38,7 +40,7 @@ def explain_fault(line: str, reply: str) -> List[str]:
     if fault is None or fault.name != name:
         lines = [f"{_WORDS.get(name, name)}; which word, the shell cannot tell"]
     else:
-        lines = [fault.why, *_marked(line, fault.place)]
+        lines = [shortened(fault.why), *_marked([*map(shortened, words_of(line))], fault.place, columns)]
     forms = wanted_form(line.split())
     return [*lines, *(f"wanted: {it}" for it in forms)]
 
@@ -51,14 +53,30 @@ def _first_fault(line: str, of_setup: bool) -> Optional[LineFault]:
     return None
 
 
-def _marked(line: str, place: Optional[int]) -> List[str]:
+def _marked(words: Sequence[str], place: Optional[int], columns: Optional[int]) -> List[str]:
     """The line, and under it a mark at the word."""
     if place is None:
         return []
-    words = words_of(line)
-    column = len(" ".join(words[:place])) + (1 if place else 0)
-    width = len(words[place]) if place < len(words) else 1
-    return [f"  {' '.join(words)}", f"  {' ' * column}{'^' * width}"]
+    lines: List[str] = []
+    # (what is missing at the end has its mark there)
+    left, width = place, len(words[place]) if place < len(words) else 1
+    for row in _rows([*words, *[""] * (place == len(words))], columns):
+        lines.append(f"  {' '.join(row)}".rstrip())
+        if 0 <= left < len(row):
+            column = len(" ".join(row[:left])) + (1 if left else 0)
+            lines.append(f"  {' ' * column}{'^' * width}")
+        left -= len(row)
+    return lines
+
+
+def _rows(words: Sequence[str], columns: Optional[int]) -> List[List[str]]:
+    """Words in rows, which begin with two spaces, and leave room for a mark after the last word."""
+    rows: List[List[str]] = [[]]
+    for word in words:
+        if columns and word and rows[-1] and len("  " + " ".join([*rows[-1], word]) + " ^") > columns:
+            rows.append([])
+        rows[-1].append(word)
+    return rows
 
 
 def _of_content(words: Sequence[str], name: str) -> List[str]:

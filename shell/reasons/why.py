@@ -2,7 +2,7 @@
 would come of it, and why."""
 from __future__ import annotations
 
-from typing import Callable, Dict, List, Sequence
+from typing import Callable, Dict, List, Optional, Sequence
 
 from ..branches import Branch
 from ..colours import Paint
@@ -11,6 +11,7 @@ from .events import explain_other
 from .faults import explain_fault
 from .frames import explain_broken
 from ..explanations import Explanation
+from ..fitting import shortened
 from ..histories import History
 from ..laboratory import Laboratory, Unknown, outcome_of
 from ..language.commands import STEP
@@ -20,6 +21,7 @@ from .questions import Question
 from .records import explain_taken
 from .refusals import explain_refusal
 
+INDENT = "  "
 _OF_OUTCOMES: Dict[str, Callable[[Question], List[str]]] = {
     PASS.word: explain_packet,
     HELD_BACK.word: explain_packet,
@@ -47,14 +49,14 @@ def why_ahead(lab: Laboratory, name: str, event: str, paint: Paint) -> List[str]
         return why_event(other, other.branch(name), it.event.number, paint)
 
 
-def why_last(lab: Laboratory, paint: Paint) -> List[str]:
-    """The reason of the newest reply."""
+def why_last(lab: Laboratory, paint: Paint, columns: Optional[int] = None) -> List[str]:
+    """The reason of the newest reply; a faulty line is shown in rows of at most these columns."""
     if lab.last is None:
         raise Unknown("nothing was asked yet")
     line, reply = lab.last.line, lab.last.reply[0]
     words, kind = line.split(), reply.split()[0]
     if kind == "bad":
-        return [paint.head(f"{line}: {reply}"), *_indented(explain_fault(line, reply))]
+        return [paint.head(f"{shortened(line)}: {reply}"), *_indented(explain_fault(line, reply, columns - len(INDENT) if columns else None))]
     if kind == "refused" and "Event" not in reply.split():
         return [paint.head(f"{line}: {reply}"), *_indented(explain_command(lab, line, reply))]
     if words[0] != STEP.word:
@@ -84,4 +86,4 @@ def _head(it: Explanation, paint: Paint) -> str:
 
 
 def _indented(lines: Sequence[str]) -> List[str]:
-    return [f"  {it}" for it in lines]
+    return [f"{INDENT}{it}" for it in lines]

@@ -104,7 +104,7 @@ class Finder:
         way = self._way()
         name = words[0] if words else next(self._names())
         fork = f"fork {way.branch} {len(way.stood)} {name}"
-        self.shell.tell([self.shell.paint.dim(f"> {fork}")])
+        self.shell.tell_whole([self.shell.paint.dim(f"> {fork}")])
         if self.shell.ask(fork):
             self.lab.in_use = name
             self.shell.tell([self.shell.paint.note(f"the branch in use is now {name}")])

@@ -104,7 +104,7 @@ class Terminal:
         self.file, its = pty.openpty()
         fcntl.ioctl(its, termios.TIOCSWINSZ, struct.pack("HHHH", rows, columns, 0, 0))
         words = [sys.executable, "-c", IN_FRONT, *words]
-        environment = {**os.environ, "TERM": "xterm", **more}
+        environment = {**os.environ, "TERM": "xterm", "PAGER": "", **more}
         self.process = subprocess.Popen(words, stdin=its, stdout=its, stderr=its, env=environment, start_new_session=True)
         os.close(its)
 

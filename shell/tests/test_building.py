@@ -1,18 +1,23 @@
 """`./lab build` by a checker that proves nothing: in which order it proves, what it says, and that an interrupt ends all of it."""
 from __future__ import annotations
 
+import io
 import signal
 import subprocess
 import time
 import unittest
 from pathlib import Path
 from typing import Dict, List
+from unittest import mock
 
+from proving.build import Progress
 from proving.costs import Estimate
 from proving.crates import Crate, Crates, chains, paths
 
 from .trees import QUICK, SmallTree
 
+# A checker that proves nothing of one crate.
+FAILING = QUICK + 'if [ "$crate" = pfl_low ]; then echo no proof of it; exit 1; fi\n'
 # A checker that waits, with a process of its own.
 SLOW = """#!/bin/sh
 echo $$ > "$NOTES/checker-$$"
@@ -39,7 +44,33 @@ class Lists(unittest.TestCase):
 
     def test_an_estimate_is_no_less_than_what_is_done_alone(self) -> None:
         crates = small({"a": [], "b": ["a"], "c": ["b"]})
-        self.assertGreaterEqual(Estimate(crates, {"a": 100.0, "b": 100.0, "c": 100.0}, 4).minutes(), 90 / 60)
+        self.assertGreaterEqual(Estimate(crates, {"a": 100.0, "b": 100.0, "c": 100.0}, 4, 4).minutes(), 90 / 60)
+
+    def test_an_estimate_goes_by_the_jobs_that_memory_allows(self) -> None:
+        # 30 s alone, and 70 s that are shared among jobs.
+        crates = small({"a": []})
+        with mock.patch("proving.costs.processors", return_value=8):
+            minutes = [Estimate(crates, {"a": 100.0}, 1, jobs).minutes() for jobs in (1, 2, 7)]
+        self.assertEqual(minutes, [100 / 60, 65 / 60, 40 / 60])
+
+
+class Said(unittest.TestCase):
+    """What is said in a file of how far the work is."""
+
+    def test_a_long_silence_has_a_line(self) -> None:
+        now, said = 1000.0, io.StringIO()
+        with mock.patch("sys.stderr", said), mock.patch("time.monotonic", side_effect=lambda: now):
+            progress = Progress({"pfl_low": 30.0, "pfl_run": 90.0})
+            for now in (1010.0, 1299.0, 1300.0, 1310.0):
+                progress.show(["pfl_low"])
+            now = 1360.0
+            progress.proved("pfl_low", ["pfl_run"])
+            for now in (1600.0, 1659.0, 1660.0):
+                progress.show(["pfl_run"])
+        self.assertEqual(
+            said.getvalue().splitlines(),
+            ["lab: 5 min, 0 % of the work: pfl_low", "lab: 6 min, 25 % of the work: pfl_low is proved", "lab: 11 min, 25 % of the work: pfl_run"],
+        )
 
 
 class Building(SmallTree):
@@ -55,7 +86,8 @@ class Building(SmallTree):
         self.assertLess(order.index("pfl_low"), order.index("pfl_run"))
         self.assertEqual(order[-1], "pfl_lab")
         self.assertEqual(out, f"{self.top}/crates/pfl_lab/out/pfl_lab\n")
-        self.assertRegex(said, r"^lab: proving and building the program: about \d+ minutes on the \d+ processors here")
+        self.assertRegex(said, r"^lab: proving and building the program: about \d+ minutes on the \d+ processors here \(\d+ processor minutes\), ")
+        self.assertRegex(said, r"; crates at a time: \d+, each with up to 3 GB of memory; ")
         self.assertIn("100 % of the work: pfl_lab is proved", said)
 
     def test_what_is_built_is_not_proved_again(self) -> None:
@@ -64,6 +96,15 @@ class Building(SmallTree):
         said = self.build(QUICK).communicate(timeout=60)[1]
         self.assertNotIn("proving", said)
         self.assertFalse((self.top / "notes/order").exists())
+
+    def test_what_the_checker_said_of_a_failure_is_kept(self) -> None:
+        lab = self.build(FAILING)
+        said = lab.communicate(timeout=60)[1]
+        log = self.top / "out/lab/pfl_low.failed.log"
+        self.assertEqual(lab.returncode, 125)
+        self.assertIn(f"lab: pfl_low is not proved or built; what the checker said is in {log}\n", said)
+        self.build(QUICK).communicate(timeout=60)
+        self.assertEqual(log.read_text(), "no proof of it\n")
 
     def test_an_interrupt_ends_the_checkers_too(self) -> None:
         lab = self.build(SLOW)

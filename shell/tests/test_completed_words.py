@@ -51,7 +51,7 @@ def shell_options() -> Options:
 OPTIONS = {"pfl_lab": program_options(), "pfl_shell": shell_options()}
 # The options of each command itself.
 _of_program = read("shell/texts/help.txt").partition("Options:")[2]
-OWN = {"pfl_lab": {*OPTION.findall(_of_program), *LETTER.findall(_of_program)}, "pfl_shell": {"-h", "--help"}}
+OWN = {"pfl_lab": {*OPTION.findall(_of_program), *LETTER.findall(_of_program)}, "pfl_shell": {"-h", "--help", "-V", "--version"}}
 
 
 def long_options(command: str) -> Set[str]:

@@ -1,9 +1,15 @@
 """What the completing key offers."""
 from __future__ import annotations
 
+import io
+import os
+import tempfile
 import unittest
 
+from ..branches import Mark
+from ..colours import PLAIN
 from ..completion import candidates
+from ..dialogue import Loop
 from . import laboratory
 
 SCRIPT = """
@@ -26,7 +32,6 @@ class Offered(unittest.TestCase):
 
     def test_words_branches_events_nodes_and_tickets(self) -> None:
         self.offers("exc", "excise")
-        self.offers("back ", "main", "other")
         self.offers("past ", "main", "other")
         self.offers("step o", "other")
         self.offers("step main rel", "release")
@@ -43,7 +48,6 @@ class Offered(unittest.TestCase):
         self.offers("set timeout tcp.closed ")
         self.offers("rule a pass in rd", "rdr")
         self.offers("rule a pass in rdr ")
-        self.offers("back main ")
         self.offers("why main rel", "release")
         self.offers("why lo", "lose")
         self.offers("why other kill b ")
@@ -58,6 +62,59 @@ class Offered(unittest.TestCase):
         self.offers("chart flow ", "1.1")
         self.offers("notes o", "on", "off")
         self.offers("notes on ")
+
+    def test_places_nodes_and_states(self) -> None:
+        self.offers("back ", "main", "other", "to")
+        self.offers("back main ", "to")
+        self.lab.marks["sent"] = Mark("main", ())
+        self.offers("back to ", "sent")
+        self.offers("back main to s", "sent")
+        self.offers("fork ", "main", "other", "here")
+        self.offers("fork here ")
+        self.offers("fork main 1 ")
+        self.offers("view ", "main", "other", "a", "b", "1.1")
+        self.offers("view main 1", "1.1")
+        self.offers("view main a ")
+        self.offers("mark ")
+
+
+class Paths(unittest.TestCase):
+    """In a folder that has a folder `out`, as `./lab build` makes one, and a script."""
+
+    def setUp(self) -> None:
+        lab = laboratory(SCRIPT)
+        self.addCleanup(lab.close)
+        self.loop = Loop(lab, io.StringIO(), PLAIN, False)
+        folder = tempfile.TemporaryDirectory()
+        self.addCleanup(folder.cleanup)
+        self.addCleanup(os.chdir, os.getcwd())
+        os.chdir(folder.name)
+        os.mkdir("out")
+        for path in ("one.pfl", "out/two.pfl"):
+            with open(path, "w", encoding="utf-8"):
+                pass
+
+    def completed(self, line: str, *wanted: str) -> None:
+        before, space, begun = line.rpartition(" ")
+        found = self.loop.completedefault(begun, line, len(before) + len(space), len(line))
+        self.assertEqual(sorted(found), list(wanted), line)
+
+    def test_a_word_ends_with_a_space_though_a_folder_has_its_name(self) -> None:
+        self.completed("packet a o", "out ")
+        self.completed("rule a pass o", "out ")
+        self.completed("step ot", "other ")
+        self.loop.lab.ask("fork main 0 out")
+        self.completed("step o", "other ", "out ")
+        self.completed("chart o", "one.pfl ", "other ", "out ", "out/")
+
+    def test_paths_come_after_words_that_take_one(self) -> None:
+        self.completed("read o", "one.pfl ", "out/")
+        self.completed("save out/", "out/two.pfl ")
+        self.completed("read one.pfl o")
+        self.completed("verify one.pfl o", "one.pfl ", "out/")
+        self.completed("annotate one.pfl out/two.pfl ", "one.pfl ", "out/")
+        self.completed("whatif --out out/", "out/two.pfl ")
+        self.completed("tick o")
 
 
 if __name__ == "__main__":

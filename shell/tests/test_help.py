@@ -2,6 +2,7 @@
 from __future__ import annotations
 
 import os
+import re
 import subprocess
 import sys
 import unittest
@@ -10,6 +11,10 @@ from typing import Sequence
 from proving import releases
 
 from . import TOP, program
+
+
+# What each of the program's words reads.
+READS = {"run": "SCRIPT", "check": "SCRIPT", "serve": "SETUP"}
 
 
 def lab(*words: str, given: str = "") -> "subprocess.CompletedProcess[str]":
@@ -38,7 +43,12 @@ class StoredHelp(unittest.TestCase):
         for word in ("run", "check", "serve"):
             with self.subTest(word):
                 self.same(word, [word, "--help"])
-                self.assertEqual(lab(word, "--help").stdout, self.stored(word))
+                told = self.stored(word).replace(f"Usage: pfl_lab {word}", f"Usage: ./lab {word}")
+                self.assertEqual(lab(word, "--help").stdout, re.sub("(?m)^Usage.*", rf"\g<0> < {READS[word]}", told))
+
+    def test_it_says_how_a_script_is_given(self) -> None:
+        self.assertIn("\nUsage: ./lab run < SCRIPT\n", lab("run", "--help").stdout)
+        self.assertIn("\nUsage: ./lab serve --port <PORT> --sessions <N> < SETUP\n", lab("help", "serve").stdout)
 
 
 class Version(unittest.TestCase):
@@ -47,6 +57,7 @@ class Version(unittest.TestCase):
         for words in (("--version",), ("-V",)):
             self.assertEqual(subprocess.run((program(), *words), capture_output=True, text=True, timeout=20).stdout, told)
             self.assertEqual(lab(*words).stdout, told)
+            self.assertEqual(lab("shell", *words).stdout, told)
 
 
 class AtOnce(unittest.TestCase):
@@ -64,6 +75,10 @@ class AtOnce(unittest.TestCase):
         ran = lab("rum")
         self.assertEqual((ran.returncode, ran.stdout), (2, ""))
         self.assertEqual(ran.stderr, "lab: there is no command 'rum'; did you mean 'run'?\n")
+
+    def test_help_and_options_may_be_meant(self) -> None:
+        for word, near in (("helpp", "help"), ("version", "--version"), ("--relese", "--release"), ("verfy", "verify")):
+            self.assertEqual(lab(word).stderr, f"lab: there is no command {word!r}; did you mean {near!r}?\n")
 
     def test_a_word_that_is_like_no_other_is_told_too(self) -> None:
         ran = lab("xyzzy")

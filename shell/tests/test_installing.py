@@ -368,6 +368,9 @@ class Command(Room):
         self.assertEqual(ran.stderr, f"pfl_shell: there is no program at {self.room}/here/bin/pfl_lab; PFL_LAB names another one\n")
         self.assertEqual(self.run_in(self.room, "here/bin/pfl_shell", "--help").returncode, 0)
         self.assertIn("step pass", self.run_in(self.room, "here/bin/pfl_shell", given=SCRIPT, PFL_LAB=str(self.built)).stdout)
+        ran = self.run_in(self.room, "here/bin/pfl_shell", PFL_LAB="/nowhere")
+        said = "pfl_shell: PFL_LAB names no program that can be run: /nowhere: No such file or directory\n"
+        self.assertEqual((ran.returncode, ran.stdout, ran.stderr), (125, "", said))
 
     def test_the_home_folder_is_where_it_is_installed_without_a_word(self) -> None:
         self.assertIn(f"installed in {self.room}/home/.local:\n", self.lab("install"))

@@ -62,7 +62,7 @@ class Told(Followers):
         self.assertEqual(self.said(one, "", "notes", "notes on"), ["notes are off", "notes are on"])
         self.said(two, "flush a")
         self.assertEqual(self.said(one, ""), [NOTE])
-        self.assertEqual(self.said(one, "notes maybe"), ["usage: notes on", "notes off"])
+        self.assertEqual(self.said(one, "notes maybe"), ["usage: notes on, or notes off"])
 
     def test_a_shell_that_reads_a_script_has_none(self) -> None:
         port = self.serve(2)

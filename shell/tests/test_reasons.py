@@ -373,7 +373,7 @@ COMMANDS: Cases = {
         WALLS + QUERY + SECOND + "excise main 1",
         ["every other event of main was accepted without event 1 too: none fell out with it"],
     ),
-    "a faulty line": (WALLS + "step main flush c", ["`c` is no NODE; NODE is a or b", "wanted: step BRANCH flush NODE"]),
+    "a faulty line": (WALLS + "step main flush c", ["expected `a` or `b`, found `c`", "wanted: step BRANCH flush NODE"]),
 }
 
 # Three flows, of which the second one has five seconds.

@@ -79,11 +79,26 @@ class Lines(Dialogue):
         self.assertEqual(self.said(shell, *SETUP, "frob"), ["bad 3 Unknown"])
         self.assertRegex(self.said(shell, "log other")[0], "no branch other")
         self.assertRegex(self.said(shell, "help frob")[0], "no word frob")
-        self.assertRegex(self.said(shell, "view a")[0], "a is a node")
+        told = "a is a node, and there is no branch of that name: `view a` shows it, and `diff` compares both"
+        self.assertEqual(self.said(shell, "log a"), [told])
         self.assertEqual(self.said(shell, "diff a b"), ["a and b agree"])
+
+    def test_words_of_other_programs_are_known(self) -> None:
+        shell = self.shell()
+        self.assertEqual(self.said(shell, "undo"), ["there is no word undo; did you mean `back`?"])
+        self.assertEqual(self.said(shell, "help next"), ["there is no word next; did you mean `forward`?"])
 
     def test_a_word_before_the_setup_is_matched_with_all_words(self) -> None:
         self.assertEqual(self.said(self.shell(), "veiw"), ["there is no word veiw; did you mean `view`?"])
+
+    def test_a_rule_of_a_pf_conf_is_told_how_one_begins(self) -> None:
+        self.assertEqual(self.said(self.shell(), "match in"), ["there is no word match; a rule begins with `rule a` or `rule b`"])
+
+    def test_very_long_words_are_cut(self) -> None:
+        shell, end = self.shell(), f"[{'0000:' * 7}0001]:65535"
+        self.assertEqual(self.said(shell, "z" * 61), [f"there is no word {'z' * 40}..; `help` lists them"])
+        self.assertEqual(self.said(shell, "z" * 60), [f"there is no word {'z' * 60}; `help` lists them"])
+        self.assertEqual(self.said(shell, *SETUP, f"why packet c in udp {end}"), [f"`packet c in udp {end}`: expected `a` or `b`, found `c`"])
 
     def test_odd_places_are_told(self) -> None:
         shell = self.shell()
@@ -139,6 +154,27 @@ class Questions(Dialogue):
         self.assertEqual(self.said(shell, "view 4"), ["the program answers `refused 5 NothingForward` to `past main 4`; `log main` lists its events"])
         self.assertEqual(self.said(shell, "view none 1"), ["there is no branch none; `names` lists them"])
 
+    def test_view_shows_a_node_or_a_state_alone(self) -> None:
+        shell = self.shell()
+        self.said(shell, *SETUP, QUERY, "flush a", "deliver 1")
+        head, flow = "branch main  3 events", "  1.1  udp 10.0.0.1:1000 -> 192.0.2.9:53  SINGLE:NO_TRAFFIC"
+        more = "       expires in 60 s, udp.first, last used 0 s ago, rule 0: pass out"
+        numbers = "clock 0 s, boot 1, next id 2, next queueing number 2"
+        seen = [head, f"node a  {numbers}", flow, more, "  counters: packets passed 1; the other 6 are 0"]
+        self.assertEqual(self.said(shell, "view a"), seen)
+        self.assertEqual(self.said(shell, "view main 3 a"), seen)
+        later = more.replace(", rule", ", changed by the peer 0 s ago, rule")
+        self.assertEqual(self.said(shell, "view 1.1"), [head, "node a", flow, more, "node b", flow, later])
+        head = "branch main  1 event, 2 undone"
+        self.assertEqual(self.said(shell, "view 1 1.1"), [head, "node a", flow, more, "node b  no state 1.1"])
+        self.assertEqual(self.said(shell, "view 2.1"), ["neither node has a state 2.1"])
+        usage = "usage: view [BRANCH] [K], or view [BRANCH] [K] NODE, or view [BRANCH] [K] NAME"
+        self.assertEqual(self.said(shell, "view main other"), [usage])
+        # A branch that has the name of a node is what it was.
+        self.said(shell, "fork main 2 a")
+        self.assertEqual(self.said(shell, "view a")[0], "branch a  2 events")
+        self.assertEqual(self.said(shell, "view a a")[:2], ["branch a  2 events", f"node a  {numbers}"])
+
     def test_a_frame_is_shown_with_what_befell_it(self) -> None:
         shell = self.shell()
         self.said(shell, *SETUP, QUERY, "flush a", "repeat 1", "cut 1 40", "deliver 1", "deliver 2", "back main 1", "fork main 3 other")
@@ -162,7 +198,7 @@ class Questions(Dialogue):
         refused = ["lose 1: refused 1 NoSuchFrame", "  no frame in flight has the ticket 1; in flight: none"]
         self.assertEqual(self.said(shell, "why other lose 01")[:2], refused)
         self.assertEqual(self.said(shell, "why other flush a"), ["flush a: sent 1 148", "  frame 1 goes to b, and carries 1 insert"])
-        self.assertEqual(self.said(shell, "why flush c"), ["`flush c`: `c` is no NODE; NODE is a or b"])
+        self.assertEqual(self.said(shell, "why flush c"), ["`flush c`: expected `a` or `b`, found `c`"])
         self.assertEqual(self.said(shell, "log")[0], "main: 3 events, 2 stand")
 
     def test_questions_change_nothing(self) -> None:
@@ -340,13 +376,36 @@ class Command(unittest.TestCase):
         told = f"{folder}/wrong.pfl:3: reply\n  wanted: names other\n  came:   names main\n1 script: 1 differs\n"
         self.assertEqual((ran.stdout, ran.returncode), (told, 1))
 
-    def test_a_program_that_is_not_there_is_told(self) -> None:
-        command = (sys.executable, f"{TOP}/lab", "shell")
-        ran = subprocess.run(
-            command, input="open\n", env={**os.environ, "PFL_LAB": "/nowhere"}, capture_output=True, text=True, timeout=60
-        )
-        self.assertEqual(ran.returncode, 1)
-        self.assertIn("/nowhere", ran.stdout + ran.stderr)
+    def ran_by(self, named: str, *words: str) -> "subprocess.CompletedProcess[str]":
+        """What `./lab` does where PFL_LAB names this."""
+        command, environment = (sys.executable, f"{TOP}/lab", *words), {**os.environ, "PFL_LAB": named}
+        return subprocess.run(command, input="open\nnames\n", env=environment, capture_output=True, text=True, timeout=60)
+
+    def test_a_program_that_cannot_be_run_is_told_once_by_every_word(self) -> None:
+        script = f"{TOP}/examples/one-packet.pfl"
+        faults = {"/nowhere": "No such file or directory", TOP: "Is a directory", f"{TOP}/README.md": "Permission denied"}
+        for words in (["shell"], ["verify", script, script], ["chart", script], ["run"], ["check"], ["--version"]):
+            for named, why in faults.items():
+                with self.subTest(words[0], named=named):
+                    ran = self.ran_by(named, *words)
+                    said = f"lab: PFL_LAB names no program that can be run: {named}: {why}\n"
+                    self.assertEqual((ran.stdout, ran.stderr, ran.returncode), ("", said, 125))
+
+    def test_what_is_no_program_is_no_fault_of_a_script(self) -> None:
+        with tempfile.TemporaryDirectory() as folder:
+            path = f"{folder}/text"
+            with open(path, "w", encoding="utf-8") as it:
+                it.write("No program.\n")
+            os.chmod(path, 0o755)
+            for words in (["verify", f"{TOP}/examples/one-packet.pfl"], ["run"]):
+                self.assertEqual(self.ran_by(path, *words).stderr, f"lab: {path}: Exec format error\n")
+
+    def test_words_that_run_no_program_ask_for_none(self) -> None:
+        self.assertEqual([self.ran_by("/nowhere", "help", it).returncode for it in ("shell", "run", "import")], [0, 0, 0])
+
+    def test_every_word_runs_the_program_that_is_named(self) -> None:
+        for word in ("run", "shell"):
+            self.assertEqual(self.ran_by(program(), word).stdout, "names main\n")
 
 
 def free_port() -> int:

@@ -1,0 +1,86 @@
+"""Places to go back to, by number and by name, and branches that begin where one stands."""
+from __future__ import annotations
+
+import io
+import tempfile
+import unittest
+from typing import List
+
+from ..colours import PLAIN
+from ..laboratory import Laboratory
+from ..scripts import read
+from ..shell import Shell
+from . import program
+
+TICKS = ("open", "tick a 1", "tick a 2", "tick a 3")
+
+
+class Places(unittest.TestCase):
+    def setUp(self) -> None:
+        lab = Laboratory(program())
+        self.addCleanup(lab.close)
+        self.shell = Shell(lab, io.StringIO(), PLAIN)
+        self.said(*TICKS)
+
+    def said(self, *lines: str) -> List[str]:
+        """What the shell says to the lines."""
+        self.shell.out = io.StringIO()
+        self.shell.take(lines, echo=False)
+        return self.shell.out.getvalue().splitlines()
+
+    def test_back_to_a_number_goes_either_way(self) -> None:
+        self.assertEqual(self.said("back to 1"), ["> back main 2", "at 1"])
+        self.assertEqual(self.said("back main to 2"), ["> forward main 1", "at 2"])
+        self.assertEqual(self.said("back to 2"), ["> back main 0", "at 2"])
+        self.assertEqual(self.said("back to 4"), ["main has 3 events, and no place 4"])
+        self.assertEqual(self.said("back to 99999999999"), ["there is no mark 99999999999; `mark` lists them"])
+
+    def test_a_mark_is_found_by_its_name(self) -> None:
+        self.assertEqual(self.said("mark"), ["there are no marks; `mark NAME` sets one"])
+        self.assertEqual(self.said("mark end", "back main 2", "mark one"), ["end: main, after 3 events", "at 1", "one: main, after 1 event"])
+        self.assertEqual(self.said("back to end"), ["> forward main 2", "at 3"])
+        self.assertEqual(self.said("back to one"), ["> back main 2", "at 1"])
+        self.assertEqual(self.said("mark"), ["end: main, after 3 events", "one: main, after 1 event"])
+        self.assertEqual(self.said("back to none"), ["there is no mark none; `mark` lists them"])
+
+    def test_a_mark_has_a_name(self) -> None:
+        for name in ("1", "One", "a b", "a" * 17):
+            told = f"{name} is no name of a mark: that is a letter from a to z and at most 15 more of a to z, 0 to 9 and `-`"
+            self.assertEqual(self.said(f"mark {name}"), [told])
+
+    def test_a_mark_is_one_of_its_events(self) -> None:
+        self.said("mark end", "fork main 3 other", "fork main 2 short", "use other", "tick b 1")
+        self.assertEqual(self.said("back other to end"), ["> back other 1", "at 3"])
+        self.assertEqual(self.said("back to end"), ["> back main 0", "at 3"])
+        gone = "no longer has the events that stood at mark end: main, after 3 events"
+        self.assertEqual(self.said("back short to end"), [f"short {gone}"])
+        self.assertEqual(self.said("excise main 1", "back to end"), ["excised", f"main {gone}"])
+
+    def test_a_branch_begins_here(self) -> None:
+        self.assertEqual(self.said("back main 1", "fork here new"), ["at 2", "> fork main 2 new", "forked"])
+        self.assertEqual(self.said("use new", "tick b 1", "fork here main"), ["step clock 1 dropped 0", "> fork new 3 main", "refused 2 NameTaken"])
+
+    def test_lines_of_the_laboratory_are_what_they_were(self) -> None:
+        self.said("fork main 3 to", "fork main 3 here")
+        self.assertEqual(self.said("back to 1"), ["at 2"])
+        self.assertEqual(self.said("back main to 1"), ["> back main 2", "at 1"])
+        self.assertEqual(self.said("fork here 2 new"), ["forked"])
+        self.assertEqual(self.said("back to", "back main", "fork here"), ["bad 4 Missing"] * 3)
+
+    def test_a_script_has_the_lines_that_they_stand_for(self) -> None:
+        self.said("mark end", "back to 1", "fork here new", "back to end")
+        with tempfile.TemporaryDirectory() as folder:
+            self.said(f"save {folder}/saved.pfl")
+            lines = read(f"{folder}/saved.pfl").splitlines()
+        self.assertEqual(lines[7:], ["back main 2", "#> at 1", "fork main 1 new", "#> forked", "forward main 2", "#> at 3"])
+
+    def test_help_has_them(self) -> None:
+        forms = [line for line in self.said("help back", "help fork") if line[0] != " "]
+        self.assertEqual(forms, ["back BRANCH N", "back [BRANCH] to K", "back [BRANCH] to MARK", "fork BRANCH K NEW", "fork here NEW"])
+        listed = self.said("help")
+        for it in ("back to   goes to where", "fork here makes a branch"):
+            self.assertTrue(any(line.startswith(f"  {it}") for line in listed), it)
+
+
+if __name__ == "__main__":
+    unittest.main()
