@@ -121,7 +121,7 @@ def _shell(words: argparse.ArgumentParser) -> None:
     words.add_argument("files", nargs="*", metavar="FILE", help="scripts that are read first")
     words.add_argument("--port", type=port, metavar="P", help="a session of the server at this port, and no pair of its own")
     words.add_argument("--setup", metavar="FILE", help="with --port: the setup that the server read, if it does not report it")
-    words.add_argument("--echo", action="store_true", help="tells each line before its reply")
+    words.add_argument("--echo", action="store_true", help="shows each line before its reply")
     words.add_argument(
         "--strict", action="store_true", help=f"stops at the first refused or faulty line, with status {STRICT_STATUS}"
     )

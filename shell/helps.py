@@ -108,7 +108,7 @@ SHELL: Dict[str, Help] = {
     ),
     "log": Help("log [BRANCH]", "lists the events of a branch with their outcomes, and where the cursor stands"),
     "changes": Help(
-        "changes [BRANCH] [K]", "tells what the K-th event changed, before and after; without K, the newest that stands"
+        "changes [BRANCH] [K]", "shows what the K-th event changed, before and after; without K, the newest that stands"
     ),
     "why": Help(
         "why [[BRANCH] K]\nwhy [BRANCH] EVENT",
@@ -158,11 +158,11 @@ SHELL: Dict[str, Help] = {
         "Marks last as long as the dialogue, and `save` does not write them.",
     ),
     "use": Help("use BRANCH", "makes a branch the one that events and questions without a branch are meant of"),
-    "verify": Help("verify FILE..", "runs scripts by themselves, and tells where their lines `#>` and the replies differ"),
+    "verify": Help("verify FILE..", "runs scripts by themselves, and reports where their lines `#>` and the replies differ"),
     "annotate": Help("annotate FILE..", "writes the replies into scripts, as lines `#>`"),
     "read": Help("read FILE", "takes the lines of a file, as if they were typed"),
     "save": Help("save FILE", "writes the setup and the commands of this session with their replies, as a script"),
-    "help": Help("help [WORD]", "lists all words, or tells of one"),
+    "help": Help("help [WORD]", "lists all words, or explains one"),
     "quit": Help("quit", "ends the shell, as the end of input does"),
 }
 
@@ -182,7 +182,7 @@ def overview(columns: Optional[int] = None) -> List[str]:
         lines += _wrapped(title, columns)
         for word, it in group.items():
             lines += _wrapped(it.what, columns, f"  {word:10}", " " * 12)
-    return [*lines, "`help WORD` tells its form and what it answers."]
+    return [*lines, "`help WORD` shows its form and what it answers."]
 
 
 def about(word: str, columns: Optional[int] = None) -> List[str]:

@@ -49,7 +49,7 @@ def main(arguments: Sequence[str], name: str = "./lab") -> int:
     if not words.word and not words.version:
         kinds.error(f"a word is missing: {one_of(WORDS)}")
     if words.word == "shell" and words.setup and not words.port:
-        kinds.error("--setup tells what a server read, and goes with --port; a pair of your own has its setup from lines")
+        kinds.error("--setup says what a server read, and goes with --port; a pair of your own has its setup from lines")
     if words.word == "page" and page_fault(words):
         kinds.error(page_fault(words))
     for stream in (sys.stdin, sys.stdout):
