@@ -14,6 +14,7 @@ from unittest import mock
 from ..pages.bridge import Bridge
 from ..pages.door import Door
 from ..pages.live import OPENING, Served, begun, live, watch
+from ..pages.session import Branches
 from ..programs import Client, Ended
 from . import program
 
@@ -105,6 +106,14 @@ class Bridged(unittest.TestCase):
         while order != wanted and time.monotonic() < end:
             order = watcher.update()["order"]
         return order
+
+    def assert_known(self, own: Branches, line: str) -> None:
+        """That the branches are known after a command: to read them anew changes nothing."""
+        own.look()
+        own.ask(line)
+        by_name = dict(own.by_name)
+        own.read()
+        self.assertEqual(own.by_name, by_name, line)
 
     def step(self, door: Door, line: str, name: str = "Ann") -> Data:
         """The answer to a line that is sent."""

@@ -90,11 +90,7 @@ class Followed(Pages):
         lines = ["step main tick a 1", "step  main tick a 007", PACKET, "back main 2", "forward main 1", "fork main 02 x"]
         lines += ["step main tick b 1", "excise main 1", "restore main", "excise x 1", "drop main"]
         for line in lines:
-            own.look()
-            own.ask(line)
-            by_name = dict(own.by_name)
-            own.read()
-            self.assertEqual(own.by_name, by_name, line)
+            self.assert_known(own, line)
             shell.ask("fork x 0 y" if line == "drop main" else "back main 0")
             if len(line) % 2:
                 own.look()

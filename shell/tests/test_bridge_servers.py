@@ -74,11 +74,7 @@ class Joined(Bridged):
             lines += ["step main tick b 1", "step x packet a in tcp 10.0.0.1:1000 192.0.2.9:80 S 100 0 1000 0 07"]
             lines += ["excise main 1", "restore main", "excise x 1", "drop main"]
             for line in lines:
-                own.look()
-                own.ask(line)
-                by_name = dict(own.by_name)
-                own.read()
-                self.assertEqual(own.by_name, by_name, line)
+                self.assert_known(own, line)
                 shell.ask("fork x 0 y" if line == "drop main" else "back main 0")
                 own.look()
             own.read()
