@@ -1,4 +1,4 @@
--- Names by creator and then by id: their order is total, and its tests tell names apart.
+-- Names by creator and then by id: their order is total, and its tests distinguish names.
 use Rattle.std.specs.Prelude.{ℕ, ◌≡◌, true, refl, false}
 use Rattle.std.specs.Cmp.{IsTotalOrder, nat_cmp_total}
 use Rattle.std.specs.FinMap.{IsAntisymmetric}

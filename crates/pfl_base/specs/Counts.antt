@@ -1,7 +1,7 @@
 -- Counts of calls.
 use Rattle.std.specs.Prelude.{◌≡◌, ℕ, ◌+◌, ◌<◌, ◌≤◌, ◌^◌, List, [], ◌∷◌, Option, None, Some, ⊤}
 
--- how many calls of a device there were, where it tells that; and the references that they go through, the outermost first: none where
+-- how many calls of a device there were, where it reports that; and the references that they go through, the outermost first: none where
 -- the device is held itself
 pub record Calls : Type 0 where
   pub made : Option ℕ

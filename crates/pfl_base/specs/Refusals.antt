@@ -3,7 +3,7 @@ use Rattle.std.specs.Prelude.{ℕ}
 use Rattle.pfl_base.specs.declared.refusal.Refusal.{Refusal}
 use Rattle.pfl_base.specs.declared.refusal.Refusal.TheVariants.{NoSuchFrame, NothingPending, NoSuchState, LinkFull, QueueFull, ClockFull, CountFull, NotSyncing, TooEarly, NoMemory}
 
--- the lowest number that applies is answered, want of memory last but for a frame that could not be decoded (this project's profile)
+-- the lowest number that applies is reported, want of memory last but for a frame that could not be decoded (this project's profile)
 abbrev pub refusal_number : Refusal → ℕ
 refusal_number NoSuchFrame = 1
 refusal_number NothingPending = 2

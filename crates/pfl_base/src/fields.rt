@@ -8,7 +8,7 @@ use crate::proto::Proto;
 use std::error::Error;
 use std::fmt;
 
-/// The greatest number of bytes behind a TCP header of 20 bytes and an IP header of 20 bytes.
+/// The greatest number of bytes after a TCP header of 20 bytes and an IP header of 20 bytes.
 pub const MAX_LEN: u16 = 65495;
 
 /// The greatest window scale (RFC 7323, 2.3).
@@ -23,7 +23,7 @@ pub struct PacketFields {
     pub ack: u32,
     /// The window as it stands in the header, before scaling.
     pub window: u16,
-    /// Bytes behind the TCP header, or behind the IP header.
+    /// Bytes after the TCP header, or after the IP header.
     pub len: u16,
     /// The protocol that the IP header names.
     pub proto: Proto,

@@ -67,7 +67,7 @@ impl TcpFlags {
     /// The sender has no more data.
     pub const FIN: TcpFlags = TcpFlags { set: FlagBits::FIN };
 
-    /// Opens the connection, and tells the first sequence number.
+    /// Opens the connection, and announces the first sequence number.
     pub const SYN: TcpFlags = TcpFlags { set: FlagBits::SYN };
 
     /// Resets the connection.

@@ -9,10 +9,10 @@ use crate::std_device::DeviceFault;
 
 /// A device that is read from.
 pub trait Input {
-    /// What is left to read, of a device that tells its bytes.
+    /// What is left to read, of a device that reports its bytes.
     ghost left: { Self → Option (List ℕ) } = { λ _. None };
 
-    /// How many calls of `read` there were, of a device that tells it, and through which references they go.
+    /// How many calls of `read` there were, of a device that reports it, and through which references they go.
     ghost reads: { Self → Calls } = { λ _. own_calls None };
 
     /// A call has failed.

@@ -8,7 +8,7 @@ use crate::std_device::DeviceFault;
 
 /// A device that is written to.
 pub trait Output {
-    /// What has been written, of a device that tells its bytes.
+    /// What has been written, of a device that reports its bytes.
     ghost written: { Self → Option (List ℕ) } = { λ _. None };
 
     /// A call has failed.

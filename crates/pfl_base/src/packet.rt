@@ -212,7 +212,7 @@ impl Packet {
         self.kept.window
     }
 
-    /// Bytes behind the TCP header, or behind the IP header.
+    /// Bytes after the TCP header, or after the IP header.
     pub fn len(&self) -> u16
         ensures { result ≡ self.now.len }
     {

@@ -5,7 +5,7 @@ ghost use Rattle.std.specs.Prelude.{◌≡◌, Some};
 use std::error::Error;
 use std::fmt;
 
-/// Why an event is refused. The first of these that applies is answered, want of memory last.
+/// Why an event is refused. The first of these that applies is reported, want of memory last.
 #[derive(Clone, Copy, Debug, PartialEq, Eq)]
 pub enum Refusal {
     /// No frame with this number is on the link.

@@ -27,7 +27,7 @@ impl fmt::Display for DeviceFault {
 impl Error for DeviceFault {}
 
 /// A reader or a writer of std as a device, with the word whether a call has failed. Over memory, as `&[u8]` and
-/// `Vec<u8>` are, it tells its bytes.
+/// `Vec<u8>` are, it reports its bytes.
 #[derive(Drop)]
 pub struct Std<D> {
     device: D,

@@ -58,7 +58,7 @@ abbrev pub Distinct : {V : Type 0} → List (Link V) → Type 0
 Distinct [] = Unit {0}
 Distinct (x ∷ links) = Lacks x.slot links × Distinct links
 
--- where a slot stands: in a list, with a value, between the links before it and those behind
+-- where a slot stands: in a list, with a value, between the links before it and those after
 pub record Place {V : Type 0} (c : Lists V) (slot : ℕ) : Type 0 where
   pub list : ℕ
   pub within : list < length c.lists
@@ -67,7 +67,7 @@ pub record Place {V : Type 0} (c : Lists V) (slot : ℕ) : Type 0 where
   pub back : List (Link V)
   pub split : links_of c list ≡ front ++ link slot value ∷ back
 
--- the gap of a list behind a slot, or in front of its first link
+-- the gap of a list after a slot, or in front of its first link
 pub record Gap {V : Type 0} (c : Lists V) (list : ℕ) (behind : Option ℕ) : Type 0 where
   pub front : List (Link V)
   pub back : List (Link V)

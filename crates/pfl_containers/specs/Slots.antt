@@ -27,7 +27,7 @@ abbrev pub HasTag : Map nat_cmp ℕ → ℕ → ℕ → Type 0
 HasTag tags tag slot = maps.get tags slot ≡ Some tag
 
 -- What a search among the slots of a tag finds, where it is asked of a slot whether it is the one, and `answer` says what may be
--- answered: a slot of which the answer was yes, or none, and then the answer was no of each slot with the tag.
+-- returned: a slot of which the answer was yes, or none, and then the answer was no of each slot with the tag.
 abbrev pub FindsBy : (ℕ → Bool → Type 0) → Map nat_cmp ℕ → ℕ → Option ℕ → Type 0
 FindsBy answer tags tag None = (slot : ℕ) → HasTag tags tag slot → answer slot false
 FindsBy answer tags tag (Some slot) = HasTag tags tag slot × answer slot true

@@ -191,7 +191,7 @@ impl<V: Copy, A: Allocator> Chains<V, A> {
         slot_at(self.rings.node(slot).previous, self.rings.limit)
     }
 
-    /// Puts a link after the one at a slot, or with None in front of a list's first link. Gives its slot, which no list had.
+    /// Puts a link after the one at a slot, or with None in front of a list's first link. Returns its slot, which no list had.
     pub fn insert_after(&mut self, list: usize, behind: Option<usize>, value: V) -> usize
         requires list { list < length self.old.lists }
         requires gap { Gap self.old list behind }

@@ -85,7 +85,7 @@ impl<K: Ordered, V: Copy, A: Allocator> OrderedMap<K, V, A> {
         }
     }
 
-    /// Sets what stands under a key, in room that was made, and gives what stood there.
+    /// Sets what stands under a key, in room that was made, and returns what stood there.
     pub fn set(&mut self, key: K, at: Option<V>) -> Option<V>
         requires room { maps.len (set_at (map_of K.order self.old.list) key at) ≤ self.old.limit }
         ensures former { result ≡ maps.get (map_of K.order self.old.list) key }
@@ -106,7 +106,7 @@ impl<K: Ordered, V: Copy, A: Allocator> OrderedMap<K, V, A> {
         Some(node.value)
     }
 
-    /// Puts an entry into a map that is not full, and gives what stood under its key.
+    /// Puts an entry into a map that is not full, and returns what stood under its key.
     pub fn insert(&mut self, key: K, value: V) -> Option<V>
         requires room { maps.len (map_of K.order self.old.list) < self.old.limit }
         ensures former { result ≡ maps.get (map_of K.order self.old.list) key }
@@ -117,7 +117,7 @@ impl<K: Ordered, V: Copy, A: Allocator> OrderedMap<K, V, A> {
         self.set(key, Some(value))
     }
 
-    /// Takes what stands under a key out, and gives it.
+    /// Takes what stands under a key out, and returns it.
     pub fn remove(&mut self, key: K) -> Option<V>
         ensures former { result ≡ maps.get (map_of K.order self.old.list) key }
         ensures map { map_of K.order self.new.list ≡ maps.remove (map_of K.order self.old.list) key }

@@ -78,7 +78,7 @@ pub record Appends (d : Deferrals) (name : StateName) (packet : Packet) (now : �
   pub kept : IsDeferrals (record { limit = d.limit; list = items })
   pub leads_back : DefersBack (Added (length d.list) (record { name = name; packet = packet; held_at = now }) ∷ []) d (record { limit = d.limit; list = items })
 
--- a packet is put behind the others. `asked` is the whole value, of which d are the fields
+-- a packet is put after the others. `asked` is the whole value, of which d are the fields
 pub appended : (d whole : Deferrals) → d ≡ whole → IsDeferrals d → (name : StateName) (packet : Packet) (now : ℕ)
     → length whole.list < whole.limit → held_of whole name ≡ None → IsUpTo whole now
     → (y : Held) → y ≡ record { name = name; packet = packet; held_at = now } → (items : List Held) → items ≡ d.list ++ y ∷ [] → Appends d name packet now items

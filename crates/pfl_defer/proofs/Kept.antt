@@ -13,7 +13,7 @@ use Rattle.pfl_base.proofs.ForCallers.{is_name-same, is_name-itself}
 use Rattle.pfl_defer.specs.declared.Held.{Held}
 use Rattle.pfl_defer.specs.Deferring.{Deferrals, IsDeferrals, no_deferrals, let_go, IsUpTo, held_of, with_held, with_room}
 
--- the test of names tells exactly whether they are one
+-- the test of names says exactly whether they are one
 pub names_alike : IsEquivalence is_name
 names_alike = record {
   refl = λ x. is_name-itself x x refl;

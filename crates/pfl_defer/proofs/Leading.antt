@@ -21,7 +21,7 @@ removed-leads_back d i h is at =
     is
     (ap (λ (hs : List Held). record d { list = insert hs i h }) gone ∙ ap (λ (hs : List Held). record d { list = hs }) (with_position-back d.list i (Some h) None at))
 
--- a packet that was held behind the others is taken out
+-- a packet that was held after the others is taken out
 pub added-leads_back : (d : Deferrals) (name : StateName) (packet : Packet) (now : ℕ) → IsDeferrals d
     → DefersBack (Added (length d.list) (record { name = name; packet = packet; held_at = now }) ∷ []) d (with_held d name packet now)
 added-leads_back d name packet now is =

@@ -117,7 +117,7 @@ impl<A: Allocator> Deferrals<A> {
         &held[..held.partition_point(|held| held.is_due(now, defer_ms))]
     }
 
-    /// Holds the first packet of a state. A full list first lets its oldest go, which is answered.
+    /// Holds the first packet of a state. A full list first lets its oldest go, which is returned.
     pub fn hold(
         &mut self,
         name: StateName,
@@ -158,7 +158,7 @@ impl<A: Allocator> Deferrals<A> {
         self.take(name)
     }
 
-    /// Puts the new value of an edit that was undone into its place again. It answers nothing, so it cannot want memory.
+    /// Puts the new value of an edit that was undone into its place again. It returns nothing, so it cannot want memory.
     pub fn redo(&mut self, edit: DeferEdit)
         requires found { FindsFormer edit self.old }
         requires allowed { IsDeferrals (redone edit self.old) }
@@ -205,7 +205,7 @@ impl<A: Allocator> Deferrals<A> {
         Some(DeferEdit::Removed { place: 0, held })
     }
 
-    /// Holds a packet behind the others.
+    /// Holds a packet after the others.
     fn append(&mut self, name: StateName, packet: Packet, now: Millis) -> DeferEdit
         requires room { length self.old.list < self.old.limit }
         requires fresh { held_of self.old name ≡ None }

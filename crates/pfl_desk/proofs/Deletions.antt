@@ -1,4 +1,4 @@
--- The deletion of a state: what stays a node's parts on the way, what the peer is told, and what is left alone.
+-- The deletion of a state: what stays a node's parts on the way, what is announced to the peer, and what is left alone.
 use Rattle.std.specs.Prelude.{◌≡◌, ◌≤◌, ℕ, ◌+◌, ◌-◌, Bool, true, false, not, ◌&&◌, Option, Some, None, refl}
 use Rattle.std.proofs.Common.{cond, ◌∙◌, ap, sym, subst, arith, inl, inr}
 use Rattle.pfl_base.specs.declared.state_name.StateName.{StateName}
@@ -51,9 +51,9 @@ without-node n name is free =
 pub taken_out-node : (n : Node) (name : StateName) → AreParts (unmark n name) → AreParts (without_state (unmark n name) name)
 taken_out-node n name is = without-node (unmark n name) name is (get-set_at_same names_total names_exact n.queue.marks name None)
 
--- ---- what is told
+-- ---- what is announced
 
--- the peer is told of the deletion of a state
+-- the deletion of a state is announced to the peer
 abbrev pub is_deletion_told : Node → State → Bool
 is_deletion_told n s = not (is_insert (kind_of n.queue s.name)) && not s.no_sync
 

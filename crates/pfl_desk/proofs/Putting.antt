@@ -21,7 +21,7 @@ use Rattle.pfl_desk.proofs.Keeps.{keeps_states, keeps_queue}
 pub inner : {X : Type 0} (x y : X) → Some x ≡ Some y → x ≡ y
 inner x y e = cc
 
--- what stands under a name, if anything, is told of
+-- what stands under a name, if anything, is announced
 abbrev pub IsTold : Option State → Type 0
 IsTold at = IfSome at (λ s. s.no_sync ≡ false)
 
@@ -70,7 +70,7 @@ marked-node n name kind is may free number =
       | inr old ↦ is.marks q k old.1
     ])
 
--- a name with a state that is told of may be on each queue but that of deletions
+-- a name with a state that is announced may be on each queue but that of deletions
 pub told-may : (n : Node) (name : StateName) (kind : Kind) (s : State) → maps.get n.states name ≡ Some s → s.no_sync ≡ false → IsGiven n name → kind ≢ Delete → MayMark n name kind
 told-may n name kind s there told given other = record {
   given = given;

@@ -92,7 +92,7 @@ went-counted {T} r t points w e = let all = subst (λ (q : Result (T × Bool) Ov
 
 -- ---- what stands, or was taken back
 
--- what was answered of the node that stands
+-- what was returned of the node that stands
 pub settled-answer : {T : Type 0} (b m : Node) (tried : Result (T × Bool) Overfull) (P : T → Node → Type 0) → IfOk tried (λ r. P r.0 b) → (result : Result (T × Edits NodeEdit) Refusal) → IfOk result (λ r. tried ≡ Ok (r.0, false)) → OnOk result (m ≡ b) → IfOk result (λ r. P r.0 m)
 settled-answer b m tried P answer (Ok r) stands kept = let here = subst (λ (q : Result _ Overfull). IfOk q (λ r. P r.0 b)) stands answer in subst (P r.0) (sym kept) here
 settled-answer b m tried P answer (Err e) stands kept = tt

@@ -10,12 +10,12 @@ use Rattle.pfl_desk.specs.inner.Kept.{MayReplace}
 use Rattle.pfl_desk.specs.Nodes.{Node}
 use Rattle.pfl_desk.specs.Changes.{put_state, push_if, told, changed, is_untold, is_recent, is_held, freed, count_freed, without_held}
 
--- a state that is not told of is put alone
+-- a state that is not announced is put alone
 pub changed-unsynced : (n : Node) (s : State) → s.no_sync ≡ true → changed n s ≡ put_state n s
 unfolding changed
 changed-unsynced n s e = ap (λ b. cond b (put_state n s) (push_if (is_recent n s) (told n s))) e
 
--- and every other one is told of
+-- and every other one is announced
 pub changed-synced : (n : Node) (s : State) → s.no_sync ≡ false → changed n s ≡ push_if (is_recent n s) (told n s)
 unfolding changed
 changed-synced n s e = ap (λ b. cond b (put_state n s) (push_if (is_recent n s) (told n s))) e

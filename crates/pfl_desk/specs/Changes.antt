@@ -1,5 +1,5 @@
--- The small changes that events are made of (pfsync(4): all local changes are told, several of one state in one record, those
--- of a rule with `no-sync` never; when a push is asked, and how deletions are told, is this project's profile, after if_pfsync.c).
+-- The small changes that events are made of (pfsync(4): all local changes are announced, several of one state in one record, those
+-- of a rule with `no-sync` never; when a push is asked, and how deletions are announced, is this project's profile, after if_pfsync.c).
 use Rattle.std.specs.Prelude.{ℕ, ◌+◌, ◌-◌, Bool, true, false, not, ◌||◌, nat_lt, nat_le, min, Option, Some, None, is_some, if◌then◌else◌}
 use Rattle.std.specs.Option.{option_map_or}
 use Rattle.pfl_base.specs.declared.state_name.StateName.{StateName}
@@ -79,11 +79,11 @@ list_clear n creator bound = record n { queue = with_clear n.queue creator bound
 abbrev pub ask : Node → StateName → Node
 ask n name = push_if (not (is_requested n.queue name)) (list_request n name)
 
--- a bulk status is to be told, soon
+-- a bulk status is to be sent, soon
 abbrev pub tell_status : Node → BulkStatus → Node
 tell_status n status = push_if true (list_status n status)
 
--- a clear is to be told, soon
+-- a clear is to be sent, soon
 abbrev pub tell_clear : Node → ℕ → ℕ → Node
 tell_clear n creator bound = push_if true (list_clear n creator bound)
 
@@ -125,14 +125,14 @@ is_untold (Some _) = false
 abbrev pub is_recent : Node → State → Bool
 is_recent n s = option_map_or (λ t. nat_lt (n.clock - t) 2000) s.peer_change false
 
--- a state that is told of already counts its updates, and asks for a push after enough of them
+-- a state that is announced already counts its updates, and asks for a push after enough of them
 abbrev pub counted : Node → State → Node
 counted n s =
     if is_tcp s.wire.proto
     then push_if (nat_le n.limits.maxupd (min 255 (s.updates + 1))) (put_state n (record s { updates = min 255 (s.updates + 1) }))
     else put_state n s
 
--- the peer is told of the state by an update, which stands for all that are not sent yet
+-- the state is announced to the peer by an update, which stands for all that are not sent yet
 abbrev pub told : Node → State → Node
 told n s = if is_untold (kind_of n.queue s.name) then mark (put_state n (record s { updates = 0 })) s.name UpdateShort else counted n s
 
@@ -145,7 +145,7 @@ abbrev pub is_insert : Option Kind → Bool
 is_insert (Some Insert) = true
 is_insert _ = false
 
--- what the peer has not heard of is forgotten; else the deletion is told
+-- what the peer has not heard of is forgotten; else the deletion is announced
 abbrev pub deletion_told : Node → State → Node
 deletion_told n s = if is_insert (kind_of n.queue s.name) then unmark n s.name else if s.no_sync then n else mark n s.name Delete
 

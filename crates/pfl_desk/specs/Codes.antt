@@ -1,4 +1,4 @@
--- A node as nested pairs, by which the logic tells two nodes apart. It says nothing of nodes.
+-- A node as nested pairs, by which the logic distinguishes two nodes. It says nothing of nodes.
 use Rattle.std.specs.Prelude.{ℕ, Bool, List, Option, refl}
 use Rattle.std.specs.Coded.{Coded, code_by, coded×, coded_ℕ, coded_list, coded_bool, coded_option}
 use Rattle.pfl_base.specs.Names.{coded_state_name}

@@ -67,7 +67,7 @@ new_node limits rules creator next clock = record {
 abbrev pub last_millisecond : ℕ
 last_millisecond = 1000000000000
 
--- the timeout that the node gives the states of a rule and a class where it has so many states, in seconds (pf.conf(5), `timeout`,
+-- the timeout that the node gives the states of a rule and a class where it has this many states, in seconds (pf.conf(5), `timeout`,
 -- `adaptive.start`)
 abbrev pub timeout_among : ℕ → Node → Option ℕ → Class → ℕ
 timeout_among states n rule class = scaled (timeout n.rules rule class) (adaptive n.limits) states
@@ -108,7 +108,7 @@ abbrev pub unless_refused : {X : Type 0} → Option Refusal → X → Result X R
 unless_refused None x = Ok x
 unless_refused (Some r) x = Err r
 
--- an event that is refused tells this refusal; where there is none, it wanted memory
+-- an event that is refused reports this refusal; where there is none, it wanted memory
 abbrev pub IsRefusal : Option Refusal → Refusal → Type 0
 IsRefusal (Some first) r = r ≡ first
 IsRefusal None r = r ≡ NoMemory

@@ -1,5 +1,5 @@
 //! The desk on which an event changes a node: the parts of the node, and what was recorded since the event began. Each place by
-//! itself (places), what the peer is asked for or told beside the queues of names (lists), the small changes that events are made of
+//! itself (places), what is asked of or sent to the peer beside the queues of names (lists), the small changes that events are made of
 //! (changes), what a frame takes out (taking), and what ends an event (ending). What is read of the node stands in readers.
 
 mod changes;
@@ -31,7 +31,7 @@ pub struct Desk<A: Allocator> {
     edits: Change<NodeEdit, A>,
 }
 
-// Not derived: to a proof a written drop is one call, where a derived one is opened again on every way out.
+// Written by hand: see docs/ARCHITECTURE.md, "What the prover asks of the code".
 impl<A: Allocator> Drop for Desk<A> {
     fn drop(self) {
         let Desk { parts: _, edits: _ } = self;
@@ -50,7 +50,7 @@ impl<A: Allocator> Model for Desk<A> {
 }
 
 impl<A: Allocator + Copy> Desk<A> {
-    /// A desk with a node that has seen nothing, and with room for so many edits. The node's creator is the number of its boot, and
+    /// A desk with a node that has seen nothing, and with room for this many edits. The node's creator is the number of its boot, and
     /// its next id and its next queueing number are `next`.
     pub fn new(
         alloc: A,
@@ -72,7 +72,7 @@ impl<A: Allocator + Copy> Desk<A> {
         Ok(Desk { parts, edits })
     }
 
-    /// A desk with an equal node, between events, with memory of its own and room for so many edits.
+    /// A desk with an equal node, between events, with memory of its own and room for this many edits.
     pub fn copy(&self, alloc: A, room: usize) -> Result<Self, NoMemory>
         requires between { self.now.edits.list ≡ [] }
         requires room { room ≤ most_room }
@@ -87,7 +87,7 @@ impl<A: Allocator + Copy> Desk<A> {
 }
 
 impl<A: Allocator> Desk<A> {
-    /// Tells a proof what is true of each desk. It does nothing.
+    /// States for proofs what is true of each desk. It does nothing.
     pub fn known(&self)
         ensures parts { AreParts self.now.node }
         ensures draft { IsDraft self.now }

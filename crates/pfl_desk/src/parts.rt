@@ -1,5 +1,5 @@
-//! The parts of a node, which an event changes one by one and which answer what changed as an edit: each place by itself (places), what
-//! the peer is asked for or told beside the queues of names (lists), and what a frame takes out (taking). What an event is judged by
+//! The parts of a node, which an event changes one by one and which return what changed as an edit: each place by itself (places), what
+//! is asked of or sent to the peer beside the queues of names (lists), and what a frame takes out (taking). What an event is judged by
 //! stands in judge, what takes an edit back or redoes it in undo, and what is read of the parts in readers.
 
 pub(crate) mod judge;
@@ -42,7 +42,7 @@ pub struct Parts<A: Allocator> {
     counters: Counters,
 }
 
-// Not derived: to a proof a written drop is one call, where a derived one is opened again on every way out.
+// Written by hand: see docs/ARCHITECTURE.md, "What the prover asks of the code".
 impl<A: Allocator> Drop for Parts<A> {
     fn drop(self) {
         let Parts {
@@ -132,7 +132,7 @@ impl<A: Allocator + Copy> Parts<A> {
 }
 
 impl<A: Allocator> Parts<A> {
-    /// Tells a proof what is true of the parts of each node. It does nothing.
+    /// States for proofs what is true of the parts of each node. It does nothing.
     pub(crate) fn known(&self)
         ensures parts { AreParts self.now }
     {

@@ -1,4 +1,4 @@
--- The oldest edits of a tape: of each kind so many as have their turns there.
+-- The oldest edits of a tape: of each kind as many as have their turns there.
 use Rattle.std.proofs.Common.{◌≡◌, ℕ, ◌+◌, ◌-◌, ◌≤◌, List, ◌++◌, Bool, not, cond, length, take, drop, ap, sym, subst, ◌∙◌, arith, length-take-le}
 use Rattle.std.specs.List.{count_by}
 use Rattle.std.proofs.Math.Seq.{take-append_seam}

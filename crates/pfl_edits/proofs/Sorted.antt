@@ -42,7 +42,7 @@ module _ {K X : Type 0} {R : K → K → Ordering} (o : IsTotalOrder R) (exact :
   above_through q (x ∷ xs) (suc i) d r h l =
       (o.trans (key x) (key (get_or xs i d)) q (below_at (key x) xs i d r.0 (omega arith)) l, above_through q xs i d r.1 (omega arith) l)
 
-  -- where a row is above a key, so are those behind it
+  -- where a row is above a key, so are those after it
   pub below_from : (q : K) (xs : List X) (i : ℕ) (d : X) → IsRising R key xs → i < length xs → R q (key (get_or xs i d)) ≡ Less → IsBelow R key q (drop i xs)
   below_from q [] i d r h l = absurd (omega arith)
   below_from q (x ∷ xs) zero d r h l = (l, below_through q (key x) xs l r.0)
@@ -98,7 +98,7 @@ module _ {K X : Type 0} {R : K → K → Ordering} (o : IsTotalOrder R) (exact :
   all_below q [] b = refl
   all_below q (x ∷ xs) b = ap (λ t. cond t (x ∷ filter (λ x. is_lt (R q (key x))) xs) (filter (λ x. is_lt (R q (key x))) xs)) (ap is_lt b.0) ∙ ap (λ (ys : List X). x ∷ ys) (all_below q xs b.1)
 
-  -- What one comparison in the search for the key q tells. The row x stands at place i, and its key is k.
+  -- What one comparison in the search for the key q shows. The row x stands at place i, and its key is k.
   module _ (rows : List X) (rising : IsRising R key rows) (i : ℕ) (within : i < length rows) (x : X) (is : x ≡ get_or rows i x) (q k : K) (named : k ≡ key x) where
     its_key : key (get_or rows i x) ≡ k
     its_key = sym (named ∙ ap key is)
@@ -163,7 +163,7 @@ module _ {K X : Type 0} {R : K → K → Ordering} (o : IsTotalOrder R) (exact :
   slice_from : (rows : List X) (i : ℕ) → take (length rows - i) (drop i rows) ≡ drop i rows
   slice_from rows i = ap (λ n. take n (drop i rows)) (sym (length-drop i rows)) ∙ take-length (drop i rows)
 
-  -- the slice of the rows behind the one with the key are the rows above the key
+  -- the slice of the rows after the one with the key are the rows above the key
   pub after_row : (rows : List X) (rising : IsRising R key rows) (q : K) (xs : List X) → xs ≡ rows → (i : ℕ) → StandsIn key xs q i
       → take (length rows - (i + 1)) (drop (i + 1) rows) ≡ filter (λ x. is_lt (R q (key x))) rows
   after_row rows rising q xs is i place = slice_from rows (i + 1) ∙ sym (filter-here rows rising q i (subst (λ (ys : List X). StandsIn key ys q i) is place))

@@ -17,7 +17,7 @@ marked_or_not (true ∷ turns) = omega (arith, first_counted (λ is_small. is_sm
 marked_or_not (false ∷ turns) = omega (arith, first_counted (λ is_small. is_small) false turns, first_counted not false turns, marked_or_not turns)
 
 module _ {S E : Type 0} where
-  -- the turns behind the first
+  -- the turns after the first
   behind_small : (turns : List Bool) (s : S) (small : List S) (large : List E) → HaveTurns (true ∷ turns) (s ∷ small) large → HaveTurns turns small large
   behind_small turns s small large h =
       let one = first_counted (λ b. b) true turns in
@@ -42,7 +42,7 @@ module _ {S E : Type 0} where
       absurd (omega (arith, h.of_large))
   length-all_edits whole (false ∷ turns) small (e ∷ large) h = ap suc (length-all_edits whole turns small large (behind_large turns small e large h))
 
-  -- the edits of later turns come behind those of earlier ones
+  -- the edits of later turns come after those of earlier ones
   pub all_edits-append : (whole : S → E) (turns : List Bool) (small : List S) (large : List E) (later : List Bool) (ss : List S) (es : List E) → HaveTurns turns small large
       → all_edits whole (turns ++ later) (small ++ ss) (large ++ es) ≡ all_edits whole turns small large ++ all_edits whole later ss es
   all_edits-append whole [] [] [] later ss es h = refl

@@ -6,7 +6,7 @@ use Rattle.pfl_edits.specs.declared.in_order.Node.{Node}
 abbrev pub no_node : Node
 no_node = record { ring = 0; previous = 0; next = 0 }
 
--- the node behind a node
+-- the node after a node
 abbrev pub next_of : List Node → ℕ → ℕ
 next_of nodes i = (get_or nodes i no_node).next
 

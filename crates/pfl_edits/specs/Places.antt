@@ -1,5 +1,5 @@
 -- A position of a list, counted from 0, as a place that an edit may name. None there means that the entry is absent, and those
--- behind it move by one. This project's profile.
+-- after it move by one. This project's profile.
 use Rattle.std.specs.Prelude.{◌≡◌, ◌≤◌, ℕ, List, length, Option, Some, None, slice_get, slice_set}
 use Rattle.std.specs.List.{insert, remove}
 

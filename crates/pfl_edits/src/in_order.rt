@@ -14,11 +14,11 @@ pub struct Node {
     /// The node before it.
     pub previous: u32,
 
-    /// The node behind it.
+    /// The node after it.
     pub next: u32,
 }
 
-/// Entries one after another, seen as the list of those that are left. It tells nothing of where they are kept.
+/// Entries one after another, seen as the list of those that are left. It says nothing of where they are kept.
 #[derive(Drop)]
 pub struct InOrder<'a, X> {
     rest: &'a [X],
@@ -54,7 +54,7 @@ impl<'a, X> InOrder<'a, X> {
         }
     }
 
-    /// The values of linked nodes, from one on: at most so many, up to the first node that has none.
+    /// The values of linked nodes, from one on: at most this many, up to the first node that has none.
     pub fn linked(nodes: &'a [Node], values: &'a [X], at: usize, steps: usize) -> InOrder<'a, X>
         ensures entries { result ≡ entries_from nodes.now values.now steps at }
     {
@@ -113,7 +113,7 @@ impl<'a, X> Model for Linked<'a, X> {
 }
 
 impl<'a, X> Linked<'a, X> {
-    /// The first entry, and those behind it.
+    /// The first entry, and those after it.
     fn step(self) -> Option<(&'a X, Linked<'a, X>)>
         ensures first { MatchOption result (self.entry ≡ []) (λ r. self.entry ≡ r.0.now ∷ r.1) }
     {
@@ -130,7 +130,7 @@ impl<'a, X> Linked<'a, X> {
     }
 }
 
-/// The node behind a node.
+/// The node after a node.
 fn next_of(nodes: &[Node], at: usize) -> usize
     ensures next { result ≡ next_in nodes.now at }
 {

@@ -28,7 +28,7 @@ pub trait Reversible {
     /// The value is one that its type may have.
     ghost allows: { Self → Type 0 };
 
-    /// Puts the edit's former value back. It answers nothing, so it cannot want memory.
+    /// Puts the edit's former value back. It returns nothing, so it cannot want memory.
     fn undo(&mut self, edit: Self::Edit)
         requires found { finds edit self.old }
         requires allowed { allows (put_back edit self.old) }
@@ -56,7 +56,7 @@ pub trait Redoable: Reversible {
         ensures value { self.new ≡ Self.put_back edit self.old }
         ensures kept { result ≡ undone edit };
 
-    /// Puts the new value of an edit that was taken back into its place again, and gives the edit.
+    /// Puts the new value of an edit that was taken back into its place again, and returns the edit.
     fn redo(&mut self, kept: Self::Undone) -> Self::Edit
         requires undone { IsUndone Self.finds_former Self.allows Self.redone undone kept self.old }
         ensures value { (of : IsUndone Self.finds_former Self.allows Self.redone undone kept self.old) → self.new ≡ Self.redone of.edit self.old }

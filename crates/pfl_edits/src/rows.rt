@@ -86,7 +86,7 @@ impl<X: Keyed, A: Allocator> Rows<X, A> {
         }
     }
 
-    /// Sets what stands under a key, in room that was made, and gives what stood there.
+    /// Sets what stands under a key, in room that was made, and returns what stood there.
     pub fn set(&mut self, key: X::Key, at: Option<X>) -> Option<X>
         requires keyed { IfSome at (λ x. X.key x ≡ key) }
         requires room { maps.len (set_at (map_of X.order X.key self.old.list) key at) ≤ self.old.limit }

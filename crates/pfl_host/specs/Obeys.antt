@@ -64,7 +64,7 @@ IsUntouched d = d.new ≡ d.old
 abbrev pub TellsText : {D : Type 0} → Device D → Type 0
 TellsText d = (text : List ℕ) × (0 < length text) × IsTold text d.before d.after d.failed
 
--- want of memory was told
+-- want of memory was reported
 abbrev pub TellsNoMemory : {D : Type 0} → Device D → Type 0
 TellsNoMemory d = IsTold (fault_text lab.NoMemory) d.before d.after d.failed
 
@@ -74,7 +74,7 @@ TellsKind DisplayHelp writer faults = TellsText writer × IsUntouched faults
 TellsKind DisplayVersion writer faults = TellsText writer × IsUntouched faults
 TellsKind _ writer faults = IsUntouched writer × TellsText faults
 
--- it was told why words ask for no mode, or else that there was no memory for that
+-- the reason why words ask for no mode was reported, or else that there was no memory for that
 abbrev pub TellsWords : {W F : Type 0} → WordsFault → Device W → Device F → Type 0
 TellsWords (fault.Words e) writer faults = TellsKind (kind_of e) writer faults ⊎ (IsUntouched writer × TellsNoMemory faults)
 TellsWords fault.NoMemory writer faults = IsUntouched writer × TellsNoMemory faults
@@ -101,7 +101,7 @@ Checks reader writer faults status =
     (λ why. HasFailed why reader.failed reader.calls_before reader.calls_after writer.failed)
     faults.before faults.after faults.failed status
 
--- a lab of so many sessions is served on the port, with this exit status
+-- a lab of this many sessions is served on the port, with this exit status
 abbrev pub ServesLab : {R W F : Type 0} → ℕ → ℕ → Reader R → Device W → Device F → ℕ → Type 0
 ServesLab port sessions reader writer faults status =
     HostServes (ServesFromDevice reader.before reader.after port sessions writer.before writer.after) faults.before faults.after faults.failed status

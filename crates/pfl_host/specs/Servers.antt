@@ -34,7 +34,7 @@ use Rattle.pfl_run.specs.Runs.{IsSetupStop, IsTold, SetsUp}
 abbrev pub listening_text : ℕ → List ℕ
 listening_text port = codes "listening 127.0.0.1:" ++ decimal port ++ codes "\n"
 
--- all sessions have ended, and the journal has so many entries
+-- all sessions have ended, and the journal has this many entries
 abbrev pub closed_text : ℕ → List ℕ
 closed_text entries = codes "closed " ++ decimal entries ++ codes "\n"
 
@@ -105,13 +105,13 @@ pub record Closes (base : Base) (n : ℕ) (first : Option EngineFault) (entries 
   pub all : length tallies ≡ n
   pub serves : ServesAll (lab_over base publisher tallies) first entries
 
--- n sessions have ended, and that was told
+-- n sessions have ended, and that was reported
 pub record ClosesTold (base : Base) (n : ℕ) (first : Option EngineFault) (w v : Option (List ℕ)) : Type 0 where
   pub entries : ℕ
   pub closes : Closes base n first entries
   pub written : Appends w v (closed_text entries)
 
--- n sessions have ended, and only a part of that was told
+-- n sessions have ended, and only a part of that was reported
 pub record ClosesPart (base : Base) (n : ℕ) (w v : Option (List ℕ)) : Type 0 where
   pub first : Option EngineFault
   pub entries : ℕ
@@ -124,7 +124,7 @@ abbrev pub of_serve : ServeFault → LabFault
 of_serve serve.NoThread = fault.NoThread
 of_serve serve.NoMemory = fault.NoMemory
 
--- why it was not told that n sessions have ended: they could not begin, or the writer failed
+-- why it was not reported that n sessions have ended: they could not begin, or the writer failed
 abbrev pub IsCloseStop : LabFault → Base → ℕ → Option (List ℕ) → Option (List ℕ) → Type 0
 IsCloseStop fault.NoThread base n w v = Keeps w v
 IsCloseStop fault.NoMemory base n w v = Keeps w v
@@ -137,14 +137,14 @@ pub record HostServesWhole (base : Base) (port n : ℕ) (first : Option EngineFa
   pub listens : Appends w mid (listening_text port)
   pub closes : ClosesTold base n first mid v
 
--- why no connections came: the port was not listened on, or that was told, whole or in part
+-- why no connections came: the port was not listened on, or that was reported, whole or in part
 abbrev pub IsAwaitStop : LabFault → ℕ → Option (List ℕ) → Option (List ℕ) → Type 0
 IsAwaitStop fault.Network port w v = Keeps w v ⊎ Appends w v (listening_text port)
 IsAwaitStop fault.NoMemory port w v = Appends w v (listening_text port)
 IsAwaitStop fault.Write port w v = (part : ℕ) × Appends w v (take part (listening_text port))
 IsAwaitStop _ port w v = ⊥
 
--- the port was listened on and that was told, and then it stopped
+-- the port was listened on and that was reported, and then it stopped
 abbrev pub StopsListening : LabFault → Base → ℕ → ℕ → Option (List ℕ) → Option (List ℕ) → Type 0
 StopsListening why base port n w v = (mid : Option (List ℕ)) × Appends w mid (listening_text port) × IsCloseStop why base n mid v
 
@@ -177,12 +177,12 @@ pub record StopsServing (fault : LabFault) (old : Option (List ℕ)) (port n : �
 abbrev pub IsServeStop : LabFault → Option (List ℕ) → ℕ → ℕ → Option (List ℕ) → Option (List ℕ) → Type 0
 IsServeStop fault old port n w v = (IsSetupStop fault old × Keeps w v) ⊎ StopsServing fault old port n w v
 
--- what is told of the first fault of the sessions, and the exit status
+-- what is reported of the first fault of the sessions, and the exit status
 abbrev pub TellsFirst : Option EngineFault → Option (List ℕ) → Option (List ℕ) → Bool → ℕ → Type 0
 TellsFirst None f g failed status = Keeps f g × (status ≡ 0)
 TellsFirst (Some why) f g failed status = IsTold (fault_text (of_engine why)) f g failed × (status ≡ fault_status (of_engine why))
 
--- all sessions have ended, and the first fault of theirs is told
+-- all sessions have ended, and the first fault of theirs is reported
 pub record HostServes (IsEnd : Option EngineFault → Type 0) (f g : Option (List ℕ)) (failed : Bool) (status : ℕ) : Type 0 where
   pub first : Option EngineFault
   pub end : IsEnd first

@@ -52,7 +52,7 @@ fn accept(listener: &TcpListener) -> Result<TcpStream, LabFault>
     }
 }
 
-/// Accepts so many connections, one after another. Then nobody listens any more: who comes later is turned away.
+/// Accepts this many connections, one after another. Then nobody listens any more: whoever comes later is turned away.
 pub(crate) fn accept_all<A: Allocator>(
     alloc: A,
     listener: TcpListener,

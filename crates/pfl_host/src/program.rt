@@ -26,7 +26,7 @@ impl<
     G: Gate + Sync,
     R: Net<Listener = TcpListener, Stream = TcpStream> + Threads + Wait + Sync,
 > Program<'_, G, R> {
-    /// Does what the words ask for, of which the first is the program's name, and gives the exit status: it runs or checks the lines
+    /// Does what the words ask for, of which the first is the program's name, and returns the exit status: it runs or checks the lines
     /// of the reader, or serves sessions over the pair that they set up; or it reports why the words ask for none of these.
     pub fn obey<S: AsStr, I: Input, O: Output, F: Output>(
         &self,

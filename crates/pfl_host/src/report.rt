@@ -1,4 +1,4 @@
-//! Tells why words ask for no mode.
+//! Reports why words ask for no mode.
 
 ghost use Rattle.std.specs.Prelude.{◌≡◌, ◌<◌, IfSome, length, string_bytes};
 ghost use Rattle.clap.specs.Values.{kind_of};
@@ -23,7 +23,7 @@ fn text_of<E: Display>(alloc: Global, error: &E) -> Option<String>
     }
 }
 
-/// Tells want of memory.
+/// Reports want of memory.
 fn tell_no_memory<F: Output>(faults: &mut F)
     ensures { TellsNoMemory (seen F.written F.has_failed faults.old faults.new) }
 {
@@ -42,7 +42,7 @@ fn tell_error<O: Output, F: Output>(error: &Error, text: &[u8], writer: &mut O, 
     }
 }
 
-/// Tells why words ask for no mode, and answers the exit status. Where there is no memory for the text, that is told, and the
+/// Reports why words ask for no mode, and returns the exit status. Where there is no memory for the text, that is reported, and the
 /// status stays.
 pub(crate) fn tell_words<O: Output, F: Output>(
     alloc: Global,

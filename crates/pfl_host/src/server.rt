@@ -69,7 +69,7 @@ pub struct Server<'a, G: Gate, R> {
     pub sessions: u32,
 }
 
-/// Tells that the port is listened on.
+/// Reports that the port is listened on.
 fn tell_listening<O: Output>(writer: &mut O, port: u16) -> Result<(), LabFault>
     ensures whole { OnOk result (Appends (O.written writer.old) (O.written writer.new) (listening_text port)) }
     ensures part { OnErr result ((part : ℕ) × Appends (O.written writer.old) (O.written writer.new) (take part (listening_text port))) }
@@ -79,7 +79,7 @@ fn tell_listening<O: Output>(writer: &mut O, port: u16) -> Result<(), LabFault>
     write_number(writer, "listening 127.0.0.1:", port as u64)
 }
 
-/// Tells that all sessions have ended, and how many entries the journal has.
+/// Reports that all sessions have ended, and how many entries the journal has.
 fn tell_closed<O: Output>(writer: &mut O, entries: usize) -> Result<(), LabFault>
     ensures whole { OnOk result (Appends (O.written writer.old) (O.written writer.new) (closed_text entries)) }
     ensures part { OnErr result ((part : ℕ) × Appends (O.written writer.old) (O.written writer.new) (take part (closed_text entries))) }
@@ -89,7 +89,7 @@ fn tell_closed<O: Output>(writer: &mut O, entries: usize) -> Result<(), LabFault
     write_number(writer, "closed ", entries as u64)
 }
 
-/// Reports the first fault of the sessions, if one had any, and answers the exit status.
+/// Reports the first fault of the sessions, if one had any, and returns the exit status.
 fn conclude<F: Output>(first: Option<EngineFault>, faults: &mut F) -> u8
     ensures { TellsFirst first (F.written faults.old) (F.written faults.new) (F.has_failed faults.new) result }
 {

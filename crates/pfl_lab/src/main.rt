@@ -18,7 +18,7 @@ fn words_of(rt: &HostRuntime) -> io::Result<Vec<String>> {
     Ok(env::args(rt)?.collect(rt.alloc())?)
 }
 
-/// Tells want of memory, and answers the exit status.
+/// Reports want of memory, and returns the exit status.
 fn tell_no_memory(rt: &HostRuntime) -> u8
     ensures { result ≡ 3 }
 {

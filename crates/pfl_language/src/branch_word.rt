@@ -18,7 +18,7 @@ const LONGEST: usize = 32;
 /// The name of the branch that a timeline opens with.
 const MAIN: &[u8] = b"main";
 
-/// The most bytes of a name behind its first letter.
+/// The most bytes of a name after its first letter.
 const MOST_BEHIND: usize = 15;
 
 /// Whether the byte is a letter from a to z.
@@ -42,7 +42,7 @@ fn are_name_bytes(bytes: &[u8]) -> bool
     bytes.iter().all(|byte| is_name_byte(*byte))
 }
 
-/// A word of at most 32 bytes; the bytes behind it are 0.
+/// A word of at most 32 bytes; the bytes after it are 0.
 #[derive(Clone, Copy, Debug)]
 pub struct BranchWord {
     bytes: [u8; 32],
@@ -109,7 +109,7 @@ impl BranchWord {
     }
 }
 
-// Not derived: to a reader a word is its bytes, and not the zeros behind them.
+// Not derived: to a reader a word is its bytes, and not the zeros after them.
 impl PartialEq for BranchWord {
     ghost eq = { same_name };
 

@@ -6,7 +6,7 @@ use crate::event::Event;
 /// What is asked of a timeline.
 #[derive(Clone, Copy, Debug)]
 pub enum Command {
-    /// Puts an event behind those before the branch's cursor.
+    /// Puts an event after those before the branch's cursor.
     Step {
         branch: BranchWord,
         event: Event,
@@ -16,7 +16,7 @@ pub enum Command {
         branch: BranchWord,
         n: u32,
     },
-    /// Lets the next `n` events behind the cursor happen again.
+    /// Lets the next `n` events after the cursor happen again.
     Forward {
         branch: BranchWord,
         n: u32,
@@ -66,7 +66,7 @@ pub enum Command {
     Restore {
         branch: BranchWord,
     },
-    /// Asks for the branch's events, those behind the cursor too, and for its cursor.
+    /// Asks for the branch's events, those after the cursor too, and for its cursor.
     Log {
         branch: BranchWord,
     },

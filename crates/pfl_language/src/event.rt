@@ -25,6 +25,6 @@ pub enum FrameEvent {
     Lose,
     /// It is copied under the next ticket.
     Repeat,
-    /// It keeps so many of its first bytes.
+    /// It keeps this many of its first bytes.
     Cut { len: u32 },
 }

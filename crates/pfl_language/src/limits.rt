@@ -99,7 +99,7 @@ impl Limit {
         (n, least, greatest)
     }
 
-    /// The greatest number that a line may say for the limit. A number of 32 bits beyond its range is told once all limits
+    /// The greatest number that a line may say for the limit. A number of 32 bits beyond its range is reported once all limits
     /// are set, but for `defer`.
     pub fn greatest_said(self) -> u64
         ensures exact { result ≡ meant.greatest_said self }

@@ -8,15 +8,15 @@ use pfl_wire::BadFrame;
 pub enum Outcome {
     /// What the event at the node by itself gives.
     At(NodeOutcome),
-    /// A frame of so many bytes is in flight under this ticket.
+    /// A frame of this many bytes is in flight under this ticket.
     Sent { ticket: u32, len: usize },
-    /// So many records of the frame were taken.
+    /// This many records of the frame were taken.
     Taken(usize),
     /// The frame cannot be read, and is counted.
     Broken(BadFrame),
     /// The frame is lost.
     Lost,
-    /// The frame has so many bytes now.
+    /// The frame has this many bytes now.
     CutTo(usize),
     /// The node began anew as this boot.
     Boot(u32),

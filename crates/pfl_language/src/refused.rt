@@ -11,9 +11,9 @@ pub enum Refused {
     NameTaken,
     /// The word is no name of a branch.
     BadName,
-    /// There are not so many events before the cursor.
+    /// There are not that many events before the cursor.
     TooFarBack,
-    /// There are not so many events behind the cursor, or in the branch.
+    /// There are not that many events after the cursor, or in the branch.
     NothingForward,
     /// It is the last branch.
     LastBranch,

@@ -41,7 +41,7 @@ along-none {M = M} w events edits none = record {
   back = subst (λ (es : List (WorldEdit M)). WorldLeadsBack es w w) (sym none) (record { fits = tt; back = refl });
 }
 
--- behind an event that is accepted a run goes on
+-- after an event that is accepted a run goes on
 run-on : (v u : World) (e : Event) (es : List Event) → world_after (step v e) ≡ Some u → run v (e ∷ es) ≡ run u es
 unfolding run
 run-on v u e es is = ap (λ (at : Option World). fold (λ at e. option_and_then (λ w. world_after (step w e)) at) at es) is
@@ -67,7 +67,7 @@ along-next w events i v edits a e within here u later is on =
 pub along-all : {M : Type 0} (w : World) (events : List Event) (i : ℕ) (v : World) (edits : List (WorldEdit M)) → Along w events i v edits → length events ≤ i → IsSome (run w events)
 along-all w events i v edits a all = ap is_some (a.ran ∙ ap (run v) (drop_all i events all)) ∙ run-none v
 
--- edits that lead back, behind others
+-- edits that lead back, after others
 pub leads-on : {M : Type 0} (former mid later added : List (WorldEdit M)) (w v : World) → later ≡ mid ++ added → mid ≡ former → Fits Finds IsWorld put_back added v → back put_back added v ≡ w → LeadsOn former later w v
 leads-on {M = M} former mid later added w v lists same fits is origin before =
     subst (λ (es : List (WorldEdit M)). WorldLeadsBack es origin v) (sym (lists ∙ ap (λ (xs : List (WorldEdit M)). xs ++ added) same))

@@ -1,4 +1,4 @@
--- A turn and a retry of a bulk update change what is to be told and who waits: neither states, nor held packets, nor names.
+-- A turn and a retry of a bulk update change what is to be sent and who waits: neither states, nor held packets, nor names.
 use Rattle.std.specs.Prelude.{◌≡◌, ℕ, Bool, true, false, List, [], ◌∷◌, refl}
 use Rattle.std.proofs.Common.{cond, ap, sym, subst, arith}
 use Rattle.pfl_base.specs.declared.state_name.StateName.{StateName}

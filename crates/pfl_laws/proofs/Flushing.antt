@@ -17,7 +17,7 @@ use Rattle.pfl_world.specs.node.Flushing.{update_count_cleared, flushed}
 use Rattle.pfl_laws.proofs.Following.{Alike, Alike-itself, Filed}
 use Rattle.pfl_laws.proofs.Keeping.{Keeps, keeps-itself, alike-then, on_some, put-keeps}
 
--- the state that is there has no updates left to tell
+-- the state that is there has no updates left to announce
 abbrev cleared : Node → Option State → Node
 cleared n o = option_map_or (λ s. put_state n (record s { updates = 0 })) o n
 

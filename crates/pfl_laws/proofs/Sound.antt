@@ -93,7 +93,7 @@ handled-sound n dir p is =
     by None e = (judged-given n dir p is.states.filed is.given, judged-tied n dir p is.states.filed is.given is.tied)
     by (Some s) e = followed-sound n dir p s (tracked s p dir n.clock) is (found-stands n.states (key p dir) dir s is.states e) (tracked-stays s p dir n.clock) refl
 
--- an entry that was told clears a count of updates
+-- an entry that was sent clears a count of updates
 entry-tied : (n : Node) (e : Entry) → Filed n.states → IsTied n → IsTied (update_count_cleared n e)
 entry-tied n (Marked kind number name) filed tied =
     tied-some (maps.get n.states name) (λ s. put_state n (record s { updates = 0 })) n

@@ -245,7 +245,7 @@ Holds n h = held_of n.held h.name ≡ Some h
 abbrev pub asked_at : Node → Dir → Packet → Node
 asked_at n dir p = fold (λ m point. point) n (before_rules n dir p (found n.states (key p dir) dir))
 
--- why a record lets a held packet of the name go: it acknowledges the state, tells of it, deletes it, or clears states up to it
+-- why a record lets a held packet of the name go: it acknowledges the state, announces it, deletes it, or clears states up to it
 abbrev pub LetsOut : Message → StateName → Type 0
 LetsOut (message.Clear creator bound) name = (name.creator ≡ creator) × (name.id ≤ bound)
 LetsOut (message.Insert r) name = ⊥
@@ -285,7 +285,7 @@ NodeLetsGo old new (own.Kill name) h = (name ≡ h.name) × (maps.get new.states
 NodeLetsGo old new own.Clear h = maps.get new.states h.name ≡ None
 NodeLetsGo old new _ h = ⊥
 
--- why an event lets it go: the node's own does, the peer tells of it, or the node begins anew; no other event does
+-- why an event lets it go: the node's own does, the peer announces it, or the node begins anew; no other event does
 abbrev pub LetsGo : World → NodeId → Node → Node → Event → Held → Type 0
 LetsGo w id old new (event.At at e) h = (at ≡ id) × NodeLetsGo old new e h
 LetsGo w id old new (event.Of ticket frame.Deliver) h = IsSomeAnd (maps.get w.link.frames ticket) (FrameLetsOut id h.name)

@@ -6,7 +6,7 @@ use Rattle.pfl_world.specs.Events.{step, IsEventRefusal}
 use Rattle.pfl_world.specs.Runs.{world_after}
 use Rattle.pfl_world.specs.Worlds.{World}
 
--- a run that is refused tells the refusal of its first event that has one, or one of its events wanted memory
+-- a run that is refused reports the refusal of its first event that has one, or one of its events wanted memory
 abbrev pub IsRefusalAlong : World → List Event → Refusal → Type 0
 IsRefusalAlong w [] r = ⊥
 IsRefusalAlong w (e ∷ es) r = IsEventRefusal w e r ⊎ IsSomeAnd (world_after (step w e)) (λ v. IsRefusalAlong v es r)

@@ -53,7 +53,7 @@ pub fn held_packets_have_waiting_states()
 {}
 
 /// A held packet leaves only by a later accepted packet of its state, by a full list that lets its oldest go, by a release at
-/// its time, by a deletion or a clear of its state, by a record of the peer's that acknowledges the state, tells of it, deletes
+/// its time, by a deletion or a clear of its state, by a record of the peer's that acknowledges the state, announces it, deletes
 /// or clears it, or by a restart (if_pfsync.c, `defer`).
 pub fn held_packets_leave_only_so()
     ensures event { HeldPacketsLeaveOnlySo }

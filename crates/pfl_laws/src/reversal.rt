@@ -48,7 +48,7 @@ pub fn all_there_and_back<A: Allocator + Copy>(
     Ok(())
 }
 
-/// Applies an event, and records what it changed behind what was changed before.
+/// Applies an event, and records what it changed after what was changed before.
 fn apply_behind<A: Allocator + Copy>(
     world: &mut World<A>,
     event: &Event,
@@ -69,7 +69,7 @@ fn apply_behind<A: Allocator + Copy>(
     Ok(())
 }
 
-/// Records edits behind those that are there, in room that was made.
+/// Records edits after those that are there, in room that was made.
 fn record_all<A: Allocator>(change: WorldChange<A>, changed: &mut WorldChange<A>)
     requires room { length change.list ≤ changed.old.spare }
     ensures list { changed.new.list ≡ changed.old.list ++ change.list }

@@ -22,7 +22,7 @@ next b c bytes false e f rest =
     let on : not (is_blank c) ≡ true = ap not f in
     rw e (chosen (not (is_blank c)) (with_first b (words (c ∷ bytes))) ((b ∷ []) ∷ words (c ∷ bytes)) on ∙ ap (with_first b) (rest on))
 
--- a line that begins with a word is that word and the words behind it
+-- a line that begins with a word is that word and the words after it
 pub words_first : (line : List ℕ) → begins_word line ≡ true → words line ≡ front line ∷ words (behind line)
 words_first [] h = cc
 words_first (b ∷ []) h = let e : is_blank b ≡ false = not-true (is_blank b) h in rw e refl

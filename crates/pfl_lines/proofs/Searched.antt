@@ -65,7 +65,7 @@ shorter_more b n bytes part rest false (Ok x) h less e =
     subst (λ (y : List ℕ × List ℕ). length y.1 < suc n) same (omega arith)
 shorter_more b n bytes part rest false (Err f) h less e = cc
 
--- what is behind a separator is shorter
+-- what follows a separator is shorter
 pub cut-shorter : (separator : ℕ) (text part rest : List ℕ) → cut_at separator text ≡ Ok (part, rest) → length rest < length text
 cut-shorter separator [] part rest e = cc
 cut-shorter separator (b ∷ bytes) part rest e =
@@ -97,7 +97,7 @@ fault_on (Ok c) (Ok cs) behind choices fault on e = rw (on cs refl) refl
 fault_on (Ok c) (Err f) behind choices fault on e = cc
 fault_on (Err f) others behind choices fault on e = cc
 
--- a fault, whatever is behind it
+-- a fault, whatever follows it
 each-fault : (parts more : List (List ℕ)) (choices : List Choice) (part : List ℕ) (fault : LineFault) → each_choice parts ≡ Ok choices →
     choice_of (words part) ≡ Err fault → each_choice (parts ++ part ∷ more) ≡ Err fault
 unfolding each_choice

@@ -9,7 +9,7 @@ use Rattle.pfl_lines.specs.Readings.{◌>>=◌, Reading}
 use Rattle.pfl_base.specs.Texts.{class_text}
 use Rattle.pfl_lines.specs.Rules.{behind_word, behind_class, timeout_at, timeouts_at}
 
--- behind `timeout`, the class's word is what is looked for
+-- after `timeout`, the class's word is what is looked for
 pub class_behind : (class : Class) (ws rest : List (List ℕ)) → behind_word (codes "timeout") ws ≡ Some rest → behind_class class ws ≡ behind_word (class_text class) rest
 class_behind class [] rest e = cc
 class_behind class (word ∷ []) rest e =

@@ -94,7 +94,7 @@ some_words (events.Restart node) = omega arith
 some_words (events.At node own.BulkTurn) = omega arith
 some_words (events.At node own.BulkRetry) = omega arith
 
--- two words, one behind the other
+-- two words, one after the other
 two-joined : (w text : List ℕ) → (w ++ codes " ") ++ text ≡ w ++ 32 ∷ text
 two-joined w text = append_assoc w (codes " ") text
 

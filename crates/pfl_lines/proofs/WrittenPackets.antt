@@ -73,14 +73,14 @@ proto-plain Udp small = plain-is 4 (codes "udp") refl
 proto-plain Icmp small = plain-is 4 (codes "icmp") refl
 proto-plain (Other n) small = number-plain 4 n (omega arith) (omega arith) (omega arith)
 
--- ---- what stands behind the ends
+-- ---- what follows the ends
 
 scale-reads : (scale : Option ℕ) → IfSome scale (λ s. s ≤ 14) → scale_at (scale_words scale) ≡ Ok (scale, [])
 unfolding last_scale
 scale-reads None small = refl
 scale-reads (Some s) small = rw (number-reads 255 s (omega arith) (omega arith)) refl
 
--- what the fields have behind the ends
+-- what the fields have after the ends
 abbrev segment : PacketFields → Segment
 segment p = record { flags = p.flags; seq = p.seq; ack = p.ack; window = p.window; len = p.len; scale = p.scale }
 

@@ -10,13 +10,13 @@ use Rattle.pfl_lines.specs.Laws.{is_mark}
 use Rattle.pfl_lines.specs.Words.{words, is_blank, with_first}
 use Rattle.pfl_lines.proofs.WrittenNumbers.{and-first, and-second, and-both, all_weaker}
 
--- a word of at most so many bytes
+-- a word of at most this many bytes
 pub record IsPlain (most : ℕ) (word : List ℕ) : Type 0 where
   pub some : 0 < length word
   pub short : length word ≤ most
   pub marks : list_all is_mark word ≡ true
 
--- words, each of at most so many bytes
+-- words, each of at most this many bytes
 abbrev pub ArePlain : List ℕ → List (List ℕ) → Type 0
 ArePlain [] [] = ⊤
 ArePlain (most ∷ bounds) (word ∷ ws) = IsPlain most word × ArePlain bounds ws

@@ -101,7 +101,7 @@ v4_end word = do
   port ← number_of 65535 parts.1
   Ok (record { addr = V4 addr; port = port })
 
--- ADDR]:PORT, behind [
+-- ADDR]:PORT, after [
 unfoldable pub v6_end : List ℕ → Result End LineFault
 v6_end word = do
   addr ← v6_at word
@@ -164,7 +164,7 @@ v4_pool word = do
   ports ← ports_at_word parts.1
   Ok (record { addr = V4 addr; ports = ports })
 
--- ADDR]:PORTS, behind [
+-- ADDR]:PORTS, after [
 unfoldable pub v6_pool : List ℕ → Result Pool LineFault
 v6_pool word = do
   addr ← v6_at word

@@ -3,7 +3,7 @@ use Rattle.std.specs.Prelude.{ℕ}
 use Rattle.pfl_lines.specs.declared.fault.LineFault.{LineFault}
 use Rattle.pfl_lines.specs.declared.fault.LineFault.TheVariants.{Long, NotAscii, Unknown, Missing, Number, Extra, Packet}
 
--- the lowest number that applies is told
+-- the lowest number that applies is reported
 abbrev pub fault_number : LineFault → ℕ
 fault_number Long = 1
 fault_number NotAscii = 2

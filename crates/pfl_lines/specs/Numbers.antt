@@ -8,7 +8,7 @@ use Rattle.pfl_lines.specs.declared.fault.LineFault.TheVariants.{Number}
 abbrev pub is_digit : ℕ → Bool
 is_digit b = nat_le 48 b && nat_le b 57
 
--- the number that digits write behind those of n
+-- the number that digits write after those of n
 abbrev pub value_after : ℕ → List ℕ → ℕ
 value_after n [] = n
 value_after n (b ∷ digits) = value_after (n * 10 + (b - 48)) digits
@@ -25,7 +25,7 @@ abbrev pub grown : List ℕ → Result (List ℕ × List ℕ) LineFault → Resu
 grown before (Ok x) = Ok (before ++ x.0, x.1)
 grown before (Err e) = Err e
 
--- what stands before the first separator, and what behind it
+-- what stands before the first separator, and what after it
 abbrev pub cut_at : ℕ → List ℕ → Result (List ℕ × List ℕ) LineFault
 cut_at separator [] = Err Number
 cut_at separator (b ∷ bytes) = if b == separator then Ok ([], bytes) else grown (b ∷ []) (cut_at separator bytes)

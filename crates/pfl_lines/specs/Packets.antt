@@ -36,12 +36,12 @@ tcp_at ws = do
   scale ← scale_at len.1
   Ok (record { flags = flags.0; seq = seq.0; ack = ack.0; window = window.0; len = len.0; scale = scale.0 }, scale.1)
 
--- what the protocol has behind the ends
+-- what the protocol has after the ends
 abbrev pub segment_at : Proto → List (List ℕ) → Reading Segment
 segment_at Tcp ws = tcp_at ws
 segment_at _ ws = plain_at ws
 
--- PROTO SRC DST, and what the protocol has behind them
+-- PROTO SRC DST, and what the protocol has after them
 unfoldable pub fields_at : List (List ℕ) → Reading PacketFields
 fields_at ws = do
   proto ← proto_at ws

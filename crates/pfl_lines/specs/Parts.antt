@@ -63,7 +63,7 @@ name_at ws = one_word name_of ws
 abbrev pub flag_letters : List (ℕ × ℕ)
 flag_letters = zip (codes "FSRPAU") (1 ∷ 2 ∷ 4 ∷ 8 ∷ 16 ∷ 32 ∷ [])
 
--- the flags with this one, and what is behind its letter, where that comes first
+-- the flags with this one, and what follows its letter, where that comes first
 abbrev pub with_letter : ℕ × List ℕ → ℕ × ℕ → ℕ × List ℕ
 with_letter (flags, []) letter = (flags, [])
 with_letter (flags, b ∷ bytes) letter = if b == letter.0 then (bit_or flags letter.1, bytes) else (flags, b ∷ bytes)

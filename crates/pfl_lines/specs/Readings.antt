@@ -1,4 +1,4 @@
--- What is read from the words of a line: a value and the words behind it, or the first fault from the left.
+-- What is read from the words of a line: a value and the words after it, or the first fault from the left.
 use Rattle.std.specs.Prelude.{ℕ, List, [], ◌∷◌, Option, Result, Ok, Err}
 use Rattle.std.specs.Option.{ok_or}
 use Rattle.pfl_lines.specs.declared.fault.LineFault.{LineFault}
@@ -10,11 +10,11 @@ abbrev pub ◌>>=◌ : {X Y : Type 0} → Result X LineFault → (X → Result Y
 (Ok x) >>= f = f x
 (Err e) >>= f = Err e
 
--- a value, and the words behind it
+-- a value, and the words after it
 abbrev pub Reading : Type 0 → Type 0
 Reading X = Result (X × List (List ℕ)) LineFault
 
--- a word that is wanted, and the words behind it
+-- a word that is wanted, and the words after it
 abbrev pub word_at : List (List ℕ) → Reading (List ℕ)
 word_at [] = Err Missing
 word_at (word ∷ ws) = Ok (word, ws)

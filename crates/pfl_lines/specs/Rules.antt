@@ -55,7 +55,7 @@ class_at ws = choice_at class_at_word ws
 
 -- ---- options
 
--- what stands behind an option's word, if the words begin with it
+-- what follows an option's word, if the words begin with it
 abbrev pub behind_word : List ℕ → List (List ℕ) → Option (List (List ℕ))
 behind_word name [] = None
 behind_word name (word ∷ ws) = if bytes_eq word name then Some ws else None
@@ -65,7 +65,7 @@ abbrev pub said : {X : Type 0} → Reading X → Reading (Option X)
 said (Ok x) = Ok (Some x.0, x.1)
 said (Err e) = Err e
 
--- a value, if the words go on behind an option's word
+-- a value, if the words go on after an option's word
 abbrev pub if_behind : {X : Type 0} → (List (List ℕ) → Reading X) → List (List ℕ) → Option (List (List ℕ)) → Reading (Option X)
 if_behind value ws None = Ok (None, ws)
 if_behind value ws (Some rest) = said (value rest)
@@ -74,7 +74,7 @@ if_behind value ws (Some rest) = said (value rest)
 abbrev pub option_at : {X : Type 0} → List ℕ → (List (List ℕ) → Reading X) → List (List ℕ) → Reading (Option X)
 option_at name value ws = if_behind value ws (behind_word name ws)
 
--- whether the words go on behind an option's word
+-- whether the words go on after an option's word
 abbrev pub if_there : List (List ℕ) → Option (List (List ℕ)) → Bool × List (List ℕ)
 if_there ws None = (false, ws)
 if_there ws (Some rest) = (true, rest)

@@ -37,31 +37,31 @@ scale_words (Some scale) = decimal scale ∷ []
 abbrev pub tcp_words : PacketFields → List (List ℕ)
 tcp_words p = flags_text p.flags ∷ decimal p.seq ∷ decimal p.ack ∷ decimal p.window ∷ decimal p.len ∷ scale_words p.scale
 
--- what the protocol has behind the ends: LEN alone where it is none of TCP
+-- what the protocol has after the ends: LEN alone where it is none of TCP
 abbrev pub segment_words : Proto → PacketFields → List (List ℕ)
 segment_words proto p = if is_tcp proto then tcp_words p else decimal p.len ∷ []
 
--- PROTO SRC DST, and what the protocol has behind them
+-- PROTO SRC DST, and what the protocol has after them
 abbrev pub fields_words : PacketFields → List (List ℕ)
 fields_words p = proto_text p.proto ∷ end_text p.src ∷ end_text p.dst ∷ segment_words p.proto p
 
--- what an event of a node says behind the node
+-- what an event of a node says after the node
 abbrev pub node_event_rest : NodeEvent → List (List ℕ)
 node_event_rest (own.Packet dir p) = dir_text dir ∷ fields_words p
 node_event_rest (own.Tick ms) = decimal ms ∷ []
 node_event_rest (own.Kill name) = name_text name ∷ []
 node_event_rest _ = []
 
--- the word of an event of a node, the node, and what the event says behind it
+-- the word of an event of a node, the node, and what the event says after it
 abbrev pub node_event_words : NodeId → NodeEvent → List (List ℕ)
 node_event_words node e = node_event_word e ∷ node_text node ∷ node_event_rest e
 
--- what an event of a frame in flight says behind its ticket
+-- what an event of a frame in flight says after its ticket
 abbrev pub frame_event_rest : FrameEvent → List (List ℕ)
 frame_event_rest (frame.Cut len) = decimal len ∷ []
 frame_event_rest _ = []
 
--- the word of an event of a frame in flight, the ticket, and what the event says behind it
+-- the word of an event of a frame in flight, the ticket, and what the event says after it
 abbrev pub frame_event_words : ℕ → FrameEvent → List (List ℕ)
 frame_event_words ticket e = frame_event_word e ∷ decimal ticket ∷ frame_event_rest e
 

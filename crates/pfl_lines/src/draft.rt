@@ -3,7 +3,7 @@
 use pfl_base::{Dir, NodeId, PacketFields, TcpFlags};
 use pfl_language::{BranchWord, Command, Event};
 
-/// What a packet has behind its ends. Nothing of TCP is there for another protocol.
+/// What a packet has after its ends. Nothing of TCP is there for another protocol.
 #[derive(Clone, Copy, Debug)]
 pub struct Segment {
     pub flags: TcpFlags,

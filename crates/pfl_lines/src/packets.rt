@@ -69,7 +69,7 @@ fn tcp_at(line: &[u8]) -> Result<(Segment, &[u8]), LineFault>
     Ok((segment, rest))
 }
 
-/// What the protocol has behind the ends.
+/// What the protocol has after the ends.
 fn segment_at<'a>(proto: &Proto, line: &'a [u8]) -> Result<(Segment, &'a [u8]), LineFault>
     ensures { Gives (λ x. (x.0, words x.1.now)) result (segment_at proto.now (words line.now)) }
 {
@@ -79,7 +79,7 @@ fn segment_at<'a>(proto: &Proto, line: &'a [u8]) -> Result<(Segment, &'a [u8]), 
     }
 }
 
-/// `PROTO SRC DST`, and what the protocol has behind them.
+/// `PROTO SRC DST`, and what the protocol has after them.
 #[tactic(auto, unfolding(crate::specs::Packets::fields_at))]
 pub fn fields_at(line: &[u8]) -> Result<(PacketFields, &[u8]), LineFault>
     ensures { Gives (λ x. (x.0, words x.1.now)) result (fields_at (words line.now)) }

@@ -98,7 +98,7 @@ const LETTERS: [(u8, TcpFlags); 6] = [
     (b'U', TcpFlags::URG),
 ];
 
-/// The flags with this one, and what is behind its letter, where that comes first.
+/// The flags with this one, and what follows its letter, where that comes first.
 fn with_letter(flags: TcpFlags, bytes: &[u8], letter: (u8, TcpFlags)) -> (TcpFlags, &[u8])
     ensures { (result.0, result.1.now) ≡ with_letter (flags, bytes.now) letter }
 {

@@ -77,7 +77,7 @@ pub fn class_at(line: &[u8]) -> Result<(Class, &[u8]), LineFault>
     one_word!(line, word => Class::of_word(word).ok_or(LineFault::Number))
 }
 
-/// What stands behind an option's word, if the line begins with it.
+/// What follows an option's word, if the line begins with it.
 pub fn behind_word<'a>(line: &'a [u8], name: &str) -> Option<&'a [u8]>
     ensures { option_map (λ x. words x.now) result ≡ behind_word name.now (words line.now) }
 {
@@ -162,7 +162,7 @@ fn pool_option_at<'a>(line: &'a [u8], name: &str) -> Result<(Option<Pool>, &'a [
     Ok((Some(pool), rest))
 }
 
-/// What stands behind `timeout` and the class, if the line begins with them.
+/// What follows `timeout` and the class, if the line begins with them.
 fn behind_class(line: &[u8], class: Class) -> Option<&[u8]>
     ensures { option_map (λ x. words x.now) result ≡ behind_class class (words line.now) }
 {

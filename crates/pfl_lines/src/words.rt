@@ -8,7 +8,7 @@ ghost use Rattle.pfl_lines.specs.Readings.{word_at};
 
 use crate::fault::LineFault;
 
-/// What a call has read, or the fault that it found, which is answered. `?` does the same for most values, but not for
+/// What a call has read, or the fault that it found, which is returned. `?` does the same for most values, but not for
 /// those that hold a value with an invariant beside a part of the line.
 macro_rules! try_read {
     ($call:expr) => {
@@ -21,7 +21,7 @@ macro_rules! try_read {
 
 pub(crate) use try_read;
 
-/// What the first word of a line says, and what is behind it.
+/// What the first word of a line says, and what follows it.
 macro_rules! one_word {
     ($line:expr, $word:ident => $said:expr) => {{
         let ($word, rest) = word_at($line)?;
@@ -75,7 +75,7 @@ fn word_len(line: &[u8]) -> usize
     line.len()
 }
 
-/// The first word, and what is behind it.
+/// The first word, and what follows it.
 pub fn word_at(line: &[u8]) -> Result<(&[u8], &[u8]), LineFault>
     ensures { Gives (λ x. (x.0.now, words x.1.now)) result (word_at (words line.now)) }
 {

@@ -46,7 +46,7 @@ impl fmt::Display for Flags {
     }
 }
 
-/// What TCP has behind the ends: `FLAGS SEQ ACK WINDOW LEN [SCALE]`.
+/// What TCP has after the ends: `FLAGS SEQ ACK WINDOW LEN [SCALE]`.
 #[derive(Clone, Copy)]
 struct Tcp(PacketFields);
 
@@ -71,8 +71,8 @@ impl fmt::Display for Tcp {
     }
 }
 
-/// A packet, as it stands behind the node and the direction of its event: `PROTO SRC DST`, and what the
-/// protocol has behind them.
+/// A packet, as it stands after the node and the direction of its event: `PROTO SRC DST`, and what the
+/// protocol has after them.
 #[derive(Clone, Copy)]
 struct PacketWords(Packet);
 
@@ -97,7 +97,7 @@ impl fmt::Display for PacketWords {
     }
 }
 
-/// An event, as it stands behind the branch of a step.
+/// An event, as it stands after the branch of a step.
 #[derive(Clone, Copy)]
 pub struct EventWords(pub Event);
 
@@ -176,7 +176,7 @@ fn known_frame_event(event: FrameEvent)
 }
 
 impl EventWords {
-    /// Tells a proof what is true of each event. It does nothing.
+    /// States for proofs what is true of each event. It does nothing.
     pub fn known(&self)
         ensures event { IsTypedEvent self.now.0 }
     {

@@ -19,7 +19,7 @@ pub record Link : Type 0 where
   pub next : ℕ
   pub frames : Map nat_cmp InFlight
 
--- a link: at most so many frames, each of at most mtu bytes (ifconfig(8), `mtu`), with tickets below the next one
+-- a link: at most this many frames, each of at most mtu bytes (ifconfig(8), `mtu`), with tickets below the next one
 pub record IsLink (l : Link) : Type 0 where
   pub few : maps.len l.frames ≤ l.limit
   pub below : (ticket : ℕ) (f : InFlight) → maps.get l.frames ticket ≡ Some f → ticket < l.next

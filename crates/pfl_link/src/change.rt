@@ -7,6 +7,6 @@ pub(crate) enum LinkChange {
     Sent,
     /// The frame left.
     Taken,
-    /// The frame kept so many of its first bytes.
+    /// The frame kept this many of its first bytes.
     Cut(usize),
 }

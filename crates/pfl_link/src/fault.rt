@@ -4,7 +4,7 @@ use pfl_base::Refusal;
 use pfl_edits::NoMemory;
 use std::alloc::Allocator;
 
-/// Why the link refuses. The first of these that applies is answered.
+/// Why the link refuses. The first of these that applies is reported.
 #[derive(Clone, Copy, Debug, PartialEq, Eq)]
 pub enum LinkFault {
     /// No frame in flight has this ticket.

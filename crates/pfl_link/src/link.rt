@@ -27,7 +27,7 @@ pub struct Link<A: Allocator> {
     rows: Rows<Ticketed<A>, A>,
 }
 
-// Not derived: to a proof a written drop is one call, where a derived one is opened again on every way out.
+// Written by hand: see docs/ARCHITECTURE.md, "What the prover asks of the code".
 impl<A: Allocator> Drop for Link<A> {
     fn drop(self) {
         let Link {
@@ -201,7 +201,7 @@ impl<A: Allocator> Link<A> {
         (ticket, LinkEdit::new(ticket, kept, LinkChange::Sent))
     }
 
-    /// Sets what stands under a ticket together with the next ticket, in room that was made, and gives what stood there.
+    /// Sets what stands under a ticket together with the next ticket, in room that was made, and returns what stood there.
     pub(crate) fn set(
         &mut self,
         ticket: u32,
@@ -266,7 +266,7 @@ impl<A: Allocator + Copy> Link<A> {
         Ok(self.add(copied, kept))
     }
 
-    /// Cuts a frame to its first `count` bytes, or all if it has fewer, and gives how many it has then.
+    /// Cuts a frame to its first `count` bytes, or all if it has fewer, and returns how many it has then.
     pub fn cut(&mut self, ticket: u32, count: usize) -> Result<(usize, LinkEdit<A>), LinkFault>
         ensures refused { IfErr result (λ fault. fault ≡ or_no_memory (missing_fault self.old ticket)) }
         ensures unchanged { OnErr result (self.new ≡ self.old) }

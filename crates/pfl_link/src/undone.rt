@@ -79,7 +79,7 @@ impl<A: Allocator> Link<A> {
         }
     }
 
-    /// Redoes an operation that was taken back, and gives its edit again. It takes no memory.
+    /// Redoes an operation that was taken back, and returns its edit again. It takes no memory.
     pub fn redo(&mut self, kept: LinkUndone<A>) -> LinkEdit<A>
         requires edit { (e : edits.LinkEdit) × (undone e ≡ kept) × FindsFormer e self.old × IsLink (redone e self.old) }
         ensures redone { (e : edits.LinkEdit) → undone e ≡ kept → FindsFormer e self.old → (self.new ≡ redone e self.old) × (result ≡ e) }

@@ -60,7 +60,7 @@ pub fn last_use(remaining: u32, timeout: u32, now: Millis) -> Millis
     now.saturating_sub(u64::from(spent) * 1000)
 }
 
-/// The held state with what the peer tells of it: each end is the received one where that is not behind; the class and
+/// The held state with what the peer sends of it: each end is the received one where that is not behind; the class and
 /// the last use go with them. `timeout` is the state's here, in seconds, for the received class.
 pub fn merge(held: &State, received: &Received, timeout: u32, now: Millis) -> Merged
     ensures merged { result ≡ merged held.now received.now timeout now }

@@ -1,9 +1,9 @@
-//! What the peer tells of a state.
+//! What the peer sends of a state.
 
 use pfl_base::Class;
 use pfl_track::Peer;
 
-/// What the peer tells of a state.
+/// What the peer sends of a state.
 #[derive(Clone, Copy, Debug, PartialEq, Eq)]
 pub struct Received {
     /// The end that sent the first packet.

@@ -129,7 +129,7 @@ emptied-done a b so none =
       writes = writes-more (4 * (maps.len a.node.states - maps.len b.node.states)) (4 * maps.len a.node.states) a b (omega arith) so.writes;
     }
 
--- ---- and the peer is told
+-- ---- and what is announced to the peer
 
 pub cleared-is : (n m : Node) (creator bound : ℕ) → m ≡ emptied n → creator ≡ n.creator → bound ≡ n.next_id - 1 → tell_clear m creator bound ≡ cleared n
 unfolding cleared

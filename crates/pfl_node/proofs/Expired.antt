@@ -247,7 +247,7 @@ module _ (due : State → ℕ) where
         first-rest (filter is_open ss) s (apart-filter is_open ss are) e
         ∙ ap (λ (ts : List State). s ∷ in_order before ts) (filter-swap (λ t. not (is_name s.name t.name)) is_open ss)
 
-    -- where one has not expired, none behind it has
+    -- where one has not expired, none after it has
     late : (s t : State) → before t s ≡ false → is_open s ≡ false → is_open t ≡ false
     late s t e f = by (nat_lt (due t) (due s)) refl e
       where
@@ -274,7 +274,7 @@ module _ (due : State → ℕ) where
 
 -- ---- the rows of a table
 
--- when a state expires whose timeout is scaled for so many states
+-- when a state expires whose timeout is scaled for this many states
 abbrev pub scaled_expiry : (State → ℕ) → Adaptive → ℕ → State → ℕ
 scaled_expiry timeout a states s = expiry s (scaled (timeout s) a states)
 
@@ -320,7 +320,7 @@ length-values : (es : Entries) → length (map (λ e. e.1) es) ≡ length es
 length-values [] = refl
 length-values (e ∷ es) = ap (λ (n : ℕ). suc n) (length-values es)
 
--- ---- those of a node, by the timeouts of so many states
+-- ---- those of a node, by the timeouts of this many states
 
 module _ (k : ℕ) where
   -- each state that has expired stands under its name

@@ -33,7 +33,7 @@ use Rattle.pfl_node.specs.inner.Sending.{IsTold, run_of, groups_of}
 abbrev pub like : Message → Message → Bool
 like a b = one_action (action_of a) (action_of b)
 
--- ---- what an entry tells
+-- ---- what an entry carries
 
 -- one message, of the action, and of a rule that has a spelling
 pub record OneOf (ms : List Message) (a : Action) : Type 0 where

@@ -162,7 +162,7 @@ fresh-held n s is may = by n.held.list (λ i h at. (is.held i h at).0)
 
 -- ---- a packet that makes a state
 
--- what the peer is told of a new state is what is queued in the end
+-- what is announced to the peer of a new state is what is queued in the end
 pub announced-queue : (n : Node) (s : State) (dir : Dir) (p : Packet) → IsDeferrals n.held → s.no_sync ≡ false → (announced n s dir p).node.queue ≡ (mark n s.name Insert).queue
 announced-queue n s dir p is told = ap (λ b. (cond b (pass n (Some s.name)) (cond (is_deferred n dir) (hold (with_room (mark n s.name Insert)) s p) (pass (mark n s.name Insert) (Some s.name)))).node.queue) told ∙ by (is_deferred n dir)
   where
@@ -170,7 +170,7 @@ announced-queue n s dir p is told = ap (λ b. (cond b (pass n (Some s.name)) (co
     by true = ap (λ (m : Node). m.queue) (room-rest (mark n s.name Insert) is)
     by false = refl
 
--- a state that is not told of lets its packet go on
+-- a state that is not announced lets its packet go on
 pub announced-quiet : (n : Node) (s : State) (dir : Dir) (p : Packet) → s.no_sync ≡ true → announced n s dir p ≡ pass n (Some s.name)
 announced-quiet n s dir p quiet = ap (λ b. cond b (pass n (Some s.name)) (cond (is_deferred n dir) (hold (with_room (mark n s.name Insert)) s p) (pass (mark n s.name Insert) (Some s.name)))) quiet
 

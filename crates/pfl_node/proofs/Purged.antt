@@ -14,7 +14,7 @@ use Rattle.pfl_node.specs.Purging.{purged, purge_points, expired_among, expired_
 use Rattle.pfl_receive.proofs.ForCallers.desk.{Rest, deleted-rest, writes-none, writes-then, writes-more}
 use Rattle.pfl_node.proofs.Expired.{expired-without, expired-few, first-stands}
 
--- ---- one deletion after another, by the timeouts of so many states
+-- ---- one deletion after another, by the timeouts of this many states
 
 -- what is left once all that has expired is deleted
 unfoldable pub purged_among : ℕ → Node → Node
@@ -66,7 +66,7 @@ found a = maps.len a.node.states
 pub found-is : (a : Draft) (states : States) (k : ℕ) → k ≡ maps.len states → states ≡ a.node.states → k ≡ found a
 found-is a states k len same = len ∙ ap (λ (m : States). maps.len m) same
 
--- b is what a was made to by so many of its deletions; over says whether after one of them a number was too high
+-- b is what a was made to by this many of its deletions; over says whether after one of them a number was too high
 pub record IsPurged (a b : Draft) (count : ℕ) (over : Bool) : Type 0 where
   pub room : 5 * length (expired_among (found a) b.node) ≤ b.edits.spare
   pub few : length (expired_states a.node) ≤ 65536

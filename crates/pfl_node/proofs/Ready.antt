@@ -131,7 +131,7 @@ pub record Settled {T : Type 0} (k : ℕ) (n : Node) (d : Draft) (points : List 
   pub leads_back : IfOk result (λ r. NodeLeadsBack r.1.list n d.node)
   pub weight : IfOk result (λ r. length r.1.list ≤ k)
 
--- an event that was carried out to the node n may be judged: where it tells that no number was too high, none is in the end
+-- an event that was carried out to the node n may be judged: where it says that no number was too high, none is in the end
 pub may-settle : {T : Type 0} (n : Node) (tried : Result (T × Bool) Overfull) (points : List Node) → Went tried points
     → ((t : T) → tried ≡ Ok (t, false) → list_any is_overcounted points ≡ false → is_overcounted n ≡ false) → IfOk tried (λ r. r.1 ≡ false → is_overcounted n ≡ false)
 may-settle n (Ok r) points went counted = λ low. counted r.0 (λ i. Ok (r.0, low i)) (went-counted (Ok r) r.0 points went (λ i. Ok (r.0, low i)))

@@ -115,7 +115,7 @@ due-few n is =
 
 -- ---- name by name
 
--- b is what a was made to by so many of its packets going out
+-- b is what a was made to by this many of its packets going out
 pub record IsReleased (a b : Draft) (count : ℕ) : Type 0 where
   pub room : 3 * length (due_names b.node) ≤ b.edits.spare
   pub few : length (due_names a.node) ≤ 128

@@ -1,4 +1,4 @@
--- Names in rising order: those behind a cursor, one after another.
+-- Names in rising order: those after a cursor, one after another.
 use Rattle.std.specs.Prelude.{◌≡◌, ◌≤◌, ◌<◌, ℕ, zero, suc, ◌+◌, length, map, filter, find, take, Bool, true, false, List, [], ◌∷◌, ◌++◌, Some, None, refl}
 use Rattle.std.proofs.Math.ListN.{set}
 use Rattle.std.specs.Ordering.{is_lt, ordering_reverse, is_eq}
@@ -78,7 +78,7 @@ rising-take zero ns r = tt
 rising-take (suc k) [] r = tt
 rising-take (suc k) (n ∷ ns) r = (below-take k n ns r.0, rising-take k ns r.1)
 
--- ---- the names behind a cursor
+-- ---- the names after a cursor
 
 lt_less : (r : Ordering) → is_lt r ≡ true → r ≡ Less
 lt_less r e = less_is r (subst T (sym e) tt)
@@ -110,14 +110,14 @@ found-below p q (t ∷ ss) s b e = elim (p t) as (λ c. cond c (Some t) (find p 
 ] e
 
 module _ (p : State → Bool) where
-  -- a state that is not behind the cursor is of no matter
+  -- a state that is not after the cursor is of no matter
   after-drop : (c : StateName) (t : State) (ss : List State) → is_lt (name_cmp c t.name) ≡ false → names_after c (names (filter p (t ∷ ss))) ≡ names_after c (names (filter p ss))
   after-drop c t ss late = elim (p t) as (λ b. names_after c (names (cond b (t ∷ filter p ss) (filter p ss))) ≡ names_after c (names (filter p ss))) [
     | true ↦ ap (λ b. cond b (t.name ∷ names_after c (names (filter p ss))) (names_after c (names (filter p ss)))) late
     | false ↦ refl
   ]
 
-  -- the first is behind the cursor, and so are all others
+  -- the first is after the cursor, and so are all others
   after-first : (c : StateName) (t : State) (ss : List State) → IsBelow name_cmp (λ (s : State). s.name) t.name ss → is_lt (name_cmp c t.name) ≡ true
       → names_after c (names (filter p (t ∷ ss))) ≡ cond (p t) (t.name ∷ names_after t.name (names (filter p (t ∷ ss)))) (names_after t.name (names (filter p (t ∷ ss))))
   after-first c t ss b is =
@@ -132,7 +132,7 @@ module _ (p : State → Bool) where
         | false ↦ there ∙ sym here
       ]
 
-  -- the first state behind the cursor, if it passes, and then those behind that
+  -- the first state after the cursor, if it passes, and then those after that
   pub after-next : (c : StateName) (ss : List State) (s : State) → IsRising name_cmp (λ (t : State). t.name) ss → find (λ t. is_lt (name_cmp c t.name)) ss ≡ Some s
       → names_after c (names (filter p ss)) ≡ cond (p s) (s.name ∷ names_after s.name (names (filter p ss))) (names_after s.name (names (filter p ss)))
   after-next c [] s r e = absurd (cc)
@@ -173,7 +173,7 @@ module _ (m : States) (are : AreStates m) (p : State → Bool) (at : StateName) 
   pub next-skipped : p s ≡ false → names_after at all ≡ names_after name all
   next-skipped fails = stepped ∙ ap (λ b. cond b (name ∷ names_after name all) (names_after name all)) fails
 
--- one less is behind it
+-- one less is after it
 pub fewer-behind : (m : States) → AreStates m → (at : StateName) (s : State) (name : StateName) → state_after m at ≡ Some s → name ≡ s.name
     → length (names_after name (names (filter (λ t. true) (maps.values m)))) < length (names_after at (names (filter (λ t. true) (maps.values m))))
 fewer-behind m are at s name found named =
@@ -182,7 +182,7 @@ fewer-behind m are at s name found named =
 
 -- ---- gathered one after another
 
--- the first names behind the cursor stand in front, and those behind the last of them are left
+-- the first names after the cursor stand in front, and those after the last of them are left
 pub record IsGathered (all : List StateName) (cursor at : StateName) (ns : List StateName) (count most : ℕ) : Type 0 where
   pub within : count ≤ most
   pub room : most ≤ length ns

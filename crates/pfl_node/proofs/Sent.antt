@@ -29,7 +29,7 @@ use Rattle.pfl_node.specs.inner.Sending.{IsTold, frame_with}
 use Rattle.pfl_receive.specs.desk.inner.Taking.{taken_from}
 use Rattle.pfl_receive.proofs.ForCallers.desk.{frame_entries, left-next, writes-none, writes-then, writes-more}
 
--- ---- what its entries tell is there
+-- ---- what its entries carry is there
 
 has-state : (o : Option State) (kind : Kind) → kind ≢ Delete → (o ≡ None → kind ≡ Delete) → IsSome o
 has-state None kind other gone = absurd (other (gone refl))
@@ -80,7 +80,7 @@ unfolding flushed
 flushed-is n m k es left same is =
     is ∙ (ap (λ (h : Node). fold update_count_cleared (record h { push = false }) es) left ∙ ap (fold update_count_cleared (record (taken_from n) { push = false })) same)
 
--- what its entries tell is there in the node without them
+-- what its entries carry is there in the node without them
 pub sent-told : (n m : Node) (es : List Entry) → AreParts n → m ≡ taken_from n → es ≡ frame_entries n → AllByRecursion (IsTold m) es
 sent-told n m es is left same =
     subst (λ (k : Node). AllByRecursion (IsTold k) es) (sym left) (subst (AllByRecursion (IsTold n)) (sym same) (frame-told n n.limits.mtu is))
@@ -188,7 +188,7 @@ wants-memory sent memory (Ok r) refused = tt
 wants-memory (Ok t) memory (Err e) refused = refused
 wants-memory (Err f) memory (Err e) refused = refused ∙ memory
 
--- what was answered stands
+-- what was returned stands
 pub sent-answer : {T : Type 0} (sent : Result T Refusal) (P : T → Type 0) → IfOk sent P → (result : Result (T × Edits NodeEdit) Refusal) → IfOk result (λ r. sent ≡ Ok r.0) → IfOk result (λ r. P r.0)
 sent-answer {T} sent P answer (Ok r) stands = subst (λ (q : Result T Refusal). IfOk q P) stands answer
 sent-answer sent P answer (Err e) stands = tt

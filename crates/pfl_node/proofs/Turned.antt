@@ -182,7 +182,7 @@ module _ (d e : Draft) (ns : List StateName) (i : ℕ) (so : IsQueued d e ns i) 
 abbrev pub all_eligible : Node → List StateName
 all_eligible n = eligible_names n n.server
 
--- the first names behind the cursor of a server at work
+-- the first names after the cursor of a server at work
 pub first-names : (n : Node) (cursor : StateName) (since most : ℕ) → n.server ≡ server.Serving cursor since
     → take most (names_after cursor (names (filter (is_eligible n since) (maps.values n.states)))) ≡ first_names n.server (all_eligible n) most
 first-names n cursor since most serves = ap (λ (s : BulkServer). first_names s (eligible_names n s) most) (sym serves)
@@ -243,13 +243,13 @@ serves-after n (server.Serving cursor since) ns batch past = by (nat_le (length 
     by false c = past
 
 module _ (n : Node) (ns : List StateName) (next : BulkServer) (last : Bool) (turn : IsTurn n ns next last) where
-  -- too much is pending behind the names
+  -- too much is pending after the names
   pub turned-full : is_overfull (queued n ns) ≡ true → is_overfull (turned n) ≡ true
   unfolding turned
   turned-full e =
       over-ended (is_last_turn n.server (all_eligible n) n.limits.batch) (queued n (turn_of n)) (ap (λ (ms : List StateName). is_overfull (queued n ms)) (sym turn.names) ∙ e)
 
-  -- or with the end that is told
+  -- or with the end that is announced
   pub ended-full : (m : Node) → m ≡ queued n ns → is_overfull (ended last m) ≡ true → is_overfull (turned n) ≡ true
   unfolding turned
   ended-full m marked e = (λ i. is_overfull (ended (sym turn.ends i) (sym (marked ∙ ap (queued n) turn.names) i))) ∙ e

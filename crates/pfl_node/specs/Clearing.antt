@@ -8,11 +8,11 @@ use Rattle.pfl_receive.specs.desk.Nodes.{Node, points_refusal}
 use Rattle.pfl_receive.specs.desk.Changes.{tell_clear, forgotten}
 use Rattle.pfl_node.specs.Meanings.{NodeMeaning}
 
--- all states go unannounced, and the peer is told to clear up to the last id
+-- all states go unannounced, and the peer is asked to clear up to the last id
 unfoldable pub cleared : Node → Node
 cleared n = tell_clear (fold forgotten n (maps.keys n.states)) n.creator (n.next_id - 1)
 
--- why a clear is refused: it cannot be told
+-- why a clear is refused: it cannot be sent
 abbrev pub clear_refusal : Node → Option Refusal
 clear_refusal n = points_refusal (cleared n ∷ [])
 

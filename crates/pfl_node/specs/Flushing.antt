@@ -26,7 +26,7 @@ use Rattle.pfl_receive.specs.desk.Changes.{put_state}
 abbrev pub remaining : Node → State → ℕ
 remaining n s = (expiry_at n s - n.clock) / 1000
 
--- the whole state, as it is told
+-- the whole state, as it is sent
 abbrev pub state_record : Node → State → StateRecord
 state_record n s = record {
   name = s.name;
@@ -40,7 +40,7 @@ state_record n s = record {
   rule = s.rule;
 }
 
--- what changes of a state, as it is told
+-- what changes of a state, as it is sent
 abbrev pub update_record : Node → State → UpdateRecord
 update_record n s = record { name = s.name; src = s.src; dst = s.dst; class = s.class; remaining = remaining n s }
 
@@ -48,7 +48,7 @@ update_record n s = record { name = s.name; src = s.src; dst = s.dst; class = s.
 abbrev pub of_named : Node → StateName → (State → Message) → List Message
 of_named n name make = option_map_or (λ s. make s ∷ []) (maps.get n.states name) []
 
--- what is told of a name on a queue
+-- what is sent of a name on a queue
 abbrev pub mark_messages : Node → Kind → StateName → List Message
 mark_messages n Insert name = of_named n name (λ s. message.Insert (state_record n s))
 mark_messages n InsertAck name = message.InsertAck name ∷ []
@@ -70,7 +70,7 @@ frame_of n = record {
   groups = neighbours (λ a b. one_action (action_of a) (action_of b)) (flat_map (messages_of n) (next_frame n.queue n.limits.mtu));
 }
 
--- the state of a mark that was told has no updates left to tell
+-- the state of a mark that was sent has no updates left to announce
 abbrev pub update_count_cleared : Node → Entry → Node
 update_count_cleared n (Marked kind number name) = option_map_or (λ s. put_state n (record s { updates = 0 })) (maps.get n.states name) n
 update_count_cleared n _ = n

@@ -14,7 +14,7 @@ use Rattle.pfl_node.specs.Meanings.{NodeMeaning}
 abbrev pub killed : Node → StateName → Node
 killed n name = option_map_or (deleted n) (maps.get n.states name) n
 
--- why a deletion is refused: no state has the name, or it cannot be told
+-- why a deletion is refused: no state has the name, or the deletion cannot be announced
 abbrev pub kill_refusal : Node → StateName → Option Refusal
 kill_refusal n name = refused_by ((is_none (maps.get n.states name), NoSuchState) ∷ full_tests (killed n name ∷ []))
 

@@ -14,7 +14,7 @@ use Rattle.pfl_receive.specs.desk.Nodes.{Node, timeout_among, points_refusal}
 use Rattle.pfl_receive.specs.desk.Changes.{deleted}
 use Rattle.pfl_node.specs.Meanings.{NodeMeaning}
 
--- the timeout of a state where the node has so many states, in seconds
+-- the timeout of a state where the node has this many states, in seconds
 abbrev pub timeout_of : ℕ → Node → State → ℕ
 timeout_of states n s = timeout_among states n s.rule s.class
 
@@ -43,7 +43,7 @@ purged n = fold deleted n (expired_states n)
 unfoldable pub purge_points : Node → List Node
 purge_points n = folds deleted n (expired_states n)
 
--- why a purge is refused: one of its deletions cannot be told
+-- why a purge is refused: one of its deletions cannot be announced
 abbrev pub purge_refusal : Node → Option Refusal
 purge_refusal n = points_refusal (purge_points n)
 

@@ -1,5 +1,5 @@
 -- Each event of a node by itself: the node after it with its outcome, or the first refusal that applies (the events are this
--- project's profile). What an event means is told in a file of its own.
+-- project's profile). What an event means is defined in a file of its own.
 use Rattle.std.specs.Prelude.{ℕ, List, Option, Result}
 use Rattle.pfl_base.specs.declared.refusal.Refusal.{Refusal}
 use Rattle.pfl_language.specs.declared.node_event.NodeEvent.{NodeEvent}
@@ -53,6 +53,6 @@ node_points n e = (node_meaning n e).points
 abbrev pub node_work : Node → NodeEvent → ℕ
 node_work n e = (node_meaning n e).work
 
--- an event takes at most so many edits
+-- an event takes at most this many edits
 abbrev pub node_weight : Node → NodeEvent → ℕ
 node_weight n e = edits_for (node_work n e)

@@ -35,11 +35,11 @@ turn_of n = turn_names n.server (eligible_names n n.server) n.limits.batch
 abbrev pub queued : Node → List StateName → Node
 queued n names = fold (λ m name. mark m name Update) n names
 
--- after the last turn the end is told
+-- after the last turn the end is announced
 abbrev pub ended : Bool → Node → Node
 ended last n = if last then tell_status n Finish else n
 
--- the node after a turn: its names queued, and the end told after the last
+-- the node after a turn: its names queued, and the end announced after the last
 unfoldable pub turned : Node → Node
 turned n =
     let names = eligible_names n n.server in

@@ -2,7 +2,7 @@
 use Rattle.std.specs.Prelude.{ℕ, ◌+◌, ◌*◌}
 use Rattle.pfl_receive.specs.desk.Weights.{listed_edits}
 
--- the edits of an event that is about so many states, records or packets
+-- the edits of an event that is about this many states, records or packets
 abbrev pub edits_for : ℕ → ℕ
 edits_for n = 12 + 12 * n
 
@@ -22,6 +22,6 @@ sent_edits = 2
 abbrev pub retried_edits : ℕ
 retried_edits = listed_edits + 1
 
--- a turn ends: the end is told, and the server keeps its place
+-- a turn ends: the end is announced, and the server keeps its place
 abbrev pub turned_edits : ℕ
 turned_edits = listed_edits + 1

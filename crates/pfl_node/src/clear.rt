@@ -18,7 +18,7 @@ use pfl_receive::{Desk, NodeEdit, Overfull};
 use std::alloc::Allocator;
 
 impl<A: Allocator + Copy> Node<A> {
-    /// Gives up all states without telling of each, has the peer clear them by their last id, and tells how many there were.
+    /// Gives up all states without announcing each, has the peer clear them by their last id, and returns how many there were.
     pub fn clear(&mut self) -> Result<(usize, Change<NodeEdit, A>), Refusal>
         ensures refused { IfErr result (IsRefusal (clearing.clear_refusal self.old)) }
         ensures unchanged { OnErr result (self.new ≡ self.old) }
@@ -33,7 +33,7 @@ impl<A: Allocator + Copy> Node<A> {
     }
 }
 
-/// Gives up all states, and has the peer clear them; tells how many there were, and whether a number was too high.
+/// Gives up all states, and has the peer clear them; returns how many there were, and whether a number was too high.
 fn clear<A: Allocator>(desk: &mut Desk<A>) -> Result<(usize, bool), Overfull>
     requires room { 4 * maps.len desk.old.node.states + 2 ≤ desk.old.edits.spare }
     ensures went { Went result (clearing.cleared desk.old.node ∷ []) }

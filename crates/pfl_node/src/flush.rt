@@ -22,7 +22,7 @@ use pfl_receive::{Desk, Entry, NodeEdit};
 use std::alloc::Allocator;
 
 impl<A: Allocator + Copy> Node<A> {
-    /// Sends one frame, the longest prefix of what is pending that fits, and answers its bytes. Where something is pending, there
+    /// Sends one frame, the longest prefix of what is pending that fits, and returns its bytes. Where something is pending, there
     /// is room for at least one entry.
     pub fn flush(&mut self) -> Result<(Vec<u8, A>, Change<NodeEdit, A>), Refusal>
         ensures refused { IfErr result (IsRefusal (flushing.send_refusal self.old)) }
@@ -74,7 +74,7 @@ fn send<A: Allocator + Copy>(desk: &mut Desk<A>, alloc: A) -> Result<Vec<u8, A>,
     }
 }
 
-/// Takes the entries of the next frame out of what is pending, and gives its bytes and them.
+/// Takes the entries of the next frame out of what is pending, and returns its bytes and them.
 fn frame_taken<A: Allocator + Copy>(
     desk: &mut Desk<A>,
     alloc: A,
@@ -92,7 +92,7 @@ fn frame_taken<A: Allocator + Copy>(
     Ok((bytes, entries))
 }
 
-/// No frame is wanted soon any more, and the states that the entries tell of have no updates left to tell.
+/// No frame is wanted soon any more, and the states that the entries announce have no updates left to announce.
 fn clear_told<A: Allocator>(desk: &mut Desk<A>, entries: &[Entry])
     requires room { length entries.now < desk.old.edits.spare }
     ensures node { desk.new.node ≡ fold flushing.update_count_cleared (record desk.old.node { push = false }) entries.now }
@@ -102,7 +102,7 @@ fn clear_told<A: Allocator>(desk: &mut Desk<A>, entries: &[Entry])
     clear_counts(desk, entries);
 }
 
-/// The states that the entries tell of have no updates left to tell.
+/// The states that the entries announce have no updates left to announce.
 fn clear_counts<A: Allocator>(desk: &mut Desk<A>, entries: &[Entry])
     requires room { length entries.now ≤ desk.old.edits.spare }
     ensures node { desk.new.node ≡ fold flushing.update_count_cleared desk.old.node entries.now }
@@ -113,7 +113,7 @@ fn clear_counts<A: Allocator>(desk: &mut Desk<A>, entries: &[Entry])
     }
 }
 
-/// The state that the entry tells of, if it is of one, has no updates left to tell.
+/// The state that the entry announces, if it is of one, has no updates left to announce.
 fn clear_count<A: Allocator>(desk: &mut Desk<A>, entry: &Entry)
     requires room { 0 < desk.old.edits.spare }
     ensures node { desk.new.node ≡ flushing.update_count_cleared desk.old.node entry.now }

@@ -18,7 +18,7 @@ use pfl_track::State;
 use std::alloc::Allocator;
 
 impl<A: Allocator + Copy> Node<A> {
-    /// Deletes the state of a name, which is answered. The peer is told as of each deletion.
+    /// Deletes the state of a name, and returns it. It is announced to the peer as each deletion is.
     pub fn kill(&mut self, name: StateName) -> Result<(State, Change<NodeEdit, A>), Refusal>
         ensures refused { IfErr result (IsRefusal (killing.kill_refusal self.old name)) }
         ensures unchanged { OnErr result (self.new ≡ self.old) }
@@ -36,7 +36,7 @@ impl<A: Allocator + Copy> Node<A> {
     }
 }
 
-/// Deletes the state, which is answered, and tells whether after it a number was too high.
+/// Deletes the state, and returns it and whether after it a number was too high.
 fn delete<A: Allocator>(desk: &mut Desk<A>, state: State) -> Result<(State, bool), Overfull>
     requires room { 5 ≤ desk.old.edits.spare }
     requires stands { maps.get desk.old.node.states state.name ≡ Some state }

@@ -37,7 +37,7 @@ impl<A: Allocator + Copy> Node<A> {
     }
 }
 
-/// Takes one record of a peer whose rules have this checksum, and tells whether after it a number was too high.
+/// Takes one record of a peer whose rules have this checksum, and returns whether after it a number was too high.
 fn take_one<A: Allocator>(
     desk: &mut Desk<A>,
     message: &Message,

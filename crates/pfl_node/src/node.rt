@@ -15,14 +15,14 @@ use pfl_rules::RuleSet;
 use std::alloc::Allocator;
 use std::marker::Model;
 
-/// One firewall of the pair: its states, what it has to tell its peer, and what it counts. Its limits and rules never
+/// One firewall of the pair: its states, what it has to send to its peer, and what it counts. Its limits and rules never
 /// change. All room is made by `new`, also that for the edits of an event while it is carried out and judged.
 pub struct Node<A: Allocator> {
     pub(crate) alloc: A,
     pub(crate) desk: Desk<A>,
 }
 
-// Not derived: to a proof a written drop is one call, where a derived one is opened again on every way out.
+// Written by hand: see docs/ARCHITECTURE.md, "What the prover asks of the code".
 impl<A: Allocator> Drop for Node<A> {
     fn drop(self) {
         let Node { alloc: _, desk: _ } = self;
@@ -82,14 +82,14 @@ impl<A: Allocator + Copy> Node<A> {
 }
 
 impl<A: Allocator> Node<A> {
-    /// Tells a proof what is true of each node. It does nothing.
+    /// States for proofs what is true of each node. It does nothing.
     pub fn known(&self)
         ensures node { IsNode self.now }
     {
         let _desk = &self.desk;
     }
 
-    /// Puts the new value of an edit that was undone into its place again. It answers nothing, so it cannot want memory.
+    /// Puts the new value of an edit that was undone into its place again. It returns nothing, so it cannot want memory.
     pub fn redo(&mut self, edit: NodeEdit)
         requires found { FindsFormer edit self.old }
         requires allowed { IsNode (redone edit self.old) }

@@ -18,7 +18,7 @@ use pfl_track::State;
 use std::alloc::Allocator;
 
 impl<A: Allocator + Copy> Node<A> {
-    /// Deletes all states that have expired, the first to expire first, and tells how many; to its end, timeouts are those of as
+    /// Deletes all states that have expired, the first to expire first, and returns how many; to its end, timeouts are those of as
     /// many states as it finds (pf.conf(5), `adaptive.start`). It is refused where after one of the deletions too much would be
     /// pending, and else where after one of them a number would be too high.
     pub fn purge(&mut self) -> Result<(usize, Change<NodeEdit, A>), Refusal>
@@ -35,7 +35,7 @@ impl<A: Allocator + Copy> Node<A> {
     }
 }
 
-/// Deletes all states that have expired, and tells how many, and whether after one of them a number was too high.
+/// Deletes all states that have expired, and returns how many, and whether after one of them a number was too high.
 fn purge<A: Allocator>(desk: &mut Desk<A>) -> Result<(usize, bool), Overfull>
     requires parts { AreParts desk.old.node }
     requires room { 5 * length (event.expired_states desk.old.node) ≤ desk.old.edits.spare }
@@ -57,7 +57,7 @@ fn purge<A: Allocator>(desk: &mut Desk<A>) -> Result<(usize, bool), Overfull>
     Ok((count, overcounted))
 }
 
-/// Of the states that have expired by the timeouts of so many states, the first to expire.
+/// Of the states that have expired by the timeouts of this many states, the first to expire.
 fn first_expired<A: Allocator>(desk: &Desk<A>, states: usize) -> Option<State>
     ensures first { result ≡ slice_get (event.expired_among states desk.now.node) 0 }
     ensures parts { AreParts desk.now.node }

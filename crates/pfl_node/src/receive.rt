@@ -18,7 +18,7 @@ use pfl_wire::FrameBytes;
 use std::alloc::Allocator;
 
 impl<A: Allocator + Copy> Node<A> {
-    /// Takes the records of a frame in their order, all or none, and tells how many. It is refused where after one of them too much
+    /// Takes the records of a frame in their order, all or none, and returns how many. It is refused where after one of them too much
     /// would be pending, and else where after one of them a number would be too high. No frame is longer than the node's limit: so
     /// there is room for the edits of its records.
     pub fn receive(
@@ -52,7 +52,7 @@ impl<A: Allocator + Copy> Node<A> {
     }
 }
 
-/// Counts a frame that cannot be read, and tells whether after it a number was too high.
+/// Counts a frame that cannot be read, and returns whether after it a number was too high.
 fn count_one<A: Allocator>(desk: &mut Desk<A>) -> Result<((), bool), Overfull>
     requires room { 0 < desk.old.edits.spare }
     ensures went { Went result (to.count_broken desk.old.node ∷ []) }

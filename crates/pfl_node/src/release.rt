@@ -17,7 +17,7 @@ use pfl_receive::{Desk, NodeEdit};
 use std::alloc::Allocator;
 
 impl<A: Allocator + Copy> Node<A> {
-    /// Lets the packets go out that are held for long enough, the oldest first, and tells how many. Their states wait no more.
+    /// Lets the packets go out that are held for long enough, the oldest first, and returns how many. Their states wait no more.
     pub fn release(&mut self) -> Result<(usize, Change<NodeEdit, A>), Refusal>
         ensures refused { IfErr result (IsRefusal (releasing.release_refusal self.old)) }
         ensures unchanged { OnErr result (self.new ≡ self.old) }
@@ -36,7 +36,7 @@ impl<A: Allocator + Copy> Node<A> {
     }
 }
 
-/// Lets the packets go out whose time has come, and tells how many.
+/// Lets the packets go out whose time has come, and returns how many.
 fn release<A: Allocator>(desk: &mut Desk<A>) -> usize
     requires parts { AreParts desk.old.node }
     requires room { 3 * length (releasing.due_names desk.old.node) ≤ desk.old.edits.spare }
@@ -62,7 +62,7 @@ fn first_due<A: Allocator>(desk: &Desk<A>) -> Option<StateName>
     Some(held.name)
 }
 
-/// What becomes of a release of so many packets: at least one has to go out, and no number may be too high.
+/// What becomes of a release of this many packets: at least one has to go out, and no number may be too high.
 fn judge<A: Allocator>(desk: &Desk<A>, count: usize) -> Result<usize, Refusal>
     ensures refused { judged_as result ≡ refused_by ((count == 0, refusal.TooEarly) ∷ (is_overcounted desk.now.node, refusal.CountFull) ∷ []) }
     ensures count { IfOk result (λ c. c ≡ count) }

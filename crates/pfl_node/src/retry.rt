@@ -21,7 +21,7 @@ use std::alloc::Allocator;
 const ALL_STATES: StateName = StateName { creator: 0, id: 0 };
 
 impl<A: Allocator + Copy> Node<A> {
-    /// Asks for all states again where the last try was long enough ago, or gives up after the twelfth; tells which.
+    /// Asks for all states again where the last try was long enough ago, or gives up after the twelfth; returns which.
     pub fn retry(&mut self) -> Result<(Retried, Change<NodeEdit, A>), Refusal>
         ensures refused { IfErr result (IsRefusal (retrying.retry_refusal self.old)) }
         ensures unchanged { OnErr result (self.new ≡ self.old) }
@@ -38,7 +38,7 @@ impl<A: Allocator + Copy> Node<A> {
     }
 }
 
-/// Does what a client does whose time has come, and tells whether after it a number was too high.
+/// Does what a client does whose time has come, and returns whether after it a number was too high.
 fn ask_again<A: Allocator>(desk: &mut Desk<A>, retry: Retry) -> Result<(Retried, bool), Overfull>
     requires room { 3 ≤ desk.old.edits.spare }
     requires asks { retry.asks ≡ asks_again desk.old.node.client }

@@ -16,7 +16,7 @@ use std::alloc::Allocator;
 const LAST_MILLISECOND: Millis = 1_000_000_000_000;
 
 impl<A: Allocator> Node<A> {
-    /// Why the clock does not go on by so many milliseconds, if there is a reason.
+    /// Why the clock does not go on by this many milliseconds, if there is a reason.
     fn tick_refusal(&self, ms: u64) -> Option<Refusal>
         ensures refusal { result ≡ event.tick_refusal self.now ms }
     {
@@ -29,7 +29,7 @@ impl<A: Allocator> Node<A> {
 }
 
 impl<A: Allocator + Copy> Node<A> {
-    /// The clock goes on by so many milliseconds; its new time is answered.
+    /// Lets the clock go on by this many milliseconds, and returns its new time.
     pub fn tick(&mut self, ms: u64) -> Result<(Millis, Change<NodeEdit, A>), Refusal>
         ensures refused { IfErr result (IsRefusal (event.tick_refusal self.old ms)) }
         ensures unchanged { OnErr result (self.new ≡ self.old) }

@@ -28,8 +28,8 @@ const MOST_NAMES: usize = 257;
 const NO_NAME: StateName = StateName { creator: 0, id: 0 };
 
 impl<A: Allocator + Copy> Node<A> {
-    /// Queues the next states of the bulk update that the node serves, and tells how many. After the last of them the end is
-    /// told. It looks at the states behind its cursor, up to one more that it may send than it sends.
+    /// Queues the next states of the bulk update that the node serves, and returns how many. After the last of them the end is
+    /// announced. It looks at the states after its cursor, up to one more that it may send than it sends.
     pub fn turn(&mut self) -> Result<(usize, Change<NodeEdit, A>), Refusal>
         ensures refused { IfErr result (IsRefusal (turning.turn_refusal self.old)) }
         ensures unchanged { OnErr result (self.new ≡ self.old) }
@@ -47,7 +47,7 @@ impl<A: Allocator + Copy> Node<A> {
     }
 }
 
-/// Queues the next states of the bulk update; tells how many, and whether after it a number was too high.
+/// Queues the next states of the bulk update; returns how many, and whether after it a number was too high.
 fn turn<A: Allocator>(desk: &mut Desk<A>) -> Result<(usize, bool), Overfull>
     requires parts { AreParts desk.old.node }
     requires room { length (turning.turn_of desk.old.node) + 3 ≤ desk.old.edits.spare }
@@ -66,7 +66,7 @@ fn turn<A: Allocator>(desk: &mut Desk<A>) -> Result<(usize, bool), Overfull>
     Ok((turn.names.len(), desk.is_overcounted()))
 }
 
-/// Of the names that the server may send, the first behind its cursor, at most so many: they are written to the front of `names`,
+/// Of the names that the server may send, the first after its cursor, at most this many: they are written to the front of `names`,
 /// and counted.
 fn next_names<A: Allocator>(desk: &Desk<A>, most: usize, names: &mut [StateName]) -> usize
     requires parts { AreParts desk.now.node }
@@ -117,7 +117,7 @@ fn queue_all<A: Allocator>(desk: &mut Desk<A>, names: &[StateName]) -> Result<()
     Ok(())
 }
 
-/// Tells the end of the bulk update, where the turn is its last.
+/// Announces the end of the bulk update, where the turn is its last.
 fn tell_end<A: Allocator>(desk: &mut Desk<A>, is_last: bool) -> Result<(), Overfull>
     requires room { 2 ≤ desk.old.edits.spare }
     ensures full { OnErr result (is_overfull (turning.ended is_last desk.old.node) ≡ true) }

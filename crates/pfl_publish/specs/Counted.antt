@@ -1,4 +1,4 @@
--- The rule of the count, and what each step tells (this project's profile).
+-- The rule of the count, and what each step shows (this project's profile).
 use Rattle.std.specs.Prelude.{◌≡◌, ℕ, ◌+◌, ◌<◌, List, [], ◌∷◌}
 use mathlib.Core.Option.{some}
 use lib.ListN.{get_elem?}

@@ -16,7 +16,7 @@ pub record Viewer (H : Type 0) : Type 0 where
   pub held : List ℕ
   pub loads : List ℕ
 
--- so many tries loaded these numbers, two each, of which the second is three or more past the first
+-- this many tries loaded these numbers, two each, of which the second is three or more past the first
 abbrev pub AreOvertaken : ℕ → List ℕ → Type 0
 AreOvertaken zero loads = loads ≡ []
 AreOvertaken (suc count) loads = (earlier : List ℕ) × (at : ℕ) × (now : ℕ) × (loads ≡ earlier ++ at ∷ now ∷ []) × (at + 3 ≤ now) × AreOvertaken count earlier
@@ -56,7 +56,7 @@ module _ {H : Type 0} where
   abbrev pub OvertakenBefore : ℕ → Viewer H → ℕ → Type 0
   OvertakenBefore tries old at = length old.seen + 3 * (tries - 1) ≤ at + 1
 
-  -- The viewer made some tries that were overtaken, so many, and then a last one, which loaded `at` first and `now` last. It has seen up to `now`
+  -- The viewer made this many tries that were overtaken, and then a last one, which loaded `at` first and `now` last. It has seen up to `now`
   pub record MakesTries (old new : Viewer H) (count at now : ℕ) : Type 0 where
     pub earlier : List ℕ
     pub overtaken : AreOvertaken count earlier

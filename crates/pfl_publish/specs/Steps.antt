@@ -1,4 +1,4 @@
--- What each kind of step tells the seat that makes it.
+-- What each kind of step shows the seat that makes it.
 use Rattle.std.specs.Prelude.{◌≡◌, ℕ, ◌+◌, ◌-◌, ◌<◌, ◌≤◌, Bool, true, List, length, take}
 use Rattle.atomic_table.specs.Table.{Me, Step}
 use Rattle.pfl_publish.specs.declared.view.View.{View}

@@ -3,7 +3,7 @@ ghost use Rattle.std.specs.Prelude.{List, []};
 
 use std::marker::Brand;
 
-/// Tells contracts what a revision stands for: the start for revision 0, and an entry for each later one. It has no call,
+/// States for contracts what a revision stands for: the start for revision 0, and an entry for each later one. It has no call,
 /// and so costs nothing.
 pub trait Naming<H> {
     /// What the revision stands for.
@@ -15,7 +15,7 @@ impl Naming<()> for () {
     ghost named = { λ _. tt };
 }
 
-/// The name that the store of a number is told, as a list of that one name. A step sees no argument of the call that makes
+/// The name that is passed to the store of a number, as a list of that one name. A step sees no argument of the call that makes
 /// it, so the call picks an impl.
 pub(crate) trait Picked<H> {
     ghost picked: { List H };

@@ -82,7 +82,7 @@ impl<H, A: Allocator> Publisher<H, A> {
         )
     }
 
-    /// Publishes the next revision, whose first word is its number, and tells that number.
+    /// Publishes the next revision, whose first word is its number, and returns that number.
     pub fn publish<E: Naming<H>>(
         &self,
         writer: &mut WriterSeat<H>,
@@ -183,7 +183,7 @@ impl<H, A: Allocator> Publisher<H, A> {
         self.attempt(viewer)
     }
 
-    /// Loads the number, and says whether it has come to the one that was told.
+    /// Loads the number, and returns whether it has come to the one that was announced.
     pub fn learn(&self, viewer: &mut ViewerSeat<H>, told: &Told) -> bool
         requires table { viewer.old.table ≡ self.now }
         requires closed { viewer.old.trying ≡ false }
@@ -241,11 +241,11 @@ impl<H, A: Allocator> Publisher<H, A> {
         }
     }
 
-    /// Shows the viewer all that was published, by one load of the number, and answers that number: the last one.
+    /// Shows the viewer all that was published, by one load of the number, and returns that number: the last one.
     ///
     /// Who publishes an entry for a viewer, and then wants to know what stands between that entry and what the viewer had seen,
-    /// meets before `publish` as well as after it. The meet after it tells only that the viewer's former list begins the new
-    /// one, which the new entry is already part of; the meet before it tells that the former list begins the list without it.
+    /// meets before `publish` as well as after it. The meet after it shows only that the viewer's former list begins the new
+    /// one, which the new entry is already part of; the meet before it shows that the former list begins the list without it.
     pub fn meet(
         &self,
         writer: WriterSeat<H>,

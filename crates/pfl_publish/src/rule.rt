@@ -1,4 +1,4 @@
-//! The rule of the words, and what each kind of atomic step tells the thread that makes it.
+//! The rule of the words, and what each kind of atomic step shows the thread that makes it.
 use crate::names::Picked;
 use crate::view::View;
 use atomic_table::{Join, Play, Split, TableRule};

@@ -1,4 +1,4 @@
-//! The seats of the writer and of the viewers, and what the calls answer.
+//! The seats of the writer and of the viewers, and what the calls return.
 use crate::words::{REVISION_WORDS, WordsSeat};
 use std::error::Error;
 use std::fmt;

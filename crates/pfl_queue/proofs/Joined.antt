@@ -12,7 +12,7 @@ module _ {V : Type 0} where
   count-all [] = refl
   count-all (links ∷ lists) = omega (arith, count-all lists, length-append links (all_links lists))
 
-  -- what stands before and behind a part of one list
+  -- what stands before and after a part of one list
   pub record Around (lists : List (List (Link V))) (k : ℕ) (f b : List (Link V)) : Type 0 where
     pub before : List (Link V)
     pub behind : List (Link V)

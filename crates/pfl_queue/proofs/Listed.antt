@@ -1,4 +1,4 @@
--- What is left where a frame took the first marks, and behind them the first of the lists.
+-- What is left where a frame took the first marks, and after them the first of the lists.
 use Rattle.std.proofs.Common.{◌≡◌, ℕ, ◌+◌, ◌-◌, ◌<◌, zero, suc, List, [], ◌∷◌, ◌++◌, map, take, length, get_or, refl, sym, ◌∙◌, ap, arith, add-one, take-take}
 use Rattle.std.proofs.Math.Seq.{take-suc}
 use Rattle.std.proofs.lemmas.List.{length-take, take-map}

@@ -5,7 +5,7 @@ use Rattle.pfl_base.specs.declared.refusal.Refusal.TheVariants as refusal
 use Rattle.pfl_queue.specs.declared.QueueFault.{QueueFault}
 use Rattle.pfl_queue.specs.declared.QueueFault.TheVariants.{QueueFull, CountFull}
 
--- the first of these that applies is answered
+-- the first of these that applies is reported
 abbrev pub fault_number : QueueFault → ℕ
 fault_number QueueFull = 1
 fault_number CountFull = 2

@@ -38,7 +38,7 @@ clear_of c = Clear c.creator c.bound
 abbrev pub in_turn : Queue → List Entry
 in_turn q = map entry_of (in_order mark_before (maps.values q.marks)) ++ map Request q.requests ++ map Status q.statuses ++ map clear_of q.clears
 
--- the action that tells of a kind; a deletion is told shortly
+-- the action that announces a kind; a deletion is announced in short form
 abbrev pub kind_action : Kind → Action
 kind_action Insert = action.Insert
 kind_action InsertAck = action.InsertAck
@@ -46,7 +46,7 @@ kind_action Update = action.Update
 kind_action UpdateShort = action.UpdateShort
 kind_action Delete = action.DeleteShort
 
--- the action that tells of an entry
+-- the action that announces an entry
 abbrev pub entry_action : Entry → Action
 entry_action (Marked kind number name) = kind_action kind
 entry_action (Request name) = action.UpdateRequest

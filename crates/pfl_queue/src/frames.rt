@@ -21,7 +21,7 @@ const GROUP_LEN: usize = 4;
 const LEAST_RECORD_LEN: usize = 8;
 
 impl Kind {
-    /// The action that tells of the kind. A deletion is told shortly.
+    /// The action that announces the kind. A deletion is announced in short form.
     pub fn action(self) -> Action
         ensures action { result ≡ kind_action self }
     {
@@ -36,7 +36,7 @@ impl Kind {
 }
 
 impl Entry {
-    /// The action that tells of the entry.
+    /// The action that announces the entry.
     pub fn action(&self) -> Action
         ensures action { result ≡ entry_action self.now }
     {
@@ -140,7 +140,7 @@ impl From<Cleared> for Entry {
 }
 
 impl<A: Allocator + Copy> Pending<A> {
-    /// These marks, and the first requests, statuses and clears, in this order: at most so many of each.
+    /// These marks, and the first requests, statuses and clears, in this order: at most this many of each.
     fn first_of_each(&self, marks: &[Mark], most: usize) -> Result<Vec<Entry, A>, NoMemory>
         ensures first { IfOk result (λ entries. entries.items ≡ first_of_each most marks.now self.now) }
     {
@@ -168,7 +168,7 @@ impl<A: Allocator + Copy> Pending<A> {
         Ok(entries)
     }
 
-    /// Takes the frame of at most `mtu` bytes that is next out of the queues, and gives its entries and an edit for each.
+    /// Takes the frame of at most `mtu` bytes that is next out of the queues, and returns its entries and an edit for each.
     pub fn next_frame(
         &mut self,
         mtu: u32,

@@ -179,7 +179,7 @@ fn slot_of<A: Allocator>(
     )
 }
 
-/// Puts a mark into the list of its kind, at the place of its number. Gives its slot, which no list had.
+/// Puts a mark into the list of its kind, at the place of its number. Returns its slot, which no list had.
 fn put_in_order<A: Allocator>(
     queues: &mut Chains<Mark, A>,
     order: &OrderedMap<Turn, usize, A>,

@@ -24,7 +24,7 @@ use std::marker::Model;
 /// The greatest queueing number that an event may end with as the next one.
 const GREATEST_NUMBER: u64 = 4294967295;
 
-/// What is to be told to the peer: names with a kind and a number, and lists of requests, statuses and clears. There are
+/// What is to be sent to the peer: names with a kind and a number, and lists of requests, statuses and clears. There are
 /// never more than `limit` of them all, and all room is made by `new`.
 pub struct Pending<A: Allocator> {
     limit: usize,
@@ -35,7 +35,7 @@ pub struct Pending<A: Allocator> {
     clears: VecDeque<Cleared, A>,
 }
 
-// Not derived: to a proof a written drop is one call, where a derived one is opened again on every way out.
+// Written by hand: see docs/ARCHITECTURE.md, "What the prover asks of the code".
 impl<A: Allocator> Drop for Pending<A> {
     fn drop(self) {
         let Pending {
@@ -402,7 +402,7 @@ impl<A: Allocator> Pending<A> {
         }
     }
 
-    /// Puts the new value of an edit that was undone into its place again. It answers nothing, so it cannot want memory.
+    /// Puts the new value of an edit that was undone into its place again. It returns nothing, so it cannot want memory.
     pub fn redo(&mut self, edit: QueueEdit)
         requires found { FindsFormer edit self.old }
         requires allowed { IsQueue (redone edit self.old) }

@@ -16,7 +16,7 @@ lines_of-two b bytes h = elim (eqb_tells b 13) [
   | inr e ↦ rw (ne_eqb b 10 h, e.0) refl
 ]
 
--- a byte is one of the line, if no LF is behind it
+-- a byte is one of the line, if no LF is after it
 not-ended : (p q : Bool) (b : ℕ) (lines : List (List ℕ)) → q ≡ false → cond (p && q) lines (with_first b lines) ≡ with_first b lines
 not-ended true q b lines e = rw e refl
 not-ended false q b lines e = refl
@@ -48,7 +48,7 @@ TakesLine-found s k (Some rest) within at before = lines_of-found s k rest withi
 pub waits-within : (block : List ℕ) (start end k : ℕ) → k < length (slice_range block start end) → start + k + 1 ≤ end
 waits-within block start end k within = omega (arith, within, length-take (end - start) (drop start block))
 
--- what waits behind the first bytes
+-- what waits after the first bytes
 waits-behind : (block : List ℕ) (start end k : ℕ) → start + k + 1 ≤ end → drop (suc k) (slice_range block start end) ≡ slice_range block (start + k + 1) end
 waits-behind block start end k within =
     let parts : end - start ≡ suc k + (end - (start + k + 1)) = omega arith in

@@ -1,11 +1,13 @@
 -- Frames that the events of a run send, counted.
-use Rattle.std.specs.Prelude.{◌≡◌, ◌≤◌, ◌<◌, ◌+◌, ◌-◌, ◌==◌, ℕ, suc, Bool, true, false, nat_lt, List, [], ◌∷◌, length, filter, drop, Option, Some, None, is_some, IsTrue, Result, Ok, Err, if◌then◌else◌, refl}
+use Rattle.std.specs.Prelude.{◌≡◌, ◌≤◌, ◌<◌, ◌+◌, ◌-◌, ◌==◌, ℕ, suc, Bool, true, false, nat_lt, List, [], ◌∷◌, length, filter, drop, slice_get, take, Option, Some, None, is_some, IsTrue, Result, Ok, Err, if◌then◌else◌, refl}
 use Rattle.std.specs.List.{fold}
 use Rattle.std.specs.Option.{option_and_then}
-use Rattle.std.proofs.Common.{cond, get_or, ◌∙◌, ap, sym, subst, arith}
+use Rattle.std.proofs.Common.{cond, ◌∙◌, ap, sym, subst, arith}
 use Rattle.std.proofs.lemmas.Bool.{eq-eqb, eqb-false, eqb-true}
 use Rattle.std.proofs.lemmas.Bool.Decides.{nat_tests}
 use Rattle.std.proofs.lemmas.List.{drop_all, drop_more}
+use Rattle.std.proofs.lemmas.List.Filters.{length-filter_more}
+use Rattle.std.proofs.lemmas.Option.{get_or_from_slice_get, slice_get_within}
 use Rattle.pfl_base.specs.declared.refusal.Refusal.{Refusal}
 use Rattle.pfl_base.specs.Numbers.{greatest}
 use Rattle.pfl_language.specs.declared.event.Event.{Event}
@@ -164,22 +166,34 @@ nth-within (e ∷ es) k n p is = elim (sends e) as (λ b. sends e ≡ b → With
 -- ---- the same, event after event
 
 -- the event at the index is the first of those from it on
-pub left-from : (es : List Event) (i : ℕ) (e : Event) → i < length es → e ≡ get_or es i e → drop i es ≡ e ∷ drop (i + 1) es
-left-from es i e within is = drop_more es i e within ∙ ap (λ (x : Event). x ∷ drop (i + 1) es) (sym is)
+pub left-from : (es : List Event) (i : ℕ) (e : Event) → slice_get es i ≡ Some e → drop i es ≡ e ∷ drop (i + 1) es
+left-from es i e is = drop_more es i e (slice_get_within es i e is) ∙ ap (λ (x : Event). x ∷ drop (i + 1) es) (get_or_from_slice_get es i e e is)
+
+-- one event more is counted
+counted-more : (es : List Event) (i : ℕ) (e : Event) → slice_get es i ≡ Some e → senders (take (i + 1) es) ≡ senders (take i es) + cond (sends e) 1 0
+counted-more es i e is = length-filter_more sends es i e (slice_get_within es i e is) ∙ ap (λ (x : Event). senders (take i es) + cond (sends x) 1 0) (get_or_from_slice_get es i e e is)
+
+pub counted-one : (es : List Event) (i : ℕ) (e : Event) → slice_get es i ≡ Some e → sends e ≡ true → senders (take (i + 1) es) ≡ senders (take i es) + 1
+counted-one es i e is sender = counted-more es i e is ∙ ap (λ (b : Bool). senders (take i es) + cond b 1 0) sender
+
+pub counted-none : (es : List Event) (i : ℕ) (e : Event) → slice_get es i ≡ Some e → sends e ≡ false → senders (take (i + 1) es) ≡ senders (take i es)
+counted-none es i e is quiet =
+    let more : senders (take (i + 1) es) ≡ senders (take i es) + 0 = counted-more es i e is ∙ ap (λ (b : Bool). senders (take i es) + cond b 1 0) quiet in
+    omega arith
 
 more : (n : ℕ) → (n ≡ 0 → ⊥) → (n == 0) ≡ false
 more n some = grind (arith, nat_tests)
 
-pub place-here : (k n i : ℕ) (es : List Event) (e : Event) → i < length es → e ≡ get_or es i e → sends e ≡ true → n ≡ 0 → nth_sender k n (drop i es) ≡ Some k
-place-here k n i es e within is sender zero = ap (nth_sender k n) (left-from es i e within is) ∙ nth-here k n e (drop (i + 1) es) sender (eq-eqb n 0 zero)
+pub place-here : (k n i : ℕ) (es : List Event) (e : Event) → slice_get es i ≡ Some e → sends e ≡ true → n ≡ 0 → nth_sender k n (drop i es) ≡ Some k
+place-here k n i es e is sender zero = ap (nth_sender k n) (left-from es i e is) ∙ nth-here k n e (drop (i + 1) es) sender (eq-eqb n 0 zero)
 
-pub place-later : (k n i m : ℕ) (es : List Event) (e : Event) → i < length es → e ≡ get_or es i e → sends e ≡ true → (n ≡ 0 → ⊥) → m ≡ n - 1 → nth_sender k n (drop i es) ≡ nth_sender (k + 1) m (drop (i + 1) es)
-place-later k n i m es e within is sender some less =
-    ap (nth_sender k n) (left-from es i e within is) ∙ nth-later k n e (drop (i + 1) es) sender (more n some) ∙ ap (λ (x : ℕ). nth_sender (k + 1) x (drop (i + 1) es)) (sym less)
+pub place-later : (k n i m : ℕ) (es : List Event) (e : Event) → slice_get es i ≡ Some e → sends e ≡ true → (n ≡ 0 → ⊥) → m ≡ n - 1 → nth_sender k n (drop i es) ≡ nth_sender (k + 1) m (drop (i + 1) es)
+place-later k n i m es e is sender some less =
+    ap (nth_sender k n) (left-from es i e is) ∙ nth-later k n e (drop (i + 1) es) sender (more n some) ∙ ap (λ (x : ℕ). nth_sender (k + 1) x (drop (i + 1) es)) (sym less)
 
-pub place-quiet : (k n i m : ℕ) (es : List Event) (e : Event) → i < length es → e ≡ get_or es i e → sends e ≡ false → m ≡ n → nth_sender k n (drop i es) ≡ nth_sender (k + 1) m (drop (i + 1) es)
-place-quiet k n i m es e within is quiet same =
-    ap (nth_sender k n) (left-from es i e within is) ∙ nth-quiet k n e (drop (i + 1) es) quiet ∙ ap (λ (x : ℕ). nth_sender (k + 1) x (drop (i + 1) es)) (sym same)
+pub place-quiet : (k n i m : ℕ) (es : List Event) (e : Event) → slice_get es i ≡ Some e → sends e ≡ false → m ≡ n → nth_sender k n (drop i es) ≡ nth_sender (k + 1) m (drop (i + 1) es)
+place-quiet k n i m es e is quiet same =
+    ap (nth_sender k n) (left-from es i e is) ∙ nth-quiet k n e (drop (i + 1) es) quiet ∙ ap (λ (x : ℕ). nth_sender (k + 1) x (drop (i + 1) es)) (sym same)
 
 pub place-none : (k n i : ℕ) (es : List Event) → length es ≤ i → nth_sender k n (drop i es) ≡ None
 place-none k n i es all = ap (nth_sender k n) (drop_all i es all) ∙ nth-none k n

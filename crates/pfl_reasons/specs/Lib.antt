@@ -15,4 +15,5 @@ pub use Rattle.pfl_wire.specs as wire
 pub use Rattle.pfl_queue.specs as queue
 pub use Rattle.pfl_merge.specs as merge
 pub use Rattle.pfl_language.specs as language
+pub use Rattle.pfl_events.specs as events
 pub use Rattle.pfl_world.specs as world

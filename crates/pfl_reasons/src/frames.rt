@@ -1,6 +1,6 @@
 //! Frames that events sent: which event it was, and what befell the frame.
 
-ghost use Rattle.std.specs.Prelude.{◌≡◌, ◌≤◌, ◌+◌, ◌++◌, IfOk, IfSome, OnOk, drop, length};
+ghost use Rattle.std.specs.Prelude.{◌≡◌, ◌≤◌, ◌+◌, ◌++◌, IfOk, IfSome, OnOk, drop, length, take};
 ghost use Rattle.std.specs.Option.{option_to_list};
 ghost use Rattle.pfl_base.specs.Numbers.{greatest};
 ghost use Rattle.pfl_wire.specs.Reading.{reading};
@@ -10,6 +10,7 @@ ghost use Rattle.pfl_reasons.specs.Senders as meant;
 
 use crate::frame_step::FrameStep;
 use pfl_edits::NoMemory;
+use pfl_events::Events;
 use pfl_language::{Event, FrameEvent, Outcome};
 use pfl_link::InFlight;
 use pfl_wire::FrameBytes;
@@ -29,15 +30,22 @@ fn sends(event: &Event) -> bool
     }
 }
 
-/// How many of the events send a frame, where they are accepted.
-pub fn count_senders(events: &[Event]) -> usize
-    ensures { result ≡ senders events.now }
+/// How many of the first `count` events send a frame, where they are accepted.
+pub fn count_senders<A: Allocator>(events: &Events<A>, count: usize) -> usize
+    requires within { count ≤ length events.now }
+    ensures { result ≡ senders (take count events.now) }
 {
-    events.iter().filter(|event| sends(event)).count()
+    let mut sent = 0;
+    for index in 0..count {
+        if sends(&events.get(index)) {
+            sent += 1;
+        }
+    }
+    sent
 }
 
 /// The place, counted from 1, of the event that sends the frame of the ticket, where the first frame gets the ticket `first`.
-pub fn sending_place(first: u32, ticket: u32, events: &[Event]) -> Option<usize>
+pub fn sending_place<A: Allocator>(first: u32, ticket: u32, events: &Events<A>) -> Option<usize>
     ensures place { result ≡ sending_place first ticket events.now }
     ensures within { IfSome result (λ k. (1 ≤ k) × (k ≤ length events.now)) }
 {
@@ -48,15 +56,15 @@ pub fn sending_place(first: u32, ticket: u32, events: &[Event]) -> Option<usize>
 }
 
 /// The place, counted from 1, of the event that sends a frame after this number of others.
-fn place_of(earlier: u32, events: &[Event]) -> Option<usize>
+fn place_of<A: Allocator>(earlier: u32, events: &Events<A>) -> Option<usize>
     ensures place { result ≡ nth_sender 1 earlier events.now }
     ensures within { IfSome result (λ k. (1 ≤ k) × (k ≤ length events.now)) }
 {
     let mut left = earlier;
-    for (i, event) in events.iter().enumerate() {
-        if sends(event) {
+    for index in 0..events.len() {
+        if sends(&events.get(index)) {
             if left == 0 {
-                return Some(i + 1);
+                return Some(index + 1);
             }
             left -= 1;
         }
@@ -175,12 +183,12 @@ fn add_step<A: Allocator>(
 }
 
 /// The events after the first `place` that befall the frame of the ticket, as it was sent by the last of these.
-pub fn frame_steps<A: Allocator + Copy, B: Allocator>(
+pub fn frame_steps<A: Allocator + Copy, B: Allocator, C: Allocator>(
     alloc: A,
     ticket: u32,
     place: usize,
     frame: &InFlight<B>,
-    events: &[Event],
+    events: &Events<C>,
 ) -> Result<Vec<FrameStep, A>, NoMemory>
     requires within { place ≤ length events.now }
     requires countable { ticket + 1 + senders (drop place events.now) ≤ greatest }
@@ -192,10 +200,10 @@ pub fn frame_steps<A: Allocator + Copy, B: Allocator>(
         len: frame.bytes().len(),
         next: ticket + 1,
     };
-    let later = &events[place..];
-    for (i, event) in later.iter().enumerate() {
-        add_step(&mut list, passage.step(frame, place + 1 + i, event))?;
-        passage = passage.after(event);
+    for index in place..events.len() {
+        let event = events.get(index);
+        add_step(&mut list, passage.step(frame, index + 1, &event))?;
+        passage = passage.after(&event);
     }
     Ok(list)
 }

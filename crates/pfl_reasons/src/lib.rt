@@ -25,6 +25,7 @@ pub use frame_step::FrameStep;
 pub use frames::{count_senders, frame_steps, sending_place};
 pub use laws::{frames_are_counted, reasons_agree, records_are_counted};
 pub use packet_reason::{Judged, PacketReason};
+pub use pfl_events::Events;
 pub use pfl_link::InFlight;
 pub use pfl_world::World;
 pub use record_fate::{BadRecord, RecordFate, TakenRecord};

@@ -35,7 +35,7 @@ pub(crate) fn fates_of<A: Allocator + Copy>(
     list
 }
 
-/// Lets the node take the records in their order, and gives each with what becomes of it. The tape, empty before, leads back.
+/// Lets the node take the records in their order, and returns each with what becomes of it. The tape, empty before, leads back.
 fn take_all<A: Allocator + Copy>(
     alloc: A,
     world: &mut World<A>,
@@ -58,7 +58,7 @@ fn take_all<A: Allocator + Copy>(
     Ok(list)
 }
 
-/// Lets the node take one record, and gives what becomes of it. Where memory is wanting, nothing is taken.
+/// Lets the node take one record, and returns what becomes of it. Where memory is wanting, nothing is taken.
 fn take_next<A: Allocator + Copy>(
     world: &mut World<A>,
     to: NodeId,

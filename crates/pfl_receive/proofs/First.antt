@@ -106,7 +106,7 @@ module _ (creator bound : ℕ) where
       by true is e = absurd (cc)
       by false is e = grind (arith, nat_tests)
 
-  -- behind one above it that does not, none does
+  -- after one above it that does not, none does
   high : (a b : StateName) → Below least a → Below a b → passes a ≡ false → passes b ≡ false
   unfolding Below
   high a b (inl far) (inl more) e = other b (grind (arith, nat_tests))

@@ -23,7 +23,7 @@ use Rattle.pfl_receive.specs.Receiving.{is_not_given, is_delete, can_import, imp
 
 -- ---- why it may be
 
--- no state, and no deletion that is to be told, has the name, which is one that may stand, the keys are free, and there is room
+-- no state, and no deletion that is to be announced, has the name, which is one that may stand, the keys are free, and there is room
 pub record MayImport (n : Node) (r : StateRecord) : Type 0 where
   pub fresh : maps.get n.states r.name ≡ None
   pub given : IsGiven n r.name

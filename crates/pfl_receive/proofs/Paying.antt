@@ -34,7 +34,7 @@ paid-more k l d e more paid = omega (arith, more, paid)
 
 -- ---- how many states there are after it
 
--- at most so many
+-- at most this many
 abbrev Few : ℕ → Node → Type 0
 Few k n = maps.len n.states ≤ k
 

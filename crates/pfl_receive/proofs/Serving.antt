@@ -29,7 +29,7 @@ asked n (client.Waiting tries since) Finish = tt
 pub heard-past : (n : Node) (status : BulkStatus) → AskedAt n (after_status n.client status n.clock)
 heard-past n status = asked n n.client status
 
--- a state that is answered is told of
+-- a state that is sent in reply is announced
 pub is-synced : (a b : Bool) → (not a && b) ≡ true → a ≡ false
 is-synced true b e = absurd (cc)
 is-synced false b e = refl

@@ -30,11 +30,11 @@ records_work n same_rules messages =
 
 -- ---- edits
 
--- a record takes at most so many edits, beside those of the states that it clears: each of them is forgotten
+-- a record takes at most this many edits, beside those of the states that it clears: each of them is forgotten
 abbrev pub record_edits : ℕ
 record_edits = 8
 
--- so many pay for each thing that records are about
+-- this many edits pay for each thing that records are about
 abbrev pub work_edits : ℕ
 work_edits = record_edits + forgotten_edits
 

@@ -34,7 +34,7 @@ is_known n name = is_some (maps.get n.states name)
 abbrev pub is_not_given : Node → StateName → Bool
 is_not_given n name = (name.creator == n.creator) && nat_le n.next_id name.id
 
--- its deletion is still to be told
+-- its deletion is still to be announced
 abbrev pub is_delete : Option Kind → Bool
 is_delete (Some Delete) = true
 is_delete _ = false
@@ -78,7 +78,7 @@ insert_taken n same_rules r ack_wanted =
 
 -- ---- merging
 
--- what was stale is told back
+-- what was stale is sent back
 abbrev pub merged_into : Node → Merged → Node
 merged_into n m =
     if m.stale_src || m.stale_dst
@@ -89,11 +89,11 @@ merged_into n m =
 abbrev pub merge_taken : Node → State → Received → Node
 merge_taken n s r = merged_into (lost n s.name) (merged s r (timeout_at n s.rule r.class) n.clock)
 
--- what a whole record tells of a known state
+-- what a whole record says of a known state
 abbrev pub of_state : StateRecord → Received
 of_state r = record { src = r.src; dst = r.dst; class = r.class; remaining = r.remaining }
 
--- what a short record tells of it
+-- what a short record says of it
 abbrev pub of_update : UpdateRecord → Received
 of_update u = record { src = u.src; dst = u.dst; class = u.class; remaining = u.remaining }
 
@@ -107,7 +107,7 @@ has_states n = nat_lt 0 (maps.len n.states)
 abbrev pub bulk_taken : Node → Node
 bulk_taken n = record (tell_status n (if has_states n then Start else Finish)) { server = server_started n.server (has_states n) n.clock }
 
--- on no queue, or on one that tells less than the whole state
+-- on no queue, or on one that sends less than the whole state
 abbrev pub is_partly_told : Option Kind → Bool
 is_partly_told None = true
 is_partly_told (Some UpdateShort) = true

@@ -16,7 +16,7 @@ use pfl_desk::{Desk, Overfull};
 use pfl_wire::{FrameBytes, Records};
 use std::alloc::Allocator;
 
-/// Takes the records of a frame in their order, and tells how many, and whether after one of them a number was too high. A rule's
+/// Takes the records of a frame in their order, and returns how many, and whether after one of them a number was too high. A rule's
 /// number is kept only where the frame's checksum is that of the node's rules. It stops where too much would be pending; what was
 /// done till then is recorded.
 pub fn take_frame<A: Allocator>(
@@ -40,7 +40,7 @@ fn has_same_rules<A: Allocator>(desk: &Desk<A>, frame: &FrameBytes<'_>) -> bool
     *frame.print() == desk.rules().print()
 }
 
-/// Takes records one after another, and tells how many, and whether after one of them a number was too high.
+/// Takes records one after another, and returns how many, and whether after one of them a number was too high.
 fn take_records<A: Allocator>(
     desk: &mut Desk<A>,
     records: Records<'_>,

@@ -63,7 +63,7 @@ fn is_not_given<A: Allocator>(desk: &Desk<A>, name: StateName) -> bool
     name.creator == desk.creator() && desk.next_id() <= name.id
 }
 
-/// A deletion is still to be told.
+/// A deletion is still to be announced.
 fn is_deletion(kind: Option<Kind>) -> bool
     ensures { result ≡ receiving.is_delete kind }
 {

@@ -62,7 +62,7 @@ fn status_of(has_states: bool) -> BulkStatus
     }
 }
 
-/// Tells a state that is asked for, if it may be told and is not told whole already.
+/// Announces a state that is asked for, if it may be announced and is not sent whole already.
 fn answer<A: Allocator>(desk: &mut Desk<A>, state: &State) -> Result<(), Overfull>
     requires room { 2 ≤ desk.old.edits.spare }
     requires parts { AreParts desk.old.node }
@@ -80,14 +80,14 @@ fn answer<A: Allocator>(desk: &mut Desk<A>, state: &State) -> Result<(), Overful
     Ok(())
 }
 
-/// The peer may be told of the state, and is not told the whole of it already.
+/// The state may be announced to the peer, and the whole of it is not sent already.
 fn is_answered<A: Allocator>(desk: &Desk<A>, state: &State) -> bool
     ensures answered { result ≡ (not state.now.no_sync && receiving.is_partly_told (kind_of desk.now.node.queue state.now.name)) }
 {
     !state.no_sync() && is_partly_told(desk.queue().kind_of(state.name()))
 }
 
-/// On no queue, or on one that tells less than the whole state.
+/// On no queue, or on one that sends less than the whole state.
 fn is_partly_told(kind: Option<Kind>) -> bool
     ensures { result ≡ receiving.is_partly_told kind }
 {

@@ -1,4 +1,4 @@
-//! What the peer tells of a state: of a known one it is merged, of another one the whole state is taken over, or asked for.
+//! What the peer sends of a state: of a known one it is merged, of another one the whole state is taken over, or asked for.
 
 ghost use Rattle.std.specs.Option.{option_map_or};
 ghost use Rattle.std.specs.Prelude.{◌≡◌, ◌≤◌, true, false, OnOk, OnErr, Some};
@@ -49,7 +49,7 @@ pub(crate) fn take_short_update<A: Allocator>(
     take_merge(desk, &state, &of_update(sent))
 }
 
-/// What is told of a state of the node is merged. The peer knows of the state, so that a held packet of it is dropped.
+/// What is received of a state of the node is merged. The peer knows of the state, so that a held packet of it is dropped.
 fn take_merge<A: Allocator>(
     desk: &mut Desk<A>,
     state: &State,
@@ -68,7 +68,7 @@ fn take_merge<A: Allocator>(
     put_merged(desk, &merged)
 }
 
-/// Puts what a merge gives in the state's place. What was stale is told back.
+/// Puts what a merge gives in the state's place. What was stale is sent back.
 fn put_merged<A: Allocator>(desk: &mut Desk<A>, merged: &Merged) -> Result<(), Overfull>
     requires room { 5 ≤ desk.old.edits.spare }
     requires known { MayReplace desk.old.node merged.now.state }
@@ -88,7 +88,7 @@ fn put_merged<A: Allocator>(desk: &mut Desk<A>, merged: &Merged) -> Result<(), O
     Ok(())
 }
 
-/// What a whole record tells of a known state.
+/// What a whole record says of a known state.
 fn of_state(sent: &StateRecord) -> Received
     ensures { result ≡ receiving.of_state sent.now }
 {
@@ -100,7 +100,7 @@ fn of_state(sent: &StateRecord) -> Received
     }
 }
 
-/// What a short record tells of it.
+/// What a short record says of it.
 fn of_update(sent: &UpdateRecord) -> Received
     ensures { result ≡ receiving.of_update sent.now }
 {

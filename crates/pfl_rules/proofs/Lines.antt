@@ -33,7 +33,7 @@ module _ (ts : List (Option ℕ)) (i : ℕ) where
   pub class_end : length ts ≤ i → flat_map (λ t. timeout_text t.0 t.1) (take i (zip classes ts)) ≡ timeouts_text ts
   class_end ended = ap (flat_map (λ t. timeout_text t.0 t.1)) (take_all i (zip classes ts) (omega (arith, length-zip classes ts)))
 
--- words that are joined by a space are each behind one but for the first
+-- words that are joined by a space each come after one, but for the first
 joined : (word : List ℕ) (words : List (List ℕ)) → join_with_byte 32 (word ∷ words) ≡ word ++ spaced words
 joined word [] = sym (append-nil word)
 joined word (next ∷ words) = ap (λ rest. word ++ 32 ∷ rest) (joined next words)

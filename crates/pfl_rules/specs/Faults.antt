@@ -3,7 +3,7 @@ use Rattle.std.specs.Prelude.{ℕ, List, codes}
 use Rattle.pfl_rules.specs.declared.fault.RuleFault.{RuleFault}
 use Rattle.pfl_rules.specs.declared.fault.RuleFault.TheVariants.{TooMany, NatNotOut, ZeroMax, NoMemory, RdrNotIn}
 
--- the number by which a program names the fault; the first that applies is answered, `RdrNotIn` before `NoMemory` (this project's profile)
+-- the number by which a program names the fault; the first that applies is reported, `RdrNotIn` before `NoMemory` (this project's profile)
 abbrev pub fault_number : RuleFault → ℕ
 fault_number TooMany = 1
 fault_number NatNotOut = 2

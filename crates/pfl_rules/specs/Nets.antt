@@ -13,7 +13,7 @@ addr_bits (V6 a) = 128
 abbrev pub IsNet : NetFields → Type 0
 IsNet n = n.len ≤ addr_bits n.addr
 
--- the net of the first `len` bits, if an address has so many
+-- the net of the first `len` bits, if an address has that many
 abbrev pub net_of : Addr → ℕ → Option NetFields
 net_of addr len = if nat_le len (addr_bits addr) then Some (record { addr = addr; len = len }) else None
 

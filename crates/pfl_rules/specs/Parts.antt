@@ -1,4 +1,4 @@
--- The parts of a rule's text that are said only if they are set, each word behind a space (this project's profile).
+-- The parts of a rule's text that are said only if they are set, each word after a space (this project's profile).
 use Rattle.std.specs.Prelude.{ℕ, Option, Some, None, List, [], ◌++◌, codes}
 use Rattle.std.specs.List.{flat_map, zip}
 use Rattle.std.specs.Fmt.{decimal}

@@ -17,7 +17,7 @@ pub enum RuleFault {
     ZeroMax,
     /// The rules have no fault, and the allocator had no memory to give.
     NoMemory,
-    /// A redirection on a rule that is not `in`. It is looked for last, and told before want of memory.
+    /// A redirection on a rule that is not `in`. It is looked for last, and reported before want of memory.
     RdrNotIn,
 }
 

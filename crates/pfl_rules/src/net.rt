@@ -13,7 +13,7 @@ struct NetFields {
     len: u8,
 }
 
-/// The addresses of one family that begin with the first `len` bits of `addr`; what stands behind them does not matter. It
+/// The addresses of one family that begin with the first `len` bits of `addr`; what follows them does not matter. It
 /// prints as `ADDR/LEN`.
 #[derive(Clone, Copy, Debug, PartialEq, Eq)]
 pub struct Net {
@@ -37,7 +37,7 @@ impl Model for Net {
 impl Net {
     ghost use Rattle.pfl_rules.specs.Nets.{in_net, net_of, IsNet};
 
-    /// The net of the first `len` bits of `addr`, if an address of its family has so many: 32, or 128.
+    /// The net of the first `len` bits of `addr`, if an address of its family has that many: 32, or 128.
     pub fn new(addr: Addr, len: u8) -> Option<Net>
         ensures { result ≡ net_of addr len }
     {

@@ -1,4 +1,4 @@
-//! The parts of a rule's text that are said only if they are set, each word behind a space.
+//! The parts of a rule's text that are said only if they are set, each word after a space.
 
 ghost use Rattle.std.specs.Prelude.{◌≡◌, Some, if◌then◌else◌, []};
 
@@ -21,7 +21,7 @@ impl fmt::Display for Mark {
     }
 }
 
-/// What stands behind the word of an option.
+/// What follows the word of an option.
 #[derive(Clone, Copy)]
 enum Value {
     Proto(Proto),
@@ -47,7 +47,7 @@ impl fmt::Display for Value {
     }
 }
 
-/// The word of an option and its value, each behind a space; nothing if there is none.
+/// The word of an option and its value, each after a space; nothing if there is none.
 #[derive(Clone, Copy)]
 pub(crate) struct Said {
     word: &'static str,

@@ -37,9 +37,9 @@ pub struct Rule {
     pub to_port: Option<Ports>,
     /// A pass rule matches every TCP packet, and not only those with SYN and without ACK.
     pub any_flags: bool,
-    /// The peer is not told of the rule's states.
+    /// The rule's states are not announced to the peer.
     pub no_sync: bool,
-    /// With so many states of the rule, a packet makes no other.
+    /// With this many states of the rule, a packet makes no other.
     pub max: Option<u32>,
     /// What replaces the near end of its states on the wire. Only packets of its family are matched.
     pub nat: Option<Pool>,

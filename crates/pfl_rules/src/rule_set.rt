@@ -133,7 +133,7 @@ impl<A: Allocator> RuleSet<A> {
         self.print
     }
 
-    /// Gives a proof what each rule set keeps. It does nothing.
+    /// States for proofs what each rule set keeps. It does nothing.
     pub fn known(&self)
         ensures { AreRules self.now }
     {

@@ -17,7 +17,7 @@ pub keeps_same : (w : Option (List ℕ)) → Keeps w w
 keeps_same None = tt
 keeps_same (Some xs) = refl
 
--- a run that stops behind its setup
+-- a run that stops after its setup
 pub stops_engine : (e : EngineFault) (old mid new : Option (List ℕ)) (n : ℕ) (t u : Timeline) (w v : Option (List ℕ)) →
     SetsUp old mid n t → RunsUntil e mid new t u w v → IsStop (of_engine e) old w v
 stops_engine e old mid new n t u w v sets runs = inr (record {
@@ -39,7 +39,7 @@ device_engine engine.Write s failed h = h
 device_engine engine.TooManyTurns s failed h = h
 device_engine engine.NoMemory s failed h = tt
 
--- a text was told, whole or in part
+-- a text was reported, whole or in part
 pub told_by : {T E : Type 0} (r : Result T E) (text : List ℕ) (w v : Option (List ℕ)) (failed : Bool) →
     OnOk r (Appends w v text) → OnErr r ((n : ℕ) × (n ≤ length text) × Appends w v (take n text)) → OnErr r (failed ≡ true) → IsTold text w v failed
 told_by (Ok x) text w v failed whole part fails = record {

@@ -9,7 +9,7 @@ use Rattle.pfl_run.specs.declared.fault.LabFault.{LabFault}
 use Rattle.pfl_run.specs.Faults.{of_engine}
 use Rattle.pfl_run.specs.Runs.{IsSetup, IsSetupStop}
 
--- a setup was read and all lines behind it were checked, of which so many are faulty
+-- a setup was read and all lines after it were checked, of which this many are faulty
 pub record ChecksToEnd (old new : Option (List ℕ)) (w v : Option (List ℕ)) (bad : ℕ) : Type 0 where
   pub mid : Option (List ℕ)
   pub number : ℕ
@@ -20,7 +20,7 @@ pub record ChecksToEnd (old new : Option (List ℕ)) (w v : Option (List ℕ)) (
   pub setup : IsSetup old mid number limits rules_a rules_b
   pub checks : ChecksWhole mid new number w v good bad
 
--- a setup was read, and a fault of a device, or too many turns, stopped the check of the lines behind it
+-- a setup was read, and a fault of a device, or too many turns, stopped the check of the lines after it
 pub record StopsBehind (fault : LabFault) (old : Option (List ℕ)) (w v : Option (List ℕ)) : Type 0 where
   pub why : EngineFault
   pub fault_is : fault ≡ of_engine why
@@ -33,6 +33,6 @@ pub record StopsBehind (fault : LabFault) (old : Option (List ℕ)) (w v : Optio
   pub setup : IsSetup old mid number limits rules_a rules_b
   pub until : ChecksUntil why mid new number w v
 
--- why a check stopped: there was no setup, and nothing was written; or it stopped behind the setup
+-- why a check stopped: there was no setup, and nothing was written; or it stopped after the setup
 abbrev pub IsCheckStop : LabFault → Option (List ℕ) → Option (List ℕ) → Option (List ℕ) → Type 0
 IsCheckStop fault old w v = (IsSetupStop fault old × Keeps w v) ⊎ StopsBehind fault old w v

@@ -1,4 +1,4 @@
--- How a run of the laboratory that stopped is told (this project's profile).
+-- How a run of the laboratory that stopped is reported (this project's profile).
 use Rattle.std.specs.Prelude.{ℕ, List, ◌++◌, codes}
 use Rattle.std.specs.Fmt.{decimal}
 use Rattle.pfl_rules.specs.Faults.{fault_number as rule_number}
@@ -15,7 +15,7 @@ use Rattle.pfl_run.specs.declared.fault.LabFault.TheVariants as lab
 abbrev pub at_line : ℕ → List ℕ → List ℕ
 at_line n what = codes "pfl_lab: setup line " ++ decimal n ++ codes ": " ++ what
 
--- the line that tells why a run stopped
+-- the line that reports why a run stopped
 abbrev pub fault_text : LabFault → List ℕ
 fault_text (lab.Line n why) = at_line n (codes "line " ++ decimal (line_number why) ++ codes "\n")
 fault_text (lab.Rule n why) = at_line n (codes "rule " ++ decimal (rule_number why) ++ codes "\n")

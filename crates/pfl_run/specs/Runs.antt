@@ -27,7 +27,7 @@ pub record SetsUp (old new : Option (List ℕ)) (n : ℕ) (t : Timeline) : Type 
   pub setup : IsSetup old new n limits rules_a rules_b
   pub opening : t ≡ new_timeline (new_world limits rules_a rules_b)
 
--- all lines were executed, and so many of those behind the setup are faulty
+-- all lines were executed, and this many of those after the setup are faulty
 pub record RunsToEnd (old new : Option (List ℕ)) (w v : Option (List ℕ)) (bad : ℕ) : Type 0 where
   pub mid : Option (List ℕ)
   pub number : ℕ
@@ -37,7 +37,7 @@ pub record RunsToEnd (old new : Option (List ℕ)) (w v : Option (List ℕ)) (ba
   pub sets_up : SetsUp old mid number first
   pub runs : RunsWhole mid new first last w v lines bad
 
--- a pair was set up, and first lines behind the setup were executed, up to this fault
+-- a pair was set up, and first lines after the setup were executed, up to this fault
 pub record RunsToFault (fault : LabFault) (old : Option (List ℕ)) (w v : Option (List ℕ)) : Type 0 where
   pub why : EngineFault
   pub fault_is : fault ≡ of_engine why
@@ -73,7 +73,7 @@ IsSetupStop fault.Network old = ⊥
 IsSetupStop fault.NoThread old = ⊥
 IsSetupStop _ old = Unit {0}
 
--- why a run stopped: no pair was set up, and nothing was written; or it stopped behind the setup
+-- why a run stopped: no pair was set up, and nothing was written; or it stopped after the setup
 abbrev pub IsStop : LabFault → Option (List ℕ) → Option (List ℕ) → Option (List ℕ) → Type 0
 IsStop fault old w v = (IsSetupStop fault old × Keeps w v) ⊎ RunsToFault fault old w v
 
@@ -88,7 +88,7 @@ IsDeviceFault _ failed IsLong broken = Unit {0}
 abbrev pub HasFailed : LabFault → Bool → Calls → Calls → Bool → Type 0
 HasFailed fault failed old new broken = IsDeviceFault fault failed (CountsWithin 16777216 (2 * 16777216) old new) broken
 
--- the exit status after so many faulty lines
+-- the exit status after this many faulty lines
 abbrev pub ended_status : ℕ → ℕ
 ended_status bad = if bad == 0 then 0 else 1
 
@@ -97,7 +97,7 @@ pub record IsTold (text : List ℕ) (w v : Option (List ℕ)) (failed : Bool) : 
   pub whole : failed ≡ false → Appends w v text
   pub part : (n : ℕ) × Appends w v (take n text)
 
--- all lines were read, so many of them faulty, and no fault is told
+-- all lines were read, this many of them faulty, and no fault is reported
 pub record Ends (Reads : ℕ → Type 0) (f g : Option (List ℕ)) (status : ℕ) : Type 0 where
   pub bad : ℕ
   pub reads : Reads bad

@@ -34,8 +34,8 @@ pub fn check_whole<A: Allocator + Copy, R: Input, W: Output>(
     }
 }
 
-/// Checks the lines of a device and executes none: the first are a setup, and of the others each that is faulty is told to
-/// the writer with its number, and at the end how many are commands. Why a check stops is told in one line to `faults`. The
+/// Checks the lines of a device and executes none: the first are a setup, and of the others each that is faulty is reported to
+/// the writer with its number, and at the end how many are commands. Why a check stops is reported in one line to `faults`. The
 /// answer is the program's exit status: 0, or 1 after a fault or a faulty line, or 3 for want of memory.
 pub fn check_lab<A: Allocator + Copy, R: Input, W: Output, F: Output>(
     alloc: A,

@@ -19,7 +19,7 @@ pub enum LabFault {
     Rule(u64, RuleFault),
     /// The limits have a fault; the line is that of `open`.
     World(u64, WorldFault),
-    /// The lines ended, after so many, before `open`.
+    /// The lines ended, after this many, before `open`.
     NoOpen(u64),
     /// The reader failed.
     Read,
@@ -36,7 +36,7 @@ pub enum LabFault {
 }
 
 impl LabFault {
-    /// The line that tells the fault; it takes no memory.
+    /// The line that reports the fault; it takes no memory.
     pub fn line(self) -> ShortLine
         ensures { result.bytes ≡ fault_text self }
     {
@@ -76,7 +76,7 @@ fn setup_line(number: u64) -> ShortLine
     line
 }
 
-/// The line for a fault of the setup that has a number of its own, behind the word that says what it is of.
+/// The line for a fault of the setup that has a number of its own, after the word that says what it is of.
 fn numbered_line(number: u64, what: &str, fault: u8) -> ShortLine
     requires short { length what.now ≤ 6 }
     ensures { result.bytes ≡ at_line number (what.now ++ decimal fault ++ codes "\n") }
@@ -88,7 +88,7 @@ fn numbered_line(number: u64, what: &str, fault: u8) -> ShortLine
     line
 }
 
-/// The line for lines that end, after so many, before `open`.
+/// The line for lines that end, after this many, before `open`.
 fn unopened_line(number: u64) -> ShortLine
     ensures { result.bytes ≡ at_line number (codes "no open\n") }
 {

@@ -21,7 +21,7 @@ use std::convert::AsStr;
 pub enum Mode {
     /// It sets a pair up and executes commands, all of them lines of standard input.
     Run,
-    /// It reads the same lines, executes none, and tells the faulty ones.
+    /// It reads the same lines, executes none, and reports the faulty ones.
     Check,
     /// It serves a pair to several sessions, on a port of this machine.
     Serve {
@@ -114,7 +114,7 @@ fn command_line<'a>(alloc: Global) -> Result<Command<'a>, AllocError>
         "Executes the lines of standard input: a setup, and then commands",
     );
     let check = Command::new(alloc, "check").about(
-        "Reads the same lines, executes none behind the setup, and tells those that are faulty",
+        "Reads the same lines, executes none after the setup, and reports those that are faulty",
     );
     let serve = serve_command(alloc)?;
     Command::new(alloc, "pfl_lab")

@@ -40,7 +40,7 @@ pub fn tell_text<D: Output>(device: &mut D, text: &[u8])
     let _ = write_text(device, text);
 }
 
-/// Tells a fault by its line, and answers the program's exit status.
+/// Reports a fault by its line, and returns the program's exit status.
 pub fn tell<F: Output>(fault: LabFault, faults: &mut F) -> u8
     ensures told { IsTold (fault_text fault) (F.written faults.old) (F.written faults.new) (F.has_failed faults.new) }
     ensures status { result ≡ fault_status fault }
@@ -50,7 +50,7 @@ pub fn tell<F: Output>(fault: LabFault, faults: &mut F) -> u8
     fault.status()
 }
 
-/// The exit status after so many faulty lines.
+/// The exit status after this many faulty lines.
 pub(crate) fn ended_status(bad: u64) -> u8
     ensures { result ≡ ended_status bad }
 {
@@ -58,7 +58,7 @@ pub(crate) fn ended_status(bad: u64) -> u8
 }
 
 /// Runs the lines of a device: the first set a pair up, and the others are executed; their replies go to the writer. Why
-/// a run stops is told in one line to `faults`. The answer is the program's exit status: 0, or 1 after a fault or a faulty
+/// a run stops is reported in one line to `faults`. The result is the program's exit status: 0, or 1 after a fault or a faulty
 /// line, or 3 for want of memory.
 pub fn run_lab<A: Allocator + Copy, R: Input, W: Output, F: Output>(
     alloc: A,

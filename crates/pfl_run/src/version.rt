@@ -2,4 +2,4 @@
 
 /// The release, the sum of its sources, and the logic that proves them.
 pub(crate) const VERSION: &str =
-    "release 13, sources 8acde4b86526831062b30c052a75dca0aa7cabbd402cdcd510b77988751374f7, logic dac8208d650f15bf";
+    "release 14, sources 487332d2d16461d08c05a9a1efc2e51259183f6356dd0c4f1c8187e0de19a380, logic dac8208d650f15bf";

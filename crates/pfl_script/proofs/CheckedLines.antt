@@ -10,7 +10,7 @@ use Rattle.pfl_script.specs.Checks.{line_told, kept_told, lines_told, good_lines
 use Rattle.pfl_script.proofs.Pieces.{appends_none, appends_then}
 use Rattle.pfl_script.proofs.Running.{said-kept, bad-kept, command-kept, bad_lines-push, taken-none, taken-line, taken-first, taken-all, taken-drained}
 
--- lines behind line m were checked so far, the last of which is line n
+-- lines after line m were checked so far, the last of which is line n
 pub record Went (old new : Option (List ℕ)) (m n : ℕ) (w v : Option (List ℕ)) (good bad : ℕ) : Type 0 where
   pub lines : List (List ℕ)
   pub left : TakesLines old new lines
@@ -19,12 +19,12 @@ pub record Went (old new : Option (List ℕ)) (m n : ℕ) (w v : Option (List �
   pub commands : good ≡ good_lines lines
   pub faulty : bad ≡ bad_lines lines
 
--- what is told of what is kept of a line is what is told of the line
+-- what is reported of what is kept of a line is what is reported of the line
 told-kept : (n : ℕ) (k : Kept) (body : List ℕ) → Keeps k body → kept_told n k ≡ line_told n body
 unfolding kept_told line_told
 told-kept n k body h = rw (h.head, said-kept k body h) refl
 
--- what is told of one line more
+-- what is reported of one line more
 told-push : (m : ℕ) (lines : List (List ℕ)) (line : List ℕ) →
     lines_told m (lines ++ line ∷ []) ≡ lines_told m lines ++ line_told (m + length lines + 1) line
 told-push m [] line =
@@ -93,7 +93,7 @@ Went-uncounted old mid new m n w v x good bad part went over appends = record {
   written = appends_then w v x (lines_told m went.lines) _ went.written (subst (λ (i : ℕ). Appends v x (take part (good_text i))) went.commands appends);
 }
 
--- what is told of the last line was written in part
+-- what is reported of the last line was written in part
 pub Went-cut : (old mid new : Option (List ℕ)) (m n : ℕ) (w v x : Option (List ℕ)) (good bad part : ℕ) (k : Kept) →
     Went old mid m n w v good bad → ReadsLine k mid new → Appends v x (take part (kept_told (n + 1) k)) → ChecksPart old m w x
 Went-cut old mid new m n w v x good bad part k went reads appends =

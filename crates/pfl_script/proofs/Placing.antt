@@ -13,7 +13,7 @@ use Rattle.pfl_script.proofs.Pieces.{all-but-less, all-but-more, all-but-part}
 abbrev pub line_to : List ℕ → ℕ → List ℕ
 line_to places i = codes "excised" ++ flat_map placed (take i places)
 
--- one place more stands behind what is left of the piece
+-- one place more stands after what is left of the piece
 pub placed-more : (a b c : Option (List ℕ)) (places : List ℕ) (i place : ℕ) (piece rest now : List ℕ) →
     WritesAllBut a b (line_to places i) piece → WritesAllBut b c piece rest → now ≡ rest ++ placed place → place ≡ get_or places i 0 → i < length places →
     WritesAllBut a c (line_to places (i + 1)) now

@@ -229,7 +229,7 @@ pub until-read : (e : ReadFault) (old mid new : Option (List ℕ)) (t u : Timeli
 until-read read.Read old mid new t u w v n bad ran = Ran-lines old mid t u w v n bad ran
 until-read read.TooManyTurns old mid new t u w v n bad ran = Ran-lines old mid t u w v n bad ran
 
--- the run stops by what the reader tells
+-- the run stops by what the reader reports
 pub run-read : (e : ReadFault) (new : Source) (failed : Bool) → IsReadFault e new → IsRunFault (of_read e) new failed
 run-read read.Read new failed why = why
 run-read read.TooManyTurns new failed why = why

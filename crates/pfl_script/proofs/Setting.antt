@@ -163,12 +163,12 @@ pub stops-read : (e : ReadFault) (old : Option (List ℕ)) (new : Source) → Is
 stops-read read.Read old new why = why
 stops-read read.TooManyTurns old new why = why
 
--- so many lines were read where no line came
+-- this many lines were read where no line came
 pub counts-read : (e : ReadFault) (old mid new : Option (List ℕ)) (n : ℕ) (d : Draft) → Going old mid n d → StopsAt (setup_of_read e) old new n
 counts-read read.Read old mid new n d h = Going-first old mid n d h
 counts-read read.TooManyTurns old mid new n d h = Going-first old mid n d h
 
--- so many lines were read where a line was not taken
+-- this many lines were read where a line was not taken
 pub counts-taken : (e : SetupFault) (old mid new : Option (List ℕ)) (n : ℕ) (d : Draft) (k : Kept) →
     Going old mid n d → ReadsLine k mid new → IsTakeFault e (n + 1) (kept_words k) → StopsAt e old new (n + 1)
 counts-taken (fault.Line m why) old mid new n d k h reads stop = sym stop.0
@@ -178,7 +178,7 @@ counts-taken (fault.NoOpen m) old mid new n d k h reads stop = absurd stop
 counts-taken fault.Read old mid new n d k h reads stop = absurd stop
 counts-taken fault.TooManyTurns old mid new n d k h reads stop = absurd stop
 
--- so many lines were read where rules are no rule sets
+-- this many lines were read where rules are no rule sets
 pub counts-finished : (e : SetupFault) (old new : Option (List ℕ)) (n : ℕ) (d : Draft) → Opens old new n d → IsFinishStop e n d → StopsAt e old new n
 counts-finished (fault.Rule m why) old new n d h stop = sym stop.0
 counts-finished fault.NoMemory old new n d h stop = inr (record { draft = d; opens = h; faultless = stop })

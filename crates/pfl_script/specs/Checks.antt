@@ -1,4 +1,4 @@
--- What a check of lines tells, which executes none of them (this project's profile).
+-- What a check of lines reports, which executes none of them (this project's profile).
 use Rattle.std.specs.Prelude.{◌≡◌, ℕ, ◌+◌, List, [], ◌∷◌, ◌++◌, length, take, codes, if◌then◌else◌, Option, ◌⊎◌, Result, Ok, Err}
 use Rattle.std.specs.Fmt.{decimal}
 use Rattle.std.specs.Io.KnownBytes.{Appends}
@@ -12,24 +12,24 @@ use Rattle.pfl_script.specs.Answers.{is_command, one_if, bad_lines, AreLines, Ar
 use Rattle.pfl_script.specs.declared.fault.EngineFault.{EngineFault}
 use Rattle.pfl_script.specs.declared.fault.EngineFault.TheVariants as engine
 
--- the line that tells of line n that it is faulty
+-- the line that reports line n as faulty
 abbrev pub faulty_text : ℕ → LineFault → List ℕ
 faulty_text n why = codes "line " ++ decimal n ++ codes " " ++ bad_text why
 
--- what is told of line n, which says this: nothing of a command and of a search
+-- what is reported of line n, which says this: nothing of a command and of a search
 abbrev pub said_text : ℕ → Result ScriptLine LineFault → List ℕ
 said_text n (Ok said) = []
 said_text n (Err why) = faulty_text n why
 
--- what is told of line n: nothing where it has no word or is a comment
+-- what is reported of line n: nothing where it has no word or is a comment
 unfoldable pub line_told : ℕ → List ℕ → List ℕ
 line_told n line = if has_word (head_of line) then said_text n (parsed_script line) else []
 
--- what is told of line n of which this is kept
+-- what is reported of line n of which this is kept
 unfoldable pub kept_told : ℕ → Kept → List ℕ
 kept_told n k = if has_word k.head then said_text n (kept_said k) else []
 
--- what is told of lines that stand behind line n
+-- what is reported of lines that stand after line n
 abbrev pub lines_told : ℕ → List (List ℕ) → List ℕ
 lines_told n [] = []
 lines_told n (line ∷ lines) = line_told (n + 1) line ++ lines_told (n + 1) lines
@@ -43,11 +43,11 @@ good_lines (line ∷ lines) = one_if (is_command line) + good_lines lines
 abbrev pub good_text : ℕ → List ℕ
 good_text n = codes "good " ++ decimal n ++ codes "\n"
 
--- the text of a check of lines that stand behind line n
+-- the text of a check of lines that stand after line n
 abbrev pub check_text : ℕ → List (List ℕ) → List ℕ
 check_text n lines = lines_told n lines ++ good_text (good_lines lines)
 
--- All lines behind line n were read, their whole check was written, and they were counted.
+-- All lines after line n were read, their whole check was written, and they were counted.
 pub record ChecksWhole (old new : Option (List ℕ)) (n : ℕ) (w v : Option (List ℕ)) (good bad : ℕ) : Type 0 where
   pub lines : List (List ℕ)
   pub all : AreLines old lines
@@ -56,13 +56,13 @@ pub record ChecksWhole (old new : Option (List ℕ)) (n : ℕ) (w v : Option (Li
   pub commands : good ≡ good_lines lines
   pub faulty : bad ≡ bad_lines lines
 
--- First lines behind line n were read, and all that is told of them was written.
+-- First lines after line n were read, and all that is reported of them was written.
 pub record ChecksLines (old : Option (List ℕ)) (n : ℕ) (w v : Option (List ℕ)) : Type 0 where
   pub lines : List (List ℕ)
   pub first : AreFirst old lines
   pub written : Appends w v (lines_told n lines)
 
--- First lines behind line n were read, and what is told of them was written but for a part of the last one's.
+-- First lines after line n were read, and what is reported of them was written but for a part of the last one's.
 pub record ChecksPart (old : Option (List ℕ)) (n : ℕ) (w v : Option (List ℕ)) : Type 0 where
   pub lines : List (List ℕ)
   pub last : List ℕ
@@ -70,7 +70,7 @@ pub record ChecksPart (old : Option (List ℕ)) (n : ℕ) (w v : Option (List �
   pub part : ℕ
   pub written : Appends w v (lines_told n lines ++ take part (line_told (n + length lines + 1) last))
 
--- All lines behind line n were read, and their check was written but for a part of its last line.
+-- All lines after line n were read, and their check was written but for a part of its last line.
 pub record ChecksUncounted (old new : Option (List ℕ)) (n : ℕ) (w v : Option (List ℕ)) : Type 0 where
   pub lines : List (List ℕ)
   pub all : AreLines old lines

@@ -1,4 +1,4 @@
--- The lines that tell the events of a branch (this project's profile).
+-- The lines that list the events of a branch (this project's profile).
 use Rattle.std.specs.Prelude.{ℕ, ◌+◌, List, [], ◌∷◌, ◌++◌, length, codes}
 use Rattle.std.specs.Fmt.{decimal}
 use Rattle.pfl_language.specs.declared.event.Event.{Event}
@@ -12,11 +12,11 @@ log_line name events cursor = codes "log " ++ name ++ codes " events " ++ decima
 abbrev pub logged_line : List ℕ → ℕ → Event → List ℕ
 logged_line name place e = codes "event " ++ decimal place ++ codes " " ++ step_text name e ++ codes "\n"
 
--- the events behind so many others, each with its place
+-- the events after that many others, each with its place
 unfoldable pub logged_lines : List ℕ → ℕ → List Event → List ℕ
 logged_lines name n [] = []
 logged_lines name n (e ∷ es) = logged_line name (n + 1) e ++ logged_lines name (n + 1) es
 
--- all events of a branch, those behind its cursor too; places count from 1
+-- all events of a branch, those after its cursor too; places count from 1
 unfoldable pub log_text : List ℕ → List Event → ℕ → List ℕ
 log_text name events cursor = log_line name (length events) cursor ++ logged_lines name 0 events ++ codes "end\n"

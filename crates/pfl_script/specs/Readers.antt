@@ -1,4 +1,4 @@
--- What runs of lines tell of their reader, and why they stop.
+-- What runs of lines say of their reader, and why they stop.
 use Rattle.std.specs.Prelude.{◌≡◌, ◌+◌, ◌-◌, ℕ, ◌^◌, min, Bool, true}
 use Rattle.pfl_reader.specs.declared.fault.ReadFault.{ReadFault}
 use Rattle.pfl_reader.specs.declared.fault.ReadFault.TheVariants as read
@@ -8,7 +8,7 @@ use Rattle.pfl_script.specs.declared.fault.EngineFault.TheVariants.{Read, Write,
 use Rattle.pfl_script.specs.declared.setup_fault.SetupFault.{SetupFault}
 use Rattle.pfl_script.specs.declared.setup_fault.SetupFault.TheVariants as setup
 
--- a count that stops at the greatest number of 64 bits, after so many more
+-- a count that stops at the greatest number of 64 bits, after this many more
 abbrev pub counted_on : ℕ → ℕ → ℕ
 counted_on n more = min (n + more) (2 ^ 64 - 1)
 

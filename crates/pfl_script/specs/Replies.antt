@@ -9,11 +9,11 @@ use Rattle.pfl_script.specs.Logs.{log_text}
 use Rattle.pfl_script.specs.Reasons.{explained_text}
 use Rattle.pfl_script.specs.Shows.{show_text}
 
--- a name, behind a space
+-- a name, after a space
 abbrev pub named : List ℕ → List ℕ
 named name = 32 ∷ name
 
--- a place, behind a space
+-- a place, after a space
 abbrev pub placed : ℕ → List ℕ
 placed place = 32 ∷ decimal place
 

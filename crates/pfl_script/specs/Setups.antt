@@ -196,7 +196,7 @@ pub record GoOn (old : Option (List ℕ)) (n : ℕ) : Type 0 where
   pub going : all_go_on lines ≡ true
   pub number : n ≡ length lines
 
--- so many lines were read before this fault, that of the fault among them
+-- this many lines were read before this fault, that of the fault among them
 abbrev pub StopsAt : SetupFault → Option (List ℕ) → Option (List ℕ) → ℕ → Type 0
 StopsAt (fault.Line m why) old new n = n ≡ m
 StopsAt (fault.Rule m why) old new n = n ≡ m

@@ -140,13 +140,13 @@ clear_line id c = codes "clr " ++ node_text id ++ codes " " ++ decimal c.creator
 abbrev pub held_line : NodeId → Held → List ℕ
 held_line id h = codes "held " ++ node_text id ++ codes " " ++ name_text h.name ++ codes " " ++ decimal h.held_at ++ codes "\n"
 
--- what is to be told to the peer: marks by kind and number, and the lists in their order
+-- what is to be sent to the peer: marks by kind and number, and the lists in their order
 abbrev pub queue_lines : NodeId → Queue → List ℕ
 queue_lines id q =
     flat_map (queue_line id) (in_order mark_before (maps.values q.marks)) ++ flat_map (ask_line id) q.requests
     ++ flat_map (bus_line id) q.statuses ++ flat_map (clear_line id) q.clears
 
--- all of a node: states by name, what is to be told, and held packets, the oldest first
+-- all of a node: states by name, what is to be sent, and held packets, the oldest first
 unfoldable pub node_lines : NodeId → Node → List ℕ
 node_lines id n =
     node_line id n ++ count_line id n.counters ++ flat_map (state_line id) (maps.values n.states)

@@ -69,7 +69,7 @@ outcome_text Lost = codes "lost"
 outcome_text (CutTo n) = codes "cut " ++ decimal n
 outcome_text (Boot n) = codes "boot " ++ decimal n
 
--- the number and the word of a refused command, and for an event the refusal behind them
+-- the number and the word of a refused command, and for an event the refusal after them
 abbrev pub refused_text : Refused → List ℕ
 refused_text refused.NoBranch = codes "1 NoBranch"
 refused_text refused.NameTaken = codes "2 NameTaken"

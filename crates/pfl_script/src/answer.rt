@@ -24,7 +24,7 @@ use pfl_reader::Line;
 use pfl_timeline::{Reply, Timeline};
 use std::alloc::Allocator;
 
-/// Writes what `show` tells of a branch, from where it stands: no pair is copied.
+/// Writes what `show` says of a branch, from where it stands: no pair is copied.
 fn answer_show<A: Allocator, B: Allocator + Copy, W: Output>(
     alloc: A,
     name: &BranchWord,

@@ -44,7 +44,7 @@ impl Checked {
     }
 }
 
-/// The line that tells of the line with this number that it is faulty.
+/// The line that reports the line with this number as faulty.
 fn faulty_line(number: u64, fault: LineFault) -> ShortLine
     ensures { result.bytes ≡ faulty_text number fault }
 {
@@ -55,7 +55,7 @@ fn faulty_line(number: u64, fault: LineFault) -> ShortLine
     line
 }
 
-/// The last line of a check with so many commands.
+/// The last line of a check with this many commands.
 fn good_line(good: u64) -> ShortLine
     ensures { result.bytes ≡ good_text good }
 {
@@ -65,7 +65,7 @@ fn good_line(good: u64) -> ShortLine
     line
 }
 
-/// Tells of the line with this number that it is faulty, where it is, and counts it.
+/// Reports the line with this number as faulty, if it is, and counts it.
 #[tactic(auto, unfolding(crate::specs::Answers::kept_bad, crate::specs::Answers::kept_command, crate::specs::Checks::kept_told))]
 fn check_line<W: Output>(line: &Line, number: u64, writer: &mut W) -> Result<Checked, EngineFault>
     ensures good { IfOk result (λ counted. counted.good ≡ one_if (kept_command line.now)) }
@@ -91,7 +91,7 @@ fn check_line<W: Output>(line: &Line, number: u64, writer: &mut W) -> Result<Che
     }
 }
 
-/// Reads the lines that the reader has left and executes none: each that is faulty is told with its number, counted from
+/// Reads the lines that the reader has left and executes none: each that is faulty is reported with its number, counted from
 /// the reader's first line, and at the end how many are commands.
 pub fn check_lines<R: Input, W: Output>(
     reader: &mut LineReader<R>,

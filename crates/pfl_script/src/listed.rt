@@ -17,7 +17,7 @@ use std::alloc::Allocator;
 use std::fmt::Display;
 use std::io::Write;
 
-/// Puts what a value prints behind a text.
+/// Appends what a value prints to a text.
 pub fn push_shown<A: Allocator, D: Display + Drop>(
     text: &mut Vec<u8, A>,
     shown: D,
@@ -35,7 +35,7 @@ pub trait Listed {
     /// Its line.
     ghost line: { NodeId → Self → List ℕ };
 
-    /// Puts its line behind a text.
+    /// Appends its line to a text.
     fn push_line<A: Allocator>(&self, node: NodeId, text: &mut Vec<u8, A>) -> Result<(), NoMemory>
         ensures { OnOk result (text.new.items ≡ text.old.items ++ line node self.now) };
 }
@@ -94,7 +94,7 @@ impl Listed for Held {
     }
 }
 
-/// Puts the lines of entries behind a text, one after another.
+/// Appends the lines of entries to a text, one after another.
 pub fn push_list<A: Allocator, X: Listed>(
     text: &mut Vec<u8, A>,
     node: NodeId,

@@ -10,7 +10,7 @@ use pfl_language::Event;
 use pfl_lines::EventWords;
 use std::alloc::Allocator;
 
-/// Puts the first line behind a text.
+/// Appends the first line to a text.
 fn push_head<A: Allocator>(
     text: &mut Vec<u8, A>,
     name: &[u8],
@@ -24,7 +24,7 @@ fn push_head<A: Allocator>(
     push_shown(text, format_args!(" events {events} cursor {cursor}\n"))
 }
 
-/// Puts the line that steps an event behind a text.
+/// Appends the line that steps an event to a text.
 pub(crate) fn push_step<A: Allocator>(
     text: &mut Vec<u8, A>,
     name: &[u8],
@@ -38,7 +38,7 @@ pub(crate) fn push_step<A: Allocator>(
     push_shown(text, EventWords(*event))
 }
 
-/// Puts the line of an event behind a text.
+/// Appends the line of an event to a text.
 pub(crate) fn push_event<A: Allocator>(
     text: &mut Vec<u8, A>,
     name: &[u8],
@@ -52,7 +52,7 @@ pub(crate) fn push_event<A: Allocator>(
     Ok(text.extend_from_slice(b"\n")?)
 }
 
-/// Puts the lines of events behind a text, each with its place, counted from 1.
+/// Appends the lines of events to a text, each with its place, counted from 1.
 pub(crate) fn push_events<A: Allocator>(
     text: &mut Vec<u8, A>,
     name: &[u8],
@@ -66,7 +66,7 @@ pub(crate) fn push_events<A: Allocator>(
     Ok(())
 }
 
-/// The text that tells the events of a branch, those behind its cursor too, and the cursor.
+/// The text that lists the events of a branch, those after its cursor too, and the cursor.
 pub fn logged_text<A: Allocator>(
     alloc: A,
     name: &[u8],

@@ -31,7 +31,7 @@ pub fn kind_word(kind: Kind) -> &'static str
     }
 }
 
-/// Puts behind a text where a bulk update is, and since when.
+/// Appends to a text where a bulk update is, and since when.
 fn push_server<A: Allocator>(text: &mut Vec<u8, A>, server: BulkServer) -> Result<(), NoMemory>
     ensures { OnOk result (text.new.items ≡ text.old.items ++ server_text server) }
 {
@@ -41,7 +41,7 @@ fn push_server<A: Allocator>(text: &mut Vec<u8, A>, server: BulkServer) -> Resul
     }
 }
 
-/// Puts behind a text how often a bulk update was asked for, and when last.
+/// Appends to a text how often a bulk update was asked for, and when last.
 fn push_client<A: Allocator>(text: &mut Vec<u8, A>, client: BulkClient) -> Result<(), NoMemory>
     ensures { OnOk result (text.new.items ≡ text.old.items ++ client_text client) }
 {
@@ -51,7 +51,7 @@ fn push_client<A: Allocator>(text: &mut Vec<u8, A>, client: BulkClient) -> Resul
     }
 }
 
-/// Puts the numbers of a node behind a text: its clock, its boot, its next id and its next queueing number.
+/// Appends the numbers of a node to a text: its clock, its boot, its next id and its next queueing number.
 #[tactic(auto, unfolding(crate::specs::Shows::numbers_text))]
 fn push_numbers<A: Allocator, B: Allocator>(
     text: &mut Vec<u8, A>,
@@ -69,7 +69,7 @@ fn push_numbers<A: Allocator, B: Allocator>(
     )
 }
 
-/// Puts behind a text what a node asks for: a push, and what a bulk update is at.
+/// Appends to a text what a node asks for: a push, and what a bulk update is at.
 #[tactic(auto, unfolding(crate::specs::Shows::bulk_text))]
 fn push_bulk<A: Allocator>(
     text: &mut Vec<u8, A>,
@@ -86,7 +86,7 @@ fn push_bulk<A: Allocator>(
     push_client(text, client)
 }
 
-/// Puts the line of a node behind a text.
+/// Appends the line of a node to a text.
 pub fn push_node_line<A: Allocator, B: Allocator>(
     text: &mut Vec<u8, A>,
     id: NodeId,
@@ -101,7 +101,7 @@ pub fn push_node_line<A: Allocator, B: Allocator>(
     Ok(text.extend_from_slice(b"\n")?)
 }
 
-/// Puts the line of what a node counts behind a text.
+/// Appends the line of what a node counts to a text.
 pub fn push_counts<A: Allocator>(
     text: &mut Vec<u8, A>,
     id: NodeId,

@@ -11,7 +11,7 @@ use pfl_base::StateName;
 use pfl_language::{Fate, NodeOutcome, Outcome, Reason, Retried};
 use pfl_wire::FrameFault;
 
-/// Appends a word and the number behind it.
+/// Appends a word and the number after it.
 fn push_counted(line: &mut ShortLine, word: &str, number: u64)
     requires word { length word.now ≤ 10 }
     requires room { array_string_len line.old ≤ 100 }

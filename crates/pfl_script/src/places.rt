@@ -36,7 +36,7 @@ fn make_room<W: Output>(writer: &mut W, piece: &mut ShortLine) -> Result<(), Eng
     }
 }
 
-/// Writes the line that tells the places of the events that fell out, or the first part of it.
+/// Writes the line that lists the places of the events that fell out, or the first part of it.
 pub fn write_excised<W: Output>(writer: &mut W, places: &[usize]) -> Result<(), EngineFault>
     ensures whole { OnOk result (Appends (W.written writer.old) (W.written writer.new) (reply_text (Excised places.now))) }
     ensures stays { OnOk result (W.has_failed writer.new ≡ W.has_failed writer.old) }

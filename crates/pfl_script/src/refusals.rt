@@ -20,7 +20,7 @@ fn push_refusal(line: &mut ShortLine, refusal: Refusal)
     line.push_str(refusal.word());
 }
 
-/// Appends why a command is refused: its number and its word, and for an event the refusal behind them.
+/// Appends why a command is refused: its number and its word, and for an event the refusal after them.
 pub fn push_refused(line: &mut ShortLine, why: Refused)
     requires room { array_string_len line.old ≤ 100 }
     ensures bytes { line.new.bytes ≡ line.old.bytes ++ refused_text why }

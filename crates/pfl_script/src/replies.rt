@@ -89,7 +89,7 @@ pub(crate) fn refused_line(why: Refused) -> ShortLine
     line
 }
 
-/// Puts names behind a text, each behind a space.
+/// Appends names to a text, each after a space.
 fn push_names<A: Allocator>(text: &mut Vec<u8, A>, names: &[BranchWord]) -> Result<(), NoMemory>
     ensures { OnOk result (text.new.items ≡ text.old.items ++ flat_map named names.now) }
 {

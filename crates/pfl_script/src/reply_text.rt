@@ -16,7 +16,7 @@ use std::alloc::Allocator;
 pub enum ReplyText<'a, A: Allocator> {
     Short(ShortLine),
     Long(Vec<u8, A>),
-    /// The line that tells these places.
+    /// The line that lists these places.
     Excised(&'a [usize]),
 }
 

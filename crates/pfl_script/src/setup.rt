@@ -169,7 +169,7 @@ fn finish<A: Allocator + Copy>(
     })
 }
 
-/// Reads the lines of a setup up to `open`. Nothing that stands behind that line is taken.
+/// Reads the lines of a setup up to `open`. Nothing that stands after that line is taken.
 pub fn read_setup<A: Allocator + Copy, R: Input>(
     alloc: A,
     reader: &mut LineReader<R>,

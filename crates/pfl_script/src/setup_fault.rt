@@ -11,7 +11,7 @@ pub enum SetupFault {
     Line(u64, LineFault),
     /// The rules have a fault that is not want of memory; the line is that of `open`.
     Rule(u64, RuleFault),
-    /// The lines ended, after so many, before `open`.
+    /// The lines ended, after this many, before `open`.
     NoOpen(u64),
     /// The reader failed.
     Read,

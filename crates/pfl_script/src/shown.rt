@@ -18,7 +18,7 @@ use pfl_table::StateTable;
 use pfl_timeline::{Node, World};
 use std::alloc::Allocator;
 
-/// Puts the line of a branch behind a text.
+/// Appends the line of a branch to a text.
 fn push_branch<A: Allocator>(
     text: &mut Vec<u8, A>,
     name: &[u8],
@@ -32,7 +32,7 @@ fn push_branch<A: Allocator>(
     push_shown(text, format_args!(" events {events} cursor {cursor}\n"))
 }
 
-/// Puts the lines of states behind a text, by their names.
+/// Appends the lines of states to a text, by their names.
 fn push_states<A: Allocator, B: Allocator>(
     text: &mut Vec<u8, A>,
     id: NodeId,
@@ -43,7 +43,7 @@ fn push_states<A: Allocator, B: Allocator>(
     push_list(text, id, table.iter())
 }
 
-/// Puts the lines of what a node has to tell its peer behind a text.
+/// Appends to a text the lines of what a node has to send to its peer.
 fn push_queue<A: Allocator, B: Allocator + Copy>(
     text: &mut Vec<u8, A>,
     id: NodeId,
@@ -58,7 +58,7 @@ fn push_queue<A: Allocator, B: Allocator + Copy>(
     push_list(text, id, queue.clears())
 }
 
-/// Puts the lines of a node behind a text.
+/// Appends the lines of a node to a text.
 fn push_node<A: Allocator, B: Allocator + Copy>(
     text: &mut Vec<u8, A>,
     id: NodeId,
@@ -73,7 +73,7 @@ fn push_node<A: Allocator, B: Allocator + Copy>(
     push_list(text, id, InOrder::of(node.held().as_slice()))
 }
 
-/// Puts the line of a frame behind a text.
+/// Appends the line of a frame to a text.
 fn push_frame<A: Allocator, B: Allocator>(
     text: &mut Vec<u8, A>,
     ticketed: &Ticketed<B>,
@@ -91,7 +91,7 @@ fn push_frame<A: Allocator, B: Allocator>(
     )
 }
 
-/// Puts the lines of frames behind a text.
+/// Appends the lines of frames to a text.
 fn push_frames<A: Allocator, B: Allocator>(
     text: &mut Vec<u8, A>,
     mut frames: InOrder<'_, Ticketed<B>>,
@@ -104,7 +104,7 @@ fn push_frames<A: Allocator, B: Allocator>(
     Ok(())
 }
 
-/// Puts the lines of the link behind a text.
+/// Appends the lines of the link to a text.
 fn push_link<A: Allocator, B: Allocator>(
     text: &mut Vec<u8, A>,
     link: &Link<B>,

@@ -10,7 +10,7 @@ use pfl_edits::NoMemory;
 use pfl_track::{Peer, PeerFields, State};
 use std::alloc::Allocator;
 
-/// Puts an end of a connection behind a text: level, scale, window, lo and hi.
+/// Appends an end of a connection to a text: level, scale, window, lo and hi.
 #[tactic(auto, unfolding(crate::specs::Shows::peer_text))]
 fn push_peer<A: Allocator>(text: &mut Vec<u8, A>, peer: Peer) -> Result<(), NoMemory>
     ensures { OnOk result (text.new.items ≡ text.old.items ++ peer_text peer) }
@@ -26,7 +26,7 @@ fn push_peer<A: Allocator>(text: &mut Vec<u8, A>, peer: Peer) -> Result<(), NoMe
     push_shown(text, format_args!("{level} {scale} {window} {lo} {hi}"))
 }
 
-/// Puts the flow of a state behind a text: its protocol, the way of its first packet, and its keys, each with its far and
+/// Appends the flow of a state to a text: its protocol, the way of its first packet, and its keys, each with its far and
 /// its near end.
 #[tactic(auto, unfolding(crate::specs::Shows::flow_text))]
 fn push_flow<A: Allocator>(text: &mut Vec<u8, A>, state: &State) -> Result<(), NoMemory>
@@ -43,7 +43,7 @@ fn push_flow<A: Allocator>(text: &mut Vec<u8, A>, state: &State) -> Result<(), N
     )
 }
 
-/// Puts the ends of a state behind a text: the one that sent the first packet, and the other.
+/// Appends the ends of a state to a text: the one that sent the first packet, and the other.
 #[tactic(auto, unfolding(crate::specs::Shows::ends_text))]
 fn push_ends<A: Allocator>(text: &mut Vec<u8, A>, state: &State) -> Result<(), NoMemory>
     ensures { OnOk result (text.new.items ≡ text.old.items ++ ends_text state.now) }
@@ -53,7 +53,7 @@ fn push_ends<A: Allocator>(text: &mut Vec<u8, A>, state: &State) -> Result<(), N
     push_peer(text, state.dst())
 }
 
-/// Puts the class of a state behind a text, when it was last used, and its rule.
+/// Appends the class of a state to a text, when it was last used, and its rule.
 #[tactic(auto, unfolding(crate::specs::Shows::use_text))]
 fn push_use<A: Allocator>(text: &mut Vec<u8, A>, state: &State) -> Result<(), NoMemory>
     ensures { OnOk result (text.new.items ≡ text.old.items ++ use_text state.now) }
@@ -77,7 +77,7 @@ fn flags_word(no_sync: bool, ack_wanted: bool) -> &'static str
     }
 }
 
-/// Puts the flags of a state behind a text, its update count, and when the peer last changed it.
+/// Appends the flags of a state to a text, its update count, and when the peer last changed it.
 #[tactic(auto, unfolding(crate::specs::Shows::sync_text))]
 fn push_sync<A: Allocator>(text: &mut Vec<u8, A>, state: &State) -> Result<(), NoMemory>
     ensures { OnOk result (text.new.items ≡ text.old.items ++ sync_text state.now) }
@@ -88,7 +88,7 @@ fn push_sync<A: Allocator>(text: &mut Vec<u8, A>, state: &State) -> Result<(), N
     push_shown(text, format_args!("{flags} {updates} {peer_change}"))
 }
 
-/// Puts a state behind a text, but for its node and its name.
+/// Appends a state to a text, but for its node and its name.
 #[tactic(auto, unfolding(crate::specs::Shows::state_text))]
 fn push_parts<A: Allocator>(text: &mut Vec<u8, A>, state: &State) -> Result<(), NoMemory>
     ensures { OnOk result (text.new.items ≡ text.old.items ++ state_text state.now) }
@@ -102,7 +102,7 @@ fn push_parts<A: Allocator>(text: &mut Vec<u8, A>, state: &State) -> Result<(), 
     push_sync(text, state)
 }
 
-/// Puts the line of a state of a node behind a text.
+/// Appends the line of a state of a node to a text.
 pub fn push_state<A: Allocator>(
     text: &mut Vec<u8, A>,
     node: NodeId,

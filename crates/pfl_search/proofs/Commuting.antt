@@ -1,4 +1,4 @@
--- Two events that commute do the same in either order. What an event does is told by places: the node that it is about, the link, and
+-- Two events that commute do the same in either order. What an event does is described by places: the node that it is about, the link, and
 -- the next boot.
 use Rattle.std.specs.Prelude.{◌≡◌, ◌≢◌, ◌≤◌, ◌<◌, ◌+◌, ◌==◌, ℕ, Bool, true, false, nat_le, nat_lt, ◌&&◌, [], ◌∷◌, length, Option, Some, None, Result, Ok, Err, refl}
 use Rattle.std.specs.Option.{option_map_or}

@@ -146,7 +146,7 @@ visit-complete (e ∷ es) last (suc d) cs w at is ordered short leads =
     (ordered-later last w e es is.gives is.accepted ordered) (omega arith)
     (sym (run-next w e es is.gives is.accepted) ∙ leads))
 
--- ---- what the search answers
+-- ---- what the search returns
 
 leads : (g : Goal) (d : ℕ) (cs : List Choice) (w : World) (es : List Event) (o : Option Visit) → first_visit g d cs w ≡ o → option_map (λ v. v.run) o ≡ Some es → LeadsTo g d cs w es
 leads g d cs w es None is e = absurd cc
@@ -177,7 +177,7 @@ none-leads g d cs w known none es leads =
     let met : meets g leads.world ≡ true = leads.met in
     absurd cc
 
--- ---- as a search answers
+-- ---- as a search returns
 
 pub answer-found : {V : Type 0} (items : V → List Event) (g : Goal) (d : ℕ) (cs : List Choice) (w : World) (o : Option V) → option_map items o ≡ first_run g d cs w → IfSome o (λ v. LeadsTo g d cs w (items v))
 answer-found items g d cs w None e = tt

@@ -45,7 +45,7 @@ module _ {X : Type 0} where
   pub in_rest : (y : X) (ys : List X) (x : X) → Contains ys x → Contains (y ∷ ys) x
   in_rest y ys x h = let lt = h.1 in (suc h.0, omega arith, h.2)
 
-  -- behind the first ones stand the others
+  -- after the first ones stand the others
   pub in_added : (xs ys zs : List X) (i : ℕ) (x : X) → zs ≡ xs ++ ys → length xs ≤ i → i < length zs → x ≡ slice_index_or zs i x → Contains ys x
   in_added xs ys zs i x all past within is =
       let long : length zs ≡ length xs + length ys = ap length all ∙ length-append xs ys in

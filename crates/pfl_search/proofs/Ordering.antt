@@ -120,7 +120,7 @@ abbrev Inserts : List Event → Type 0
 Inserts es = (cs : List Choice) (w : World) (f : Event) → IsCounted w.link → (b : Begins cs w f (λ left v. IsRun left v es)) → IsOrdered None b.gives.world es
     → Inserted cs w f b.gives.world es
 
--- or goes behind the first of them
+-- or goes after the first of them
 module _ (e : Event) (es : List Event) (inserts : Inserts es) (cs : List Choice) (w : World) (f : Event) (counted : IsCounted w.link)
     (b : Begins cs w f (λ left v. IsRun left v (e ∷ es))) (ordered : IsOrdered None b.gives.world (e ∷ es)) where
   begins_second : Begins (used cs b.place) b.gives.world e (λ left v. IsRun left v es)

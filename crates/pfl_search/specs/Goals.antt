@@ -91,6 +91,6 @@ is_asked Everywhere w = true
 is_asked Landed w = is_landed w
 is_asked Settled w = is_landed w && is_idle w A && is_idle w B
 
--- the world meets the goal: the question is asked there, and answered by yes
+-- the world meets the goal: the question is asked there, and the answer is yes
 unfoldable pub meets : Goal → World → Bool
 meets g w = is_asked g.scope w && answer g.question w

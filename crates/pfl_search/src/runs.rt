@@ -19,7 +19,7 @@ use pfl_language::{Choice, Event, Goal};
 use pfl_world::{World, WorldTape};
 use std::alloc::Allocator;
 
-/// What a search gives: the run that was found, if there is one, and how many worlds were visited.
+/// What a search returns: the run that was found, if there is one, and how many worlds were visited.
 #[derive(Drop)]
 pub struct Searched<A: Allocator> {
     pub found: Option<Vec<Event, A>>,
@@ -63,7 +63,7 @@ fn enter<A: Allocator + Copy>(
     }
 }
 
-/// Counts a visit of the world, if one is left, and gives whether the world meets the goal.
+/// Counts a visit of the world, if one is left, and returns whether the world meets the goal.
 fn visit<A: Allocator + Copy>(
     world: &mut World<A>,
     tape: &mut WorldTape<A>,

@@ -1,8 +1,8 @@
-//! Why a search gives no answer.
+//! Why a search has no answer.
 
 use pfl_edits::NoMemory;
 
-/// Why a search gives no answer.
+/// Why a search has no answer.
 #[derive(Clone, Copy, Debug, PartialEq, Eq)]
 pub enum Stopped {
     /// The allocator had no memory to give.

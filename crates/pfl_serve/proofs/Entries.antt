@@ -1,4 +1,4 @@
--- Entries of the journal that a session is told.
+-- Entries of the journal that are sent to a session.
 use Rattle.std.proofs.Common.{◌≡◌, ◌≤◌, ℕ, zero, suc, ◌+◌, List, [], ◌∷◌, ◌++◌, length, take, refl, sym, ◌∙◌, ap, subst, arith, length-append, append_assoc, inl, inr, Option, Some, None, Ok, Err}
 use Rattle.std.specs.Prelude.{slice_get, min, Result, IfErr, IfOk, OnErr, OnOk}
 use Rattle.std.specs.Io.KnownBytes.{Appends}
@@ -51,7 +51,7 @@ module _ {M : Type 0} where
   told-lower low less n [] js below are = tt
   told-lower low less n (t ∷ ts) js below are = (are.0, are.1, omega (arith, below, are.2), are.3, told-lower low less (n + 1) ts js below are.4)
 
-  -- the entries that were told are those of a journal that goes on
+  -- the entries that were sent are those of a journal that goes on
   pub told-in-longer : (low n : ℕ) (ts : List (Telling M)) (js more all : List (Entry M)) → all ≡ js ++ more → AreTold low n ts js → AreTold low n ts all
   told-in-longer low n ts js more all is are = subst (AreTold low n ts) (sym is) (told-more low n ts js more are)
 

@@ -57,7 +57,7 @@ module _ {M : Type 0} where
           ap (λ (s : List ℕ). s ++ answer) h.5 ∙ append_assoc first rest answer,
         )
 
-    -- lines were answered so far
+    -- lines had their replies so far
     pub record Served (left rest : Option (List ℕ)) (old new : Seen M) (w v : Option (List ℕ)) (count bad : ℕ) : Type 0 where
       pub lines : List (List ℕ)
       pub taken : TakesLines left rest lines

@@ -1,4 +1,4 @@
--- What a session is told are the replies of its own entries.
+-- What is sent to a session are the replies of its own entries.
 use Rattle.std.proofs.Common.{◌≡◌, ℕ, ◌+◌, ◌≤◌, Bool, true, false, cond, List, [], ◌∷◌, ◌++◌, length, drop, refl, sym, ◌∙◌, ap, subst, arith, length-append, append_assoc, eq-eqb, inl, inr, Option, Some, None, Ok, Err}
 use Rattle.std.specs.Prelude.{nat_eq, Result, ◌⊎◌}
 use Rattle.std.proofs.lemmas.List.{append-nil}
@@ -75,7 +75,7 @@ module _ {M : Type 0} where
       )
 
   module _ (site : Site) where
-    -- whoever was answered a command has seen its calls
+    -- whoever had the reply to a command has seen its calls
     replied-seen : (old new : Seen M) (c : Command) (text : List ℕ) → IsReplied site old new c text → HasSeenItsCalls new
     replied-seen old new c text is = elim is.told [
       | inl t ↦ omega (arith, called-own old new c t.reply is.asked.goes_on.session t.called, is.asked.own, ap (λ h. h.count) t.called.half)
@@ -95,7 +95,8 @@ module _ {M : Type 0} where
         omega (arith, more, ap (λ h. h.count) is.half, ap (λ (s : ℕ). count_of s (seen_in new)) is.goes_on.session)
     forward (Some (Ok (Ask command))) old new text is below = let same = replied-seen old new command text is in omega (arith, same)
 
-    -- an answer, where the pass has seen its calls after it, and a journal that begins with what it has seen then: so it has before it, and the line is told the calls between
+    -- an answer, where the pass has seen its calls after it, and a journal that begins with what it has seen then: so it has before it,
+    -- and the line's reply is that of the calls between
     pub record Told (js : List (Entry M)) (what : Option (Result SessionLine LineFault)) (old new : Seen M) (text : List ℕ) : Type 0 where
       pub before : HasSeenItsCalls old
       pub calls : List Call
@@ -147,7 +148,7 @@ module _ {M : Type 0} where
       }
     ]
 
-    -- the entries that are told are the journal's
+    -- the entries that are sent are the journal's
     told-follow : (js more : List (Entry M)) (k : Option ℕ) (old new : Seen M) (text : List ℕ) → js ≡ seen_in new ++ more → IsFollowed site k old new text → Told js (Some (Ok (Follow k))) old new text
     told-follow js more k old new text begins is =
         let tells = is.follows.tells in

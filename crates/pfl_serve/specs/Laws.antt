@@ -1,4 +1,4 @@
--- What the answers of a session tell, in the words of the journal (this project's profile).
+-- What the answers to a session say, in the words of the journal (this project's profile).
 use Rattle.std.specs.Prelude.{◌≡◌, ◌≤◌, ℕ, ◌+◌, List, [], ◌∷◌, ◌++◌, length, cond, nat_eq, Option, Some, None, Result, Ok, Err, ◌⊎◌}
 use Rattle.atomic_table.specs.Seated.{TableId}
 use Rattle.pfl_language.specs.declared.command.Command.{Command}
@@ -25,7 +25,7 @@ abbrev pub calls_of : {M : Type 0} → ℕ → List (Entry M) → List Call
 calls_of session [] = []
 calls_of session (e ∷ js) = cond (nat_eq e.session session) (record { command = e.command; reply = reply_of e.reply } ∷ calls_of session js) (calls_of session js)
 
--- the text tells a revision, or that none was read
+-- the text shows a revision, or that none was read
 abbrev pub TellsView : List ℕ → Type 0
 TellsView text = ((words : List ℕ) × (text ≡ view_text words)) ⊎ ((at : ℕ) × (now : ℕ) × (text ≡ overtaken_text at now))
 
@@ -34,12 +34,13 @@ abbrev pub ShowsEntries : {M : Type 0} → ℕ → ℕ → List (Entry M) → Li
 ShowsEntries {M} start n js text =
     (ts : List (Telling M)) × AreTold start n ts js × (start ≤ n + length ts) × (text ≡ (following_text n ++ told_lines n ts) ++ followed_text (n + length ts))
 
--- the text answers `follow`: there were `start` entries when it was asked
+-- the text replies to `follow`: there were `start` entries when it was asked
 abbrev pub TellsEntries : {M : Type 0} → Option ℕ → List (Entry M) → List ℕ → Type 0
 TellsEntries k js text = (start : ℕ) × (start ≤ length js) × ShowsEntries start (first_told k start) js text
 
 module _ {M : Type 0} (site : Site) (js : List (Entry M)) where
-  -- the answer to what a line says to a session that makes these calls, and then the rest of them: a command is told the reply of the next one, or that the journal is full
+  -- the answer to what a line says to a session that makes these calls, and then the rest of them: a command has the reply of the next
+  -- one, or the fault that the journal is full
   abbrev pub TellsLine : Option (Result SessionLine LineFault) → List Call → List Call → List ℕ → Type 0
   TellsLine None calls rest text = (calls ≡ rest) × (text ≡ [])
   TellsLine (Some (Err fault)) calls rest text = (calls ≡ rest) × (text ≡ bad_text fault)
@@ -56,14 +57,17 @@ module _ {M : Type 0} (site : Site) (js : List (Entry M)) where
   Tells (line ∷ lines) calls text =
       (rest : List Call) × (first : List ℕ) × (others : List ℕ) × TellsLine (said line) calls rest first × Tells lines rest others × (text ≡ first ++ others)
 
--- What a session is told are the replies of its own entries, one after another, and each of its entries is told; and where it follows, entries of the journal, each under its number, without a gap: from any moment on, for no pass has called more than it has seen, to one at which it has seen as many entries of its session as it has called, as it has whenever it was answered a command
+-- What is sent to a session are the replies of its own entries, one after another, and each of its entries is reported; and where it
+-- follows, entries of the journal, each under its number, without a gap: from any moment on, for no pass has called more than it has seen,
+-- to one at which it has seen as many entries of its session as it has called, as it has whenever a command of it had its reply
 abbrev pub SessionsAreToldTheirCalls : Type 0 → Type 0
 SessionsAreToldTheirCalls M =
     (site : Site) (lines : List (List ℕ)) (old new : Seen M) (text : List ℕ) → Serves site lines old new text
     → old.half.count ≤ count_of old.session (seen_in old) → HasSeenItsCalls new
     → (calls : List Call) × (calls_of new.session (seen_in new) ≡ calls_of old.session (seen_in old) ++ calls) × Tells site (seen_in new) lines calls text
 
--- What a session is told from the opening of its lab to the closing are its calls in the closed journal, each once, in order, and where it follows, entries of that journal: its pass was new, and then it was served these lines, in one run or in several, and handed back
+-- What is sent to a session from the opening of its lab to the closing are its calls in the closed journal, each once, in order, and where
+-- it follows, entries of that journal: its pass was new, and then it was served these lines, in one run or in several, and handed back
 abbrev pub SessionsAreToldAllTheirCalls : Type 0 → Type 0
 SessionsAreToldAllTheirCalls M =
     (site : Site) (session : ℕ) (publisher tally : TableId) (lines : List (List ℕ)) (old new : Seen M) (text : List ℕ) (js : List (Entry M))

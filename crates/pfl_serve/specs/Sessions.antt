@@ -57,7 +57,7 @@ AreTold low n [] js = ⊤
 AreTold low n (t ∷ ts) js = (slice_get js n ≡ Some t.entry) × (n < t.now) × (low ≤ t.now) × (t.now ≤ length js) × AreTold low (n + 1) ts js
 
 module _ {M : Type 0} where
-  -- a revision was read, in at most three tries, and the text tells its words
+  -- a revision was read, in at most three tries, and the text shows its words
   pub record TellsRevision (old new : Seen M) (text : List ℕ) : Type 0 where
     pub number : ℕ
     pub words : List ℕ
@@ -68,7 +68,7 @@ module _ {M : Type 0} where
     pub few : lost ≤ 2
     pub told : text ≡ view_text words
 
-  -- three tries were overtaken, and the text tells where the last one began, six revisions past the old floor at least, and where it ended
+  -- three tries were overtaken, and the text says where the last one began, six revisions past the old floor at least, and where it ended
   pub record TellsOvertaken (old new : Seen M) (text : List ℕ) : Type 0 where
     pub at : ℕ
     pub now : ℕ
@@ -182,7 +182,7 @@ module _ {M : Type 0} where
       × Serves site lines mid new rest × (text ≡ first ++ rest)
 
   module _ (site : Site) where
-    -- all lines were answered, the whole text was written, and they were counted
+    -- all lines had their replies, the whole text was written, and they were counted
     pub record ServesWhole (left rest : Option (List ℕ)) (old new : Seen M) (w v : Option (List ℕ)) (count bad : ℕ) : Type 0 where
       pub lines : List (List ℕ)
       pub all : AreLines left lines
@@ -193,7 +193,7 @@ module _ {M : Type 0} where
       pub counted : count ≡ length lines
       pub faulty : bad ≡ bad_lines lines
 
-    -- first lines were answered, and the whole text was written
+    -- first lines had their replies, and the whole text was written
     pub record ServesFirst (left : Option (List ℕ)) (old new : Seen M) (w v : Option (List ℕ)) : Type 0 where
       pub lines : List (List ℕ)
       pub first : AreFirst left lines
@@ -201,7 +201,7 @@ module _ {M : Type 0} where
       pub serves : Serves site lines old new text
       pub written : Appends w v text
 
-    -- first lines were answered, and their whole text was written, but of the last one's only a part
+    -- first lines had their replies, and their whole text was written, but of the last one's only a part
     pub record ServesPart (left rest : Option (List ℕ)) (old new : Seen M) (w v : Option (List ℕ)) : Type 0 where
       pub lines : List (List ℕ)
       pub last : List ℕ
@@ -214,7 +214,7 @@ module _ {M : Type 0} where
       pub part : ℕ
       pub written : Appends w v (text ++ take part answer)
 
-    -- first lines were answered and their whole text was written, but for the last one, whose answer wanted memory
+    -- first lines had their replies and their whole text was written, but for the last one, whose answer wanted memory
     pub record ServesUnanswered (left rest : Option (List ℕ)) (old new : Seen M) (w v : Option (List ℕ)) : Type 0 where
       pub lines : List (List ℕ)
       pub last : List ℕ

@@ -1,11 +1,11 @@
--- The lines that only a session is answered (this project's profile).
+-- The lines that only a session has as replies (this project's profile).
 use Rattle.std.specs.Prelude.{ℕ, ◌-◌, ◌%◌, Bool, ◌&&◌, ◌==◌, nat_le, min, List, [], ◌∷◌, ◌++◌, codes, if◌then◌else◌, Option, Some, None}
 use Rattle.std.specs.List.{flat_map}
 use Rattle.std.specs.Fmt.{decimal}
 use Rattle.pfl_language.specs.declared.command.Command.{Command}
 use Rattle.pfl_script.specs.Entries.{entry_text}
 
--- a number, behind a space
+-- a number, after a space
 abbrev pub numbered : ℕ → List ℕ
 numbered n = 32 ∷ decimal n
 

@@ -25,7 +25,7 @@ impl<J: Which, A: Allocator + Copy, B: Allocator + Copy, G: Gate, R: Wait> Servi
     G,
     R,
 > {
-    /// Writes the line of the entry after the first `told`, of which the pass has seen that there is one, and answers its number.
+    /// Writes the line of the entry after the first `told`, of which the pass has seen that there is one, and returns its number.
     fn tell<W: Output>(
         &self,
         pass: &mut Pass<A>,
@@ -54,7 +54,7 @@ impl<J: Which, A: Allocator + Copy, B: Allocator + Copy, G: Gate, R: Wait> Servi
         Ok(made.number)
     }
 
-    /// Writes the lines of all entries after the first `told` that there are when it begins, and answers the number of the last.
+    /// Writes the lines of all entries after the first `told` that there are when it begins, and returns the number of the last.
     fn tell_standing<W: Output>(
         &self,
         pass: &mut Pass<A>,
@@ -89,7 +89,7 @@ impl<J: Which, A: Allocator + Copy, B: Allocator + Copy, G: Gate, R: Wait> Servi
     }
 
     /// Writes the lines of the entries after the first `told`, and of those that are made until the session's next line comes, and
-    /// answers the number of the last.
+    /// returns the number of the last.
     fn follow<I: Input, O: Output>(
         &self,
         seat: &mut Seat<A, I, O>,
@@ -116,7 +116,7 @@ impl<J: Which, A: Allocator + Copy, B: Allocator + Copy, G: Gate, R: Wait> Servi
         unreachable!()
     }
 
-    /// Answers `follow`: shows the session the journal's entries after the first `from`, or after all that there are, one by one as
+    /// Replies to `follow`: shows the session the journal's entries after the first `from`, or after all that there are, one by one as
     /// they are made, until its next line comes.
     pub(crate) fn answer_follow<I: Input, O: Output>(
         &self,

@@ -2,7 +2,7 @@
 use std::sync::Wait;
 
 /// A gate that the calls of sessions go through, for tests that hold one back until another is there. Sessions count from 1, and so
-/// do the calls of a session, anew each time it is served. It has no part in what is answered.
+/// do the calls of a session, anew each time it is served. It has no part in the replies.
 pub trait Gate {
     /// Before the session's nth call.
     fn enter<R: Wait>(&self, rt: &R, session: u32, nth: u64);

@@ -4,7 +4,7 @@ ghost use Rattle.pfl_serve.specs.Laws.{SessionsAreToldTheirCalls, SessionsAreTol
 
 use std::alloc::Allocator;
 
-/// What a session is told are the replies of its own entries of the journal, one after another, and each of its entries is told:
+/// What is sent to a session are the replies of its own entries of the journal, one after another, and each of its entries is reported:
 /// from any moment on, and from the opening of its lab to the closing, whose journal then has these calls of the session and no
 /// others. Where a session is served in several runs, they are one run of all its lines.
 pub fn sessions_are_told_their_calls<A: Allocator>()

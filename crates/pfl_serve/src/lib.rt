@@ -1,6 +1,6 @@
 //! Sessions that are served by lines, over any readers and writers.
 //!
-//! A session reads commands as a run of lines does, and is answered alike. Beside that it may ask for a `view`, which waits for
+//! A session reads commands as a run of lines does, and has the same replies. Beside that it may ask for a `view`, which waits for
 //! nobody, for the lines of the `setup`, and to `follow` the journal. Several sessions are served at the same time, one thread each.
 #![tactic(auto)]
 

@@ -22,7 +22,7 @@ pub struct Served<A: Allocator, I: Input, O: Output> {
     pub result: Result<Ended, EngineFault>,
 }
 
-/// Why no session's end is told.
+/// Why no session's end is reported.
 #[derive(Clone, Copy, Debug, PartialEq, Eq)]
 pub enum ServeFault {
     /// There was no thread for one of the sessions. Those that had begun have ended.

@@ -20,9 +20,9 @@ pub struct Service<'a, B: Allocator, G: Gate, R> {
 }
 
 impl<'a, B: Allocator + Copy, G: Gate, R: Wait> Service<'a, B, G, R> {
-    /// Serves a session of the lab by the lines that its reader has left, one after another. `view` is answered by a revision,
-    /// `setup` by the lines of the setup, `follow` by the entries of the journal until the next line comes, and a command by its
-    /// reply, or by `full` where the journal is full. After a fault the calls that were made stand, and the seat can be served again.
+    /// Serves a session of the lab by the lines that its reader has left, one after another. The reply to `view` is a revision,
+    /// to `setup` the lines of the setup, to `follow` the entries of the journal until the next line comes, and to a command its
+    /// reply, or `full` where the journal is full. After a fault the calls that were made stand, and the seat can be served again.
     pub fn serve_session<J: Which, A: Allocator + Copy, I: Input, O: Output>(
         &self,
         lab: &Lab<J, A>,

@@ -148,7 +148,7 @@ impl<J: Which, A: Allocator + Copy, B: Allocator + Copy, G: Gate, R: Wait> Servi
         Ok(())
     }
 
-    /// Answers what a line says. A command is the session's nth call.
+    /// Replies to what a line says. A command is the session's nth call.
     fn answer<I: Input, O: Output>(
         &self,
         seat: &mut Seat<A, I, O>,

@@ -1,4 +1,4 @@
-//! The lines that only a session is answered.
+//! The lines that only a session has as replies.
 
 ghost use Rattle.std.specs.Prelude.{◌≡◌, ◌+◌, ◌*◌, ◌≤◌, ◌++◌, length, codes, IfOk};
 ghost use Rattle.std.specs.Fmt.{decimal};
@@ -14,7 +14,7 @@ use std::alloc::Allocator;
 /// The line for a command that finds the journal full.
 pub(crate) const FULL: &str = "full\n";
 
-/// Appends a number behind a space.
+/// Appends a number after a space.
 fn push_word(line: &mut ShortLine, word: u64)
     requires room { array_string_len line.old ≤ 171 }
     ensures bytes { line.new.bytes ≡ line.old.bytes ++ numbered word }
@@ -24,7 +24,7 @@ fn push_word(line: &mut ShortLine, word: u64)
     push_number(line, word);
 }
 
-/// Appends numbers, each behind a space.
+/// Appends numbers, each after a space.
 fn push_words(line: &mut ShortLine, words: &[u64])
     requires room { array_string_len line.old + 21 * length words.now ≤ 192 }
     ensures bytes { line.new.bytes ≡ line.old.bytes ++ flat_map numbered words.now }
@@ -45,7 +45,7 @@ pub(crate) fn view_line(revision: &Revision) -> ShortLine
     line
 }
 
-/// The line that tells that no revision was read.
+/// The line that reports that no revision was read.
 pub(crate) fn overtaken_line(overtaken: Overtaken) -> ShortLine
     ensures { result.bytes ≡ overtaken_text overtaken.at overtaken.now }
 {

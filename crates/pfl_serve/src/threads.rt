@@ -203,7 +203,7 @@ impl<A: Allocator + Copy + Send + Sync, G: Gate + Sync, R: Threads + Wait + Sync
     G,
     R,
 > {
-    /// Serves all seats of a lab at the same time, one thread each, and answers when each session has ended: the seats in the same
+    /// Serves all seats of a lab at the same time, one thread each, and returns when each session has ended: the seats in the same
     /// order, with how their sessions ended. Where there is no thread for one of them, or no memory for the lists, no seat comes back.
     pub fn serve_all<J: Which + Send + Sync, I: Input + Send + Drop, O: Output + Send + Drop>(
         &self,

@@ -56,7 +56,7 @@ module _ {M : Type 0} where
       ap (λ (l : Log (Mark M)). published (summary (after_entry t x) (n + 1)) (Call x) ∷ l)
       (h ∙ (λ z. following (after_entry t x) (n + 1) js ++ published (summary (after_entry (replay (after_entry t x) js) e) (a z)) (Call e) ∷ []))
 
-  -- the revision of one entry more, behind the others
+  -- the revision of one entry more, after the others
   pub extends : (t u : Timeline) (js items : List (Entry M)) (e : Entry M) (words : List ℕ) (number : ℕ) (list list' : Log (Mark M))
       → list ≡ revisions_of t js → u ≡ after_entry (replay t js) e → words ≡ summary u number → number ≡ length js + 1 → list' ≡ list ++ published words (Call e) ∷ [] → items ≡ js ++ e ∷ [] → list' ≡ revisions_of t items
   extends t u js items e words number list list' is then shows count longer more =

@@ -22,13 +22,13 @@ front : {X : Type 0} (xs ys : List X) → take (length xs) (xs ++ ys) ≡ xs
 front [] ys = refl
 front {X = X} (x ∷ xs) ys = ap (λ (l : List X). x ∷ l) (front xs ys)
 
--- nothing stands behind a list where both together are empty
+-- nothing stands after a list where both together are empty
 none-right : {X : Type 0} (xs ys : List X) → [] ≡ xs ++ ys → ys ≡ []
 none-right [] ys is = sym is
 none-right (x ∷ xs) ys is = absurd cc
 
 module _ {M : Type 0} where
-  -- the words of the revision that stands so many behind revision k
+  -- the words of the revision that stands this many after revision k
   words-following : (t : Timeline) (k n : ℕ) (js : List (Entry M)) → n < length js → words_at n (following t k js) ≡ summary (replay t (take (suc n) js)) (k + suc n)
   words-following t k n [] lt = absurd (omega (arith, lt))
   words-following t k zero (e ∷ js) lt = refl
@@ -56,7 +56,7 @@ module _ {M : Type 0} where
   seen-are-first opening js seen begun =
       ap (take (length (calls_in seen))) (sym (calls-history opening js) ∙ calls-since (revisions_of opening js) seen begun) ∙ front (calls_in seen) (calls_in (drop (length seen) (revisions_of opening js)))
 
-  -- what stands behind the entries that hold all of a session's, where the last entry is of that session
+  -- what follows the entries that hold all of a session's, where the last entry is of that session
   none-behind : (s : ℕ) (js : List (Entry M)) (e : Entry M) (xs ys : List (Entry M)) → e.session ≡ s → js ++ e ∷ [] ≡ xs ++ ys → count_of s ys ≡ 0 → ys ≡ []
   none-behind s js e [] ys own is none = absurd (omega (arith, count-own s js e own, ap (count_of s) is, none))
   none-behind s [] e (x ∷ xs) ys own is none = let rest : [] ≡ xs ++ ys = cc in none-right xs ys rest

@@ -1,4 +1,4 @@
--- No reply tells more places than its command's branch has events.
+-- No reply lists more places than its command's branch has events.
 use Rattle.std.specs.Prelude.{◌≡◌, ◌≤◌, ◌<◌, ℕ, zero, suc, ◌+◌, ◌-◌, Bool, List, [], ◌∷◌, ◌++◌, length, get_or, map, filter, find, take, drop, not, nat_lt, nat_le, Option, Some, None, Ok, Err, refl}
 use Rattle.std.specs.Option.{option_map, option_map_or}
 use Rattle.std.proofs.Common.{true, false, cond, sym, ◌∙◌, ap, arith, drop_of_length-le}
@@ -21,7 +21,7 @@ use Rattle.pfl_timeline.specs.Timelines.{Branch, Timeline, branch_of, world_of}
 use Rattle.pfl_session.specs.Listings.{places_in, most_places}
 use Rattle.pfl_session.proofs.Falling.{fallen-few}
 
--- it tells at most n places
+-- it lists at most n places
 abbrev Tells : ℕ → Replied → Type 0
 Tells n done = length (places_in done.reply) ≤ n
 
@@ -122,7 +122,7 @@ tells t (command.Excise name k) =
 tells t (command.Restore name) = named_tells t name (restore_reply t) (restore_tells t)
 tells t (command.Log name) = named_tells t name (log_reply t) (λ b. omega arith)
 
--- room for the most places is room for those that the reply tells
+-- room for the most places is room for those that the reply lists
 pub room-is-enough : (t u : Timeline) (c : Command) (r : Reply) (most room : ℕ) → command_step t c ≡ replied u r → most ≡ most_places t c → most ≤ room → length (places_in r) ≤ room
 room-is-enough t u c r most room is all there =
     let same = ap (λ (d : Replied). length (places_in d.reply)) is in

@@ -3,7 +3,7 @@ use Rattle.std.specs.Prelude.{◌≡◌, [], ◌∷◌, Some, None, refl}
 use Rattle.pfl_session.specs.declared.entry.Entry.{Entry}
 use Rattle.pfl_session.specs.Made.{made_after}
 
--- ---- what a session is told of a journal of two entries
+-- ---- what is sent to a session of a journal of two entries
 
 module _ {M : Type 0} (one two : Entry M) where
   told_of_the_first : made_after 0 (one ∷ two ∷ []) ≡ Some (record { number = 1; session = one.session; command = one.command })

@@ -45,7 +45,7 @@ lab_fault sessions journal =
     if nat_lt sessions 1 || nat_lt 8 sessions then Some fault.Sessions else
     if nat_lt journal 1 || nat_lt 1000000 journal then Some fault.Journal else None
 
--- a fault that is told: the one of the numbers; where they have none, want of memory
+-- a fault that is reported: the one of the numbers; where they have none, want of memory
 abbrev pub IsLabFault : Option LabFault → LabFault → Type 0
 IsLabFault (Some first) f = f ≡ first
 IsLabFault None f = f ≡ fault.NoMemory

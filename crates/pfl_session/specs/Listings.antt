@@ -15,12 +15,12 @@ is_listing (Explained name k e came why) = true
 is_listing (Traced name ticket trace) = true
 is_listing _ = false
 
--- the places that the reply tells
+-- the places that the reply lists
 abbrev pub places_in : Reply → List ℕ
 places_in (Excised places) = places
 places_in _ = []
 
--- the most places that the reply to the command tells: as many as the branch has events
+-- the most places that the reply to the command lists: as many as the branch has events
 abbrev pub most_places : Timeline → Command → ℕ
 most_places t (command.Excise name k) = option_map_or (λ b. length b.events) (branch_of t name) 0
 most_places t _ = 0

@@ -77,7 +77,7 @@ pub record AddsCall {M : Type 0} (old new : Seen M) (command : Command) (reply :
   pub command_is : entry.command ≡ command
   pub reply_is : reply_of entry.reply ≡ reply
 
--- the condition under which the fault is told: the journal that the pass has seen is full, or it has room
+-- the condition under which the fault is reported: the journal that the pass has seen is full, or it has room
 abbrev pub IsAskFault : {M : Type 0} → ℕ → Seen M → AskFault → Type 0
 IsAskFault limit p fault.JournalFull = length (seen_in p) ≡ limit
 IsAskFault limit p fault.NoMemory = length (seen_in p) < limit

@@ -56,7 +56,7 @@ impl<J: Which, A: Allocator> Model for Desk<J, A> {
     ghost invariant = { λ d. ((w : Writer (Mark A)) × (d.writer ≡ Some w) × (w.table ≡ J.publisher) × (w.list ≡ revisions_of J.opening d.journal.items)) × (d.halves.items ≡ counts_of 1 J.tallies d.journal.items) × IsDesk J.opening (length J.tallies) J.limit d.timeline d.journal.items d.limit };
 }
 
-/// Puts the entry behind the others, publishes what the timeline then shows, and lets the viewer see it.
+/// Puts the entry after the others, publishes what the timeline then shows, and lets the viewer see it.
 fn append<J: Which, A: Allocator>(
     publisher: &Publisher<Mark<A>, A>,
     timeline: &Timeline<A>,
@@ -102,7 +102,7 @@ fn count_one<A: Allocator>(
     tally.count_in(&mut halves[place], mine)
 }
 
-/// Tells that the session's halves have one count.
+/// States that the session's halves have one count.
 fn compare_one<A: Allocator>(
     tally: &Tally<A>,
     halves: &mut Vec<Half, A>,
@@ -127,7 +127,7 @@ impl<J: Which, A: Allocator> Desk<J, A> {
         self.journal.len() >= self.limit
     }
 
-    /// Lets the pass see the journal, and answers how many entries it has.
+    /// Lets the pass see the journal, and returns how many entries it has.
     fn meet(&mut self, publisher: &Publisher<Mark<A>, A>, pass: &mut Pass<A>) -> u64
         requires publisher { (publisher.now ≡ J.publisher) × (pass.old.viewer.table ≡ J.publisher) }
         ensures journal { self.new ≡ self.old }
@@ -150,7 +150,7 @@ impl<J: Which, A: Allocator> Desk<J, A> {
         number
     }
 
-    /// Tells that the pass has counted each entry of its session, and has seen each that it has counted.
+    /// States that the pass has counted each entry of its session, and has seen each that it has counted.
     fn compare(&mut self, tally: &Tally<A>, pass: &mut Pass<A>)
         requires tally { pass.old.half.table ≡ tally.now }
         requires place { slice_get J.tallies (pass.old.session - 1) ≡ Some tally.now }
@@ -167,7 +167,7 @@ impl<J: Which, A: Allocator> Desk<J, A> {
         pass.half = Some(mine);
     }
 
-    /// Lets the pass see the journal, tells that it has counted each entry of its session there, and answers how many entries
+    /// Lets the pass see the journal, states that it has counted each entry of its session there, and returns how many entries
     /// the journal has.
     pub(crate) fn catch_up(
         &mut self,
@@ -199,7 +199,7 @@ impl<J: Which, A: Allocator> Desk<J, A> {
         })
     }
 
-    /// Lets the pass see the journal, as `catch_up` does, and answers the entry after the first `from` ones, if there is one, and how
+    /// Lets the pass see the journal, as `catch_up` does, and returns the entry after the first `from` ones, if there is one, and how
     /// many entries the journal has.
     pub(crate) fn entry_after(
         &mut self,
@@ -300,7 +300,7 @@ impl<J: Which, A: Allocator + Copy> Desk<J, A> {
 }
 
 impl<J: Which, A: Allocator> Desk<J, A> {
-    /// Takes a pass back, and tells that it has seen a beginning of the journal, with each entry of its session, and has called
+    /// Takes a pass back, and states that it has seen a beginning of the journal, with each entry of its session, and has called
     /// each of these.
     pub(crate) fn settle(
         &mut self,

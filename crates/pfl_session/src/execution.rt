@@ -67,8 +67,8 @@ fn copy_reply<A: Allocator + Copy>(
     })
 }
 
-/// Executes a command of a session, and gives its reply with the entry that keeps it. Where there is no memory, nothing
-/// changes: room for the places that the reply tells is made first, and a reply that wants memory for its copy even so comes
+/// Executes a command of a session, and returns its reply with the entry that keeps it. Where there is no memory, nothing
+/// changes: room for the places that the reply lists is made first, and a reply that wants memory for its copy even so comes
 /// of a command that changes nothing. So does an entry that wants memory: it has such a reply, or a word that no branch has
 /// as its name.
 pub(crate) fn execute<A: Allocator + Copy>(

@@ -28,7 +28,7 @@ pub struct KeptEntry<A: Allocator> {
 
 const _: () = prove!(size_of::<KeptEntry<Global>>() <= 120);
 
-// Not derived: to a proof a written drop is one call, where a derived one is opened again on every way out.
+// Written by hand: see docs/ARCHITECTURE.md, "What the prover asks of the code".
 impl<A: Allocator> Drop for KeptEntry<A> {
     fn drop(self) {
         let KeptEntry { form: _ } = self;

@@ -23,7 +23,7 @@ use pfl_timeline::Reply;
 use std::alloc::Allocator;
 use std::sync::{Mutex, Wait};
 
-/// The lab that J tells contracts of. Threads share it by reference.
+/// The lab that J names for contracts. Threads share it by reference.
 pub struct Lab<J: Which, A: Allocator> {
     pub(crate) publisher: Publisher<Mark<A>, A>,
     pub(crate) tallies: Vec<Tally<A>, A>,
@@ -34,7 +34,7 @@ pub struct Lab<J: Which, A: Allocator> {
     ghost shows: { setup.items ≡ J.setup } by { text_prop setup.items J.setup },
 }
 
-// Not derived: to a proof a written drop is one call, where a derived one is opened again on every way out.
+// Written by hand: see docs/ARCHITECTURE.md, "What the prover asks of the code".
 impl<J: Which, A: Allocator> Drop for Lab<J, A> {
     fn drop(self) {
         let Lab {
@@ -111,7 +111,7 @@ impl<J: Which, A: Allocator> Lab<J, A> {
         read
     }
 
-    /// Loads the number of the last revision, and says whether it has come to the one that was told. It waits for nobody.
+    /// Loads the number of the last revision, and returns whether it has come to the one that was announced. It waits for nobody.
     pub fn learn(&self, pass: &mut Pass<A>, told: &Told) -> bool
         requires lab { IsPassOf J.publisher J.tallies pass.old }
         ensures goes_on { GoesOn pass.old pass.new }
@@ -128,7 +128,7 @@ impl<J: Which, A: Allocator> Lab<J, A> {
         learnt
     }
 
-    /// Shows the pass a journal, in its turn, that goes on from what it had seen with entries of other sessions alone, and answers
+    /// Shows the pass a journal, in its turn, that goes on from what it had seen with entries of other sessions alone, and returns
     /// how many entries that has. So the pass has seen each call of its own, and each revision that it ever read is the summary
     /// of what the first entries of that journal give, as many as the revision's number.
     pub fn meet<R: Wait>(&self, rt: &R, pass: &mut Pass<A>) -> u64

@@ -10,7 +10,7 @@ pub struct Made {
     pub command: Command,
 }
 
-/// What `Lab::entry_after` gives: the next entry, if there is one, and how many entries the journal has.
+/// What `Lab::entry_after` returns: the next entry, if there is one, and how many entries the journal has.
 #[derive(Clone, Copy, Debug)]
 pub struct Next {
     pub made: Option<Made>,

@@ -28,7 +28,7 @@ const MOST_SESSIONS: u32 = 8;
 /// The most entries of a journal.
 const MOST_ENTRIES: usize = 1_000_000;
 
-/// Why there is no lab of so many sessions, whose journal has at most so many entries.
+/// Why there is no lab of this many sessions, whose journal has at most this many entries.
 fn fault_of(sessions: u32, journal: usize) -> Option<LabFault>
     ensures { result ≡ lab_fault sessions journal }
 {
@@ -56,7 +56,7 @@ pub struct Opened<A: Allocator> {
     viewer: Option<ViewerSeat<Mark<A>>>,
 }
 
-// Not derived: to a proof a written drop is one call, where a derived one is opened again on every way out.
+// Written by hand: see docs/ARCHITECTURE.md, "What the prover asks of the code".
 impl<A: Allocator> Drop for Opened<A> {
     fn drop(self) {
         let Opened {
@@ -94,8 +94,8 @@ impl<A: Allocator> Model for Opened<A> {
 }
 
 impl<A: Allocator + Copy> Opened<A> {
-    /// Opens a lab of so many sessions, from 1 to 8, over a timeline in which no branch has more than 4294967295 events, nor
-    /// can more be brought back on one. Its journal has at most so many entries, from 1 to 1000000. There are no entries yet,
+    /// Opens a lab of this many sessions, from 1 to 8, over a timeline in which no branch has more than 4294967295 events, nor
+    /// can more be brought back on one. Its journal has at most this many entries, from 1 to 1000000. There are no entries yet,
     /// no pass has seen any, and there are no lines of a setup.
     pub fn new(
         alloc: A,

@@ -17,7 +17,7 @@ pub struct Pass<A: Allocator> {
     pub(crate) viewer: Option<ViewerSeat<Mark<A>>>,
 }
 
-// Not derived: to a proof a written drop is one call, where a derived one is opened again on every way out.
+// Written by hand: see docs/ARCHITECTURE.md, "What the prover asks of the code".
 impl<A: Allocator> Drop for Pass<A> {
     fn drop(self) {
         let Pass {

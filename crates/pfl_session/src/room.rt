@@ -1,4 +1,4 @@
-//! Room for the places that a reply tells. The command that tells them changes the timeline, so what their copy wants has to be
+//! Room for the places that a reply lists. The command that lists them changes the timeline, so what their copy wants has to be
 //! there before it is carried out.
 
 ghost use Rattle.std.specs.Prelude.{◌≡◌, ◌≤◌, [], length, find, vec_capacity};
@@ -29,7 +29,7 @@ fn events_of<A: Allocator>(branches: &[Branch<A>], name: &BranchWord) -> usize
     0
 }
 
-/// The most places that the reply to the command tells: no more events fall out of a branch than it has.
+/// The most places that the reply to the command lists: no more events fall out of a branch than it has.
 pub(crate) fn most_places<A: Allocator>(timeline: &Timeline<A>, command: &Command) -> usize
     ensures { result ≡ most_places timeline.now command.now }
 {

@@ -52,7 +52,7 @@ put_failing before p x (y ∷ ys) fails = elim (before x y) as (λ b. filter p (
   | false ↦ ap (λ zs. cond (p y) (y ∷ zs) zs) (put_failing before p x ys fails)
 ]
 
--- An order: what stands before another does not stand behind it, and what does not stand behind the first of two stands before
+-- An order: what stands before another does not stand after it, and what does not stand after the first of two stands before
 -- the second.
 module _ {X : Type 0} (before : X → X → Bool)
     (asymmetric : (x y : X) → before x y ≡ true → before y x ≡ false)
@@ -132,7 +132,7 @@ module _ {X : Type 0} (before : X → X → Bool)
   rest_in_order other xs x rest is out left =
       in_order-filter other xs ∙ (ap (filter other) is ∙ (ap (λ b. cond b (x ∷ filter other rest) (filter other rest)) out ∙ left))
 
-  -- where the first passes, it is the first of those that pass, and behind it stand those that pass of what is left without it
+  -- where the first passes, it is the first of those that pass, and after it stand those that pass of what is left without it
   pub first_due : (p other : X → Bool) (xs : List X) (x : X) (rest : List X) → in_order before xs ≡ x ∷ rest → p x ≡ true → other x ≡ false → filter other rest ≡ rest
       → in_order before (filter p xs) ≡ x ∷ in_order before (filter p (filter other xs))
   first_due p other xs x rest is passes out left =
@@ -173,10 +173,10 @@ module _ (expiry : State → ℕ) where
   before_is : (s u : State) → state_before expiry s u ≡ is_lt (by_expiry s u)
   before_is s u = as_test (nat_lt (expiry s) (expiry u)) (expiry s == expiry u) (name_cmp s.name u.name)
 
-  -- what stands before another does not stand behind it,
+  -- what stands before another does not stand after it,
   pub state_before-asymmetric : (s u : State) → state_before expiry s u ≡ true → state_before expiry u s ≡ false
   state_before-asymmetric s u e = before_is u s ∙ less-asymmetric by_expiry by_expiry_total s u (sym (before_is s u) ∙ e)
 
-  -- and what does not stand behind the first of two stands before the second
+  -- and what does not stand after the first of two stands before the second
   pub state_before-passed_on : (s u v : State) → state_before expiry s u ≡ true → state_before expiry s v ≡ false → state_before expiry v u ≡ true
   state_before-passed_on s u v e f = before_is v u ∙ less-passed_on by_expiry by_expiry_total s u v (sym (before_is s u) ∙ e) (sym (before_is s v) ∙ f)

@@ -109,7 +109,7 @@ module _ {X : Type 0} (before : X → X → Bool) where
         ∙ (sym (joined-twice (Some x) (Some y) (foremost before ys))
         ∙ (ap (λ b. joined before (Some (cond b x y)) (foremost before ys)) all.0 ∙ leads x ys all.1))
 
-    -- what stands behind the first of some elements need not be looked at
+    -- what follows the first of some elements need not be looked at
     pub foremost-skips : (x : X) (ys zs : List X) → IsBeforeAll before x ys → joined before (Some x) (foremost before zs) ≡ foremost before (x ∷ ys ++ zs)
     foremost-skips x ys zs all =
         ap (λ o. joined before o (foremost before zs)) (sym (foremost-more x ys ∙ leads x ys all))

@@ -21,7 +21,7 @@ module _ {X Y : Type 0} (f : X → Y) (p : Y → Bool) where
   pub count_by-map : (xs : List X) → count_by p (map f xs) ≡ count_by (λ x. p (f x)) xs
   count_by-map xs = fold-map f (λ n y. n + cond (p y) 1 0) 0 xs
 
--- the first of a list in order is its first element, or the first of the rest, if that does not stand behind it
+-- the first of a list in order is its first element, or the first of the rest, if that does not stand after it
 pub first-put_before : {X : Type 0} (before : X → X → Bool) (x : X) (xs : List X)
     → slice_get (put_before before x xs) 0 ≡ Some (option_map_or (λ y. cond (before x y) x y) (slice_get xs 0) x)
 first-put_before before x [] = refl

@@ -247,7 +247,7 @@ changes-row rows new i kept slot before r at here same is =
       limit = ap (λ (c : Lists Row). c.limit) is;
     }
 
--- the indexes may be told that it is changed
+-- the indexes may be informed that it is changed
 pub may-change : {A : Type 0} (rows : Lists Row) (i : Indexes A) → IsStored rows i → length (links_of rows 0) ≤ rows.limit → AreLists rows → (slot : ℕ) (was : Row) (at : Place rows slot) → at.list ≡ 0 → was ≡ at.value → MayChange i slot was
 may-change rows i kept few are slot was at here same = record {
   limit = rows.limit;
@@ -259,7 +259,7 @@ may-change rows i kept few are slot was at here same = record {
   few = subst (λ (ls : List (Link Row)). length ls ≤ rows.limit) (sym (ap (links_of rows) here) ∙ (at.split ∙ ap (λ v. at.front ++ link slot v ∷ at.back) (sym same))) few;
 }
 
--- the indexes may be told that it came
+-- the indexes may be informed that it came
 pub may-gain : {A : Type 0} (rows new : Lists Row) (i : Indexes A) (kept : IsStored rows i) (slot : ℕ) (r : Row) (behind : Option ℕ) (g : NameGap rows (name_of r) behind) → new ≡ with_links rows 0 (g.gap.front ++ link slot r ∷ g.gap.back) → AreLists new
     → length (links_of rows 0) < rows.limit → HasNoKey (links_of rows 0) r → MayGain i slot r
 may-gain rows new i kept slot r behind g is are room none = record {

@@ -337,7 +337,7 @@ impl<A: Allocator> Stored<A> {
         self.indexes.refile(slot, &was, row);
     }
 
-    /// Sets the row that stands under a name, and gives the one that stood there.
+    /// Sets the row that stands under a name, and returns the one that stood there.
     #[inline]
     pub(crate) fn set(&mut self, name: StateName, at: &Option<Row>) -> Option<Row>
         requires table { IsTable (with_row (table_of self.old) name at.now) }
@@ -370,7 +370,7 @@ impl<A: Allocator> Stored<A> {
         self.remove(hint, name)
     }
 
-    /// Puts a row under its name, and gives the one that stood there.
+    /// Puts a row under its name, and returns the one that stood there.
     #[inline]
     fn put(&mut self, row: &Row) -> Option<Row>
         requires table { IsTable (with_row (table_of self.old) row.now.state.name (Some row.now)) }
@@ -389,7 +389,7 @@ impl<A: Allocator> Stored<A> {
     }
 }
 
-/// The slot behind which the row of a name belongs, or none where it comes first.
+/// The slot after which the row of a name belongs, or none where it comes first.
 fn behind<A: Allocator>(
     rows: &Chains<Row, A>,
     order: &OrderedMap<ByName, usize, A>,

@@ -25,7 +25,7 @@ pub struct StateTable<A: Allocator> {
     stored: Stored<A>,
 }
 
-// Not derived: to a proof a written drop is one call, where a derived one is opened again on every way out.
+// Written by hand: see docs/ARCHITECTURE.md, "What the prover asks of the code".
 impl<A: Allocator> Drop for StateTable<A> {
     fn drop(self) {
         let StateTable { stored: _ } = self;
@@ -134,7 +134,7 @@ impl<A: Allocator> StateTable<A> {
         }
     }
 
-    /// The state of a packet with the key, as `found` gives it, and where it stands.
+    /// The state of a packet with the key, as `found` returns it, and where it stands.
     pub fn find(&self, key: &Key, direction: Dir) -> Option<(Slot, &State)>
         ensures state { option_map (λ r. r.1.now) result ≡ found (states_of self.now) key.now direction }
     {
@@ -269,7 +269,7 @@ impl<A: Allocator> StateTable<A> {
         });
     }
 
-    /// Moves the state of a name, which may stand at this slot, and gives it another timeout, in seconds. Gives how it was moved
+    /// Moves the state of a name, which may stand at this slot, and gives it another timeout, in seconds. Returns how it was moved
     /// before. `None`: no state has the name. It takes no memory.
     pub fn move_at(
         &mut self,

@@ -1,4 +1,4 @@
--- What a branch answers, and which command asks for it.
+-- What a branch replies, and which command asks for it.
 use Rattle.std.specs.Prelude.{◌≡◌, ◌≢◌, ℕ, ◌+◌, Bool, true, false, not, nat_lt, take, List, [], ◌∷◌, length, map, Option, Some, None, Result, Ok, Err, IfOk, IfErr, IsSomeAnd, OnErr, OnOk, refl, if◌then◌else◌}
 use Rattle.std.specs.Option.{option_map, option_map_or}
 use Rattle.std.proofs.Common.{sym, ◌∙◌, ap, subst}
@@ -229,7 +229,7 @@ pub shown_as : (name name' : List ℕ) (events events' cursor cursor' : ℕ) (w 
 shown_as name name' events events' cursor cursor' w w' a b c d =
     ap (λ (x : List ℕ). Shown x events cursor w) a ∙ ap (λ n. Shown name' n cursor w) b ∙ ap (λ n. Shown name' events' n w) c ∙ ap (Shown name' events' cursor') d
 
--- the branch's events are told
+-- the branch's events are listed
 pub told-logged : (r : Rooted) → IsReplyOf log_reply r r (Logged r.branch.name r.branch.events r.branch.cursor)
 told-logged r = record {
   opening = refl;

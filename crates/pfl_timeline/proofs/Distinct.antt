@@ -28,7 +28,7 @@ names bs = map (λ b. b.name) bs
 abbrev pub called : List ℕ → Branch → Bool
 called name b = same_name b.name name
 
--- all before, and one behind
+-- all before, and one after
 pub all_behind : {X : Type 0} (P : X → Type 0) (xs : List X) (x : X) → AllByRecursion P xs → P x → AllByRecursion P (xs ++ x ∷ [])
 all_behind P [] x all is = (is, tt)
 all_behind P (y ∷ xs) x all is = (all.0, all_behind P xs x all.1 is)
@@ -52,7 +52,7 @@ unfolding IsDistinct
 distinct_names name [] new distinct = (tt, tt)
 distinct_names name (n ∷ ns) new distinct = (apart_behind n name ns distinct.0 new.0, distinct_names name ns new.1 distinct.1)
 
--- a branch behind others, none of which has its name
+-- a branch after others, none of which has its name
 pub distinct_behind : (b : Branch) (bs : List Branch) → find (called b.name) bs ≡ None → IsDistinct same_name (names bs) → IsDistinct same_name (names (bs ++ b ∷ []))
 distinct_behind b bs none distinct =
     subst (IsDistinct same_name) (sym (map-append (λ (c : Branch). c.name) bs (b ∷ []))) (distinct_names b.name (names bs) (none_called b.name bs none) distinct)

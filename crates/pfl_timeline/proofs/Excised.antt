@@ -1,4 +1,4 @@
--- An event taken out of the middle, told by the list without it.
+-- An event taken out of the middle, described by the list without it.
 use Rattle.std.specs.Prelude.{◌≡◌, ℕ, ◌-◌, ◌≤◌, Bool, ◌&&◌, nat_le, length, true, false, not, List, [], ◌∷◌, map, find, take, drop, Option, Some, None, is_some, IsTrue, refl, if◌then◌else◌}
 use Rattle.std.specs.Option.{option_map, option_map_or}
 use Rattle.std.proofs.Common.{cond, sym, ◌∙◌, ap, subst}

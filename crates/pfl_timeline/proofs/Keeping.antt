@@ -125,7 +125,7 @@ none_refused false false true d is = absurd cc
 none_refused false false false true is = absurd cc
 none_refused false false false false is = (refl, refl, refl, refl)
 
--- the first test that holds tells why
+-- the first test that holds says why
 abbrev first_of : Bool → Bool → Bool → Bool → Option Refused
 first_of a b c d = refused_by ((a, refused.NameTaken) ∷ (b, refused.BadName) ∷ (c, refused.NothingForward) ∷ (d, refused.BranchesFull) ∷ [])
 

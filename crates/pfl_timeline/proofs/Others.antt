@@ -119,7 +119,7 @@ leaves_why_step t e name b =
 
 -- ---- a branch more, or less
 
--- a branch of another name behind all
+-- a branch of another name after all
 find_before : (b : Branch) (name : List ℕ) → same_name b.name name ≡ false → (bs : List Branch) → find (called name) (bs ++ b ∷ []) ≡ find (called name) bs
 find_before b name apart [] = ap (λ t. cond t (Some b) None) apart
 find_before b name apart (c ∷ bs) = ap (λ (o : Option Branch). cond (same_name c.name name) (Some c) o) (find_before b name apart bs)

@@ -1,4 +1,4 @@
--- What an excision leaves standing, and what it tells, in words of the list alone.
+-- What an excision leaves standing, and what it reports, in words of the list alone.
 use Rattle.std.specs.Prelude.{◌≡◌, ℕ, zero, suc, ◌+◌, ◌-◌, ◌<◌, ◌≤◌, nat_le, List, [], ◌∷◌, ◌++◌, length, filter, take, drop, fold, Option, Some, is_some, IsTrue, Ok, Err, refl}
 use Rattle.std.specs.List.{AllByRecursion}
 use Rattle.std.proofs.Common.{cond, sym, ◌∙◌, ap, subst, arith, length-append, append_assoc, append-nil}
@@ -17,7 +17,7 @@ use Rattle.pfl_timeline.proofs.Sieving.{events_in, places_in, stand, events_plac
 
 -- ---- the list without one event, taken apart
 
--- without the entry behind the first j
+-- without the entry after the first j
 abbrev gone : {X : Type 0} → ℕ → List X → List X
 gone j [] = []
 gone zero (x ∷ xs) = xs
@@ -34,7 +34,7 @@ without_is k j xs is =
     let before : k - 1 ≡ j = omega (arith, is) in
     ap (λ n. take n xs ++ drop k xs) before ∙ ap (λ n. take j xs ++ drop n xs) is ∙ gone_is j xs
 
--- those up to a place, and those behind it
+-- those up to a place, and those after it
 abbrev UpTo : ℕ → List Placed → Type 0
 UpTo c ps = AllByRecursion (λ p. p.place ≤ c) ps
 
@@ -105,7 +105,7 @@ parted n (suc j) (suc c) m (e ∷ es) at =
 
 -- ---- those that stand
 
--- what comes more is kept behind what was kept
+-- what comes more is kept after what was kept
 record Extends (P : Placed → Type 0) (s new : Sieved) : Type 0 where
   pub more : List Placed
   pub kept : new.kept ≡ s.kept ++ more
@@ -184,7 +184,7 @@ sieve-standing o k c es some =
     ∙ parted-standing o c p.front p.rest p.within p.behind
     ∙ ap (accepted_events o) (p.events ∙ sym (without_is k (k - 1) (take c es) at))
 
--- ---- those that are told
+-- ---- those that are reported
 
 fold_refused : (s : Sieved) (n : ℕ) (es : List Event) → places_in (fold sift s (placed_behind n es)).fallen ≡ places_in s.fallen ++ refused_behind n s.world es
 unfolding refused_behind

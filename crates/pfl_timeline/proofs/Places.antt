@@ -145,7 +145,7 @@ how_many es t view = ap (λ (u : Timeline). length u.branches) (sym view) ∙ le
 pub none-at : (name : List ℕ) (es : Entries) (t : Timeline) → timeline_of (values_of es) ≡ t → StandByName es → None ≡ lookup (same_name name) es → branch_of t name ≡ None
 none-at name es t view stand none = ap (λ (u : Timeline). branch_of u name) (sym view) ∙ found_by name es None stand none
 
--- What is asked of a name that a branch has: that branch answers.
+-- What is asked of a name that a branch has: that branch replies.
 module _ (name : List ℕ) (es : Entries) (old : Rooted) (t : Timeline) (view : timeline_of (values_of es) ≡ t) (stand : StandByName es) (here : Some old ≡ lookup (same_name name) es) where
   at : Spot name es old
   at = spot name es old stand here
@@ -170,7 +170,7 @@ module _ (name : List ℕ) (es : Entries) (old : Rooted) (t : Timeline) (view : 
   pub begins-there : old.opening ≡ t.opening
   begins-there = let s : StandsIn t old = stands_in in sym s.opening
 
-  -- it answers, whatever it does to the timeline
+  -- it replies, whatever it does to the timeline
   pub asks-at : (done : Branch → Replied) → with_branch t name done ≡ done old.branch
   asks-at done = ap (λ (b : Option Branch). option_map_or done b (replied t (Refusing refused.NoBranch))) found
 

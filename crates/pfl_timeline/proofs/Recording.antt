@@ -13,12 +13,12 @@ use Rattle.pfl_search.proofs.ForCallers.world.{split, no_shorter}
 use Rattle.pfl_timeline.specs.Kept.{IsKept, history}
 use Rattle.pfl_timeline.proofs.Runs.{of_parts, kept_as, history_as, kept-more, history-more, kept-again, history-again}
 
--- `after` is the tape behind the event: below the mark it is what it was, and what is above leads from the new world to the old
+-- `after` is the tape after the event: below the mark it is what it was, and what is above leads from the new world to the old
 module _ {M : Type 0} (w new : World) (events : List Event) (tape after : List (WorldEdit M)) (marks : List ℕ) (e : Event) (out : Outcome)
     (k : IsKept w events tape marks) (stepped : step w e ≡ Ok (record { world = new; outcome = out })) (taped : below (length tape) after ≡ tape)
     (fits : Fits Finds IsWorld put_back (above (length tape) after) new) (back_is : back put_back (above (length tape) after) new ≡ w)
     (fs : List Event) (ns : List ℕ) (items : ns ≡ marks ++ length tape ∷ []) where
-  -- behind those that stand
+  -- after those that stand
   module _ (all : fs ≡ take (length marks) events ++ e ∷ []) where
     pub kept-extended : IsKept new fs after ns
     kept-extended = kept_as new new _ fs _ after _ ns refl all (split tape after taped) items (kept-more w new events tape (above (length tape) after) marks e out k stepped fits back_is)

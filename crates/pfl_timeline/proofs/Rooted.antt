@@ -1,4 +1,4 @@
--- What a branch beside the opening of its timeline answers for the timeline.
+-- What a branch beside the opening of its timeline replies for the timeline.
 use Rattle.std.specs.Prelude.{◌≡◌}
 use Rattle.pfl_timeline.specs.Commands.{with_changed, replied}
 use Rattle.pfl_timeline.specs.Timelines.{Timeline, Branch}
@@ -11,7 +11,7 @@ pub record StandsIn (t : Timeline) (r : Rooted) : Type 0 where
   pub opening : t.opening ≡ r.opening
   pub branch : with_changed t r.branch ≡ t
 
--- what is asked of a branch is answered as its timeline answers it, with the new branch in the old one's place
+-- the reply to what is asked of a branch is that of its timeline, with the new branch in the old one's place
 pub record IsReplyOf (asked : Timeline → Branch → Replied) (old new : Rooted) (reply : Reply) : Type 0 where
   pub opening : new.opening ≡ old.opening
   pub name : new.branch.name ≡ old.branch.name

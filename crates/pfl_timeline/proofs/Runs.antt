@@ -139,7 +139,7 @@ module _ {M : Type 0} (w : World) (events : List Event) (tape : List (WorldEdit 
     pub history-back : history v events rest ns ≡ of_parts (back put_back tape w) events p
     history-back = history_as _ v events events _ rest _ ns world_as refl list_as items ∙ history-cut
 
--- An event happened, and stands behind those that stood: `more` is what it changed, and `fs` are all events then.
+-- An event happened, and stands after those that stood: `more` is what it changed, and `fs` are all events then.
 module _ {M : Type 0} (w new : World) (events fs : List Event) (tape more : List (WorldEdit M)) (marks : List ℕ) (e : Event) (out : Outcome)
     (k : IsKept w events tape marks) (stepped : step w e ≡ Ok (record { world = new; outcome = out }))
     (fits : Fits Finds IsWorld put_back more new) (back_is : back put_back more new ≡ w)
@@ -247,9 +247,6 @@ module _ {M : Type 0} (w new : World) (events : List Event) (tape more : List (W
 
   pub history-again : history new events (tape ++ more) (marks ++ length tape ∷ []) ≡ of_parts (back put_back tape w) events (length marks + 1)
   history-again = history-step w new events events tape more marks e out k stepped fits back_is next_of_all (omega (arith, within))
-
-pub put_as : (es fs : List Event) (ms ns : List ℕ) (e : Event) → fs ≡ es → ns ≡ ms → take (length ns) fs ++ e ∷ [] ≡ take (length ms) es ++ e ∷ []
-put_as es fs ms ns e a b = ap (λ (xs : List Event). take (length ns) xs ++ e ∷ []) a ∙ ap (λ (xs : List ℕ). take (length xs) es ++ e ∷ []) b
 
 pub parts_as : (o o' : World) (es es' : List Event) (n n' : ℕ) → o ≡ o' → es ≡ es' → n ≡ n' → of_parts o es n ≡ of_parts o' es' n'
 parts_as o o' es es' n n' a b c = ap (λ (x : World). of_parts x es n) a ∙ ap (λ (x : List Event). of_parts o' x n) b ∙ ap (of_parts o' es') c

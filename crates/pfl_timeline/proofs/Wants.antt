@@ -239,7 +239,7 @@ frame_wants t c name ticket is accepted = record { makes = ap makes_something is
 pub log_wants : (t : Timeline) (c : Command) (name : List ℕ) → c ≡ command.Log name → IsAccepted (log_command t name) → MayWantMemory t c
 log_wants t c name is accepted = record { makes = ap makes_something is; not_refused = subst IsAccepted (sym (is-log t c name is)) accepted }
 
--- ---- no reply tells want of memory
+-- ---- no reply reports want of memory
 
 abbrev wanted : Reply
 wanted = Refusing (refused.Event NoMemory)

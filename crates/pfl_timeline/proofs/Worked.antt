@@ -168,7 +168,7 @@ last_event : asked_then (excise 4 ∷ step (event.Of 9 frame.Lose) ∷ restore �
 unfolding computing
 last_event = refl
 
--- a log tells all events, those behind the cursor too; a fork's those that it took
+-- a log lists all events, those after the cursor too; a fork's those that it took
 told : asked_then (back 3 ∷ log main_name ∷ fork main_name 2 (codes "t") ∷ log (codes "t") ∷ excise 1 ∷ log main_name ∷ log (codes "x") ∷ [])
     ≡ reply.At 1 ∷ reply.Logged main_name (event.At A (own.Packet Outbound u1) ∷ event.Flush A ∷ event.Of 1 frame.Deliver ∷ event.At A (own.Packet Outbound u2) ∷ []) 1 ∷ reply.Forked
     ∷ reply.Logged (codes "t") (event.At A (own.Packet Outbound u1) ∷ event.Flush A ∷ []) 2 ∷ reply.Excised (2 ∷ 3 ∷ []) ∷ reply.Logged main_name (event.At A (own.Packet Outbound u2) ∷ []) 0 ∷ reply.Refused refused.NoBranch ∷ []

@@ -1,4 +1,4 @@
--- A history, a branch and a timeline as nested pairs, by which the logic tells two of them apart. It says nothing of them.
+-- A history, a branch and a timeline as nested pairs, by which the logic distinguishes two of them. It says nothing of them.
 use Rattle.std.specs.Prelude.{ℕ, List, Option, refl}
 use Rattle.std.specs.Coded.{Coded, code_by, coded×, coded_ℕ, coded_list, coded_option}
 use Rattle.pfl_language.specs.declared.event.Event.{Event}

@@ -41,7 +41,7 @@ with_branch t name done = option_map_or done (branch_of t name) (replied t (Refu
 abbrev pub with_changed : Timeline → Branch → Timeline
 with_changed t b = record t { branches = map (λ c. if same_name c.name b.name then b else c) t.branches }
 
--- the event after those that stand, in place of what was undone; nothing is brought back behind it
+-- the event after those that stand, in place of what was undone; nothing is brought back after it
 abbrev pub extended : Branch → Event → Branch
 extended b e = record b { events = standing b ++ e ∷ []; cursor = b.cursor + 1; former = None }
 
@@ -81,7 +81,7 @@ fork_refusal t k name b =
     (is_some (branch_of t name), refused.NameTaken) ∷ (not (is_branch_name name), refused.BadName)
     ∷ (nat_lt (length b.events) k, refused.NothingForward) ∷ (nat_le 16 (length t.branches), refused.BranchesFull) ∷ [])
 
--- the branch of the first k events, behind all branches
+-- the branch of the first k events, after all branches
 abbrev pub fork_reply : Timeline → ℕ → List ℕ → Branch → Replied
 fork_reply t k name b = reply_unless t (fork_refusal t k name b) (replied (record t { branches = t.branches ++ first_events k name b ∷ [] }) Forked)
 
@@ -142,13 +142,13 @@ excise_reply t k b =
 abbrev pub restore_reply : Timeline → Branch → Replied
 restore_reply t b = option_map_or (λ f. replied (with_changed t (restored b f)) (Restored f.cursor)) b.former (replied t (Refusing refused.NothingExcised))
 
--- the events of the branch, those behind the cursor too, and its cursor
+-- the events of the branch, those after the cursor too, and its cursor
 abbrev pub log_reply : Timeline → Branch → Replied
 log_reply t b = replied t (Logged b.name b.events b.cursor)
 
 -- ---- each command, by the branch that it names
 
--- an event behind those that stand
+-- an event after those that stand
 unfoldable pub step_command : Timeline → List ℕ → Event → Replied
 step_command t name e = with_branch t name (step_reply t e)
 

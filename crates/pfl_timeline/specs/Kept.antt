@@ -40,7 +40,7 @@ pub record IsKept {M : Type 0} (w : World) (events : List Event) (tape : List (W
 
 -- ---- a branch: its name, its history, and the one from before the newest excision
 
--- what is told of a former history
+-- what is said of a former history
 abbrev pub former_of : History → Former
 former_of h = record { events = h.events; cursor = h.cursor }
 

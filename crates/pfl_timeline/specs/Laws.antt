@@ -33,7 +33,7 @@ CommandsKeepTimelines = (t : Timeline) (cs : List Command) → IsTimeline t → 
 abbrev pub BranchesShowWorlds : Type 0
 BranchesShowWorlds = (t : Timeline) → IsTimeline t → AllByRecursion (λ b. IsTrue (is_some (world_of t b))) t.branches
 
--- no reply tells want of memory, which is answered in place of a reply
+-- no reply reports want of memory, which is returned in place of a reply
 abbrev pub NoReplyTellsWantOfMemory : Type 0
 NoReplyTellsWantOfMemory = (t : Timeline) (c : Command) → (command_step t c).reply ≢ reply.Refused (refused.Event NoMemory)
 
@@ -75,14 +75,14 @@ touches (command.Log of) name = false
 abbrev pub CommandsLeaveOthers : Type 0
 CommandsLeaveOthers = (t : Timeline) (c : Command) (name : List ℕ) → IsFalse (touches c name) → branch_of (command_step t c).timeline name ≡ branch_of t name
 
--- the events before the branch's cursor have a run from the opening, the branch shows the world of it, and a log tells the events
+-- the events before the branch's cursor have a run from the opening, the branch shows the world of it, and a log lists the events
 pub record ShowsItsRun (opening : World) (t : Timeline) (b : Branch) : Type 0 where
   pub world : World
   pub runs : run opening (standing b) ≡ Some world
   pub shown : (show_command t b.name).reply ≡ reply.Shown b.name (length b.events) b.cursor world
   pub logged : (log_command t b.name).reply ≡ reply.Logged b.name b.events b.cursor
 
--- whatever commands came, each branch shows the run of those events before its cursor that its log tells
+-- whatever commands came, each branch shows the run of those events before its cursor that its log lists
 abbrev pub BranchesShowTheirRuns : Type 0
 BranchesShowTheirRuns =
     (opening : World) (cs : List Command) → IsWorld opening
@@ -158,7 +158,7 @@ ExcisionsLeaveStanding =
     (t : Timeline) (name : List ℕ) (k : ℕ) (b : Branch) → branch_of t name ≡ Some b → IsTrue (has_event k b)
     → option_map standing (branch_of (command_step t (command.Excise name k)).timeline name) ≡ Some (accepted_events t.opening (without k (standing b)))
 
--- the place of an event that is refused is told, and the others come after it
+-- the place of an event that is refused is listed, and the others come after it
 abbrev pub refused_with : World → ℕ → (World → List ℕ) → Result Stepped Refusal → List ℕ
 refused_with w place rest (Ok s) = rest s.world
 refused_with w place rest (Err why) = place ∷ rest w
@@ -168,7 +168,7 @@ unfoldable pub refused_behind : ℕ → World → List Event → List ℕ
 refused_behind n w [] = []
 refused_behind n w (e ∷ es) = refused_with w (n + 1) (λ v. refused_behind (n + 1) v es) (step w e)
 
--- the reply tells the places of the events behind it that are refused where the world in front of it goes on
+-- the reply lists the places of the events after it that are refused where the world in front of it goes on
 abbrev pub ExcisionsTellTheRefused : Type 0
 ExcisionsTellTheRefused =
     (t : Timeline) (name : List ℕ) (k : ℕ) (b : Branch) (w : World) → branch_of t name ≡ Some b → IsTrue (has_event k b) → run t.opening (take (k - 1) b.events) ≡ Some w

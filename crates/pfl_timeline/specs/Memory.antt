@@ -7,7 +7,7 @@ use Rattle.pfl_timeline.specs.Commands.{command_step}
 use Rattle.pfl_timeline.specs.Replies.{Reply, Replied, Refused as Refusing}
 use Rattle.pfl_timeline.specs.Timelines.{Timeline}
 
--- the reply tells why the command is refused
+-- the reply says why the command is refused
 abbrev pub is_refusal : Reply → Bool
 is_refusal (Refusing why) = true
 is_refusal _ = false

@@ -1,4 +1,4 @@
--- What a timeline answers (this project's profile).
+-- What a timeline replies (this project's profile).
 use Rattle.std.specs.Prelude.{ℕ, List, Result}
 use Rattle.std.specs.Arc.{arc_value}
 use Rattle.pfl_base.specs.declared.refusal.Refusal.{Refusal as EventRefusal}
@@ -29,15 +29,15 @@ pub data Reply : Type 0 where
   Traced : List ℕ → ℕ → Trace → Reply
   Refused : Refusal → Reply
 
--- what an explanation of the code tells
+-- what an explanation of the code says
 abbrev pub explanation_of : {M : Type 0} → GivenExplanation M → Reply
 explanation_of e = Explained e.name e.place e.event e.came (explained_of e.why)
 
--- what a frame's trace of the code tells
+-- what a frame's trace of the code says
 abbrev pub trace_of : {M : Type 0} → FrameTrace M → Reply
 trace_of t = Traced t.name t.ticket (record { first = t.first; frame = t.frame; later = t.later.items })
 
--- what a reply of the code tells
+-- what a reply of the code says
 abbrev pub reply_of : {M : Type 0} → GivenReply M → Reply
 reply_of (given.Stepped outcome dropped) = Stepped outcome dropped
 reply_of (given.At cursor) = At cursor

@@ -1,4 +1,4 @@
--- A branch beside the opening of its timeline, and what it answers for the timeline (this project's profile).
+-- A branch beside the opening of its timeline, and what it replies for the timeline (this project's profile).
 use Rattle.std.specs.Prelude.{Option}
 use Rattle.pfl_search.specs.world.Worlds.{World}
 use Rattle.pfl_search.specs.world.Runs.{run}

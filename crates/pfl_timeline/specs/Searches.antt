@@ -1,4 +1,4 @@
--- Searches from where a branch stands: what a search answers, and what the answer means. It changes nothing (this project's profile).
+-- Searches from where a branch stands: what a search returns, and what the answer means. It changes nothing (this project's profile).
 use Rattle.std.specs.Prelude.{◌≤◌, ℕ, nat_lt, List, length, Option, Some, None, if◌then◌else◌}
 use Rattle.std.specs.Option.{option_map_or}
 use Rattle.pfl_language.specs.declared.choice.Choice.{Choice}
@@ -62,7 +62,7 @@ finding_from s b w =
 abbrev pub finding_on : Timeline → Sought → Branch → Finding
 finding_on t s b = option_map_or (finding_from s b) (world_of t b) (Refused refused.NoBranch)
 
--- what a search from where the branch of the name stands answers
+-- what a search from where the branch of the name stands returns
 abbrev pub finding : Timeline → List ℕ → Sought → Finding
 finding t name s = option_map_or (finding_on t s) (branch_of t name) (Refused refused.NoBranch)
 

@@ -23,7 +23,9 @@ use crate::reply::{FrameTrace, Reply};
 use pfl_base::Refusal;
 use pfl_edits::NoMemory;
 use pfl_language::{BranchWord, Choice, Event, Goal, Outcome, Refused};
-use pfl_reasons::{FrameStep, count_senders, frame_steps, frames_are_counted, sending_place};
+use pfl_reasons::{
+    Events, FrameStep, count_senders, frame_steps, frames_are_counted, sending_place,
+};
 use pfl_search::World;
 use std::alloc::{AllocError, Allocator};
 use std::marker::Model;
@@ -38,7 +40,7 @@ pub struct Branch<A: Allocator> {
     former: Option<Box<History<A>, A>>,
 }
 
-// Not derived: to a proof a written drop is one call, where a derived one is opened again on every way out.
+// Written by hand: see docs/ARCHITECTURE.md, "What the prover asks of the code".
 impl<A: Allocator> Drop for Branch<A> {
     fn drop(self) {
         let Branch {
@@ -81,8 +83,8 @@ impl<A: Allocator> Branch<A> {
         &self.name
     }
 
-    /// Its events, those behind the cursor too.
-    pub fn events(&self) -> &[Event]
+    /// Its events, those after the cursor too.
+    pub fn events(&self) -> &Events<A>
         ensures events { result.now ≡ self.now.branch.events }
     {
         self.history.events()
@@ -102,7 +104,7 @@ impl<A: Allocator> Branch<A> {
         self.history.world()
     }
 
-    /// Tells a proof what is true of each branch. It does nothing.
+    /// States for proofs what is true of each branch. It does nothing.
     pub fn known(&self)
         ensures branch { IsBranch self.now.opening self.now.branch }
         ensures opening { IsWorld self.now.opening }
@@ -113,7 +115,7 @@ impl<A: Allocator> Branch<A> {
         }
     }
 
-    /// Undoes the last `n` events before the cursor, where there are so many, and gives how many stand then. They stay in
+    /// Undoes the last `n` events before the cursor, if there are that many, and returns how many stand then. They stay in
     /// the branch. It takes no memory.
     pub(crate) fn back(&mut self, n: u32) -> Option<usize>
         ensures far { result ≡ if nat_lt self.old.branch.cursor n then None else Some (self.old.branch.cursor - n) }
@@ -130,7 +132,7 @@ impl<A: Allocator> Branch<A> {
         Some(cursor - n)
     }
 
-    /// Brings back what the branch was before its newest excision, where that can be taken back, and gives how many events
+    /// Brings back what the branch was before its newest excision, where that can be taken back, and returns how many events
     /// stand then. It takes no memory.
     pub(crate) fn restore(&mut self) -> Option<usize>
         ensures cursor { result ≡ option_map (λ f. f.cursor) self.old.branch.former }
@@ -156,8 +158,8 @@ impl<A: Allocator + Copy> Branch<A> {
         })
     }
 
-    /// Puts an event behind those that stand, in place of those that had been undone, and of what could be brought back.
-    /// Gives its outcome, and how many were cut. Where it is refused, or there is no memory, nothing changes.
+    /// Puts an event after those that stand, in place of those that had been undone, and of what could be brought back.
+    /// Returns its outcome and how many were cut. Where it is refused, or there is no memory, nothing changes.
     pub(crate) fn extend(&mut self, event: &Event) -> Result<(Outcome, usize), Refusal>
         ensures refused { IfErr result (λ why. (w : Pair) × (shown self.old ≡ Some w) × IsEventRefusal w event.now why) }
         ensures unchanged { OnErr result (self.new ≡ self.old) }
@@ -176,7 +178,7 @@ impl<A: Allocator + Copy> Branch<A> {
         }
     }
 
-    /// Lets the next `n` events behind the cursor happen again, where there are so many, and gives how many stand then.
+    /// Lets the next `n` events after the cursor happen again, if there are that many, and returns how many stand then.
     /// Where there is no memory, nothing changes.
     pub(crate) fn forward(&mut self, n: u32) -> Result<Option<usize>, NoMemory>
         ensures far { IfOk result (λ cursor. cursor ≡ if nat_lt (undone self.old.branch) n then None else Some (self.old.branch.cursor + n)) }
@@ -197,7 +199,7 @@ impl<A: Allocator + Copy> Branch<A> {
     }
 
     /// Takes the event at the place out, counted from 1, where there is one, and lets the rest happen again without it.
-    /// Gives the places of the events that are refused then: they fall out, too. What the branch was can be brought back.
+    /// Returns the places of the events that are refused then: they fall out, too. What the branch was can be brought back.
     /// Where there is no memory, nothing changes.
     pub(crate) fn excise(&mut self, place: u32) -> Result<Option<Vec<usize, A>>, NoMemory>
         ensures fallen { IfOk result (λ fallen. option_map (λ v. v.items) fallen ≡ if has_event place self.old.branch then Some (fallen_places self.old.opening place self.old.branch) else None) }
@@ -253,7 +255,7 @@ impl<A: Allocator + Copy> Branch<A> {
         let look = Explaining {
             alloc: *Box::allocator(&self.history),
             place,
-            event: self.events()[place - 1],
+            event: self.events().get(place - 1),
         };
         self.history.look_at(&self.name, place - 1, &look, &mut ())?
     }
@@ -281,7 +283,7 @@ impl<A: Allocator + Copy> Branch<A> {
         frames_are_counted();
         // The pair that it shows is at hand, and the opening is not: since that, each frame sent took a ticket.
         let events = self.events();
-        let sent = count_senders(&events[..self.cursor()]);
+        let sent = count_senders(events, self.cursor());
         let first = self.world().link().next() - sent as u32;
         sending_place(first, ticket, events)
     }
@@ -306,7 +308,7 @@ impl<A: Allocator + Copy> Branch<A> {
         let len = frame.bytes().len();
         let first = FrameStep {
             place,
-            event: events[place - 1],
+            event: events.get(place - 1),
             outcome: Outcome::Sent { ticket, len },
         };
         let later = frame_steps(alloc, ticket, place, &frame, events)?;

@@ -40,7 +40,7 @@ pub(crate) fn found<A: Allocator>(name: BranchWord, depth: u32, searched: Search
     }
 }
 
-/// What is answered where a search stopped.
+/// What is returned where a search stopped.
 pub(crate) fn stopped<A: Allocator>(why: Stopped, most: u64) -> Result<Finding<A>, NoMemory>
     ensures gave_up { IfOk result (λ finding. (why ≡ Stopped.TooMany) × (finding_of finding ≡ GaveUp most)) }
     ensures memory { IfErr result (λ _. why ≡ Stopped.NoMemory) }

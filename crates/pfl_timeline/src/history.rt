@@ -1,6 +1,6 @@
 //! Histories.
 
-ghost use Rattle.std.specs.Prelude.{◌≡◌, ◌+◌, ◌-◌, ◌<◌, ◌≤◌, ℕ, [], ◌∷◌, ◌++◌, length, map, nat_le, min, take, filter, Ok, Some, IfErr, IfOk, OnErr, OnOk, vec_len, vec_capacity};
+ghost use Rattle.std.specs.Prelude.{◌≡◌, ◌+◌, ◌-◌, ◌<◌, ◌≤◌, ℕ, [], ◌∷◌, ◌++◌, length, map, nat_le, min, take, filter, Ok, Some, IfErr, IfOk, OnErr, OnOk};
 ghost use Rattle.pfl_search.specs.world.Events.{step, IsEventRefusal};
 ghost use Rattle.pfl_search.specs.world.Worlds.{World as Pair};
 ghost use Rattle.pfl_timeline.specs.Excisions.{placed, without, sieve};
@@ -16,6 +16,7 @@ use crate::look::{Look, Sight};
 use pfl_base::Refusal;
 use pfl_edits::{Change, NoMemory, Tape, redo_all, set_aside_to, undo_copies_to, undo_to};
 use pfl_language::{BranchWord, Choice, Event, Goal, Outcome};
+use pfl_reasons::Events;
 use pfl_search::{Searched, Stopped, World, WorldTape, search_shortest};
 use std::alloc::Allocator;
 use std::marker::Model;
@@ -25,14 +26,14 @@ use std::marker::Model;
 /// The opening world is not kept: it is what taking the whole tape back would give.
 pub struct History<A: Allocator> {
     world: World<A>,
-    events: Vec<Event, A>,
+    events: Events<A>,
     /// What the events that stand changed, one after another.
     tape: WorldTape<A>,
     /// How long the tape was before each of them.
     marks: Vec<usize, A>,
 }
 
-// Not derived: to a proof a written drop is one call, where a derived one is opened again on every way out.
+// Written by hand: see docs/ARCHITECTURE.md, "What the prover asks of the code".
 impl<A: Allocator> Drop for History<A> {
     fn drop(self) {
         let History {
@@ -54,49 +55,32 @@ impl<A: Allocator> Model for History<A> {
 
     ghost use Rattle.pfl_timeline.specs.Kept.{IsKept, history};
 
-    ghost view = { λ h. history h.world h.events.items h.tape.list h.marks.items };
+    ghost view = { λ h. history h.world h.events h.tape.list h.marks.items };
 
-    ghost invariant = { λ h. IsKept h.world h.events.items h.tape.list h.marks.items };
+    ghost invariant = { λ h. IsKept h.world h.events h.tape.list h.marks.items };
 }
 
-/// Makes room for one event more, and for its mark.
-fn make_room<A: Allocator>(
-    events: &mut Vec<Event, A>,
-    marks: &mut Vec<usize, A>,
-) -> Result<(), NoMemory>
-    ensures events { events.new.items ≡ events.old.items }
-    ensures marks { marks.new.items ≡ marks.old.items }
-    ensures event_room { OnOk result (vec_len events.new < vec_capacity events.new) }
-    ensures mark_room { OnOk result (vec_len marks.new < vec_capacity marks.new) }
-{
-    events.reserve(1)?;
-    marks.reserve(1)?;
-    Ok(())
-}
-
-/// Puts an event and its mark behind those that stand, in room that was made. Gives how many events were cut.
+/// Puts an event and its mark after those that stand, and returns how many events were cut. Where there is no memory, nothing changes.
 fn put<A: Allocator>(
-    events: &mut Vec<Event, A>,
+    events: &mut Events<A>,
     marks: &mut Vec<usize, A>,
-    event: Event,
+    event: &Event,
     mark: usize,
-) -> usize
-    requires within { length marks.old.items ≤ length events.old.items }
-    requires event_room { vec_len events.old < vec_capacity events.old }
-    requires mark_room { vec_len marks.old < vec_capacity marks.old }
-    ensures events { events.new.items ≡ take (length marks.old.items) events.old.items ++ event ∷ [] }
-    ensures marks { marks.new.items ≡ marks.old.items ++ mark ∷ [] }
-    ensures dropped { result ≡ length events.old.items - length marks.old.items }
+) -> Result<usize, NoMemory>
+    requires within { length marks.old.items ≤ length events.old }
+    ensures events { OnOk result (events.new ≡ take (length marks.old.items) events.old ++ event.now ∷ []) }
+    ensures marks { OnOk result (marks.new.items ≡ marks.old.items ++ mark ∷ []) }
+    ensures dropped { IfOk result (λ dropped. dropped ≡ length events.old - length marks.old.items) }
+    ensures unchanged { OnErr result (events.new ≡ events.old) }
+    ensures unmarked { OnErr result (marks.new.items ≡ marks.old.items) }
 {
-    let cursor = marks.len();
-    let dropped = events.len() - cursor;
-    events.truncate(cursor);
-    events.push(event).unwrap();
+    marks.reserve(1)?;
+    let dropped = events.put_after(marks.len(), event)?;
     marks.push(mark).unwrap();
-    dropped
+    Ok(dropped)
 }
 
-/// How long the tape was when so many events stood.
+/// How long the tape was when this many events stood.
 fn mark_of<A: Allocator>(tape: &WorldTape<A>, marks: &[usize], place: usize) -> usize
     ensures mark { result ≡ mark_at tape.now.list marks.now place }
 {
@@ -108,10 +92,10 @@ fn mark_of<A: Allocator>(tape: &WorldTape<A>, marks: &[usize], place: usize) -> 
 
 impl<A: Allocator> History<A> {
     /// All its events.
-    pub fn events(&self) -> &[Event]
+    pub fn events(&self) -> &Events<A>
         ensures events { result.now ≡ self.now.events }
     {
-        self.events.as_slice()
+        &self.events
     }
 
     /// How many of its events stand.
@@ -135,14 +119,14 @@ impl<A: Allocator> History<A> {
         &self.world
     }
 
-    /// Tells a proof what is true of each history. It does nothing.
+    /// States for proofs what is true of each history. It does nothing.
     pub fn known(&self)
         ensures history { IsHistory self.now }
     {
         let _world = &self.world;
     }
 
-    /// Takes events back until so many stand, the newest first. It takes no memory.
+    /// Takes events back until this many stand, the newest first. It takes no memory.
     pub fn take_back_to(&mut self, place: usize)
         requires within { place ≤ self.old.cursor }
         ensures history { self.new ≡ standing_at self.old place }
@@ -162,13 +146,13 @@ impl<A: Allocator + Copy> History<A> {
         world.known();
         History {
             world,
-            events: Vec::new(alloc),
+            events: Events::new(alloc),
             tape: Tape::new(alloc),
             marks: Vec::new(alloc),
         }
     }
 
-    /// Puts an event behind those that stand, in place of those that had been undone. Gives its outcome, and how many were
+    /// Puts an event after those that stand, in place of those that had been undone. Returns its outcome and how many were
     /// cut. Where it is refused, or there is no memory, nothing changes.
     pub fn extend(&mut self, event: &Event) -> Result<(Outcome, usize), Refusal>
         ensures refused { IfErr result (λ why. (w : Pair) × (reached self.old ≡ Some w) × IsEventRefusal w event.now why) }
@@ -180,14 +164,13 @@ impl<A: Allocator + Copy> History<A> {
         let mark = self.tape.len();
         match self.world.apply_on(event, &mut self.tape) {
             Err(refusal) => Err(refusal),
-            Ok(outcome) => {
-                if make_room(&mut self.events, &mut self.marks).is_err() {
+            Ok(outcome) => match put(&mut self.events, &mut self.marks, event, mark) {
+                Ok(dropped) => Ok((outcome, dropped)),
+                Err(NoMemory) => {
                     undo_to(&mut self.world, &mut self.tape, mark);
-                    return Err(Refusal::NoMemory);
+                    Err(Refusal::NoMemory)
                 }
-                let dropped = put(&mut self.events, &mut self.marks, *event, mark);
-                Ok((outcome, dropped))
-            }
+            },
         }
     }
 
@@ -197,7 +180,7 @@ impl<A: Allocator + Copy> History<A> {
         ensures history { OnOk result (self.new ≡ standing_at self.old (self.old.cursor + 1)) }
         ensures unchanged { OnErr result (self.new ≡ self.old) }
     {
-        let event = self.events[self.cursor()];
+        let event = self.events.get(self.cursor());
         let mark = self.tape.len();
         self.marks.reserve(1)?;
         match self.world.apply_on(&event, &mut self.tape) {
@@ -246,7 +229,7 @@ impl<A: Allocator + Copy> History<A> {
         let mark = mark_of(&self.tape, &self.marks, place);
         let count = self.tape.len() - mark;
         // Room for all that is redone is made before anything is taken back.
-        let mut undone = Change::with_room(*self.events.allocator(), count)?;
+        let mut undone = Change::with_room(*self.marks.allocator(), count)?;
         self.tape.reserve(count)?;
         set_aside_to(&mut self.world, &mut self.tape, mark, &mut undone);
         let sight = Sight {
@@ -300,7 +283,7 @@ impl<A: Allocator + Copy> History<A> {
         Ok(seen)
     }
 
-    /// Its first events, so many as `count`, of which the first `standing` stand, in memory of their own. It copies one world, and
+    /// Its first `count` events, of which the first `standing` stand, in memory of their own. It copies one world, and
     /// of the tape what those that stand changed. By the rest of the tape, which stays as it is, the copied world is taken back.
     fn copy_front(&self, count: usize, standing: usize) -> Result<History<A>, NoMemory>
         requires within { count ≤ length self.now.events }
@@ -308,9 +291,9 @@ impl<A: Allocator + Copy> History<A> {
         requires enough { standing ≤ count }
         ensures history { IfOk result (λ copied. copied ≡ standing_at (first_of self.now count) standing) }
     {
-        let alloc = *self.events.allocator();
+        let alloc = *self.marks.allocator();
         let mark = mark_of(&self.tape, &self.marks, standing);
-        let events = Vec::from_slice(alloc, &self.events[..count])?;
+        let events = self.events.first(alloc, count)?;
         let marks = Vec::from_slice(alloc, &self.marks[..standing])?;
         let tape = self.tape.copy_below(alloc, mark)?;
         let mut world = self.world.copy()?;
@@ -334,7 +317,7 @@ impl<A: Allocator + Copy> History<A> {
         Ok(first)
     }
 
-    /// Puts an event behind those that stand, unless it is refused, and tells which.
+    /// Puts an event after those that stand, unless it is refused, and returns which of the two.
     fn sift(&mut self, event: &Event) -> Result<bool, NoMemory>
         ensures { IfOk result (λ kept. Sifts self.old event.now self.new kept) }
     {
@@ -361,12 +344,12 @@ impl<A: Allocator + Copy> History<A> {
             × IsStop most (runs_to_try (sought goal.now depth choices.now most) w) why) }
         ensures unchanged { self.new ≡ self.old }
     {
-        let alloc = *self.events.allocator();
+        let alloc = *self.marks.allocator();
         search_shortest(alloc, &mut self.world, choices, depth, goal, most)
     }
 
     /// What would have happened without the event at the place, counted from 1, in memory of its own; of the events that
-    /// stand here those stand that are left. Gives the places of the events that are refused then, too.
+    /// stand here those stand that are left. Returns the places of the events that are refused then, too.
     ///
     /// The pair is copied, since only memory brings back what was taken back: this history has to be whole until the last
     /// event is judged.
@@ -380,10 +363,10 @@ impl<A: Allocator + Copy> History<A> {
         self.known();
         let cursor = self.cursor();
         let mut rest = self.first(place - 1)?;
-        let mut fallen = Vec::new(*self.events.allocator());
+        let mut fallen = Vec::new(*self.marks.allocator());
         let mut standing = cursor.min(place - 1);
         for index in place..self.events.len() {
-            if !rest.sift(&self.events[index])? {
+            if !rest.sift(&self.events.get(index))? {
                 fallen.reserve(1)?;
                 fallen.push(index + 1).unwrap();
             } else if index < cursor {

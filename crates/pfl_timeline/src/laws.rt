@@ -38,7 +38,7 @@ pub fn commands_leave_others()
     ensures { CommandsLeaveOthers }
 {}
 
-/// No reply tells want of memory, which is answered in place of a reply.
+/// No reply reports want of memory, which is returned in place of a reply.
 pub fn no_reply_tells_want_of_memory()
     ensures { NoReplyTellsWantOfMemory }
 {}
@@ -49,7 +49,7 @@ pub fn steps_are_runs()
 {}
 
 /// An excision leaves what the list without the event gives: each event that is refused then falls out, and where none is
-/// refused, none falls out. Those stand that stood. The reply tells the places of those that fall out, in the list as it was.
+/// refused, none falls out. Those stand that stood. The reply lists the places of those that fall out, in the list as it was.
 /// A restoration takes it back.
 pub fn excisions_are_runs_without_the_event()
     ensures runs { ExcisionsAreRunsWithout }

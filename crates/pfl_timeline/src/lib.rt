@@ -19,8 +19,8 @@ pub use laws::{
 };
 pub use look::{Look, NotSeen, Sight};
 pub use pfl_reasons::{
-    Against, BadRecord, Expiry, Explained, FrameStep, InFlight, Judged, PacketReason, RecordFate,
-    TakenRecord,
+    Against, BadRecord, Events, Expiry, Explained, FrameStep, InFlight, Judged, PacketReason,
+    RecordFate, TakenRecord,
 };
 pub use pfl_search::{Counters, Node, World, WorldFault};
 pub use reply::{Explanation, FrameTrace, Reply};

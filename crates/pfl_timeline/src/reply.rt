@@ -13,7 +13,7 @@ use std::alloc::{AllocError, Allocator};
 use std::sync::Arc;
 
 /// What comes of an event of a branch, and why: the branch's name, the event and its place, counted from 1, its outcome or its
-/// refusal, and the reason for that. Clauses say by `explanation_of` what it tells.
+/// refusal, and the reason for that. Clauses say by `explanation_of` what it contains.
 #[derive(Drop)]
 pub struct Explanation<A: Allocator> {
     pub name: BranchWord,
@@ -50,7 +50,7 @@ impl<A: Allocator + Copy> Explanation<A> {
 }
 
 /// A frame that an event of a branch sent: the branch's name, the frame's ticket, the event that sent it, the frame as it was sent,
-/// and the events that befell it. Clauses say by `trace_of` what it tells.
+/// and the events that befell it. Clauses say by `trace_of` what it contains.
 #[derive(Drop)]
 pub struct FrameTrace<A: Allocator> {
     pub name: BranchWord,
@@ -87,16 +87,16 @@ impl<A: Allocator + Copy> FrameTrace<A> {
     }
 }
 
-/// The reply to a command. Clauses say by `reply_of` what it tells. The world that one shows can have several owners, so that who keeps
+/// The reply to a command. Clauses say by `reply_of` what it contains. The world that one shows can have several owners, so that who keeps
 /// a reply and who reads it need one copy; an explanation and the trace of a frame are in a box. So the others are small.
 #[derive(Drop)]
 pub enum Reply<A: Allocator> {
-    /// The event happened, and so many events that had been undone were cut.
+    /// The event happened, and this many events that had been undone were cut.
     Stepped {
         outcome: Outcome,
         dropped: usize,
     },
-    /// So many events of the branch stand.
+    /// This many events of the branch stand.
     At(usize),
     /// The branch is made.
     Forked,
@@ -113,7 +113,7 @@ pub enum Reply<A: Allocator> {
     Names(Vec<BranchWord, A>),
     /// The event is taken out, and with it the events that were at these places, since they are refused without it.
     Excised(Vec<usize, A>),
-    /// The branch is as it was before its newest excision, and so many of its events stand.
+    /// The branch is as it was before its newest excision, and this many of its events stand.
     Restored(usize),
     /// The branch: its name, all its events in order, and how many of them stand.
     Logged {

@@ -34,7 +34,7 @@ pub struct Timeline<A: Allocator> {
     branches: Branches<A>,
 }
 
-// Not derived: to a proof a written drop is one call, where a derived one is opened again on every way out.
+// Written by hand: see docs/ARCHITECTURE.md, "What the prover asks of the code".
 impl<A: Allocator> Drop for Timeline<A> {
     fn drop(self) {
         let Timeline { branches: _ } = self;
@@ -125,7 +125,7 @@ impl<A: Allocator> Timeline<A> {
         }
     }
 
-    /// Tells a proof what is true of each timeline. It does nothing.
+    /// States for proofs what is true of each timeline. It does nothing.
     pub fn known(&self)
         ensures timeline { IsTimeline self.now }
     {
@@ -185,7 +185,7 @@ impl<A: Allocator + Copy> Timeline<A> {
         Ok(Timeline { branches })
     }
 
-    /// Puts an event behind those before the branch's cursor.
+    /// Puts an event after those before the branch's cursor.
     fn step(&mut self, name: &BranchWord, event: &Event) -> Result<Reply<A>, NoMemory>
         ensures step { IfOk result (λ reply. step_command self.old name.now event.now ≡ replied self.new (reply_of reply)) }
         ensures memory { OnErr result (IsAccepted (step_command self.old name.now event.now)) }
@@ -202,7 +202,7 @@ impl<A: Allocator + Copy> Timeline<A> {
         }
     }
 
-    /// Lets the next `n` events behind the branch's cursor happen again.
+    /// Lets the next `n` events after the branch's cursor happen again.
     fn forward(&mut self, name: &BranchWord, n: u32) -> Result<Reply<A>, NoMemory>
         ensures step { IfOk result (λ reply. forward_command self.old name.now n ≡ replied self.new (reply_of reply)) }
         ensures memory { OnErr result (IsAccepted (forward_command self.old name.now n)) }
@@ -249,7 +249,7 @@ impl<A: Allocator + Copy> Timeline<A> {
         }
     }
 
-    /// Makes a branch of the first `place` events of another one, behind all branches.
+    /// Makes a branch of the first `place` events of another one, after all branches.
     fn fork(
         &mut self,
         from: &BranchWord,
@@ -389,7 +389,7 @@ impl<A: Allocator + Copy> Timeline<A> {
         traced
     }
 
-    /// The branch's events, those behind the cursor too, in memory of their own, and its cursor. No pair is copied.
+    /// The branch's events, those after the cursor too, in memory of their own, and its cursor. No pair is copied.
     fn log(&self, name: &BranchWord) -> Result<Reply<A>, NoMemory>
         ensures step { IfOk result (λ reply. log_command self.now name.now ≡ replied self.now (reply_of reply)) }
         ensures memory { OnErr result (IsAccepted (log_command self.now name.now)) }
@@ -398,7 +398,7 @@ impl<A: Allocator + Copy> Timeline<A> {
             return Ok(Reply::Refused(Refused::NoBranch));
         };
         let alloc = *self.branches.allocator();
-        let events = Vec::from_slice(alloc, branch.events())?;
+        let events = branch.events().to_vec(alloc)?;
         Ok(Reply::Logged {
             name: *branch.name(),
             events,

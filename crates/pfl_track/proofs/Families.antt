@@ -109,7 +109,7 @@ flow-family p Outbound h = turned p.src.addr p.dst.addr h
 pub packet-keys : (p : PacketFields) (dir : Dir) (nat : Option End) → same_family p.src.addr p.dst.addr ≡ true → are_keys (wire_key (key p dir) nat) (key p dir) ≡ fits_family (key p dir) nat
 packet-keys p dir nat h = wire-keys (key p dir) nat (flow-family p dir h)
 
--- what the test of a packet's keys answers
+-- what the test of a packet's keys returns
 pub packet-pair : (p : PacketFields) (dir : Dir) (nat : Option End) (stack wire : Key) (answer : Option KeyFields) → same_family p.src.addr p.dst.addr ≡ true → stack ≡ key p dir → wire ≡ wire_key stack nat → answer ≡ pair_if (are_keys wire stack) wire stack → answer ≡ pair_if (fits_family (key p dir) nat) (wire_key (key p dir) nat) (key p dir)
 packet-pair p dir nat stack wire answer h at_stack at_wire e =
     e ∙ (ap (λ w. pair_if (are_keys w stack) w stack) at_wire ∙ (ap (λ s. pair_if (are_keys (wire_key s nat) s) (wire_key s nat) s) at_stack ∙ ap (λ b. pair_if b (wire_key (key p dir) nat) (key p dir)) (packet-keys p dir nat h)))

@@ -1,5 +1,5 @@
 -- What packets move of states: the name, the keys, the direction, the rule and `no_sync` stay, and so does what the peer does to a
--- state (pf.c; that it is told apart is this project's profile).
+-- state (pf.c; that it is kept apart is this project's profile).
 use Rattle.pfl_track.specs.declared.motion.Motion.{Motion}
 use Rattle.pfl_track.specs.declared.state.State.{State}
 

@@ -11,7 +11,7 @@ use crate::state::{State, StateFields};
 use crate::window::end_of;
 use pfl_base::{Dir, Millis, Packet, Proto, StateName};
 
-/// The state that a packet makes (pf.c): it went this way, by the rule of this number; the peer is told of the state
+/// The state that a packet makes (pf.c): it went this way, by the rule of this number; the state is announced to the peer
 /// unless `no_sync`. The time is in milliseconds.
 pub fn start_state(
     name: StateName,

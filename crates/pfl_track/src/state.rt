@@ -30,7 +30,7 @@ pub struct StateFields {
     pub last: Millis,
     /// The number of the rule that made it, where this node has that rule.
     pub rule: Option<u16>,
-    /// Whether the peer is never told of it.
+    /// Whether it is never announced to the peer.
     pub no_sync: bool,
     /// Whether a packet is held until the peer acknowledges it.
     pub ack_wanted: bool,
@@ -130,7 +130,7 @@ impl State {
         State { kept }
     }
 
-    /// Gives a proof what each state keeps. It does nothing.
+    /// States for proofs what each state keeps. It does nothing.
     pub fn known(&self)
         ensures { IsState self.now }
     {
@@ -267,7 +267,7 @@ impl State {
         self.kept.rule
     }
 
-    /// Whether the peer is never told of it.
+    /// Whether it is never announced to the peer.
     pub fn no_sync(&self) -> bool
         ensures { result ≡ self.now.no_sync }
     {

@@ -249,7 +249,7 @@ group_more {A = A} gs i g ms lt is e =
     ap lists (take_more gs i g lt ∙ ap (λ (h : Vec Message A). take i gs ++ h ∷ []) (sym is)) ∙ map_push (λ (h : Vec Message A). h.items) (take i gs) g
     ∙ ap (λ (ns : List Message). lists (take i gs) ++ ns ∷ []) (sym e)
 
--- what decoding answers where reading meets a fault
+-- what decoding returns where reading meets a fault
 pub fault_decodes : {Y : Type 0} (view : Y → Frame) (e : BadFrame) (read : Result Frame BadFrame) → read ≡ Err e → Decodes view (Err (frame_fault e)) read
 fault_decodes view bad.Short read is = is
 fault_decodes view bad.Version read is = is
@@ -258,12 +258,12 @@ fault_decodes view bad.Action read is = is
 fault_decodes view bad.Count read is = is
 fault_decodes view bad.Value read is = is
 
--- what decoding answers is spelled by the bytes
+-- what decoding returns is spelled by the bytes
 pub decodes_found : {Y : Type 0} (view : Y → Frame) (r : Result Y FrameFault) (bytes : List ℕ) → IsBytes bytes → Decodes view r (reading bytes) → IfOk r (λ y. Spells bytes (view y))
 decodes_found view (Ok y) bytes fits given = reading_takes bytes (view y) fits given
 decodes_found view (Err e) bytes fits given = tt
 
--- what is spelled is what decoding answers, or memory is wanting
+-- what is spelled is what decoding returns, or memory is wanting
 pub decodes_only : {Y : Type 0} (view : Y → Frame) (r : Result Y FrameFault) (bytes : List ℕ) (f : Frame) → Spells bytes f → Decodes view r (reading bytes) → Decodes view r (Ok f)
 decodes_only view r bytes f spells given = subst (λ (read : Result Frame BadFrame). Decodes view r read) (ap reading spells.spelled ∙ reading_again f spells.is_frame) given
 

@@ -41,7 +41,7 @@ no_fault (Err f) e is ok = cc
 
 -- ---- the groups that are left
 
--- the first group, and those behind it, for which the bytes that are left are fuel enough
+-- the first group, and those after it, for which the bytes that are left are fuel enough
 groups_in_more : (b : ℕ) (bytes : List ℕ) → IsBytes (b ∷ bytes)
     → groups_in (b ∷ bytes) ≡ (group_at (b ∷ bytes) >>= λ first. groups_in first.1 >>= λ rest. Ok (first.0 ∷ rest))
 unfolding groups_in groups_at
@@ -67,7 +67,7 @@ unfolding groups_in groups_at
 left_end group [] none at_end = left_between group [] none
 left_end group (b ∷ bytes) none at_end = absurd (omega arith)
 
--- the next group's records, and those behind it
+-- the next group's records, and those after it
 group_left : (group : List Message × List ℕ) → ((groups_in group.1 >>= λ rest. Ok (group.0 ∷ rest)) >>= λ groups. Ok (all_of groups)) ≡ (groups_in group.1 >>= λ rest. Ok (group.0 ++ all_of rest))
 group_left group =
     then_then (groups_in group.1) (λ rest. Ok (group.0 ∷ rest)) (λ groups. Ok (all_of groups))
@@ -103,18 +103,18 @@ group_stands group bytes e none more fits is ok =
 abbrev pub behind : Subheader → Subheader
 behind group = record { action = group.action; count = group.count - 1 }
 
--- the records of a group, and those of the groups behind it
+-- the records of a group, and those of the groups after it
 abbrev with_groups : List Message × List ℕ → Result (List Message) BadFrame
 with_groups records = groups_in records.1 >>= λ groups. Ok (records.0 ++ all_of groups)
 
--- a record, and those behind it in its group
+-- a record, and those after it in its group
 abbrev with_first : Message → List Message × List ℕ → Read (List Message)
 with_first m rest = Ok (m ∷ rest.0, rest.1)
 
 abbrev with_records : Action → ℕ → Message × List ℕ → Read (List Message)
 with_records a n first = records_at a n first.1 >>= with_first first.0
 
--- a record, and all that is left behind it
+-- a record, and all that is left after it
 abbrev with_left : Subheader → Message × List ℕ → Result (List Message) BadFrame
 with_left group first = led_by first.0 (left_at group first.1)
 

@@ -146,7 +146,7 @@ found_passes p (y ∷ xs) x e = elim (chosen (p y) (Some y) (find p xs) (Some x)
   | inr h ↦ found_passes p xs x h.1
 ]
 
--- the value behind an option that was there
+-- the value after an option that was there
 pub ok_or_ok : {A : Type 0} (o : Option A) (f : BadFrame) (x : A) → ok_or o f ≡ Ok x → o ≡ Some x
 ok_or_ok (Some y) f x e = cc
 ok_or_ok None f x e = absurd cc

@@ -1,4 +1,4 @@
--- What decoding answers, and its parts (this project's profile).
+-- What decoding returns, and its parts (this project's profile).
 use Rattle.std.specs.Prelude.{◌≡◌, IsOk, Result, Ok, Err}
 use Rattle.pfl_wire.specs.declared.fault.BadFrame.{BadFrame}
 use Rattle.pfl_wire.specs.declared.fault.BadFrame.TheVariants as bad
@@ -6,7 +6,7 @@ use Rattle.pfl_wire.specs.declared.fault.FrameFault.{FrameFault}
 use Rattle.pfl_wire.specs.declared.fault.FrameFault.TheVariants as fault
 use Rattle.pfl_wire.specs.Frames.{Frame}
 
--- what decoding answers: the frame; want of memory, and only where there is a frame; or the first fault
+-- what decoding returns: the frame; want of memory, and only where there is a frame; or the first fault
 abbrev pub Decodes : {Y : Type 0} → (Y → Frame) → Result Y FrameFault → Result Frame BadFrame → Type 0
 Decodes view (Ok y) read = read ≡ Ok (view y)
 Decodes view (Err fault.NoMemory) read = IsOk read

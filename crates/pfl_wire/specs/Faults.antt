@@ -5,7 +5,7 @@ use Rattle.pfl_wire.specs.declared.fault.BadFrame.TheVariants as bad
 use Rattle.pfl_wire.specs.declared.fault.FrameFault.{FrameFault}
 use Rattle.pfl_wire.specs.declared.fault.FrameFault.TheVariants as fault
 
--- a fault of the bytes, as decoding answers it
+-- a fault of the bytes, as decoding returns it
 abbrev pub frame_fault : BadFrame → FrameFault
 frame_fault bad.Short = fault.Short
 frame_fault bad.Version = fault.Version

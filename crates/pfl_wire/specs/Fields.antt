@@ -70,7 +70,7 @@ peer_at bytes = do
   hi ← number_at 4 lo.1
   Ok (record { level = level.0; scale = scale_is; window = window.0; lo = lo.0; hi = hi.0 }, hi.1)
 
--- an address of IPv4, behind which twelve bytes are 0, or of IPv6
+-- an address of IPv4, after which twelve bytes are 0, or of IPv6
 unfoldable pub address_at : Bool → List ℕ → Read Addr
 address_at true bytes = do
   a ← number_at 4 bytes

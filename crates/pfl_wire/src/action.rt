@@ -13,13 +13,13 @@ pub enum Action {
     InsertAck = 2,
     /// UPD: a state changed.
     Update = 3,
-    /// UPD_C: a state changed, told by what changes of it.
+    /// UPD_C: a state changed, announced by what changes of it.
     UpdateShort = 4,
     /// UPD_REQ: a whole state is asked for.
     UpdateRequest = 5,
     /// DEL: a state went.
     Delete = 6,
-    /// DEL_C: a state went, told by its name.
+    /// DEL_C: a state went, announced by its name.
     DeleteShort = 7,
     /// BUS: a bulk update begins or ends.
     Bulk = 10,

@@ -19,7 +19,7 @@ pub enum BadFrame {
     /// A group counts no record, or more records than bytes are left for.
     Count,
     /// A pad byte is not 0; a family, a direction or a status is not listed; flags are above 1, a level above 10, a
-    /// class above 13, or a scale above 14 and not 255; or bytes behind an IPv4 address are not 0.
+    /// class above 13, or a scale above 14 and not 255; or bytes after an IPv4 address are not 0.
     Value,
 }
 

@@ -157,7 +157,7 @@ fn group_with_more(group: Subheader, bytes: &[u8]) -> Option<(Subheader, &[u8])>
     }
 }
 
-/// The first record of a group that has one left, and what is left behind it.
+/// The first record of a group that has one left, and what is left after it.
 fn first_of(group: Subheader, bytes: &[u8]) -> (Message, Subheader, &[u8])
     requires more { 0 < group.count }
     requires readable { IsOk (left_at group bytes.now) }

@@ -49,7 +49,7 @@
 //! | 116 | 4 | remaining seconds |
 //! | 120 | 4 | rule, 4294967295 for none |
 //!
-//! [`decode`] answers the frame that bytes spell or the first [`FrameFault`] in reading order, and [`encode`] spells a
+//! [`decode`] returns the frame that bytes spell or the first [`FrameFault`] in reading order, and [`encode`] spells a
 //! frame. A frame has one spelling, which is read again as that frame. [`FrameBytes`] is a frame in its bytes, whose records
 //! are read without memory.
 #![tactic(auto)]

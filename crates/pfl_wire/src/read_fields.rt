@@ -1,4 +1,4 @@
-//! The fields of records, read from the front of bytes. A reader answers its value and the bytes behind it; its fault
+//! The fields of records, read from the front of bytes. A reader returns its value and the bytes after it; its fault
 //! is [`BadFrame::Value`], also where bytes are missing.
 
 ghost use Rattle.std.specs.Prelude.{◌≡◌, true, false, ◌==◌, IfOk};

@@ -139,7 +139,7 @@ fn decoded<A: Allocator + Copy>(alloc: A, bytes: &[u8]) -> Result<Frame<A>, Fram
     }
 }
 
-/// The frame that the bytes spell, or the first fault in reading order; want of memory is answered only where the bytes
+/// The frame that the bytes spell, or the first fault in reading order; want of memory is returned only where the bytes
 /// are a frame.
 pub fn decode<A: Allocator + Copy>(alloc: A, bytes: &[u8]) -> Result<Frame<A>, FrameFault>
     // What is read is spelled so.

@@ -1,4 +1,4 @@
-//! The fields of records, written at the end of bytes. A writer that has written also tells what the types of its fields
+//! The fields of records, written at the end of bytes. A writer that has written also states what the types of its fields
 //! keep.
 
 ghost use Rattle.std.specs.Prelude.{◌≡◌, ◌<◌, ◌^◌, [], ◌∷◌, ◌++◌, OnOk};

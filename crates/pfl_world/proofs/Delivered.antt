@@ -2,7 +2,6 @@
 use Rattle.std.specs.Prelude.{◌≡◌, ◌≤◌, ◌+◌, ◌*◌, length, ℕ, List, Option, Some, None, is_some, IsTrue, Result, Ok, Err, refl, cond}
 use Rattle.std.specs.Option.{option_map_or}
 use Rattle.std.proofs.Common.{◌∙◌, ap, sym, subst, arith}
-use Rattle.std.proofs.lemmas.List.{length-map}
 use Rattle.pfl_base.specs.declared.node_id.NodeId.{NodeId}
 use Rattle.pfl_base.specs.declared.node_id.NodeId.TheVariants.{A, B}
 use Rattle.pfl_base.specs.declared.refusal.Refusal.{Refusal}
@@ -12,17 +11,13 @@ use Rattle.pfl_wire.specs.declared.fault.BadFrame.{BadFrame}
 use Rattle.pfl_wire.specs.Frames.{Frame}
 use Rattle.pfl_wire.specs.Reading.{reading}
 use Rattle.pfl_language.specs.declared.outcome.Outcome.{Outcome}
-use Rattle.pfl_node.specs.desk.declared.edit.NodeEdit.{NodeEdit}
 use Rattle.pfl_node.specs.desk.Nodes.{Node, IsRefusal, points_refusal, unless_refused}
 use Rattle.pfl_node.specs.Weights.{edits_for}
 use Rattle.pfl_link.specs.declared.fault.LinkFault.{LinkFault}
 use Rattle.pfl_link.specs.declared.fault.LinkFault.TheVariants as link_fault
 use Rattle.pfl_link.specs.Faults.{missing_fault}
 use Rattle.pfl_link.specs.Links.{Link, InFlight}
-use Rattle.pfl_world.specs.declared.edit.WorldEdit.{WorldEdit}
-use Rattle.pfl_world.specs.declared.edit.WorldEdit.TheVariants.{OfNode}
 use Rattle.pfl_world.specs.inner.Delivering.{arrived, arrival}
-use Rattle.pfl_world.specs.inner.WorldEdits.{of_node}
 use Rattle.pfl_world.specs.Delivering.{read_taken, deliver_step, frame_points, read_work, deliver_work}
 use Rattle.pfl_world.specs.Events.{IsRefusalOf}
 use Rattle.pfl_world.specs.Meanings.{Stepped}
@@ -134,16 +129,10 @@ module _ {w : World} {ticket : ℕ} {to : NodeId} {bytes : List ℕ} {was : Node
         wanted_memory (deliver_step old ticket) _ r (deliver_accepted mid (without_ticket mid ticket) n (arrival (reading bytes)) none is refl made refl) wants
 
     -- one edit more than those of the receiver
-    pub deliver_few : (few most : ℕ) → few ≤ 11 + 12 * read_work was (reading bytes) → most ≡ few + 1 → most ≤ edits_for (deliver_work old ticket)
-    deliver_few few most least one =
+    pub deliver_few : (few before mid after : ℕ) → few ≤ 11 + 12 * read_work was (reading bytes) → mid ≤ before + few → after ≡ mid + 1 → after ≤ before + edits_for (deliver_work old ticket)
+    deliver_few few before mid after least most one =
         let work : deliver_work old ticket ≡ read_work was (reading bytes) = subst (λ (v : World). deliver_work v ticket ≡ read_work was (reading bytes)) view work_here in
-        omega (arith, least, one, work)
-
--- the receiver's edits are as many at the pair
-pub lifted_few : {M : Type 0} (id : NodeId) (es : List NodeEdit) (edits : List (WorldEdit M)) (n : ℕ) → edits ≡ of_node id es → length es ≤ n → length edits ≤ n
-lifted_few {M = M} id es edits n list few =
-    let same : length (of_node {M = M} id es) ≡ length es = length-map es (OfNode id) in
-    omega (arith, ap length list, same, few)
+        omega (arith, least, most, one, work)
 
 -- ---- the frame leaves the link
 

@@ -12,10 +12,9 @@ use Rattle.pfl_node.specs.desk.declared.edit.NodeEdit.TheVariants.{OfState, Move
 use Rattle.pfl_node.specs.desk.Edits as nodes
 use Rattle.pfl_node.specs.desk.Edits.{NodeLeadsBack}
 use Rattle.pfl_node.specs.desk.Nodes.{Node, IsNode}
-use Rattle.pfl_world.specs.declared.edit.WorldEdit.{WorldEdit}
 use Rattle.pfl_world.specs.declared.edit.WorldEdit.TheVariants.{OfNode}
 use Rattle.pfl_world.specs.WorldEdits.{Finds, put_back, WorldLeadsBack}
-use Rattle.pfl_world.specs.inner.WorldEdits.{of_node}
+use Rattle.pfl_world.specs.inner.WorldEdits.{of_node, before_node}
 use Rattle.pfl_world.specs.Worlds.{World, IsWorld, PartsAgree, node_at, with_node}
 
 -- no edit changes limits
@@ -63,7 +62,7 @@ world_with w is A n at same = record { a = at; b = is.b; link = is.link; parts =
 world_with w is B n at same = record { a = is.a; b = at; link = is.link; parts = agrees_with w is.parts B n same }
 
 -- what leads a node of a world back leads the world back
-pub lifted : {M : Type 0} (w : World) → IsWorld w → (id : NodeId) (es : List NodeEdit) → Fits nodes.Finds IsNode nodes.put_back es (node_at w id) → WorldLeadsBack {M = M} (of_node id es) (with_node w id (back nodes.put_back es (node_at w id))) w
+pub lifted : {M : Type 0} (w : World) → IsWorld w → (id : NodeId) (es : List NodeEdit) → Fits nodes.Finds IsNode nodes.put_back es (node_at w id) → WorldLeadsBack {M = M} (of_node id es) (before_node w id es) w
 lifted w is A es f =
     LeadsBack-embedded nodes.Finds (HasLimits w.a.limits) nodes.put_back Finds IsWorld put_back (OfNode A) (with_node w A)
     (λ e s h. h) (λ s h. world_with w is A s h.0 h.1) (λ e s. refl) es (back nodes.put_back es w.a) w.a (record { fits = fits_limits es w.a f; back = refl })
@@ -94,7 +93,7 @@ module _ (w : World) (id : NodeId) {was n : Node} (at : was ≡ node_at w id) {e
   fits_after = subst (Fits nodes.Finds IsNode nodes.put_back es) (sym (node_at-with w id n)) l.fits
 
   -- taken back there, they give the world from before the event
-  pub back_after : with_node after id (back nodes.put_back es (node_at after id)) ≡ w
+  pub back_after : before_node after id es ≡ w
   back_after =
       ap (λ (m : Node). with_node after id (back nodes.put_back es m)) (node_at-with w id n)
       ∙ ap (with_node after id) (l.back ∙ at)
@@ -110,12 +109,6 @@ module _ (w : World) (id : NodeId) {was n : Node} (at : was ≡ node_at w id) {e
       made
       ∙ ap (with_node w id) (is ∙ ap event at)
       ∙ ap (λ (v : World). with_node v id (event (node_at v id))) view
-
-  -- what leads back at the pair, from before the event
-  pub leads_from : {M : Type 0} (edits : List (WorldEdit M)) (old new : World) → w ≡ old → new ≡ after → WorldLeadsBack edits (with_node after id (back nodes.put_back es (node_at after id))) after → WorldLeadsBack edits old new
-  leads_from edits old new view made leads =
-      subst (λ (v : World). WorldLeadsBack edits v new) (back_after ∙ view)
-      (subst (λ (v : World). WorldLeadsBack edits (with_node after id (back nodes.put_back es (node_at after id))) v) (sym made) leads)
 
 -- what is so where a call did not fail
 pub where_ok : {T E P : Type 0} (r : Result T E) → is_err r ≡ false → OnOk r P → P

@@ -15,6 +15,6 @@ pub mod Redoing
 pub mod Ranges
 pub mod LimitFaults
 pub mod Little
+pub mod Recording
 pub mod OnTapes
-pub mod OneRecord
 pub mod ForCallers

@@ -1,23 +1,19 @@
 -- Each edit of the pair holds little, but for those of a restart.
-use Rattle.std.specs.Prelude.{◌≡◌, ℕ, true, List, [], ◌∷◌, ◌++◌, Option, Some, None, Result, Ok, Err, IfOk, refl}
+use Rattle.std.specs.Prelude.{◌≡◌, ℕ, true, List, [], ◌∷◌, ◌++◌, Option, Some, None, refl}
 use Rattle.std.specs.List.{AllByRecursion}
-use Rattle.std.proofs.Common.{sym, subst}
 use Rattle.pfl_base.specs.declared.node_id.NodeId.{NodeId}
 use Rattle.pfl_node.specs.queue.declared.Mark.{Mark}
 use Rattle.pfl_node.specs.queue.declared.edits.QueueEdit.TheVariants.{OfMark, OfName, OfRequest, OfStatus, OfClear}
 use Rattle.pfl_node.specs.defer.Edits as deferrals
-use Rattle.pfl_language.specs.declared.event.Event.{Event}
 use Rattle.pfl_node.specs.desk.declared.edit.NodeEdit.TheVariants.{OfState, Moved, OfQueue, OfHeld, Server, Client, Clock, NextId, Push, Count}
-use Rattle.pfl_edits.specs.Changes.{Edits}
 use Rattle.pfl_node.specs.desk.declared.edit.NodeEdit.{NodeEdit}
 use Rattle.pfl_link.specs.LinkEdits.{LinkEdit}
 use Rattle.pfl_link.specs.declared.change.LinkChange.{LinkChange}
 use Rattle.pfl_link.specs.declared.change.LinkChange.TheVariants.{Sent, Taken, Cut}
 use Rattle.pfl_link.specs.Links.{InFlight}
-use Rattle.pfl_world.specs.declared.edit.WorldEdit.{WorldEdit}
 use Rattle.pfl_world.specs.declared.edit.WorldEdit.TheVariants.{OfNode, OfLink}
 use Rattle.pfl_world.specs.inner.WorldEdits as edits
-use Rattle.pfl_world.specs.Values.{Thing, AState, AMark, ARequest, AStatus, AClear, APacket, ANumber, Values, things, link_values, is_part, is_small, HoldsLittle, MayHold}
+use Rattle.pfl_world.specs.Values.{Thing, AState, AMark, ARequest, AStatus, AClear, APacket, ANumber, Values, things, link_values, is_part, is_small, HoldsLittle}
 
 few : {X : Type 0} (thing : X → Thing) → ((x : X) → is_part (thing x) ≡ true) → (x : Option X) → is_small (things thing x) ≡ true
 few thing part None = refl
@@ -59,20 +55,3 @@ of_link-little e = let l = of_link e.change e.ticket e.frame in record { former 
 pub node_edits-little : (M : Type 0) (id : NodeId) (es : List NodeEdit) → AllByRecursion HoldsLittle (edits.of_node {M = M} id es)
 node_edits-little M id [] = tt
 node_edits-little M id (e ∷ es) = (of_node-little id e, node_edits-little M id es)
-
--- what is recorded behind others
-behind : {M : Type 0} (es : List (WorldEdit M)) (e : LinkEdit) → AllByRecursion HoldsLittle es → AllByRecursion HoldsLittle (es ++ OfLink e ∷ [])
-behind [] e are = (of_link-little e, tt)
-behind (f ∷ es) e are = (are.0, behind es e are.1)
-
-pub and_link : {M : Type 0} (es more : List (WorldEdit M)) (e : LinkEdit) → more ≡ es ++ OfLink e ∷ [] → AllByRecursion HoldsLittle es → AllByRecursion HoldsLittle more
-and_link {M = M} es more e list are = subst (λ (fs : List (WorldEdit M)). AllByRecursion HoldsLittle fs) (sym list) (behind es e are)
-
--- an event that is no restart
-all_may : {M : Type 0} (e f : Event) → e ≡ f → ((x : WorldEdit M) → HoldsLittle x → MayHold f x) → (es : List (WorldEdit M)) → AllByRecursion HoldsLittle es → AllByRecursion (MayHold e) es
-all_may e f is may [] are = tt
-all_may e f is may (x ∷ es) are = (subst (λ (v : Event). MayHold v x) (sym is) (may x are.0), all_may e f is may es are.1)
-
-pub may_hold : {M X E : Type 0} (e f : Event) → e ≡ f → ((x : WorldEdit M) → HoldsLittle x → MayHold f x) → (result : Result (X × Edits (WorldEdit M)) E) → IfOk result (λ r. AllByRecursion HoldsLittle r.1.list) → IfOk result (λ r. AllByRecursion (MayHold e) r.1.list)
-may_hold e f is may (Ok r) are = all_may e f is may r.1.list are
-may_hold e f is may (Err why) are = tt

@@ -240,7 +240,7 @@ reuse_in_place : answers one_pending (connection ++ tcp_out 2 9000 0 1000 ∷ []
 unfolding computing
 reuse_in_place = refl
 
--- a state that was told of is to be told deleted, and the new one finds no room
+-- a state that was announced is to be announced as deleted, and the new one finds no room
 reuse_of_told : answers (final one_pending (connection ++ flush A ∷ [])) (tcp_out 2 9000 0 1000 ∷ []) ≡ Err refusal.QueueFull ∷ []
 unfolding computing
 reuse_of_told = refl

@@ -1,37 +1,28 @@
 -- A flush in words of what the node and the link answer.
-use Rattle.std.specs.Prelude.{◌≡◌, ◌≤◌, ◌+◌, ◌*◌, length, ℕ, Bool, true, false, List, [], ◌∷◌, ◌++◌, Option, Some, None, Result, Ok, Err, IfOk, IfErr, OnOk, refl, cond, if◌then◌else◌}
+use Rattle.std.specs.Prelude.{◌≡◌, ◌≤◌, ◌+◌, ◌*◌, length, ℕ, Bool, true, false, List, [], ◌∷◌, Option, Some, None, Result, Ok, Err, IfOk, IfErr, OnOk, refl, cond, if◌then◌else◌}
 use Rattle.std.proofs.Common.{◌∙◌, ap, sym, subst, arith}
-use Rattle.std.proofs.lemmas.List.{length-map}
 use Rattle.pfl_base.specs.declared.refusal.Refusal.{Refusal}
 use Rattle.pfl_base.specs.declared.refusal.Refusal.TheVariants as refusal
 use Rattle.pfl_base.specs.declared.node_id.NodeId.{NodeId}
 use Rattle.pfl_base.specs.declared.node_id.NodeId.TheVariants.{A, B}
 use Rattle.pfl_base.specs.Nodes.{other_node}
-use Rattle.pfl_edits.specs.Changes.{Edits, back, Fits}
-use Rattle.pfl_edits.proofs.ForCallers.{LeadsBack-push}
 use Rattle.pfl_wire.specs.Spelling.{spelling}
 use Rattle.pfl_language.specs.declared.event.Event.{Event}
 use Rattle.pfl_language.specs.declared.event.Event.TheVariants as event
 use Rattle.pfl_language.specs.declared.limits.Limits.{Limits}
 use Rattle.pfl_language.specs.declared.outcome.Outcome.{Outcome}
 use Rattle.pfl_language.specs.declared.outcome.Outcome.TheVariants as outcome
-use Rattle.pfl_node.specs.desk.declared.edit.NodeEdit.{NodeEdit}
 use Rattle.pfl_node.specs.Flushing.{flushed, frame_of}
 use Rattle.pfl_node.specs.desk.Nodes.{Node, IsRefusal, refused_by, unless_refused}
 use Rattle.pfl_link.specs.declared.fault.LinkFault.{LinkFault}
 use Rattle.pfl_link.specs.declared.fault.LinkFault.TheVariants.{LinkFull, CountFull}
 use Rattle.pfl_link.specs.Faults as links
 use Rattle.pfl_link.specs.Links.{Link, sent}
-use Rattle.pfl_link.specs.LinkEdits.{LinkEdit, LinkLeadsBack}
-use Rattle.pfl_world.specs.declared.edit.WorldEdit.{WorldEdit}
-use Rattle.pfl_world.specs.declared.edit.WorldEdit.TheVariants.{OfNode, OfLink}
 use Rattle.pfl_world.specs.Events.{step, IsRefusalOf}
 use Rattle.pfl_world.specs.Meanings.{Stepped}
 use Rattle.pfl_world.specs.Flushing.{flush_refusal, sent_frame, flush_step, flush_work}
 use Rattle.pfl_world.specs.Weights.{weight}
-use Rattle.pfl_world.specs.WorldEdits.{Finds, put_back, WorldLeadsBack}
-use Rattle.pfl_world.specs.inner.WorldEdits.{of_node}
-use Rattle.pfl_world.specs.Worlds.{World, IsWorld, PartsAgree, node_at, with_node, with_link}
+use Rattle.pfl_world.specs.Worlds.{World, PartsAgree, node_at, with_node, with_link}
 use Rattle.pfl_world.proofs.Stepping.{accepted, refused_as}
 
 -- ---- why no frame goes out
@@ -90,11 +81,11 @@ step_flush w e id is = ap (step w) is
 pub flush_refused : {X : Type 0} (w : World) (e : Event) (id : NodeId) → e ≡ event.Flush id → (result : Result X Refusal) → IfErr result (IsRefusal (flush_refusal w id)) → IfErr result (IsRefusalOf (step w e))
 flush_refused w e id is result r = refused_as (flush_refusal w id) (flushed_to w id) (step w e) (step_flush w e id is) result r
 
-pub flush_accepted : {C : Type 0} (old new : World) (e : Event) (id : NodeId) → e ≡ event.Flush id → (result : Result (Outcome × C) Refusal)
+pub flush_accepted : (old new : World) (e : Event) (id : NodeId) → e ≡ event.Flush id → (result : Result Outcome Refusal)
     → OnOk result (flush_refusal old id ≡ None)
     → OnOk result (new ≡ (flushed_to old id).world)
-    → IfOk result (λ r. r.0 ≡ outcome.Sent old.link.next (length (sent_frame old id).bytes))
-    → IfOk result (λ r. step old e ≡ Ok (record { world = new; outcome = r.0 }))
+    → IfOk result (λ given. given ≡ outcome.Sent old.link.next (length (sent_frame old id).bytes))
+    → IfOk result (λ given. step old e ≡ Ok (record { world = new; outcome = given }))
 flush_accepted old new e id at (Err r) none made is = tt
 flush_accepted old new e id at (Ok r) none made is =
     step_flush old e id at
@@ -103,12 +94,11 @@ flush_accepted old new e id at (Ok r) none made is =
     ∙ ap (λ (a : Outcome). accepted new a) (sym is)
 
 -- two edits for each entry at most, one of the push and one of the link
-pub flush_weight : {M : Type 0} (w : World) (e : Event) (id : NodeId) → e ≡ event.Flush id → (result : Result (Outcome × Edits (WorldEdit M)) Refusal)
-    → IfOk result (λ r. length r.1.list ≤ 2 + 2 * flush_work w id) → IfOk result (λ r. length r.1.list ≤ weight w e)
-flush_weight w e id is (Err r) few = tt
-flush_weight w e id is (Ok r) few =
-    let most : length r.1.list ≤ weight w (event.Flush id) = omega (arith, few) in
-    subst (λ (v : Event). length r.1.list ≤ weight w v) (sym is) most
+pub flush_weight : {T : Type 0} (w : World) (e : Event) (id : NodeId) (before after : ℕ) → e ≡ event.Flush id → (result : Result T Refusal) → OnOk result (after ≤ before + (2 + 2 * flush_work w id)) → OnOk result (after ≤ before + weight w e)
+flush_weight w e id before after is (Err r) few = tt
+flush_weight w e id before after is (Ok x) few =
+    let most : after ≤ before + weight w (event.Flush id) = omega (arith, few) in
+    subst (λ (v : Event). after ≤ before + weight w v) (sym is) most
 
 -- ---- the parts
 
@@ -130,13 +120,12 @@ sent_short w mid is id was n bytes at made short =
     omega (arith, short, node, link)
 
 -- the frame on its way is the node's, to the other node
-pub sent_is : (old mid new : World) (id : NodeId) (n : Node) (to : NodeId) (bytes : List ℕ) → mid ≡ with_node old id n → to ≡ other_node id → bytes ≡ spelling (frame_of (node_at old id))
-    → new ≡ with_link mid (sent mid.link (record { to = to; bytes = bytes })) → new ≡ with_link (with_node old id n) (sent old.link (sent_frame old id))
-sent_is old mid new id n to bytes made at spelt is =
+pub sent_is : (old mid new : World) (id : NodeId) (n : Node) (bytes : List ℕ) → mid ≡ with_node old id n → bytes ≡ spelling (frame_of (node_at old id))
+    → new ≡ with_link mid (sent mid.link (record { to = other_node id; bytes = bytes })) → new ≡ with_link (with_node old id n) (sent old.link (sent_frame old id))
+sent_is old mid new id n bytes made spelt is =
     is
-    ∙ ap (λ (w : World). with_link w (sent w.link (record { to = to; bytes = bytes }))) made
-    ∙ ap (λ (l : Link). with_link (with_node old id n) (sent l (record { to = to; bytes = bytes }))) (link_kept old id n)
-    ∙ ap (λ (t : NodeId). with_link (with_node old id n) (sent old.link (record { to = t; bytes = bytes }))) at
+    ∙ ap (λ (w : World). with_link w (sent w.link (record { to = other_node id; bytes = bytes }))) made
+    ∙ ap (λ (l : Link). with_link (with_node old id n) (sent l (record { to = other_node id; bytes = bytes }))) (link_kept old id n)
     ∙ ap (λ (bs : List ℕ). with_link (with_node old id n) (sent old.link (record { to = other_node id; bytes = bs }))) spelt
 
 pub outcome_is : (old mid : World) (id : NodeId) (n : Node) (bytes : List ℕ) (out : Outcome) → mid ≡ with_node old id n → bytes ≡ spelling (frame_of (node_at old id))
@@ -145,21 +134,3 @@ outcome_is old mid id n bytes out made spelt is =
     is
     ∙ ap (λ (l : Link). outcome.Sent l.next (length bytes)) (ap (λ (w : World). w.link) made ∙ link_kept old id n)
     ∙ ap (λ (bs : List ℕ). outcome.Sent old.link.next (length bs)) spelt
-
--- the edits before it, and then the link's
-pub sent_leads_back : {M : Type 0} (now v : World) → v ≡ now → IsWorld now → (es more : List (WorldEdit M)) (e : LinkEdit) (l : Link) → Fits Finds IsWorld put_back es now → LinkLeadsBack (e ∷ []) v.link l
-    → more ≡ es ++ OfLink e ∷ [] → WorldLeadsBack more (back put_back es now) (with_link v l)
-sent_leads_back {M = M} now v at is es more e l fits leads list =
-    let fitting : Fits (Finds {M = M}) IsWorld (put_back {M = M}) es v = subst (λ (w : World). Fits (Finds {M = M}) IsWorld (put_back {M = M}) es w) (sym at) fits in
-    subst (λ (w : World). WorldLeadsBack more (back put_back es w) (with_link v l)) at
-    (subst (λ (fs : List (WorldEdit M)). WorldLeadsBack fs (back put_back es v) (with_link v l)) (sym list)
-    (LeadsBack-push Finds IsWorld put_back es (OfLink e) (back put_back es v) v (with_link v l) (record { fits = fitting; back = refl }) leads.fits.1 (subst IsWorld (sym at) is) (ap (λ (k : Link). with_link v k) leads.back)))
-
--- what is recorded leads back from before the node's part
-pub sent_from : {M : Type 0} (old mid new : World) (es more : List (WorldEdit M)) → WorldLeadsBack es old mid → WorldLeadsBack more (back put_back es mid) new → WorldLeadsBack more old new
-sent_from old mid new es more first = subst (λ (w : World). WorldLeadsBack more w new) first.back
-
-pub sent_few : {M : Type 0} (id : NodeId) (es : List NodeEdit) (edits more : List (WorldEdit M)) (n : ℕ) → edits ≡ of_node id es → length more ≡ length edits + 1 → length es ≤ 1 + 2 * n → length more ≤ 2 + 2 * n
-sent_few {M = M} id es edits more n list one few =
-    let same : length (of_node {M = M} id es) ≡ length es = length-map es (OfNode id) in
-    omega (arith, one, ap length list, same, few)

@@ -21,7 +21,7 @@ use Rattle.pfl_world.specs.Worlds.{World, node_at, with_node}
 abbrev pub accepted : World → Outcome → Result Stepped Refusal
 accepted w o = Ok (record { world = w; outcome = o })
 
--- a refusal that is told is that of the step
+-- a refusal that is reported is that of the step
 pub refusal_of : (o : Option Refusal) (s : Stepped) (r : Refusal) → IsRefusal o r → IsRefusalOf (unless_refused o s) r
 refusal_of (Some first) s r is = is
 refusal_of None s r is = is
@@ -34,7 +34,7 @@ refused_as o s at is (Err given) r = subst (λ (v : Result Stepped Refusal). IsR
 pub event_wants : (w : World) (e : Event) (s : Stepped) → step w e ≡ Ok s → IsEventRefusal w e NoMemory
 event_wants w e s is = subst (λ (v : Result Stepped Refusal). IsRefusalOf v NoMemory) (sym is) refl
 
--- ---- what a node answers, at the pair
+-- ---- what a node returns, at the pair
 
 pub refused_at : (w : World) (id : NodeId) (o : Option Refusal) (s : NodeStepped) (r : Refusal) → IsRefusal o r → IsRefusalOf (from_node w id (unless_refused o s)) r
 refused_at w id (Some first) s r is = is

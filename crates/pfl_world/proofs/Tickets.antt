@@ -1,4 +1,4 @@
--- What becomes of a frame on its way, in words of what the link answers.
+-- What becomes of a frame on its way, in words of what the link returns.
 use Rattle.std.specs.Prelude.{◌≡◌, ℕ, Bool, true, false, cond, [], ◌∷◌, length, Option, Some, None, is_some, Result, Ok, Err, refl}
 use Rattle.std.specs.Option.{option_map_or}
 use Rattle.std.proofs.Common.{◌∙◌, ap, sym, subst}

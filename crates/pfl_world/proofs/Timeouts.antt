@@ -68,7 +68,7 @@ alone_at_a_limit_of_one : answers (opening (record limits { states = 1 })) (out 
 unfolding computing purged
 alone_at_a_limit_of_one = refl
 
--- A tells that 30 seconds are left; B takes the states over with 60, since it has none, one, and two of them before
+-- A announces that 30 seconds are left; B takes the states over with 60, since it has none, one, and two of them before
 abbrev told : List Event
 told = three ++ flush A ∷ tick B 50000 ∷ deliver 1 ∷ []
 

@@ -1,4 +1,4 @@
--- What happens at a node by itself, as an event of the pair (this project's profile). What it means there is told in pfl_node.
+-- What happens at a node by itself, as an event of the pair (this project's profile). What it means there is defined in pfl_node.
 use Rattle.std.specs.Prelude.{map, Result, Ok, Err}
 use Rattle.pfl_base.specs.declared.node_id.NodeId.{NodeId}
 use Rattle.pfl_base.specs.declared.refusal.Refusal.{Refusal}

@@ -1,4 +1,4 @@
--- A world and its nodes as nested pairs, by which the logic tells two of them apart. It says nothing of worlds.
+-- A world and its nodes as nested pairs, by which the logic distinguishes two of them. It says nothing of worlds.
 use Rattle.std.specs.Prelude.{ℕ, refl}
 use Rattle.std.specs.Coded.{Coded, code_by, coded×, coded_ℕ}
 use Rattle.pfl_node.specs.desk.Nodes.{Node}

@@ -1,5 +1,5 @@
 -- A frame comes to its receiver (if_pfsync.c; the event and its refusals are this project's profile). What its records do there is
--- told in pfl_receive.
+-- defined in pfl_receive.
 use Rattle.std.specs.Prelude.{ℕ, List, [], ◌∷◌, length, map, Result, Ok, Err}
 use Rattle.std.specs.Option.{option_map_or}
 use Rattle.pfl_base.specs.declared.refusal.Refusal.{Refusal}

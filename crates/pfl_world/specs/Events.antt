@@ -1,4 +1,4 @@
--- One step of the pair, and why an event is refused. What an event means is told in a file of its own.
+-- One step of the pair, and why an event is refused. What an event means is defined in a file of its own.
 use Rattle.std.specs.Prelude.{◌≡◌, ℕ, List, Result, Ok, Err}
 use Rattle.pfl_base.specs.declared.node_id.NodeId.{NodeId}
 use Rattle.pfl_base.specs.declared.refusal.Refusal.{Refusal}
@@ -46,7 +46,7 @@ points_at w e at = (meaning w e).points at
 abbrev pub work : World → Event → ℕ
 work w e = (meaning w e).work
 
--- an event that is refused tells the refusal of its step; where that has none, it wanted memory
+-- an event that is refused reports the refusal of its step; where that has none, it wanted memory
 abbrev pub IsRefusalOf : Result Stepped Refusal → Refusal → Type 0
 IsRefusalOf (Err first) r = r ≡ first
 IsRefusalOf (Ok s) r = r ≡ NoMemory

@@ -3,7 +3,7 @@ use Rattle.std.specs.Prelude.{ℕ, List, codes}
 use Rattle.pfl_world.specs.declared.fault.WorldFault.{WorldFault}
 use Rattle.pfl_world.specs.declared.fault.WorldFault.TheVariants.{TooSmall, TooLarge, NoMemory}
 
--- the number by which a program names the fault; the lowest that applies is answered (this project's profile)
+-- the number by which a program names the fault; the lowest that applies is reported (this project's profile)
 abbrev pub fault_number : WorldFault → ℕ
 fault_number TooSmall = 1
 fault_number TooLarge = 2

@@ -5,6 +5,6 @@ use Rattle.pfl_node.specs.Weights.{edits_for}
 use Rattle.pfl_world.specs.Events.{work}
 use Rattle.pfl_world.specs.Worlds.{World}
 
--- an event takes at most so many edits
+-- an event takes at most this many edits
 abbrev pub weight : World → Event → ℕ
 weight w e = edits_for (work w e)

@@ -86,7 +86,7 @@ from_limits limit.TooLarge = TooLarge
 abbrev pub world_fault : Limits → Option WorldFault
 world_fault l = option_map from_limits (limit_fault l)
 
--- a fault that is told: the one of the limits; where they have none, want of memory
+-- a fault that is reported: the one of the limits; where they have none, want of memory
 abbrev pub IsFault : Option WorldFault → WorldFault → Type 0
 IsFault (Some first) f = f ≡ first
 IsFault None f = f ≡ NoMemory

@@ -3,5 +3,6 @@
 pub mod Delivering
 pub mod Lending
 pub mod WorldEdits
+pub mod Recording
 pub mod BothWays
 pub mod SmallEdits

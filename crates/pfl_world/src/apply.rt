@@ -1,22 +1,25 @@
 //! An event happens to the pair.
 
-ghost use Rattle.std.specs.Prelude.{◌≡◌, ◌≤◌, Ok, IfOk, IfErr, OnErr, length};
+ghost use Rattle.std.specs.Prelude.{◌≡◌, ◌≤◌, ◌+◌, Ok, IfOk, IfErr, OnOk, OnErr, length};
 ghost use Rattle.std.specs.List.{AllByRecursion};
 ghost use Rattle.pfl_edits.specs.Changes.{Fits, back};
 ghost use Rattle.pfl_world.specs.Events.{step, IsEventRefusal, IsRefusalOf, frame_event};
 ghost use Rattle.pfl_world.specs.Values.{HoldsLittle, MayHold};
 ghost use Rattle.pfl_world.specs.Weights.{weight};
-ghost use Rattle.pfl_world.specs.WorldEdits.{Finds, WorldLeadsBack, put_back};
+ghost use Rattle.pfl_world.specs.WorldEdits.{Finds, put_back};
+ghost use Rattle.pfl_world.specs.inner.Recording.{Recorded, count, room};
 ghost use Rattle.pfl_world.specs.Worlds.{IsWorld};
 
-use crate::edit::WorldChange;
+use crate::edit::{WorldChange, WorldEdit};
+use crate::recorder::Recorder;
 use crate::world::World;
 use pfl_base::Refusal;
+use pfl_edits::Change;
 use pfl_language::{Event, FrameEvent, Outcome};
 use std::alloc::Allocator;
 
 impl<A: Allocator + Copy> World<A> {
-    /// Lets an event happen, and gives its outcome and what it changed.
+    /// Lets an event happen, and returns its outcome and what it changed.
     pub fn apply(&mut self, event: &Event) -> Result<(Outcome, WorldChange<A>), Refusal>
         ensures refused { IfErr result (IsEventRefusal self.old event.now) }
         ensures unchanged { OnErr result (self.new ≡ self.old) }
@@ -26,32 +29,53 @@ impl<A: Allocator + Copy> World<A> {
         ensures weight { IfOk result (λ r. length r.1.list ≤ weight self.old event.now) }
         ensures small { IfOk result (λ r. AllByRecursion (MayHold event.now) r.1.list) }
     {
+        let mut change = Change::new(self.alloc);
+        let outcome = self.apply_to(event, &mut change)?;
+        Ok((outcome, change))
+    }
+
+    /// Lets an event happen, returns its outcome, and records what it changed.
+    pub(crate) fn apply_to<R: Recorder<WorldEdit<A>>>(
+        &mut self,
+        event: &Event,
+        to: &mut R,
+    ) -> Result<Outcome, Refusal>
+        ensures refused { IfErr result (IsEventRefusal self.old event.now) }
+        ensures unchanged { OnErr result (self.new ≡ self.old) }
+        ensures unrecorded { OnErr result ((R.edits to.new).list ≡ (R.edits to.old).list) }
+        ensures step { IfOk result (λ outcome. step self.old event.now ≡ Ok (record { world = self.new; outcome = outcome })) }
+        ensures recorded { OnOk result (Recorded (MayHold event.now) self.old self.new (R.edits to.old) (R.edits to.new)) }
+        ensures few { OnOk result (count (R.edits to.new) ≤ count (R.edits to.old) + weight self.old event.now) }
+        ensures room { room (R.edits to.old) ≤ room (R.edits to.new) }
+    {
         match event {
-            Event::At { node, event } => self.at_node(*node, event),
-            Event::Flush { node } => self.flush(*node),
-            Event::Of { ticket, event } => self.of_frame(*ticket, event),
-            Event::Restart { node } => self.restart(*node),
+            Event::At { node, event } => self.at_node(*node, event, to),
+            Event::Flush { node } => self.flush(*node, to),
+            Event::Of { ticket, event } => self.of_frame(*ticket, event, to),
+            Event::Restart { node } => self.restart(*node, to),
         }
     }
 
     /// Lets an event happen to the frame that is in flight under the ticket.
-    fn of_frame(
+    fn of_frame<R: Recorder<WorldEdit<A>>>(
         &mut self,
         ticket: u32,
         event: &FrameEvent,
-    ) -> Result<(Outcome, WorldChange<A>), Refusal>
+        to: &mut R,
+    ) -> Result<Outcome, Refusal>
         ensures refused { IfErr result (IsRefusalOf (frame_event self.old ticket event.now)) }
         ensures unchanged { OnErr result (self.new ≡ self.old) }
-        ensures step { IfOk result (λ r. frame_event self.old ticket event.now ≡ Ok (record { world = self.new; outcome = r.0 })) }
-        ensures leads_back { IfOk result (λ r. WorldLeadsBack r.1.list self.old self.new) }
-        ensures little { IfOk result (λ r. AllByRecursion HoldsLittle r.1.list) }
-        ensures weight { IfOk result (λ r. length r.1.list ≤ weight self.old (Event.Of ticket event.now)) }
+        ensures unrecorded { OnErr result ((R.edits to.new).list ≡ (R.edits to.old).list) }
+        ensures step { IfOk result (λ outcome. frame_event self.old ticket event.now ≡ Ok (record { world = self.new; outcome = outcome })) }
+        ensures recorded { OnOk result (Recorded HoldsLittle self.old self.new (R.edits to.old) (R.edits to.new)) }
+        ensures few { OnOk result (count (R.edits to.new) ≤ count (R.edits to.old) + weight self.old (Event.Of ticket event.now)) }
+        ensures room { room (R.edits to.old) ≤ room (R.edits to.new) }
     {
         match event {
-            FrameEvent::Deliver => self.deliver(ticket),
-            FrameEvent::Lose => self.lose(ticket),
-            FrameEvent::Repeat => self.repeat(ticket),
-            FrameEvent::Cut { len } => self.cut(ticket, *len),
+            FrameEvent::Deliver => self.deliver(ticket, to),
+            FrameEvent::Lose => self.lose(ticket, to),
+            FrameEvent::Repeat => self.repeat(ticket, to),
+            FrameEvent::Cut { len } => self.cut(ticket, *len, to),
         }
     }
 }

@@ -1,13 +1,13 @@
 //! What becomes of frames on their way: lost, repeated, cut.
 
-ghost use Rattle.std.specs.Prelude.{◌≡◌, ◌≤◌, Ok, IfOk, IfErr, OnErr, length};
-ghost use Rattle.std.specs.List.{AllByRecursion};
+ghost use Rattle.std.specs.Prelude.{◌≡◌, ◌≤◌, ◌+◌, Ok, IfOk, IfErr, OnOk, OnErr};
 ghost use Rattle.pfl_world.specs.Events.{IsRefusalOf};
 ghost use Rattle.pfl_world.specs.Tickets.{lose_step, repeat_step, cut_step};
 ghost use Rattle.pfl_world.specs.Values.{HoldsLittle};
-ghost use Rattle.pfl_world.specs.WorldEdits.{WorldLeadsBack};
+ghost use Rattle.pfl_world.specs.inner.Recording.{Recorded, count, room};
 
-use crate::edit::WorldChange;
+use crate::edit::WorldEdit;
+use crate::recorder::Recorder;
 use crate::world::World;
 use pfl_base::Refusal;
 use pfl_language::Outcome;
@@ -15,49 +15,61 @@ use std::alloc::Allocator;
 
 impl<A: Allocator + Copy> World<A> {
     /// A frame is lost.
-    pub(crate) fn lose(&mut self, ticket: u32) -> Result<(Outcome, WorldChange<A>), Refusal>
+    pub(crate) fn lose<R: Recorder<WorldEdit<A>>>(
+        &mut self,
+        ticket: u32,
+        to: &mut R,
+    ) -> Result<Outcome, Refusal>
         ensures refused { IfErr result (IsRefusalOf (lose_step self.old ticket)) }
         ensures unchanged { OnErr result (self.new ≡ self.old) }
-        ensures step { IfOk result (λ r. lose_step self.old ticket ≡ Ok (record { world = self.new; outcome = r.0 })) }
-        ensures leads_back { IfOk result (λ r. WorldLeadsBack r.1.list self.old self.new) }
-        ensures little { IfOk result (λ r. AllByRecursion HoldsLittle r.1.list) }
-        ensures weight { IfOk result (λ r. length r.1.list ≤ 1) }
+        ensures unrecorded { OnErr result ((R.edits to.new).list ≡ (R.edits to.old).list) }
+        ensures step { IfOk result (λ outcome. lose_step self.old ticket ≡ Ok (record { world = self.new; outcome = outcome })) }
+        ensures recorded { OnOk result (Recorded HoldsLittle self.old self.new (R.edits to.old) (R.edits to.new)) }
+        ensures few { OnOk result (count (R.edits to.new) ≤ count (R.edits to.old) + 1) }
+        ensures room { room (R.edits to.old) ≤ room (R.edits to.new) }
     {
         let taken = self.link.take(ticket)?;
-        let edits = self.lift_link(taken)?;
-        Ok((Outcome::Lost, edits))
+        self.lift_link(taken, to)?;
+        Ok(Outcome::Lost)
     }
 
     /// A frame is copied under the next ticket.
-    pub(crate) fn repeat(&mut self, ticket: u32) -> Result<(Outcome, WorldChange<A>), Refusal>
+    pub(crate) fn repeat<R: Recorder<WorldEdit<A>>>(
+        &mut self,
+        ticket: u32,
+        to: &mut R,
+    ) -> Result<Outcome, Refusal>
         ensures refused { IfErr result (IsRefusalOf (repeat_step self.old ticket)) }
         ensures unchanged { OnErr result (self.new ≡ self.old) }
-        ensures step { IfOk result (λ r. repeat_step self.old ticket ≡ Ok (record { world = self.new; outcome = r.0 })) }
-        ensures leads_back { IfOk result (λ r. WorldLeadsBack r.1.list self.old self.new) }
-        ensures little { IfOk result (λ r. AllByRecursion HoldsLittle r.1.list) }
-        ensures weight { IfOk result (λ r. length r.1.list ≤ 1) }
+        ensures unrecorded { OnErr result ((R.edits to.new).list ≡ (R.edits to.old).list) }
+        ensures step { IfOk result (λ outcome. repeat_step self.old ticket ≡ Ok (record { world = self.new; outcome = outcome })) }
+        ensures recorded { OnOk result (Recorded HoldsLittle self.old self.new (R.edits to.old) (R.edits to.new)) }
+        ensures few { OnOk result (count (R.edits to.new) ≤ count (R.edits to.old) + 1) }
+        ensures room { room (R.edits to.old) ≤ room (R.edits to.new) }
     {
         let (next, edit) = self.link.copy(ticket)?;
         let len = edit.frame().bytes().len();
-        let edits = self.lift_link(edit)?;
-        Ok((Outcome::Sent { ticket: next, len }, edits))
+        self.lift_link(edit, to)?;
+        Ok(Outcome::Sent { ticket: next, len })
     }
 
     /// A frame keeps its first bytes.
-    pub(crate) fn cut(
+    pub(crate) fn cut<R: Recorder<WorldEdit<A>>>(
         &mut self,
         ticket: u32,
         len: u32,
-    ) -> Result<(Outcome, WorldChange<A>), Refusal>
+        to: &mut R,
+    ) -> Result<Outcome, Refusal>
         ensures refused { IfErr result (IsRefusalOf (cut_step self.old ticket len)) }
         ensures unchanged { OnErr result (self.new ≡ self.old) }
-        ensures step { IfOk result (λ r. cut_step self.old ticket len ≡ Ok (record { world = self.new; outcome = r.0 })) }
-        ensures leads_back { IfOk result (λ r. WorldLeadsBack r.1.list self.old self.new) }
-        ensures little { IfOk result (λ r. AllByRecursion HoldsLittle r.1.list) }
-        ensures weight { IfOk result (λ r. length r.1.list ≤ 1) }
+        ensures unrecorded { OnErr result ((R.edits to.new).list ≡ (R.edits to.old).list) }
+        ensures step { IfOk result (λ outcome. cut_step self.old ticket len ≡ Ok (record { world = self.new; outcome = outcome })) }
+        ensures recorded { OnOk result (Recorded HoldsLittle self.old self.new (R.edits to.old) (R.edits to.new)) }
+        ensures few { OnOk result (count (R.edits to.new) ≤ count (R.edits to.old) + 1) }
+        ensures room { room (R.edits to.old) ≤ room (R.edits to.new) }
     {
         let (kept, edit) = self.link.cut(ticket, len as usize)?;
-        let edits = self.lift_link(edit)?;
-        Ok((Outcome::CutTo(kept), edits))
+        self.lift_link(edit, to)?;
+        Ok(Outcome::CutTo(kept))
     }
 }

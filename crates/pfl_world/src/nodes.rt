@@ -1,4 +1,4 @@
-//! The two nodes of a pair, told apart by their names.
+//! The two nodes of a pair, distinguished by their names.
 
 ghost use Rattle.std.specs.Prelude.{◌≡◌, IfOk};
 ghost use Rattle.std.specs.Borrow.{sem};
@@ -65,7 +65,7 @@ impl<A: Allocator + Copy> Nodes<A> {
 impl<A: Allocator> Nodes<A> {
     ghost use Rattle.pfl_world.specs.inner.Lending.{LendsNode};
 
-    /// Tells a proof what is true of each node. It does nothing.
+    /// States for proofs what is true of each node. It does nothing.
     pub(crate) fn known(&self)
         ensures a { IsNode self.now.a }
         ensures b { IsNode self.now.b }

@@ -1,14 +1,14 @@
 //! One record of the peer's comes to a node by itself, and its edits go onto a tape (if_pfsync.c).
 
-ghost use Rattle.std.specs.Prelude.{◌≡◌, None, IfOk, IfErr, OnOk, OnErr, length};
+ghost use Rattle.std.specs.Prelude.{◌≡◌, None, IfErr, OnOk, OnErr, length};
 ghost use Rattle.pfl_edits.specs.Changes.{Fits, back};
 ghost use Rattle.pfl_edits.specs.Tapes.{above, below};
 ghost use Rattle.pfl_node.specs.Delivering.{message_refusal, message_taken};
 ghost use Rattle.pfl_node.specs.desk.Nodes.{IsRefusal};
-ghost use Rattle.pfl_world.specs.WorldEdits.{Finds, WorldLeadsBack, put_back};
+ghost use Rattle.pfl_world.specs.WorldEdits.{Finds, put_back};
 ghost use Rattle.pfl_world.specs.Worlds.{IsWorld, node_at, with_node};
 
-use crate::edit::{WorldChange, WorldTape};
+use crate::edit::WorldTape;
 use crate::world::World;
 use pfl_base::{NodeId, Refusal};
 use pfl_wire::Message;
@@ -33,29 +33,7 @@ impl<A: Allocator + Copy> World<A> {
         ensures fits { OnOk result (Fits Finds IsWorld put_back (above (length tape.old.list) tape.new.list) self.new) }
         ensures back { OnOk result (back put_back (above (length tape.old.list) tape.new.list) self.new ≡ self.old) }
     {
-        let change = self.take_record(to, message, print)?;
-        if tape.reserve(change.len()).is_err() {
-            self.revert(change);
-            return Err(Refusal::NoMemory);
-        }
-        tape.append(change);
-        Ok(())
-    }
-
-    /// Lets a node take one record of a peer whose rules have this checksum.
-    fn take_record(
-        &mut self,
-        to: NodeId,
-        message: &Message,
-        print: &[u8; 16],
-    ) -> Result<WorldChange<A>, Refusal>
-        ensures refused { IfErr result (IsRefusal (message_refusal (node_at self.old to) message.now print.now)) }
-        ensures unchanged { OnErr result (self.new ≡ self.old) }
-        ensures not_refused { OnOk result (message_refusal (node_at self.old to) message.now print.now ≡ None) }
-        ensures world { OnOk result (self.new ≡ with_node self.old to (message_taken (node_at self.old to) message.now print.now)) }
-        ensures leads_back { IfOk result (λ edits. WorldLeadsBack edits.list self.old self.new) }
-    {
         let (_, change) = self.nodes.at_mut(to).take_message(message, print)?;
-        self.lift(to, change)
+        self.lift(to, change, tape)
     }
 }

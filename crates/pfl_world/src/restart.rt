@@ -1,62 +1,73 @@
 //! A node begins anew (this project's profile).
 
-ghost use Rattle.std.specs.Prelude.{◌≡◌, ◌≤◌, ◌<◌, ◌+◌, Ok, IfOk, IfErr, OnOk, OnErr, length, nat_le};
-ghost use Rattle.std.specs.List.{AllByRecursion};
+ghost use Rattle.std.specs.Prelude.{◌≡◌, ◌≤◌, ◌<◌, ◌+◌, Ok, IfOk, IfErr, OnOk, OnErr, nat_le};
 ghost use Rattle.pfl_base.specs.Numbers.{greatest};
 ghost use Rattle.pfl_node.specs.Events.{restarted};
 ghost use Rattle.pfl_world.specs.Events.{IsRefusalOf};
 ghost use Rattle.pfl_world.specs.Restarting.{restart_step};
 ghost use Rattle.pfl_world.specs.Values.{HoldsNode};
-ghost use Rattle.pfl_world.specs.WorldEdits.{WorldLeadsBack, with_boot};
+ghost use Rattle.pfl_world.specs.WorldEdits.{with_boot};
+ghost use Rattle.pfl_world.specs.inner.Recording.{Recorded, count, room};
 ghost use Rattle.pfl_world.specs.Worlds.{IsWorld, node_at};
 
-use crate::edit::{WorldChange, WorldEdit};
+use crate::edit::WorldEdit;
+use crate::recorder::Recorder;
 use crate::restart_edit::{RestartEdit, boxed};
 use crate::world::World;
 use pfl_base::{NodeId, Refusal};
-use pfl_edits::{Change, NoMemory};
+use pfl_edits::NoMemory;
 use pfl_language::Outcome;
 use std::alloc::Allocator;
 use std::mem::{replace, swap};
 
 impl<A: Allocator + Copy> World<A> {
     /// A node begins anew as the next boot: with its limits, its rules and its clock, and nothing else of what it was.
-    pub(crate) fn restart(&mut self, node: NodeId) -> Result<(Outcome, WorldChange<A>), Refusal>
+    pub(crate) fn restart<R: Recorder<WorldEdit<A>>>(
+        &mut self,
+        node: NodeId,
+        to: &mut R,
+    ) -> Result<Outcome, Refusal>
         ensures refused { IfErr result (IsRefusalOf (restart_step self.old node)) }
         ensures unchanged { OnErr result (self.new ≡ self.old) }
-        ensures step { IfOk result (λ r. restart_step self.old node ≡ Ok (record { world = self.new; outcome = r.0 })) }
-        ensures leads_back { IfOk result (λ r. WorldLeadsBack r.1.list self.old self.new) }
-        ensures weight { IfOk result (λ r. length r.1.list ≤ 1) }
-        ensures whole { IfOk result (λ r. AllByRecursion HoldsNode r.1.list) }
+        ensures unrecorded { OnErr result ((R.edits to.new).list ≡ (R.edits to.old).list) }
+        ensures step { IfOk result (λ outcome. restart_step self.old node ≡ Ok (record { world = self.new; outcome = outcome })) }
+        ensures recorded { OnOk result (Recorded HoldsNode self.old self.new (R.edits to.old) (R.edits to.new)) }
+        ensures few { OnOk result (count (R.edits to.new) ≤ count (R.edits to.old) + 1) }
+        ensures room { room (R.edits to.old) ≤ room (R.edits to.new) }
     {
         if self.is_booted_out() {
             return Err(Refusal::CountFull);
         }
         let boot = self.next_boot();
-        match self.begin_anew(node) {
-            Ok(edits) => Ok((Outcome::Boot(boot), edits)),
+        match self.begin_anew(node, to) {
+            Ok(()) => Ok(Outcome::Boot(boot)),
             Err(_) => Err(Refusal::NoMemory),
         }
     }
 
     /// Puts a new node into the place of one, and the number of the next boot on. All memory is taken before.
-    fn begin_anew(&mut self, node: NodeId) -> Result<WorldChange<A>, NoMemory>
+    fn begin_anew<R: Recorder<WorldEdit<A>>>(
+        &mut self,
+        node: NodeId,
+        to: &mut R,
+    ) -> Result<(), NoMemory>
         requires countable { self.old.next_boot < greatest }
         ensures unchanged { OnErr result (self.new ≡ self.old) }
+        ensures unrecorded { OnErr result ((R.edits to.new).list ≡ (R.edits to.old).list) }
         ensures world { OnOk result (self.new ≡ with_boot self.old node (restarted (node_at self.old node) self.old.next_boot) (self.old.next_boot + 1)) }
-        ensures leads_back { IfOk result (λ edits. WorldLeadsBack edits.list self.old self.new) }
-        ensures weight { IfOk result (λ edits. length edits.list ≤ 1) }
-        ensures whole { IfOk result (λ edits. AllByRecursion HoldsNode edits.list) }
+        ensures recorded { OnOk result (Recorded HoldsNode self.old self.new (R.edits to.old) (R.edits to.new)) }
+        ensures few { OnOk result (count (R.edits to.new) ≤ count (R.edits to.old) + 1) }
+        ensures room { room (R.edits to.old) ≤ room (R.edits to.new) }
     {
         self.known();
         let boot = self.next_boot;
-        let mut edits = Change::with_room(self.alloc, 1)?;
+        to.reserve(1)?;
         let fresh = self.nodes.at(node).restart(boot)?;
         let mut other = boxed(self.alloc, fresh)?;
         swap(self.nodes.at_mut(node), other.as_mut());
         self.next_boot = boot + 1;
-        edits.push(WorldEdit::OfRestart(RestartEdit::new(node, other, boot)));
-        Ok(edits)
+        to.push(WorldEdit::OfRestart(RestartEdit::new(node, other, boot)));
+        Ok(())
     }
 }
 

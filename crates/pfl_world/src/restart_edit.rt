@@ -18,7 +18,7 @@ pub struct RestartEdit<A: Allocator> {
     boot: u32,
 }
 
-// Not derived: to a proof a written drop is one call, where a derived one is opened again on every way out.
+// Written by hand: see docs/ARCHITECTURE.md, "What the prover asks of the code".
 impl<A: Allocator> Drop for RestartEdit<A> {
     fn drop(self) {
         let RestartEdit {

@@ -15,11 +15,6 @@ use std::mem::size_of;
 /// A tape keeps it in place of the change of the pair that it is, since that has the size of the largest.
 #[derive(Clone, Copy, Debug)]
 pub enum SmallEdit {
-    Client {
-        node: NodeId,
-        before: BulkClient,
-        after: BulkClient,
-    },
     Clock {
         node: NodeId,
         before: Millis,
@@ -43,15 +38,27 @@ pub enum SmallEdit {
     },
 }
 
-/// A change of a node of middle size: what a packet moved of a state that stays, or a change of the queues.
+/// A change of a node of middle size: what a packet moved of a state that stays, a change of the queues, or of where a bulk update
+/// that it asked for stands.
 #[derive(Clone, Copy, Debug)]
 pub enum MiddleEdit {
-    Moved { node: NodeId, edit: MotionEdit },
-    OfQueue { node: NodeId, edit: QueueEdit },
+    Moved {
+        node: NodeId,
+        edit: MotionEdit,
+    },
+    OfQueue {
+        node: NodeId,
+        edit: QueueEdit,
+    },
+    Client {
+        node: NodeId,
+        before: BulkClient,
+        after: BulkClient,
+    },
 }
 
 // How many bytes each takes at most.
-const _: () = prove!(size_of::<SmallEdit>() <= 40);
+const _: () = prove!(size_of::<SmallEdit>() <= 24);
 
 const _: () = prove!(size_of::<MiddleEdit>() <= 128);
 
@@ -60,11 +67,6 @@ fn small_of(node: NodeId, edit: &NodeEdit) -> Option<SmallEdit>
     ensures small { MatchOption result (IsLarger edit.now) (λ small. (node_of small ≡ node) × (edit_of small ≡ edit.now)) }
 {
     match *edit {
-        NodeEdit::Client { before, after } => Some(SmallEdit::Client {
-            node,
-            before,
-            after,
-        }),
         NodeEdit::Clock { before, after } => Some(SmallEdit::Clock {
             node,
             before,
@@ -94,6 +96,7 @@ fn small_of(node: NodeId, edit: &NodeEdit) -> Option<SmallEdit>
         | NodeEdit::Moved(_)
         | NodeEdit::OfQueue(_)
         | NodeEdit::OfHeld(_)
+        | NodeEdit::Client { .. }
         | NodeEdit::Server { .. } => None,
     }
 }
@@ -105,6 +108,11 @@ fn middle_of(node: NodeId, edit: &NodeEdit) -> Option<MiddleEdit>
     match *edit {
         NodeEdit::Moved(edit) => Some(MiddleEdit::Moved { node, edit }),
         NodeEdit::OfQueue(edit) => Some(MiddleEdit::OfQueue { node, edit }),
+        NodeEdit::Client { before, after } => Some(MiddleEdit::Client {
+            node,
+            before,
+            after,
+        }),
         _ => None,
     }
 }
@@ -136,16 +144,16 @@ impl<A: Allocator> Packed for WorldEdit<A> {
         match middle {
             MiddleEdit::Moved { node, edit } => WorldEdit::OfNode(node, NodeEdit::Moved(edit)),
             MiddleEdit::OfQueue { node, edit } => WorldEdit::OfNode(node, NodeEdit::OfQueue(edit)),
+            MiddleEdit::Client {
+                node,
+                before,
+                after,
+            } => WorldEdit::OfNode(node, NodeEdit::Client { before, after }),
         }
     }
 
     fn unpack_small(small: SmallEdit) -> Self {
         match small {
-            SmallEdit::Client {
-                node,
-                before,
-                after,
-            } => WorldEdit::OfNode(node, NodeEdit::Client { before, after }),
             SmallEdit::Clock {
                 node,
                 before,

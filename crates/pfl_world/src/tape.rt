@@ -17,7 +17,7 @@ use pfl_language::{Event, Outcome};
 use std::alloc::Allocator;
 
 impl<A: Allocator + Copy> World<A> {
-    /// Lets an event happen, gives its outcome, and appends what it changed to the tape. Where the event is refused the tape
+    /// Lets an event happen, returns its outcome, and appends what it changed to the tape. Where the event is refused the tape
     /// keeps its edits, and at most gains room.
     pub fn apply_on(&mut self, event: &Event, tape: &mut WorldTape<A>) -> Result<Outcome, Refusal>
         ensures refused { IfErr result (IsEventRefusal self.old event.now) }
@@ -31,12 +31,6 @@ impl<A: Allocator + Copy> World<A> {
         ensures small { OnOk result (AllByRecursion (MayHold event.now) (above (length tape.old.list) tape.new.list)) }
         ensures room { tape.old.spare + length tape.old.list ≤ tape.new.spare + length tape.new.list }
     {
-        let (outcome, change) = self.apply(event)?;
-        if tape.reserve(change.len()).is_err() {
-            self.revert(change);
-            return Err(Refusal::NoMemory);
-        }
-        tape.append(change);
-        Ok(outcome)
+        self.apply_to(event, tape)
     }
 }

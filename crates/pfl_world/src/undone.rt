@@ -56,7 +56,7 @@ impl<A: Allocator> World<A> {
         }
     }
 
-    /// Redoes a change that was taken back, and gives its edit again. It takes no memory.
+    /// Redoes a change that was taken back, and returns its edit again. It takes no memory.
     pub(crate) fn redo_edit(&mut self, kept: WorldUndone<A>) -> WorldEdit<A>
         requires edit { (e : WorldEdit A) × (undone e ≡ kept) × FindsFormer e self.old × IsWorld (redone e self.old) }
         ensures redone { (e : WorldEdit A) → undone e ≡ kept → FindsFormer e self.old → (self.new ≡ redone e self.old) × (result ≡ e) }
@@ -79,7 +79,7 @@ impl<A: Allocator> World<A> {
         WorldUndone::OfNode(node, *edit)
     }
 
-    /// Redoes an edit of a node, and gives it again.
+    /// Redoes an edit of a node, and returns it again.
     fn redo_at(&mut self, node: NodeId, edit: &NodeEdit) -> WorldEdit<A>
         requires found { nodes.FindsFormer edit.now (node_at self.old node) }
         requires allowed { IsWorld (with_node self.old node (nodes.redone edit.now (node_at self.old node))) }

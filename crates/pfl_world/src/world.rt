@@ -23,7 +23,7 @@ pub struct World<A: Allocator> {
     pub(crate) next_boot: u32,
 }
 
-// Not derived: to a proof a written drop is one call, where a derived one is opened again on every way out.
+// Written by hand: see docs/ARCHITECTURE.md, "What the prover asks of the code".
 impl<A: Allocator> Drop for World<A> {
     fn drop(self) {
         let World {
@@ -125,7 +125,7 @@ impl<A: Allocator + Copy> World<A> {
 }
 
 impl<A: Allocator> World<A> {
-    /// Tells a proof what is true of each world. It does nothing.
+    /// States for proofs what is true of each world. It does nothing.
     pub fn known(&self)
         ensures world { IsWorld self.now }
     {

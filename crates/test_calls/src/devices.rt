@@ -23,7 +23,7 @@ impl io::Read for Faulty {
     }
 }
 
-/// Is interrupted so many times, and then takes a byte at a time.
+/// Is interrupted this many times, and then takes a byte at a time.
 #[derive(Drop)]
 struct Interrupted {
     times: u16,

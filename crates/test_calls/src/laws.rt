@@ -38,7 +38,7 @@ fn taken_back(alloc: Global, ticks: &[Event]) -> Option<(Result<(), Refusal>, Mi
     Some(ticks_there_and_back(alloc, &mut world, ticks))
 }
 
-/// What one event of a new pair answers that is taken back.
+/// What one event of a new pair returns that is taken back.
 fn answer_taken_back(alloc: Global, event: &Event) -> Option<Result<Outcome, Refusal>> {
     let mut world = opening(alloc)?;
     Some(there_and_back(&mut world, event))

@@ -1,4 +1,4 @@
-//! Runs and checks whose devices fail at each place: behind each byte that is read, and in each byte that is written; whose reader
+//! Runs and checks whose devices fail at each place: after each byte that is read, and in each byte that is written; whose reader
 //! has no end; and those that want no memory, where there is none.
 
 use pfl_base::{Input, Std};
@@ -9,16 +9,16 @@ use test_devices::{Bytewise, Endless, Narrow, Refusing};
 /// A setup of 16 and 5 bytes; and lines of 12, 4 and 10 bytes, of which two are faulty.
 const SCRIPT: &[u8] = b"rule a pass out\nopen\nback main 0\nfly\nback main\n";
 
-/// What a run answers: 5, 14 and 14 bytes.
+/// What a run writes in reply: 5, 14 and 14 bytes.
 const REPLIES: &[u8] = b"at 0\nbad 3 Unknown\nbad 4 Missing\n";
 
-/// What a check tells: 21, 21 and 7 bytes.
+/// What a check writes: 21, 21 and 7 bytes.
 const TOLD: &[u8] = b"line 4 bad 3 Unknown\nline 5 bad 4 Missing\ngood 1\n";
 
 /// More bytes than the script has, and than each of the texts.
 const ALL: usize = 64;
 
-/// Where devices fail: the reader behind so many bytes, the writer and that of faults in the byte behind so many.
+/// Where devices fail: the reader after this many bytes, the writer and that of faults in the byte after this many.
 #[derive(Clone, Copy)]
 struct Places {
     read: u32,
@@ -48,13 +48,13 @@ struct Outcome {
     told: Narrow,
 }
 
-/// The writer has taken the first bytes of the text, so many.
+/// The writer has taken this many of the first bytes of the text.
 fn has_taken(writer: &Narrow, text: &[u8], count: usize) -> bool {
     writer.len == count && writer.taken.iter().take(count).eq(text.iter().take(count))
 }
 
 impl Outcome {
-    /// The program ended with this status, when it had written so many bytes of the text, and of the line that tells a fault.
+    /// The program ended with this status, when it had written this many bytes of the text, and of the line that reports a fault.
     fn is(&self, status: u8, text: (&[u8], usize), fault: (&[u8], usize)) -> bool {
         self.status == status
             && has_taken(&self.written, text.0, text.1)
@@ -62,7 +62,7 @@ impl Outcome {
     }
 }
 
-/// What comes of a script where the writers take so many bytes.
+/// What comes of a script where the writers take this many bytes.
 fn outcome_of<A: Allocator + Copy, I: Input>(
     alloc: A,
     action: Action,
@@ -83,8 +83,8 @@ fn outcome_of<A: Allocator + Copy, I: Input>(
     }
 }
 
-/// Over devices that fail at these places the program ends with status 1, when it has written so many bytes of its text and of the
-/// line that tells the fault.
+/// Over devices that fail at these places the program ends with status 1, when it has written this many bytes of its text and of the
+/// line that reports the fault.
 fn ends(
     alloc: Global,
     action: Action,
@@ -104,7 +104,7 @@ fn ends(
     outcome.is(1, (text, written), fault)
 }
 
-/// The lines that were read whole are answered, or told.
+/// The lines that were read whole have their replies, or are reported.
 #[test]
 fn readers_fail_behind_each_byte(rt: HostRuntime) {
     let fault = (b"pfl_lab: read\n".as_slice(), 14);
@@ -148,7 +148,7 @@ fn writers_fail_in_each_byte(rt: HostRuntime) {
     }
 }
 
-/// The fault is told as far as that goes, and the status is the same.
+/// The fault is reported as far as that goes, and the status is the same.
 #[test]
 fn faults_are_told_as_far_as_that_goes(rt: HostRuntime) {
     for told in 0..14 {
@@ -166,7 +166,7 @@ fn faults_are_told_as_far_as_that_goes(rt: HostRuntime) {
     }
 }
 
-/// The reader gives a byte a call, and no end of the line behind the first ones: what is read before is answered, and only so many
+/// The reader gives a byte a call, and no end of the line after the first ones: what is read before has its reply, and only this many
 /// calls are made.
 fn ends_by_itself(
     alloc: Global,
@@ -210,7 +210,7 @@ fn without_memory(action: Action, script: &[u8]) -> Outcome {
     outcome_of(Refusing, action, &mut reader, ALL, ALL)
 }
 
-/// A check makes no pair, so it wants memory for rules alone. Nor does a fault want memory to be told.
+/// A check makes no pair, so it wants memory for rules alone. Nor does a fault want memory to be reported.
 #[test]
 fn what_wants_no_memory(rt: HostRuntime) {
     for (action, script, status, text, fault) in [

@@ -1,4 +1,4 @@
-//! What no contract of pfl_search says: that a search answers where there is memory, and that it reports where there is none. A query
+//! What no contract of pfl_search says: that a search has an answer where there is memory, and that it reports where there is none. A query
 //! left through a, and nothing of it was sent to b yet. The answer comes to b.
 
 use pfl_base::{Addr, Dir, End, NodeId, Packet, PacketFields, Proto, TcpFlags};

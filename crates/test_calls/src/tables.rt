@@ -8,7 +8,7 @@ use std::alloc::Allocator;
 use std::test::*;
 use test_devices::RefusesOne;
 
-/// How many states there are: an index of so many has grown five times.
+/// How many states there are: an index of this many has grown five times.
 const STATES: u16 = 300;
 
 /// Timeouts that are not scaled.

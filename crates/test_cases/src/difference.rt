@@ -36,7 +36,7 @@ impl fmt::Display for Difference<'_> {
     }
 }
 
-/// A line that came, and the number of the script's line that it answers, where it belongs to one.
+/// A line that came, and the number of the script's line that it replies to, where it belongs to one.
 type Came<'a> = (Option<usize>, &'a str);
 
 /// The difference where a text is expected and this came, or nothing.
@@ -67,7 +67,7 @@ fn between<'a>(
     }
 }
 
-/// The first difference between what is expected and the lines of a text, which answer the lines of the script with these
+/// The first difference between what is expected and the lines of a text, which reply to the lines of the script with these
 /// numbers.
 fn first_of<'a>(
     kind: &'static str,
@@ -119,7 +119,7 @@ fn of_status<'a>(
 }
 
 /// The first difference between a check and what its script expects. What the script says of faults and of the status is
-/// meant of its run and of its check alike; what the check writes is compared where the script says anything of it, or
+/// about its run and its check alike; what the check writes is compared where the script says anything of it, or
 /// expects a fault.
 fn of_check<'a>(
     told: &[Expected<'a>],

@@ -7,7 +7,7 @@ use std::alloc::{AllocError, Global};
 pub struct Expected<'a> {
     /// The number of the line that says so.
     pub place: usize,
-    /// The number of the line that it answers, where it belongs to one.
+    /// The number of the line that it replies to, where it belongs to one.
     pub line: Option<usize>,
     pub text: &'a str,
 }
@@ -20,7 +20,7 @@ pub fn is_passed_over(line: &str) -> bool {
     }
 }
 
-/// The texts that stand behind the mark, each with the line above it that the program answers.
+/// The texts that stand after the mark, each with the line above it that the program replies to.
 pub fn replies<'a>(alloc: Global, script: &'a str) -> Result<Vec<Expected<'a>>, AllocError> {
     let mut expected = Vec::new(alloc);
     let mut answered = None;
@@ -40,7 +40,7 @@ pub fn replies<'a>(alloc: Global, script: &'a str) -> Result<Vec<Expected<'a>>, 
     Ok(expected)
 }
 
-/// The texts behind the mark, which are expected of the run as a whole.
+/// The texts after the mark, which are expected of the run as a whole.
 pub fn marked<'a>(
     alloc: Global,
     script: &'a str,

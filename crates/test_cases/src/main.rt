@@ -20,7 +20,7 @@ use wanting::{Unlike, first_unlike};
 /// The folder of cases that make too many requests of memory for a run without each of them.
 const LONG: &str = "long/";
 
-/// Tells the first difference of a case, and answers whether there is none.
+/// Reports the first difference of a case, and returns whether there is none.
 fn passes(rt: &HostRuntime, path: &str) -> Result<bool> {
     let script = fs::read_to_string(rt, path).context(format_args!("reading {path}"))?;
     let run = Trial::of(rt.alloc(), rt.alloc(), Action::Run, script.as_str())?;

@@ -1,4 +1,4 @@
-//! How a case opens its pair: by its setup alone, or with the next numbers that it tells.
+//! How a case opens its pair: by its setup alone, or with the next numbers that it gives.
 
 ghost use Rattle.std.specs.Prelude.{◌≡◌};
 

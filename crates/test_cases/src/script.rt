@@ -6,7 +6,7 @@ use std::io;
 
 const LINE_FEED: u8 = 10;
 
-/// Gives a script byte by byte, so that no line is read before the one above it is answered, and counts the lines that it
+/// Gives a script byte by byte, so that no line is read before the one above it has its reply, and counts the lines that it
 /// has begun to give.
 #[derive(Drop)]
 pub struct Script<'a> {

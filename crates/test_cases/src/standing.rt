@@ -1,6 +1,6 @@
-//! Cases whose lines are answered one by one, each tried again while its first request of memory is refused, then its second one, and
-//! so on. Where memory was wanting nothing is answered, all that the branches show is as it was before the line, and every event can
-//! be taken back. What the line is answered in the end is what it is answered where memory is there. A line that is refused wants no
+//! Cases whose lines have their replies one by one, each tried again while its first request of memory is refused, then its second one, and
+//! so on. Where memory was wanting there is no reply, all that the branches show is as it was before the line, and every event can
+//! be taken back. The reply to the line in the end is the one that it has where memory is there. A line that is refused wants no
 //! memory.
 
 use crate::expected::is_passed_over;
@@ -14,7 +14,7 @@ use std::cell::Cell;
 use std::fmt::Write;
 use test_devices::{RefusesOne, Try, requests_of};
 
-/// The lines whose replies tell all that stands: the names, and of each branch what it shows and its log, and what it shows with all
+/// The lines whose replies show all that stands: the names, and of each branch what it shows and its log, and what it shows with all
 /// its events taken back, which then happen again.
 fn questions<A: Allocator>(heap: Global, timeline: &Timeline<A>) -> Option<String> {
     let mut lines = String::from_str(heap, "names\n").ok()?;
@@ -50,7 +50,7 @@ struct Turn<'a> {
 }
 
 impl Turn<'_> {
-    /// Answers the line while its `n`-th request is refused. It is answered in the end where the reply is as `is_wanted` says.
+    /// Replies to the line while its `n`-th request is refused. It has its reply in the end where that is as `is_wanted` says.
     fn try_without<A: Allocator + Copy, F: Fn(&str) -> bool>(
         &self,
         timeline: &mut Timeline<A>,
@@ -80,13 +80,13 @@ impl Turn<'_> {
     }
 }
 
-/// The number of the first line behind the setup that is not answered so.
+/// The number of the first line after the setup that has another reply.
 pub fn unlike_line(heap: Global, script: &str, whole: &Trial) -> Option<usize> {
     let memory = RefusesOne::new(heap);
     let begun = Cell::new(0);
     let mut reader = LineReader::new(Std::new(Script::new(script, &begun)));
     let Ok(mut timeline) = Opening::of(script).set_up(&memory, &mut reader) else {
-        // Behind a setup with a fault no line is answered.
+        // After a setup with a fault no line has a reply.
         return if whole.faults.is_empty() {
             Some(begun.get())
         } else {

@@ -21,7 +21,7 @@ pub struct Trial {
     pub replies: String,
     /// For each line of that text the number of the script's line that was read last.
     pub lines: Vec<usize>,
-    /// The faults that it told.
+    /// The faults that it reported.
     pub faults: String,
     /// Its exit status.
     pub status: String,
@@ -64,7 +64,7 @@ impl Trial {
         })
     }
 
-    /// The text answers the line of the script with the number.
+    /// The text replies to the line of the script with the number.
     pub fn is_reply_to(&self, number: usize, reply: &str) -> bool {
         let answered = self.replies.as_str().lines().zip(self.lines.iter());
         let wanted = answered

@@ -1,5 +1,5 @@
 //! Cases whose requests of memory are refused in turn: the program ends for want of memory, at a line whose reply is not written
-//! and behind those that have theirs, or it does what it does where memory is there.
+//! and after those that have theirs, or it does what it does where memory is there.
 
 use crate::standing::unlike_line;
 use crate::trial::{Action, Trial};

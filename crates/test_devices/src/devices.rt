@@ -6,7 +6,7 @@ ghost use Rattle.pfl_base.specs.Counts.{own_calls};
 use pfl_base::{DeviceFault, Input};
 use std::io::{self, ErrorKind};
 
-/// Gives one byte a call, so many times, and then fails.
+/// Gives one byte a call, this many times, and then fails.
 #[derive(Drop)]
 pub struct Bytewise {
     pub bytes: &'static [u8],
@@ -63,7 +63,7 @@ impl Input for Endless {
     }
 }
 
-/// Takes one byte a call, so many times, and then fails.
+/// Takes one byte a call, this many times, and then fails.
 #[derive(Drop)]
 pub struct Narrow {
     pub taken: [u8; 64],

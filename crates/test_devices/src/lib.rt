@@ -1,4 +1,4 @@
-//! What fails, for tests of what is answered then, and of what stands after it: memory that is wanting, at each request or at
+//! What fails, for tests of what is returned then, and of what stands after it: memory that is wanting, at each request or at
 //! one; a reader and a writer; and a reader without end.
 #![tactic(auto)]
 

@@ -27,7 +27,7 @@ unsafe impl Allocator for Refusing {
     unsafe fn deallocate(&self, _ptr: *mut u8, _size: usize, _align: usize) {}
 }
 
-/// Passes each request on to the heap, but refuses the one that it is told of. What grows or shrinks makes a request too. A
+/// Passes each request on to the heap, but refuses the one that it is set to refuse. What grows or shrinks makes a request too. A
 /// reference to it is an allocator that can be copied.
 #[derive(Drop)]
 pub struct RefusesOne {
@@ -37,7 +37,7 @@ pub struct RefusesOne {
 }
 
 impl RefusesOne {
-    /// Refuses none until it is told of one.
+    /// Refuses none until it is set to refuse one.
     pub fn new(heap: Global) -> RefusesOne {
         RefusesOne {
             heap,
@@ -50,7 +50,7 @@ impl RefusesOne {
         self.left.set(n);
     }
 
-    /// Refuses none any more: whether the request that it was told of had come.
+    /// Refuses none any more: whether the request that it was set to refuse had come.
     pub fn relent(&self) -> bool {
         self.left.replace(0) == 0
     }

@@ -60,12 +60,12 @@ fn all_asked(rt: &HostRuntime, port: u16) -> Option<Vec<Vec<u8>>> {
     hear_all(rt.alloc(), &streams)
 }
 
-/// What a client was answered.
+/// The replies to a client.
 #[derive(Clone, Copy, PartialEq, Eq)]
 struct Replies {
     /// How often it got the names.
     names: u64,
-    /// How often it got a view, or was told that the others overtook it.
+    /// How often it got a view, or a report that the others overtook it.
     views: u64,
     /// The number of the last view.
     last: u64,

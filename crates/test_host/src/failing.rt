@@ -11,7 +11,7 @@ use std::test::*;
 use std::thread::join;
 use std::time::Duration;
 
-/// Ten faulty lines, each of which is told so, and leaves no entry.
+/// Ten faulty lines, each of which is reported as such, and leaves no entry.
 const LINES: &[u8] = b"fly\nfly\nfly\nfly\nfly\nfly\nfly\nfly\nfly\nfly\n";
 
 /// Sends so many lines that the answers find no room, hears none of them, and goes. Where the lines find no room either, it
@@ -34,7 +34,7 @@ fn heard_by_the_other(rt: &HostRuntime, port: u16) -> Option<Vec<u8>> {
     hear(rt.alloc(), &second).ok()
 }
 
-/// The program closed with one entry, and then told that a device had failed: which one depends on when the client went.
+/// The program closed with one entry, and then reported that a device had failed: which one depends on when the client went.
 fn tells_a_fault(outcome: &Outcome, alloc: Global, port: u16) -> bool {
     let Ok(text) = format!(in alloc; "listening 127.0.0.1:{port}\nclosed 1\n") else {
         return false;

@@ -12,7 +12,7 @@ use std::thread::{Threads, join};
 
 pub(crate) const SETUP: &[u8] = b"rule a pass out\nrule b pass out\nopen\n";
 
-/// Serves so many sessions, given as a word.
+/// Serves this many sessions, given as a word.
 pub(crate) fn served<
     R: Net<Listener = TcpListener, Stream = TcpStream> + Threads + Wait + Sync,
     G: Gate + Sync,
@@ -29,7 +29,7 @@ pub(crate) fn served<
     Some(outcome_of(rt, alloc, &words, setup, gate))
 }
 
-/// The program listened on the port, closed with so many entries, and told no fault.
+/// The program listened on the port, closed with this many entries, and reported no fault.
 pub(crate) fn has_closed(outcome: &Outcome, alloc: Global, port: u16, entries: u32) -> bool {
     match format!(in alloc; "listening 127.0.0.1:{port}\nclosed {entries}\n") {
         Ok(text) => outcome.is(0, text.as_str().as_bytes(), b""),

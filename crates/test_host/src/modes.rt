@@ -19,7 +19,7 @@ fn given_with<R: Net<Listener = TcpListener, Stream = TcpStream> + Threads + Wai
     outcome_of(rt, alloc, words, SCRIPT, &Open)
 }
 
-/// A faulty line is answered, and the lines behind it are executed.
+/// A faulty line has a reply, and the lines after it are executed.
 #[test]
 fn it_runs(rt: HostRuntime) {
     let given = given_with(&rt, rt.alloc(), &["pfl_lab", "run"]);
@@ -52,7 +52,7 @@ fn it_helps(rt: HostRuntime) {
     assert!(rt; given.left == SCRIPT.len());
 }
 
-/// The words ask for no mode: that is told where faults go, from this text on.
+/// The words ask for no mode: that is reported where faults go, from this text on.
 fn is_refused<R: Net<Listener = TcpListener, Stream = TcpStream> + Threads + Wait + Sync>(
     rt: &R,
     alloc: Global,

@@ -78,7 +78,7 @@ impl<A: Allocator> Rows<A> {
         true
     }
 
-    /// Takes the row at a slot out, and gives its key.
+    /// Takes the row at a slot out, and returns its key.
     fn remove(&mut self, slot: usize) -> Option<u64> {
         if slot >= self.keys.len() {
             return None;

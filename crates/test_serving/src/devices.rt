@@ -26,12 +26,12 @@ const STEP: &[u8] = b"step pass 1.1 dropped 0\nnames main\n";
 
 const BOTH: &[u8] = b"step pass 1.1 dropped 0\nat 0\nnames main\n";
 
-/// How a session ends whose reader gives so many bytes, and whose writer takes so many.
+/// How a session ends whose reader gives this many bytes, and whose writer takes this many.
 #[derive(Drop)]
 struct Cut {
     fault: Option<EngineFault>,
     writer: Narrow,
-    /// It is answered on with new devices.
+    /// It is served on with new devices.
     on: bool,
 }
 
@@ -88,7 +88,7 @@ fn cut_all<J: Which, R: Wait>(
 }
 
 impl Cut {
-    /// It ends so, with so many bytes of the answers.
+    /// It ends so, with this many bytes of the answers.
     fn is(&self, fault: Option<EngineFault>, written: usize) -> bool {
         let taken = self.writer.taken.iter().take(self.writer.len);
         self.on && self.fault == fault && taken.eq(ANSWERS.iter().take(written))
@@ -125,7 +125,7 @@ fn writers_fail_at_each_place(rt: HostRuntime) {
     assert!(rt; ends(&rt, rt.alloc(), (1000, 64), (None, 64, BOTH)));
 }
 
-/// The reader fails behind each byte of the lines: the lines that are whole were answered.
+/// The reader fails after each byte of the lines: the lines that are whole had their replies.
 #[test]
 fn readers_fail_at_each_place(rt: HostRuntime) {
     for given in 0..79 {

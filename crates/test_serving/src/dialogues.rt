@@ -8,7 +8,7 @@ use std::marker::Brand;
 use std::sync::Wait;
 use std::test::*;
 
-/// What the last session of a lab is answered.
+/// The replies to the last session of a lab.
 fn one_speaks<J: Which, R: Wait>(
     rt: &R,
     alloc: Global,
@@ -25,7 +25,7 @@ fn one_speaks<J: Which, R: Wait>(
     }
 }
 
-/// What the only session of a new lab is answered, whose journal has room for so many entries.
+/// The replies to the only session of a new lab, whose journal has room for this many entries.
 pub(super) fn alone<R: Wait>(
     rt: &R,
     alloc: Global,
@@ -36,8 +36,8 @@ pub(super) fn alone<R: Wait>(
     Ok(one_speaks::<Brand, _>(rt, alloc, opened, lines).ok_or("no pass")?)
 }
 
-/// A view tells its number and the branches, their events and the sum of their cursors, the states of node a and of node b, the
-/// frames in flight, and what is pending. The packet makes a state of node a, of which node b is to be told.
+/// A view shows its number and the branches, their events and the sum of their cursors, the states of node a and of node b, the
+/// frames in flight, and what is pending. The packet makes a state of node a, which is to be announced to node b.
 #[test]
 fn one_session_is_answered(rt: HostRuntime) -> Result<(), Fail> {
     let lines =
@@ -49,7 +49,7 @@ fn one_session_is_answered(rt: HostRuntime) -> Result<(), Fail> {
     Ok(())
 }
 
-/// Node b is told of the first packet's state. Without that packet there is nothing to send and nothing to deliver, and the state of
+/// The first packet's state is announced to node b. Without that packet there is nothing to send and nothing to deliver, and the state of
 /// the second packet, from port 1001, is the first one of node a.
 #[test]
 fn an_excision_and_its_restoration_are_answered(rt: HostRuntime) -> Result<(), Fail> {
@@ -82,7 +82,7 @@ fn a_journal_is_followed(rt: HostRuntime) -> Result<(), Fail> {
     Ok(())
 }
 
-/// At each hundredth entry a session is told how many there are, where a hundred are still to come.
+/// At each hundredth entry a session is shown how many there are, where a hundred are still to come.
 #[test]
 fn a_session_behind_is_told(rt: HostRuntime) -> Result<(), Fail> {
     let mut lines = Vec::new(rt.alloc());

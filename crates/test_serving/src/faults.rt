@@ -24,7 +24,7 @@ struct Failed<I: Input, O: Output> {
     fault: Option<EngineFault>,
     reader: LineReader<I>,
     writer: O,
-    /// The second session was then answered, and the first with new devices.
+    /// The second session then had its replies, and the first with new devices.
     good: bool,
 }
 
@@ -143,7 +143,7 @@ fn sessions_survive_a_failed_read(rt: HostRuntime) -> Result<(), Fail> {
     Ok(())
 }
 
-/// The reader gives a byte a call, and no end of the line after the first one: the reply is there, and a session makes only so many
+/// The reader gives a byte a call, and no end of the line after the first one: the reply is there, and a session makes only this many
 /// calls.
 #[test]
 fn sessions_survive_a_line_without_end(rt: HostRuntime) -> Result<(), Fail> {

@@ -46,7 +46,7 @@ pub(super) fn take<J: Which, A: Allocator>(passes: &mut Vec<Pass<A>, A>) -> Opti
     passes.pop()
 }
 
-/// What a session was answered, and how it ended.
+/// The replies to a session, and how it ended.
 #[derive(Drop)]
 pub(super) struct Spoken {
     pub(super) text: Vec<u8, Global>,
@@ -54,7 +54,7 @@ pub(super) struct Spoken {
 }
 
 impl Spoken {
-    /// The session was answered so to its end, and so many of its lines were faulty.
+    /// The session had these replies to its end, and this many of its lines were faulty.
     pub(super) fn is(&self, text: &[u8], lines: u64, bad: u64) -> bool {
         self.text.as_slice() == text && self.result == Ok(Ended { lines, bad })
     }
@@ -156,7 +156,7 @@ pub(super) fn replayed<A: Allocator>(alloc: Global, journal: &[Entry<A>]) -> Tex
     if whole { Some(text.into_inner()) } else { None }
 }
 
-/// The journal tells these replies, and so does its replay.
+/// The journal has these replies, and so does its replay.
 pub(super) fn tells(alloc: Global, journal: &[Entry<Global>], text: &[u8]) -> bool {
     let told = told(alloc, journal, None);
     let again = replayed(alloc, journal);

@@ -1,4 +1,4 @@
-//! A session whose memory is wanting at each request in turn: what it is answered then, and what stands after it.
+//! A session whose memory is wanting at each request in turn: what the replies to it are then, and what stands after it.
 ghost use Rattle.std.specs.Prelude.{◌≡◌};
 ghost use Rattle.std.specs.List.{AllByRecursion};
 ghost use Rattle.pfl_serve.specs.session.Passes.{IsPassOf};
@@ -17,7 +17,7 @@ use test_devices::{RefusesOne, Try, requests_of};
 const LINES: &[u8] =
     b"step main packet a out udp 10.0.0.1:1000 192.0.2.9:53 40\nstep main flush a\nview\nshow main\nnames\nback main 1\nexcise main 1\nrestore main\nfollow 5\n";
 
-/// Its first answers, each of a line: one state is told in a frame of a header (20 bytes), a group's (4) and one record (124).
+/// Its first answers, each of a line: one state is sent in a frame of a header (20 bytes), a group's (4) and one record (124).
 const FIRST: &[u8] = b"step pass 1.1 dropped 0\nstep sent 1 148 dropped 0\nview 2 1 2 2 1 0 1 0\n";
 
 /// Its last answers, each of a line but the last. Between them stands the branch that is shown. Without the packet there is nothing to
@@ -34,7 +34,7 @@ fn ends_with_an_answer(whole: &[u8], text: &[u8]) -> bool {
     at_line && (text.len() <= FIRST.len() || rest.len() <= LAST.len())
 }
 
-/// What came of the session, if it was answered as it should be while one request was refused that came or not.
+/// What came of the session, if it had the replies that it should have while one request was refused that came or not.
 fn tried(whole: &[u8], spoken: &Spoken, came: bool) -> Option<Try> {
     let answered = spoken.is(whole, 9, 0);
     let wanting = spoken.result == Err(EngineFault::NoMemory);
@@ -46,7 +46,7 @@ fn tried(whole: &[u8], spoken: &Spoken, came: bool) -> Option<Try> {
     }
 }
 
-/// Serves the session while the `n`-th request is refused: what it is answered, and whether the request came.
+/// Serves the session while the `n`-th request is refused: the replies to it, and whether the request came.
 fn speak_without<'a, J: Which, R: Wait>(
     rt: &R,
     heap: Global,
@@ -63,7 +63,7 @@ fn speak_without<'a, J: Which, R: Wait>(
     (spoken, memory.relent(), pass)
 }
 
-/// Both sessions are answered, now that nothing is refused.
+/// Both sessions have their replies, now that nothing is refused.
 fn both_answered<'a, J: Which, R: Wait>(
     rt: &R,
     heap: Global,
@@ -81,7 +81,7 @@ fn both_answered<'a, J: Which, R: Wait>(
     named && shown.result == Ok(Ended { lines: 1, bad: 0 })
 }
 
-/// What the first session of two is answered so, if both are answered after it.
+/// The replies to the first session of two then, if both have their replies after it.
 fn first_without<'a, J: Which, R: Wait>(
     rt: &R,
     heap: Global,
@@ -100,7 +100,7 @@ fn first_without<'a, J: Which, R: Wait>(
     if good { Some((spoken, came)) } else { None }
 }
 
-/// What is left of a lab whose first session is served so, and what it was answered.
+/// What is left of a lab whose first session is served so, and the replies to it.
 fn closed_without<'a, J: Which, R: Wait>(
     rt: &R,
     heap: Global,

@@ -53,7 +53,7 @@ fn packet_out(pick: u32) -> (&'static str, u32, &'static str) {
     (head, 16, ":1000 192.0.2.9:53 40")
 }
 
-/// A kind of lines: the words up to a number, the bound below which the number lies, or 0 for none, and what stands behind it.
+/// A kind of lines: the words up to a number, the bound below which the number lies, or 0 for none, and what follows it.
 /// As many events are taken back as happen, so branches stay short.
 fn kind(pick: u32) -> (&'static str, u32, &'static str) {
     match pick {
@@ -115,7 +115,7 @@ fn all_lines(alloc: Global) -> Result<Vec<String>, AllocError> {
     Ok(all)
 }
 
-/// What a session was answered, without its views.
+/// The replies to a session, without its views.
 #[derive(Drop)]
 struct Replies {
     text: String,
@@ -171,7 +171,7 @@ impl Replies {
     }
 }
 
-/// All lines of the session were answered: the commands by the replies of its entries in order, and no view was older than the
+/// All lines of the session had their replies: the commands by the replies of its entries in order, and no view was older than the
 /// one before.
 fn is_answered(alloc: Global, session: u32, heard: Heard<'_>, journal: &[Entry<Global>]) -> bool {
     let Some(own) = told(alloc, journal, Some(session)) else {
@@ -189,7 +189,7 @@ fn is_answered(alloc: Global, session: u32, heard: Heard<'_>, journal: &[Entry<G
     whole && replies.rising && replies.text.as_str().as_bytes() == own.as_slice()
 }
 
-/// So many sessions were all answered so, of which the last one is left first.
+/// This many sessions all had these replies, of which the last one is left first.
 fn are_answered(alloc: Global, heard: Vec<Heard<'_>, Global>, journal: &[Entry<Global>]) -> bool {
     let mut good = heard.len() == SESSIONS as usize;
     let mut session = SESSIONS;

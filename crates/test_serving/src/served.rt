@@ -11,7 +11,7 @@ use std::alloc::Global;
 use std::sync::Wait;
 use std::thread::Threads;
 
-/// A session that reads its lines from memory and is answered there.
+/// A session that reads its lines from memory and has its replies there.
 type MemorySeat<'a> = Seat<Global, Std<&'a [u8]>, Std<Vec<u8, Global>>>;
 
 /// What is left of such a session.
@@ -20,7 +20,7 @@ pub(super) type Heard<'a> = EndedSeat<Std<&'a [u8]>, Std<Vec<u8, Global>>>;
 /// What is left of such sessions and of their lab.
 pub(super) type MemoryClosing<'a> = Closing<Global, Std<&'a [u8]>, Std<Vec<u8, Global>>>;
 
-/// Seats a session behind the others: whether there is memory for it.
+/// Seats a session after the others: whether there is memory for it.
 fn sit<'a, J: Which>(
     alloc: Global,
     seats: &mut Vec<MemorySeat<'a>, Global>,
@@ -74,7 +74,7 @@ pub(super) fn served<'a, J: Which + Send + Sync, G: Gate + Sync, R: Threads + Wa
     Service { rt, alloc, gate }.serve_and_close(lab, seats).ok()
 }
 
-/// What such a session was answered, and how it ended.
+/// The replies to such a session, and how it ended.
 pub(super) fn spoken(heard: Heard<'_>) -> Spoken {
     let EndedSeat {
         reader: _,

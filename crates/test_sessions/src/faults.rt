@@ -5,7 +5,7 @@ use pfl_session::{AskFault, LabFault};
 use std::alloc::Global;
 use std::test::*;
 
-/// Why no lab is opened for so many sessions and entries.
+/// Why no lab is opened for this many sessions and entries.
 fn fault(alloc: Global, sessions: u32, journal: usize) -> Option<LabFault> {
     opened(alloc, limits(), sessions, journal).err()
 }

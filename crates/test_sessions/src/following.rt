@@ -1,4 +1,4 @@
-//! A session that is told of the entries one after another.
+//! A session that is shown the entries one after another.
 ghost use Rattle.std.specs.Prelude.{◌≡◌};
 ghost use Rattle.std.specs.List.{AllByRecursion};
 ghost use Rattle.pfl_session.specs.Passes.{IsPassOf};
@@ -22,12 +22,12 @@ fn is_made(made: Option<Made>, number: u64, session: u32, command: &Command) -> 
     }
 }
 
-/// The session has been told of all entries, and there are so many.
+/// The session has been shown all entries, and there are this many.
 fn is_last(next: Next, entries: u64) -> bool {
     next.made.is_none() && next.entries == entries
 }
 
-/// The first session steps and steps back, with a question of the second between. The third, which has asked nothing, is told of each
+/// The first session steps and steps back, with a question of the second between. The third, which has asked nothing, is shown each
 /// entry once, in their order; and of the last one again where it asks again.
 fn third_follows<J: Which, R: Wait>(
     rt: &R,
@@ -83,7 +83,7 @@ fn three_follow<J: Which, R: Wait>(
     Some(found && back == [true; 3])
 }
 
-/// Whether the third session of a lab is told of all entries, which are those of the closed journal.
+/// Whether the third session of a lab is shown all entries, which are those of the closed journal.
 fn follows<J: Which, R: Wait>(rt: &R, opened: Opened<Global>, step: Command) -> bool
     requires tables { (opened.publisher ≡ J.publisher) × (opened.tallies ≡ J.tallies) }
     requires opening { (opened.opening ≡ J.opening) × (opened.setup ≡ J.setup) × (opened.limit ≡ J.limit) }

@@ -142,7 +142,7 @@ pub(super) fn take<J: Which, A: Allocator>(passes: &mut Vec<Pass<A>, A>) -> Opti
     passes.pop()
 }
 
-/// Puts a pass behind the others: whether there is memory for it.
+/// Puts a pass after the others: whether there is memory for it.
 pub(super) fn put<J: Which, A: Allocator>(passes: &mut Vec<Pass<A>, A>, pass: Pass<A>) -> bool
     requires others { AllByRecursion (IsPassOf J.publisher J.tallies) passes.old.items }
     requires pass { IsPassOf J.publisher J.tallies pass }

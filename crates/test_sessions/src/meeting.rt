@@ -14,7 +14,7 @@ use std::sync::Wait;
 use std::test::*;
 use std::thread::{Threads, join};
 
-/// A session's pass, and what it was told.
+/// A session's pass, and what was sent to it.
 #[derive(Drop)]
 struct Told {
     pass: Pass<Global>,
@@ -90,7 +90,7 @@ fn first_session(one: u64, two: u64) -> Option<u32> {
     }
 }
 
-/// The entry is the session's, and tells the number of its state.
+/// The entry is the session's, and has the number of its state.
 fn tells(entry: Entry<Global>, session: u32, number: u64) -> bool {
     entry.session == session && state_of(&entry.reply) == number
 }
@@ -127,7 +127,7 @@ fn call_and_meet<J: Which + Send + Sync, R: Threads + Wait + Sync>(
     let later_met = one.met.max(two.met);
     let (mut one, mut two) = (one.pass, two.pass);
     let met = [lab.meet(rt, &mut one), lab.meet(rt, &mut two)];
-    // Two events, which stand; two states of node A, of which node B is to be told.
+    // Two events, which stand; two states of node A, which are to be announced to node B.
     let both = [2, 1, 2, 2, 2, 0, 0, 2];
     let seen = [sees(lab, &mut one, both), sees(lab, &mut two, both)];
     let good = later_met == 2 && met == [2, 2] && seen == [true; 2];

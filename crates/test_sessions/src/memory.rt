@@ -1,4 +1,4 @@
-//! Labs whose memory is wanting at each request in turn: what is answered then, and what stands after it.
+//! Labs whose memory is wanting at each request in turn: what is returned then, and what stands after it.
 ghost use Rattle.std.specs.Prelude.{◌≡◌};
 ghost use Rattle.std.specs.List.{AllByRecursion};
 ghost use Rattle.pfl_session.specs.Passes.{IsPassOf};
@@ -43,13 +43,13 @@ fn each_request_of_a_new_lab_is_refused_in_turn(rt: HostRuntime) {
 struct Trial {
     /// What the lab's one session asks before. The journal has then no room left over.
     before: [Command; 4],
-    /// The call, and what it is answered where memory is there.
+    /// The call, and its reply where memory is there.
     row: Row,
     /// How many of its requests it does without.
     spared: u64,
 }
 
-/// State 1.1 stands at both nodes, and node A is to tell of the answer that it passed.
+/// State 1.1 stands at both nodes, and node A is to announce the answer that it passed.
 fn answered_query() -> Option<[Command; 4]> {
     let node = NodeId::A;
     Some([
@@ -75,7 +75,7 @@ fn excise(place: u32) -> Command {
     Command::Excise { branch, place }
 }
 
-/// Without the first of the three events node A had nothing to tell node B.
+/// Without the first of the three events node A had nothing to send to node B.
 fn excised_query() -> Option<[Command; 4]> {
     let [query, flush, deliver, _] = answered_query()?;
     Some([query, flush, deliver, excise(1)])
@@ -90,7 +90,7 @@ fn once_answered(command: Command, wanted: Answer, spared: u64) -> Option<Trial>
     })
 }
 
-/// The call after state 1.1 was told to node B, whose delivery is undone.
+/// The call after state 1.1 was sent to node B, whose delivery is undone.
 fn once_undone(command: Command, wanted: Answer) -> Option<Trial> {
     let [query, flush, deliver, _] = answered_query()?;
     let branch = BranchWord::main();
@@ -101,7 +101,7 @@ fn once_undone(command: Command, wanted: Answer) -> Option<Trial> {
     })
 }
 
-/// The call after the first event was taken out, and the two behind it fell out.
+/// The call after the first event was taken out, and the two after it fell out.
 fn once_excised(command: Command, wanted: Answer) -> Option<Trial> {
     Some(Trial {
         before: excised_query()?,
@@ -241,7 +241,7 @@ fn ask_without<'a, J: Which, R: Wait>(
     }
 }
 
-/// Asks so after what comes before, and then for the names of the branches, which the lab has to answer.
+/// Asks so after what comes before, and then for the names of the branches, to which the lab has to reply.
 fn begin_and_ask_without<'a, J: Which, R: Wait>(
     rt: &R,
     memory: &'a RefusesOne,
@@ -293,7 +293,7 @@ fn closed_without<'a, J: Which, R: Wait>(
     (lab.close(passes), tried)
 }
 
-/// The commands that were answered: that of the trial too, unless memory was wanting.
+/// The commands that had a reply: that of the trial too, unless memory was wanting.
 fn answered<A: Allocator>(alloc: A, trial: &Trial, tried: Option<Try>) -> Option<Vec<Command, A>> {
     let mut commands = Vec::from_slice(alloc, &trial.before).ok()?;
     if tried != Some(Try::Wanting) {
@@ -310,7 +310,7 @@ fn has_these<A: Allocator>(journal: &[KeptEntry<A>], commands: &[Command]) -> bo
     journal.len() == commands.len() && agree
 }
 
-/// The journal has the commands that were answered, and they give the timeline.
+/// The journal has the commands that had a reply, and they give the timeline.
 fn tells_no_more<A: Allocator + Copy>(
     alloc: A,
     closed: Closed<A>,

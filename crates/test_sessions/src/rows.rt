@@ -10,11 +10,11 @@ use std::alloc::Allocator;
 pub(super) enum Answer {
     /// The event happened, and none was cut.
     Stepped,
-    /// So many events stand.
+    /// This many events stand.
     At(usize),
     /// The branch is made.
     Forked,
-    /// The branch has so many events, and so many of them stand. Node A has so many states, and 1.1 is from this port; there is
+    /// The branch has this many events, and this many of them stand. Node A has this many states, and 1.1 is from this port; there is
     /// no 1.1 where no port is given.
     Shown {
         events: usize,
@@ -22,20 +22,20 @@ pub(super) enum Answer {
         states: usize,
         port: Option<u16>,
     },
-    /// There are so many names.
+    /// There are this many names.
     Names(usize),
     /// The events at these two places fell out, or none did.
     Excised(Option<[usize; 2]>),
-    /// So many events stand again.
+    /// This many events stand again.
     Restored(usize),
-    /// The branch has so many events, and so many of them stand.
+    /// The branch has this many events, and this many of them stand.
     Logged {
         events: usize,
         cursor: usize,
     },
     /// The event at this place is explained.
     Explained(usize),
-    /// What became of the frame of this ticket: so many events befell it.
+    /// What became of the frame of this ticket: this many events befell it.
     Traced {
         ticket: u32,
         later: usize,
@@ -51,7 +51,7 @@ pub(super) struct Row {
     pub(super) wanted: Answer,
 }
 
-/// Node A has so many states, and 1.1 is from this port; there is no 1.1 where no port is given.
+/// Node A has this many states, and 1.1 is from this port; there is no 1.1 where no port is given.
 fn has_states<A: Allocator>(world: &World<A>, count: usize, port: Option<u16>) -> bool {
     let states = world.node(NodeId::A).states();
     let first = states.by_name(StateName { creator: 1, id: 1 });

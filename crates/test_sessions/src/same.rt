@@ -1,11 +1,11 @@
-//! Whether commands, replies and timelines are the same, as far as their readers tell.
+//! Whether commands, replies and timelines are the same, as far as their readers show.
 
 use super::lab::opening;
 use pfl_base::NodeId;
 use pfl_language::{BranchWord, Command, Limits};
 use pfl_session::{
-    Branch, Closed, Entry, Explained, Explanation, FrameTrace, InFlight, Node, Reply, Timeline,
-    World,
+    Branch, Closed, Entry, Events, Explained, Explanation, FrameTrace, InFlight, Node, Reply,
+    Timeline, World,
 };
 use std::alloc::Allocator;
 
@@ -37,9 +37,22 @@ fn same_world<A: Allocator>(one: &World<A>, two: &World<A>) -> bool {
     nodes && frames && one.next_boot() == two.next_boot()
 }
 
+/// The same events, in the same order.
+fn same_events<A: Allocator>(one: &Events<A>, two: &Events<A>) -> bool {
+    if one.len() != two.len() {
+        return false;
+    }
+    for index in 0..one.len() {
+        if one.get(index) != two.get(index) {
+            return false;
+        }
+    }
+    true
+}
+
 /// The same branch.
 fn same_branch<A: Allocator>(one: &Branch<A>, two: &Branch<A>) -> bool {
-    let events = one.events() == two.events() && one.cursor() == two.cursor();
+    let events = same_events(one.events(), two.events()) && one.cursor() == two.cursor();
     same_name(one.name(), two.name()) && events && same_world(one.world(), two.world())
 }
 
@@ -50,7 +63,7 @@ pub(super) fn same_timeline<A: Allocator>(one: &Timeline<A>, two: &Timeline<A>) 
     ours.len() == theirs.len() && agree
 }
 
-/// What is told of a branch that is shown.
+/// What is said of a branch that is shown.
 #[derive(Drop)]
 struct ShownBranch<'a, A: Allocator> {
     name: &'a BranchWord,

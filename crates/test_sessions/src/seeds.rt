@@ -42,7 +42,7 @@ fn few() -> Limits {
 struct Player<J: Which> {
     pass: Pass<Global>,
     dice: Dice,
-    /// The ticket of the last frame that it was told of.
+    /// The ticket of the last frame that was reported to it.
     ticket: u32,
     /// The greatest number of a revision that it saw.
     greatest: u64,
@@ -101,7 +101,7 @@ impl<J: Which> Player<J> {
         }
     }
 
-    /// Views: whether the revision is not older than any that it saw, nor than what it was told.
+    /// Views: whether the revision is not older than any that it saw, nor than what was reported to it.
     fn view(&mut self, lab: &Lab<J, Global>) -> bool {
         let told = self.pass.told().number;
         let Ok(revision) = lab.view(&mut self.pass, TRIES) else {

@@ -12,13 +12,13 @@ use std::marker::Brand;
 use std::sync::Wait;
 use std::test::*;
 
-/// The packet went on by state 1.1, and so many events were cut.
+/// The packet went on by state 1.1, and this many events were cut.
 fn passed(answer: Result<Reply<Global>, AskFault>, cut: usize) -> bool {
     let by = Some(StateName { creator: 1, id: 1 });
     matches!(&answer, Ok(Reply::Stepped { outcome, dropped }) if *outcome == Outcome::At(NodeOutcome::Handled(Fate::Pass(by))) && *dropped == cut)
 }
 
-/// So many events stand.
+/// This many events stand.
 fn at(answer: Result<Reply<Global>, AskFault>, standing: usize) -> bool {
     matches!(&answer, Ok(Reply::At(cursor)) if *cursor == standing)
 }
@@ -33,8 +33,8 @@ fn too_late(answer: Result<Reply<Global>, AskFault>) -> bool {
     matches!(&answer, Err(AskFault::JournalFull))
 }
 
-/// The revision has this number: `main` has one event, which stands and has made the state 1.1 at node A, of which node
-/// B is to be told.
+/// The revision has this number: `main` has one event, which stands and has made the state 1.1 at node A, which
+/// is to be announced to node B.
 fn with_a_state(number: u64) -> [u64; 8] {
     [number, 1, 1, 1, 1, 0, 0, 1]
 }
@@ -171,7 +171,7 @@ fn three_sessions_step_back_and_step(rt: HostRuntime) -> Result<(), Fail> {
     Ok(())
 }
 
-/// The first session asks for the names of the branches, and is answered; the second finds the journal full.
+/// The first session asks for the names of the branches, and has its reply; the second finds the journal full.
 fn second_is_too_late<J: Which, R: Wait>(
     rt: &R,
     lab: &Lab<J, Global>,

@@ -75,7 +75,7 @@ impl<A: Allocator> Rings<A> {
         }
     }
 
-    /// Makes the node of the next slot that was never used, and gives the slot.
+    /// Makes the node of the next slot that was never used, and returns the slot.
     #[inline]
     pub(crate) fn grow(&mut self) -> usize
         requires below { length self.old.nodes.items < self.old.limit }

@@ -53,7 +53,7 @@ impl<K: Ordered, V: Copy, A: Allocator> Arena<K, V, A> {
         put(&mut self.nodes, place, Node { value, ..node });
     }
 
-    /// Takes the entry of a key out and gives its value. The place of its node is free then.
+    /// Takes the entry of a key out and returns its value. The place of its node is free then.
     pub(crate) fn remove(&mut self, key: K) -> Option<V>
         requires stored { IsArena K.order self.old }
         ensures loses { Loses K.order self.old self.new key result }
@@ -77,7 +77,7 @@ impl<K: Ordered, V: Copy, A: Allocator> Arena<K, V, A> {
         Some(taken.value)
     }
 
-    /// Puts an entry in where there is room for one more, and gives what stood under its key.
+    /// Puts an entry in where there is room for one more, and returns what stood under its key.
     pub(crate) fn insert(&mut self, key: K, value: V) -> Option<V>
         requires room { HasRoom K.order self.old }
         ensures gains { Gains K.order self.old self.new key value result }

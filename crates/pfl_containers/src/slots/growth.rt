@@ -24,7 +24,7 @@ pub(crate) fn first_buckets(limit: usize) -> usize
 }
 
 /// Sees to room for an entry more: where there are half as many entries as buckets, they are spread over more of these.
-/// Gives the number of buckets.
+/// Returns the number of buckets.
 #[inline]
 pub(crate) fn with_room<A: Allocator>(
     words: &mut Vec<Word, A>,

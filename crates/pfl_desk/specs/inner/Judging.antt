@@ -6,7 +6,7 @@ use Rattle.pfl_base.specs.declared.refusal.Refusal.TheVariants.{QueueFull, Count
 use Rattle.pfl_desk.specs.declared.parts.judge.Overfull.{Overfull}
 use Rattle.pfl_desk.specs.Nodes.{Node, is_overfull, is_overcounted}
 
--- an event went through these points: it stopped where too much was pending at one, and else tells whether at one a number was too high
+-- an event went through these points: it stopped where too much was pending at one, and else says whether at one a number was too high
 abbrev pub Went : {T : Type 0} → Result (T × Bool) Overfull → List Node → Type 0
 Went (Ok r) points = (list_any is_overfull points ≡ false) × (r.1 ≡ list_any is_overcounted points)
 Went (Err _) points = list_any is_overfull points ≡ true

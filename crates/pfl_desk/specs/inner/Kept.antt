@@ -45,7 +45,7 @@ pub record IsTimely (limits : Limits) (rules : Rules) (table : Table) : Type 0 w
   pub room : table.limit ≡ limits.states
   pub timeouts : (name : StateName) (row : Row) → maps.get table.rows name ≡ Some row → row.timeout ≡ timeout_by rules row.state
 
--- the state may take the place of one of the node, of its name and keys, and told of like it
+-- the state may take the place of one of the node, of its name and keys, and announced like it
 pub record MayReplace (n : Node) (s : State) : Type 0 where
   pub former : State
   pub stands : maps.get n.states s.name ≡ Some former

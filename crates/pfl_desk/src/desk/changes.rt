@@ -1,4 +1,4 @@
-//! The small changes that events are made of: held packets that go, states that change, states that go, and when the peer is told
+//! The small changes that events are made of: held packets that go, states that change, states that go, and when that is announced to the peer
 //! (pfsync(4), if_pfsync.c).
 
 ghost use Rattle.std.specs.Prelude.{◌≡◌, ◌≤◌, ◌<◌, ◌+◌, true, false, None, OnOk, OnErr, ◌&&◌, not, Some};
@@ -64,7 +64,7 @@ impl<A: Allocator> Desk<A> {
         self.stop_waiting(name);
     }
 
-    /// Puts a state in the place of one, which may stand at this slot, and has the peer told of it. Where that is too much, what was
+    /// Puts a state in the place of one, which may stand at this slot, and announces it to the peer. Where that is too much, what was
     /// changed until then stays on the desk, and `settle` takes it back.
     pub fn change_state(&mut self, slot: Slot, state: State) -> Result<(), Overfull>
         requires room { changed_edits ≤ self.old.edits.spare }
@@ -83,7 +83,7 @@ impl<A: Allocator> Desk<A> {
         Ok(())
     }
 
-    /// Puts a state in the place of one, and has the peer told of it by an update.
+    /// Puts a state in the place of one, and announces it to the peer by an update.
     fn tell(&mut self, slot: Slot, state: State) -> Result<(), Overfull>
         requires room { 2 ≤ self.old.edits.spare }
         requires known { MayReplace self.old.node state }
@@ -101,7 +101,7 @@ impl<A: Allocator> Desk<A> {
         Ok(())
     }
 
-    /// Puts a state in the place of one that the peer is told of already.
+    /// Puts a state in the place of one that is announced to the peer already.
     fn count_update(&mut self, slot: Slot, state: State)
         requires room { 2 ≤ self.old.edits.spare }
         requires known { MayReplace self.old.node state }
@@ -139,7 +139,7 @@ impl<A: Allocator> Desk<A> {
         }
     }
 
-    /// Deletes the state by itself, which may stand at this slot, and has the peer told of it. Where that is too much, what was
+    /// Deletes the state by itself, which may stand at this slot, and announces it to the peer. Where that is too much, what was
     /// changed until then stays on the desk, and `settle` takes it back.
     pub fn delete(&mut self, slot: Slot, state: &State) -> Result<(), Overfull>
         requires room { deleted_edits ≤ self.old.edits.spare }
@@ -152,7 +152,7 @@ impl<A: Allocator> Desk<A> {
         self.tell_deletion(slot, state)
     }
 
-    /// Takes the state out, and has the peer told of it.
+    /// Takes the state out, and announces it to the peer.
     fn tell_deletion(&mut self, slot: Slot, state: &State) -> Result<(), Overfull>
         requires room { 3 ≤ self.old.edits.spare }
         requires stands { maps.get self.old.node.states state.now.name ≡ Some state.now }
@@ -179,7 +179,7 @@ impl<A: Allocator> Desk<A> {
         self.take_state(slot, name);
     }
 
-    /// Drops the packet of a name, takes the name off its queue and its state out, and tells the peer nothing.
+    /// Drops the packet of a name, takes the name off its queue and its state out, and sends the peer nothing.
     pub fn forget(&mut self, name: StateName)
         requires room { forgotten_edits ≤ self.old.edits.spare }
         ensures node { self.new.node ≡ to.forgotten self.old.node name }
@@ -189,7 +189,7 @@ impl<A: Allocator> Desk<A> {
         self.take_out(Slot::UNKNOWN, name);
     }
 
-    /// The peer is told of the deletion of the state.
+    /// The deletion of the state is announced to the peer.
     fn is_deletion_told(&self, state: &State) -> bool
         ensures told { result ≡ (not (to.is_insert (kind_of self.now.node.queue state.now.name)) && not state.now.no_sync) }
         ensures parts { AreParts self.now.node }

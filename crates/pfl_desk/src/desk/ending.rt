@@ -15,7 +15,7 @@ use pfl_edits::{Change, take_back};
 use std::alloc::Allocator;
 
 impl<A: Allocator> Desk<A> {
-    /// Judges an event that was carried out, and tells whether at one of its points a number was too high, or that it stopped where
+    /// Judges an event that was carried out, and returns whether at one of its points a number was too high, or that it stopped where
     /// too much was pending. Its edits are handed out; where it is refused, or there is no memory for them, they are taken back.
     pub fn settle<T: Copy>(
         &mut self,

@@ -1,4 +1,4 @@
-//! What the peer is asked for or told beside the queues of names: requests, bulk statuses and clears (if_pfsync.c). For each that is
+//! What is asked of or sent to the peer beside the queues of names: requests, bulk statuses and clears (if_pfsync.c). For each that is
 //! new a frame is wanted soon.
 
 ghost use Rattle.std.specs.Prelude.{◌≡◌, ◌≤◌, ◌<◌, true, OnOk, OnErr, IfOk, not};
@@ -28,7 +28,7 @@ impl<A: Allocator> Desk<A> {
         Ok(())
     }
 
-    /// Tells the peer a bulk status, soon.
+    /// Sends the peer a bulk status, soon.
     pub fn tell_status(&mut self, status: BulkStatus) -> Result<(), Overfull>
         requires room { listed_edits ≤ self.old.edits.spare }
         ensures full { OnErr result (is_overfull (to.tell_status self.old.node status) ≡ true) }
@@ -40,7 +40,7 @@ impl<A: Allocator> Desk<A> {
         Ok(())
     }
 
-    /// Tells the peer, soon, that the states of a creator with an id of at most the bound are to go.
+    /// Announces to the peer, soon, that the states of a creator with an id of at most the bound are to go.
     pub fn tell_clear(&mut self, creator: u32, bound: u64) -> Result<(), Overfull>
         requires room { listed_edits ≤ self.old.edits.spare }
         ensures full { OnErr result (is_overfull (to.tell_clear self.old.node creator bound) ≡ true) }

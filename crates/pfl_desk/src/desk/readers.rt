@@ -53,7 +53,7 @@ impl<A: Allocator> Desk<A> {
         scaled(seconds, self.limits().adaptive(), states.len())
     }
 
-    /// What it has to tell its peer.
+    /// What it has to send to its peer.
     pub fn queue(&self) -> &Pending<A>
         ensures queue { result.now ≡ self.now.node.queue }
     {

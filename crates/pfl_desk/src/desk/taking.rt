@@ -1,4 +1,4 @@
-//! What is pending is taken out for a frame (if_pfsync.c), and what the frame tells is told no more.
+//! What is pending is taken out for a frame (if_pfsync.c), and what the frame carries is sent no more.
 
 ghost use Rattle.std.specs.Option.{option_map_or};
 ghost use Rattle.std.specs.Prelude.{◌≡◌, ◌≤◌, ◌<◌, ◌+◌, ◌++◌, length, IfOk, OnOk};
@@ -34,7 +34,7 @@ impl<A: Allocator + Copy> Desk<A> {
 }
 
 impl<A: Allocator> Desk<A> {
-    /// The state of a name, if there is one, has no updates left to tell.
+    /// The state of a name, if there is one, has no updates left to announce.
     pub fn clear_updates(&mut self, name: StateName)
         requires room { 0 < self.old.edits.spare }
         ensures node { self.new.node ≡ option_map_or (λ s. to.put_state self.old.node (record s { updates = 0 })) (maps.get self.old.node.states name) self.old.node }

@@ -1,5 +1,5 @@
-//! What the peer is asked for or told beside the queues of names: requests, bulk statuses and clears (if_pfsync.c), each listed by
-//! itself. What is listed is answered as an edit.
+//! What is asked of or sent to the peer beside the queues of names: requests, bulk statuses and clears (if_pfsync.c), each listed by
+//! itself. What is listed is returned as an edit.
 
 ghost use Rattle.std.specs.Prelude.{◌≡◌, true, OnOk, OnErr, IfOk, ◌∷◌, [], is_some, not};
 ghost use Rattle.pfl_desk.specs.Changes as to;

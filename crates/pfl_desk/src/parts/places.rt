@@ -1,4 +1,4 @@
-//! The places of a node, each changed by itself. What changes is answered as an edit.
+//! The places of a node, each changed by itself. What changes is returned as an edit.
 
 ghost use Rattle.std.specs.Option.{option_map};
 ghost use Rattle.std.specs.Prelude.{◌≡◌, ◌≤◌, ◌<◌, ◌+◌, true, None, OnOk, OnErr, IfOk, length, Some, ◌∷◌, [], IfNone, IfSome, MatchOption, is_some};

@@ -44,7 +44,7 @@ impl<A: Allocator> Parts<A> {
         &self.table
     }
 
-    /// What it has to tell its peer.
+    /// What it has to send to its peer.
     pub(crate) fn queue(&self) -> &Pending<A>
         ensures queue { result.now ≡ self.now.queue }
     {

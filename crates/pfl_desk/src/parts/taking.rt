@@ -1,4 +1,4 @@
-//! What is pending is taken out for a frame (if_pfsync.c), and answered with its edits.
+//! What is pending is taken out for a frame (if_pfsync.c), and returned with its edits.
 
 ghost use Rattle.std.specs.Prelude.{◌≡◌, IfOk, OnOk, OnErr, length};
 ghost use Rattle.pfl_desk.specs.inner.Drafting.{Makes};

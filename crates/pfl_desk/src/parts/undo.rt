@@ -49,7 +49,7 @@ impl<A: Allocator> Reversible for Parts<A> {
 }
 
 impl<A: Allocator> Parts<A> {
-    /// Puts the new value of an edit that was undone into its place again. It answers nothing, so it cannot want memory.
+    /// Puts the new value of an edit that was undone into its place again. It returns nothing, so it cannot want memory.
     pub(crate) fn redo(&mut self, edit: NodeEdit)
         requires found { FindsFormer edit self.old }
         requires allowed { AreParts (redone edit self.old) }

@@ -59,7 +59,7 @@ impl<'a, E: Packed> Front<'a, E> {
         self.turns.len()
     }
 
-    /// The oldest of them, so many as the mark says.
+    /// The oldest of them, as many as the mark says.
     pub(super) fn below(&self, mark: usize) -> Front<'a, E>
         requires within { mark ≤ length self.now }
         ensures edits { result ≡ below mark self.now }
@@ -80,7 +80,7 @@ impl<'a, E: Packed> Front<'a, E> {
 }
 
 impl<'a, E: Packed + Copied> Front<'a, E> {
-    /// Leaves the newest edit out, and gives an equal one. Where there is no memory for that, it stays.
+    /// Leaves the newest edit out, and returns an equal one. Where there is no memory for that, it stays.
     pub(super) fn pop_copied(&mut self) -> Result<E, NoMemory>
         requires some { 0 < length self.old }
         ensures edit { IfOk result (λ edit. self.old ≡ self.new ++ edit ∷ []) }

@@ -15,17 +15,17 @@ use Rattle.pfl_receive.specs.queue.Taking.{entry_action, one_action}
 use Rattle.pfl_receive.specs.desk.Nodes.{Node}
 use Rattle.pfl_node.specs.Flushing.{messages_of}
 
--- what is told of a name by the kind is there: its state, except of a deletion
+-- what is sent of a name by the kind is there: its state, except of a deletion
 abbrev pub HasState : Node → Kind → StateName → Type 0
 HasState n Delete name = Unit {0}
 HasState n _ name = IsSome (maps.get n.states name)
 
--- what is told by the entry is there
+-- what is sent by the entry is there
 abbrev pub IsTold : Node → Entry → Type 0
 IsTold n (Marked kind number name) = HasState n kind name
 IsTold n _ = Unit {0}
 
--- how many of the entries in front are told by the action
+-- how many of the entries in front are sent by the action
 abbrev pub run_of : Action → List Entry → ℕ
 run_of action es = prefix_len (λ e. one_action (entry_action e) action) es
 

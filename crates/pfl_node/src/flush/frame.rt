@@ -1,4 +1,4 @@
-//! The frame of what a node tells its peer (if_pfsync.c).
+//! The frame of what a node sends to its peer (if_pfsync.c).
 
 ghost use Rattle.std.specs.List.{AllByRecursion, flat_map};
 ghost use Rattle.std.specs.Prelude.{◌≡◌, ◌<◌, ◌^◌, [], ◌∷◌, Some, IsSome, IfOk, length};
@@ -34,7 +34,7 @@ pub(crate) fn bytes_of<A: Allocator + Copy>(
     encode(alloc, &frame)
 }
 
-/// The groups of a frame of the entries: neighbours that are told by one action form one.
+/// The groups of a frame of the entries: neighbours that are sent by one action form one.
 fn groups_of<A: Allocator + Copy>(
     desk: &Desk<A>,
     alloc: A,
@@ -86,7 +86,7 @@ fn message_of<A: Allocator>(desk: &Desk<A>, entry: &Entry) -> Message
     }
 }
 
-/// What is told of a name on a queue.
+/// What is sent of a name on a queue.
 fn told_of<A: Allocator>(desk: &Desk<A>, kind: Kind, name: StateName) -> Message
     requires told { sending.HasState desk.now.node kind name }
     ensures message { flushing.mark_messages desk.now.node kind name ≡ result ∷ [] }
@@ -112,7 +112,7 @@ fn standing<A: Allocator>(desk: &Desk<A>, name: StateName) -> &State
     }
 }
 
-/// The whole state, as it is told.
+/// The whole state, as it is sent.
 fn state_record<A: Allocator>(desk: &Desk<A>, state: &State) -> StateRecord
     requires past { IsPast desk.now.node state.now.last }
     ensures record_of { result ≡ flushing.state_record desk.now.node state.now }
@@ -130,7 +130,7 @@ fn state_record<A: Allocator>(desk: &Desk<A>, state: &State) -> StateRecord
     }
 }
 
-/// What changes of a state, as it is told.
+/// What changes of a state, as it is sent.
 fn update_record<A: Allocator>(desk: &Desk<A>, state: &State) -> UpdateRecord
     requires past { IsPast desk.now.node state.now.last }
     ensures record_of { result ≡ flushing.update_record desk.now.node state.now }
@@ -155,7 +155,7 @@ fn remaining<A: Allocator>(desk: &Desk<A>, state: &State) -> u32
     (left / 1000) as u32
 }
 
-/// How many of the entries in front are told by the action.
+/// How many of the entries in front are sent by the action.
 fn run_of(action: Action, entries: &[Entry]) -> usize
     ensures { result ≡ sending.run_of action entries.now }
 {

@@ -40,7 +40,7 @@ impl<A: Allocator> Node<A> {
         self.desk.states()
     }
 
-    /// What it has to tell its peer.
+    /// What it has to send to its peer.
     pub fn queue(&self) -> &Pending<A>
         ensures queue { result.now ≡ self.now.queue }
     {

@@ -24,7 +24,7 @@ pub(crate) fn is_deferred<A: Allocator>(desk: &Desk<A>, dir: Dir) -> bool
     }
 }
 
-/// Holds the packet of a new state that the peer is told of. A full list lets its oldest packet go.
+/// Holds the packet of a new state that is announced to the peer. A full list lets its oldest packet go.
 pub(crate) fn hold_back<A: Allocator>(desk: &mut Desk<A>, state: State, packet: &Packet) -> Fate
     requires room { 6 ≤ desk.old.edits.spare }
     requires parts { AreParts desk.old.node }

@@ -99,7 +99,7 @@ fn next_name<A: Allocator>(desk: &Desk<A>) -> StateName
     }
 }
 
-/// Puts a new state under the next name, and has the peer told of it. Its packet goes on, or is held until the peer knows.
+/// Puts a new state under the next name, and announces it to the peer. Its packet goes on, or is held until the peer knows.
 fn announce<A: Allocator>(
     desk: &mut Desk<A>,
     state: State,

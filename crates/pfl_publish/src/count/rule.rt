@@ -1,4 +1,4 @@
-//! The rule of a count, and what each step tells.
+//! The rule of a count, and what each step shows.
 use crate::count::view::View;
 use atomic_table::{Join, Play, Split, TableRule};
 
@@ -13,7 +13,7 @@ impl TableRule<(), View, ()> for CountRule {
     ghost first = { λ _. whole 0 };
 }
 
-/// The whole loads the word, which tells that the counts are equal.
+/// The whole loads the word, which shows that the counts are equal.
 pub(crate) struct Compares;
 
 impl Play<(), View> for Compares {

@@ -67,7 +67,7 @@ impl<A: Allocator> Tally<A> {
         (Half { seat }, Half { seat: other })
     }
 
-    /// Tells that the halves have one count. The first one stays in its place.
+    /// States that the halves have one count. The first one stays in its place.
     pub fn compare_in(&self, kept: &mut Half, mine: Half) -> Half
         requires { (kept.old.table ≡ self.now) × (mine.table ≡ self.now) }
         ensures same { mine.count ≡ kept.old.count }

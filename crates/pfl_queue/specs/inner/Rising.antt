@@ -31,7 +31,7 @@ pub record InsertsInOrder {V : Type 0} (number : V → ℕ) (old new : List (Lin
   pub is : new ≡ front ++ x ∷ back
   pub rising : IsRising number new
 
--- the gap of a list behind a slot, or in front of its first link, in which the number n belongs
+-- the gap of a list after a slot, or in front of its first link, in which the number n belongs
 pub record OrderedGap {V : Type 0} (number : V → ℕ) (n : ℕ) (c : Lists V) (list : ℕ) (behind : Option ℕ) : Type 0 where
   pub front : List (Link V)
   pub back : List (Link V)

@@ -16,7 +16,7 @@ pub record Fed : Type 0 where
   pub reads : Calls
   pub failed : Bool
 
--- a reader that has this to read, has read so many lines, and this one last
+-- a reader that has this to read, has read this many lines, and this one last
 abbrev pub source : Fed → ℕ → Kept → Source
 source f lines line = record { left = f.left; lines = lines; line = line; turns = f.turns; reads = f.reads; waiting = f.waiting; failed = f.failed }
 

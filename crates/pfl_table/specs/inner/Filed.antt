@@ -163,7 +163,7 @@ pub record FoundAt (links : List (Link Row)) (found : Option ℕ) : Type 0 where
   pub is : found ≡ option_map slot_of_link which
   pub stands : IfSome which (λ l. Stands l.slot links l.value)
 
--- the gap of a name: behind the rows below it, and before those above
+-- the gap of a name: after the rows below it, and before those above
 pub record NameGap (rows : Lists Row) (name : StateName) (behind : Option ℕ) : Type 0 where
   pub gap : Gap rows 0 behind
   pub above : IsAbove name_cmp (key_of name_of) name gap.front

@@ -8,7 +8,7 @@ use Rattle.pfl_search.specs.world.Worlds.{World}
 use Rattle.pfl_timeline.specs.Excisions.{Sieved}
 use Rattle.pfl_timeline.specs.Histories.{History, reached, continued}
 
--- the history with so many events standing
+-- the history with this many events standing
 abbrev pub standing_at : History → ℕ → History
 standing_at h cursor = record h { cursor = cursor }
 
@@ -16,7 +16,7 @@ standing_at h cursor = record h { cursor = cursor }
 abbrev pub first_of : History → ℕ → History
 first_of h k = record h { events = take k h.events; cursor = k }
 
--- the event is kept behind those that stand, or it is refused and falls out
+-- the event is kept after those that stand, or it is refused and falls out
 abbrev pub SiftedBy : History → Event → History → Bool → Result Stepped Refusal → Type 0
 SiftedBy old e new kept (Ok s) = (kept ≡ true) × (new ≡ continued old e)
 SiftedBy old e new kept (Err why) = (kept ≡ false) × (new ≡ old)

@@ -4,7 +4,7 @@ use Rattle.pfl_language.specs.declared.refused.Refused.{Refused as Refusal}
 use Rattle.pfl_language.specs.declared.refused.Refused.TheVariants.{NoEvent, NothingExcised}
 use Rattle.pfl_timeline.specs.Replies.{Reply, At, Excised, Restored, Refused}
 
--- so many events stand after a way to another cursor, unless there is none
+-- this many events stand after a way to another cursor, unless there is none
 abbrev pub moved : Refusal → Option ℕ → Reply
 moved why None = Refused why
 moved why (Some cursor) = At cursor
@@ -14,7 +14,7 @@ abbrev pub fell_out : Option (List ℕ) → Reply
 fell_out None = Refused NoEvent
 fell_out (Some places) = Excised places
 
--- so many events stand as it was before, unless there was nothing to bring back
+-- this many events stand as it was before, unless there was nothing to bring back
 abbrev pub brought_back : Option ℕ → Reply
 brought_back None = Refused NothingExcised
 brought_back (Some cursor) = Restored cursor

@@ -4,7 +4,7 @@ use Rattle.pfl_timeline.specs.Excisions.{restored}
 use Rattle.pfl_timeline.specs.Rooted.{Rooted}
 use Rattle.pfl_timeline.specs.Timelines.{Former}
 
--- the branch with so many events standing
+-- the branch with this many events standing
 abbrev pub with_cursor : Rooted → ℕ → Rooted
 with_cursor r cursor = record r { branch = record r.branch { cursor = cursor } }
 

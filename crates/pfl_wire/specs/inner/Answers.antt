@@ -7,7 +7,7 @@ use Rattle.pfl_wire.specs.Frames.{lists, Frame}
 
 -- ---- the parts of decoding
 
--- a function answered what reading gives, seen by view
+-- a function returned what reading gives, seen by view
 abbrev pub Gives : {X Y : Type 0} → (X → Y) → Result X BadFrame → Result Y BadFrame → Type 0
 Gives view (Ok x) read = read ≡ Ok (view x)
 Gives view (Err e) read = read ≡ Err e
@@ -22,7 +22,7 @@ abbrev pub Keeps : {X : Type 0} → Option X → List ℕ → Read X → Type 0
 Keeps (Some x) rest read = read ≡ Ok (x, rest)
 Keeps None rest read = left_by read ≡ Ok rest
 
--- a function answered what reading gives, though what was read may be lost
+-- a function returned what reading gives, though what was read may be lost
 abbrev pub GivesKept : {X Y : Type 0} → (Y → Option X) → (Y → List ℕ) → Result Y BadFrame → Read X → Type 0
 GivesKept kept rest (Ok y) read = Keeps (kept y) (rest y) read
 GivesKept kept rest (Err e) read = read ≡ Err e

@@ -13,7 +13,7 @@ groups_in bytes = do
   groups ← groups_at (length bytes) bytes
   Ok groups.0
 
--- the records that are left: those of the group that is read, and those of the groups behind it
+-- the records that are left: those of the group that is read, and those of the groups after it
 unfoldable pub left_at : Subheader → List ℕ → Result (List Message) BadFrame
 left_at group bytes = do
   records ← records_at group.action group.count bytes
@@ -25,6 +25,6 @@ abbrev pub listed : {X : Type 0} → Result (List X) BadFrame → List X
 listed (Ok xs) = xs
 listed (Err e) = []
 
--- a record, and those behind it
+-- a record, and those after it
 abbrev pub led_by : {X : Type 0} → X → Result (List X) BadFrame → Result (List X) BadFrame
 led_by x rest = rest >>= λ xs. Ok (x ∷ xs)

@@ -7,6 +7,6 @@ use Rattle.pfl_node.specs.contracts.node.Node as node
 use Rattle.pfl_world.specs.contracts.nodes.Nodes.{the_row}
 use Rattle.pfl_world.specs.Worlds.{Nodes, of_name}
 
--- the nodes end with the last value behind the reference under the name
+-- the nodes end with the last value after the reference under the name
 abbrev pub LendsNode : (M : RattleType) → Ghosts M.Denot → MutBor Nodes → NodeId → MutBor Node → Fml
 LendsNode M memory ns id r = Lends (the_row M memory) (node.the_row M memory) ns r (λ n. record { a = of_name id n ns.now.a; b = of_name id ns.now.b n })

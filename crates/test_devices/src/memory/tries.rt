@@ -24,7 +24,7 @@ pub struct Requests {
 const MOST: u64 = 100_000;
 
 /// Tries a call while its first request is refused, then anew while its second one is, and so on until none comes: how many
-/// there are. `call` tries it while the request of that number is refused; it answers `None` where something is not as it
+/// there are. `call` tries it while the request of that number is refused; it returns `None` where something is not as it
 /// should be, which ends the tries.
 pub fn requests_of<F: FnMut(u64) -> Option<Try>>(mut call: F) -> Option<Requests>
     requires { F.IsAlwaysCallable call }

@@ -19,7 +19,7 @@ loop-reader-init g c = record {
   writer_stays = refl;
 }
 
--- what is told of a line was written in part
+-- what is reported of a line was written in part
 pub returns-in_err-counted-clause-until : goal.returns-in_err-counted-clause-until
 returns-in_err-counted-clause-until g c =
     let reads = gave-line _ _ _ _ _ c.in_ok-advance.ensures.line c.if-branch.true c.line.ensures in

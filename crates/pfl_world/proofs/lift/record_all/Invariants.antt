@@ -6,6 +6,6 @@ use Rattle.pfl_world.proofs.lift.record_all.Given as goal
 abbrev pub invariant-loop-edit : goal.invariant-loop-edit
 invariant-loop-edit g l = record {
   split : l.yielded ++ into_iter_items l.edit-iterator ≡ l.fn.change.list;
-  list : l.edits.list ≡ l.fn.edits.list ++ of_node l.node l.yielded;
-  spare : l.edits.spare + length l.yielded ≡ l.fn.edits.spare;
+  list : (g.R.Recorder.edits l.to).list ≡ (g.R.Recorder.edits l.fn.to).list ++ of_node l.node l.yielded;
+  spare : (g.R.Recorder.edits l.to).spare + length l.yielded ≡ (g.R.Recorder.edits l.fn.to).spare;
 }

@@ -5,7 +5,7 @@ use Rattle.pfl_serve.specs.Sessions.{IsTold}
 use Rattle.pfl_serve.specs.inner.Answers.{Writes}
 use Rattle.pfl_serve.proofs.serving.Serving.follow.Given as goal
 
--- the entries up to here were told, all that there were at first among them
+-- the entries up to here were sent, all that there were at first among them
 abbrev pub invariant-loop : goal.invariant-loop
 invariant-loop g l = record {
   lab : IsPassOf g.J.Which.publisher g.J.Which.tallies l.seat.pass;

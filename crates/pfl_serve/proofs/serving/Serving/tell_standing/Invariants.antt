@@ -5,7 +5,7 @@ use Rattle.pfl_serve.specs.Sessions.{IsTold}
 use Rattle.pfl_serve.specs.inner.Answers.{Writes}
 use Rattle.pfl_serve.proofs.serving.Serving.tell_standing.Given as goal
 
--- the entries up to here were told; the pass has seen all that there were at first
+-- the entries up to here were sent; the pass has seen all that there were at first
 abbrev pub invariant-loop-told : goal.invariant-loop-told
 invariant-loop-told g l = record {
   lab : IsPassOf g.J.Which.publisher g.J.Which.tallies l.pass;

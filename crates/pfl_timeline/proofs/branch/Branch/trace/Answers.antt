@@ -1,7 +1,6 @@
-use Rattle.std.specs.Prelude.{◌≡◌, ◌+◌, ◌-◌, ◌<◌, List, length, drop, slice_get, Some, box_value}
+use Rattle.std.specs.Prelude.{◌≡◌, ◌+◌, ◌-◌, List, length, drop, slice_get, Some, box_value}
 use Rattle.std.specs.Option.{option_map}
-use Rattle.std.proofs.Common.{◌∙◌, ap, arith, sym}
-use Rattle.std.proofs.lemmas.Option.{slice_get-get_or}
+use Rattle.std.proofs.Common.{◌∙◌, ap, sym}
 use Rattle.std.proofs.lemmas.Result.{IfOk-weaker}
 use Rattle.pfl_language.specs.declared.event.Event.{Event}
 use Rattle.pfl_reasons.specs.Senders.{steps_of}
@@ -16,14 +15,12 @@ returns-clause-answer g c =
     let k = c.args.place in
     let ticket = c.args.ticket in
     let f = c.in-Some.frame in
-    let e = c.index-events-place.result in
+    let e = c.get.result in
     let still = c.look_at.ensures.unchanged ∙ c.deref_mut.ensures.value in
     let events : c.events-events.result.now ≡ r.branch.events = c.events-events.ensures.events ∙ ap (λ (h : History). h.events) still ∙ ap (λ (q : Rooted). q.branch.events) c.self.view_is in
-    let within : k - 1 < length c.events-events.result.now = omega (arith, c.requires.some, c.requires.within, ap length events) in
     let there : slice_get r.branch.events (k - 1) ≡ Some e =
     ap (λ (es : List Event). slice_get es (k - 1)) (sym events)
-    ∙ slice_get-get_or c.events-events.result.now (k - 1) e within
-    ∙ ap Some (sym c.index-events-place.is) in
+    ∙ c.get.ensures.event in
     let later : c.in_ok-later.later.items ≡ steps_of ticket (ticket + 1) (k + 1) f (drop k r.branch.events) =
     c.in_ok-later.ensures ∙ ap (λ (es : List Event). steps_of ticket (ticket + 1) (k + 1) f (drop k es)) events in
     let answer =

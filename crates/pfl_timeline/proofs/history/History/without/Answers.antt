@@ -1,5 +1,6 @@
 use Rattle.std.specs.Prelude.{◌≡◌, ◌+◌, ◌-◌, ◌≤◌, ◌<◌, ℕ, true, false, min, List, [], ◌∷◌, ◌++◌, length, get_or, refl}
-use Rattle.std.proofs.Common.{◌∙◌, ap, subst, arith}
+use Rattle.std.proofs.Common.{◌∙◌, ap, subst, sym, arith}
+use Rattle.std.proofs.lemmas.Option.{get_or_from_slice_get}
 use Rattle.pfl_language.specs.declared.event.Event.{Event}
 use Rattle.pfl_timeline.specs.Histories.{History}
 use Rattle.pfl_timeline.specs.inner.Histories.{Sifts}
@@ -18,10 +19,10 @@ loop-index-init g c =
 pub loop-index-preserved : goal.loop-index-preserved
 loop-index-preserved g c =
     let h = c.args.self.now in
-    let e : Event = c.index.result.now in
+    let e : Event = c.get.result in
     let events = ap (λ (r : History). r.events) c.self.view_is in
-    let within : c.loop-index.index < length h.events = omega (arith, c.loop-index-test.true, c.len-index-end.ensures, ap length events) in
-    let here : e ≡ get_or h.events c.loop-index.index e = c.index.ensures ∙ ap (λ (es : List Event). get_or es c.loop-index.index e) events in
+    let within : c.loop-index.index < length h.events = omega (arith, c.loop-index-test.true, c.len-index-end.ensures.length, ap length events) in
+    let here : e ≡ get_or h.events c.loop-index.index e = sym (get_or_from_slice_get c.self.inside.events c.loop-index.index e e c.get.ensures.event) ∙ ap (λ (es : List Event). get_or es c.loop-index.index e) events in
     elim c.if-not-branch.branch [
       | then-not-branch+in_ok-reserve w ↦
           let sifts : Sifts c.loop-index.rest e c.sift.new.self false = subst (Sifts c.loop-index.rest e c.sift.new.self) w.if-not-branch.true c.in_ok-sift.ensures in
@@ -48,18 +49,18 @@ loop-index-preserved g c =
 pub take_back_to-requires : goal.take_back_to-requires
 take_back_to-requires g c =
     let events = ap (λ (r : History). r.events) c.self.view_is in
-    let all : length c.args.self.now.events ≤ c.loop-index.index = omega (arith, c.loop-index-test.false, c.len-index-end.ensures, ap length events) in
+    let all : length c.args.self.now.events ≤ c.loop-index.index = omega (arith, c.loop-index-test.false, c.len-index-end.ensures.length, ap length events) in
     record { within = gone-few c.args.self.now c.args.place c.loop-index.index all c.loop-index.rest c.loop-index.fallen.items c.loop-index.standing c.loop-index.invariant }
 
 pub returns-clause-fallen : goal.returns-clause-fallen
 returns-clause-fallen g c =
     let events = ap (λ (r : History). r.events) c.self.view_is in
-    let all : length c.args.self.now.events ≤ c.loop-index.index = omega (arith, c.loop-index-test.false, c.len-index-end.ensures, ap length events) in
+    let all : length c.args.self.now.events ≤ c.loop-index.index = omega (arith, c.loop-index-test.false, c.len-index-end.ensures.length, ap length events) in
     gone-fallen c.args.self.now c.args.place c.loop-index.index all c.loop-index.rest c.loop-index.fallen.items c.loop-index.standing c.loop-index.invariant
 
 pub returns-clause-history : goal.returns-clause-history
 returns-clause-history g c =
     let events = ap (λ (r : History). r.events) c.self.view_is in
-    let all : length c.args.self.now.events ≤ c.loop-index.index = omega (arith, c.loop-index-test.false, c.len-index-end.ensures, ap length events) in
+    let all : length c.args.self.now.events ≤ c.loop-index.index = omega (arith, c.loop-index-test.false, c.len-index-end.ensures.length, ap length events) in
     c.take_back_to.ensures.history
     ∙ gone-rest c.args.self.now c.args.place c.loop-index.index all c.loop-index.rest c.loop-index.fallen.items c.loop-index.standing c.loop-index.invariant _ refl

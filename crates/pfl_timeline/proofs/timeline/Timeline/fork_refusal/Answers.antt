@@ -16,12 +16,12 @@ returns-then-not-is_name g c =
     let b = ap not (sym c.is_name.ensures ∙ c.if-not-is_name.true) in
     is_bad c.args.self.now c.args.place c.args.name.now c.args.from.now.branch a b
 
-pub returns-then-events-place : goal.returns-then-events-place
-returns-then-events-place g c =
+pub returns-then-len-place : goal.returns-then-len-place
+returns-then-len-place g c =
     let a = has_branch c.args.name.now _ _ c.self.view_is c.self.invariant ∙ sym c.contains_key.ensures ∙ c.if-contains_key.false in
     let b = ap not (sym c.is_name.ensures ∙ c.if-not-is_name.false) in
     let events = ap length c.events.ensures.events in
-    let far = lt-ltb (length c.args.from.now.branch.events) c.args.place (omega (arith, events, c.if-events-place.true)) in
+    let far = lt-ltb (length c.args.from.now.branch.events) c.args.place (omega (arith, events, c.len.ensures.length, c.if-len-place.true)) in
     is_far c.args.self.now c.args.place c.args.name.now c.args.from.now.branch a b far
 
 pub returns-then-len-ge-MOST_BRANCHES : goal.returns-then-len-ge-MOST_BRANCHES
@@ -29,8 +29,8 @@ returns-then-len-ge-MOST_BRANCHES g c =
     let a = has_branch c.args.name.now _ _ c.self.view_is c.self.invariant ∙ sym c.contains_key.ensures ∙ c.if-contains_key.false in
     let b = ap not (sym c.is_name.ensures ∙ c.if-not-is_name.false) in
     let events = ap length c.events.ensures.events in
-    let far = le-ltb (length c.args.from.now.branch.events) c.args.place (omega (arith, events, c.if-events-place.false)) in
-    let d = le-leb 16 (length c.args.self.now.branches) (omega (arith, how_many _ _ c.self.view_is, c.len.ensures.len, c.if-len-ge-MOST_BRANCHES.true)) in
+    let far = le-ltb (length c.args.from.now.branch.events) c.args.place (omega (arith, events, c.len.ensures.length, c.if-len-place.false)) in
+    let d = le-leb 16 (length c.args.self.now.branches) (omega (arith, how_many _ _ c.self.view_is, c.len-else-len-place.ensures.len, c.if-len-ge-MOST_BRANCHES.true)) in
     is_full c.args.self.now c.args.place c.args.name.now c.args.from.now.branch a b far d
 
 pub returns-else-len-ge-MOST_BRANCHES : goal.returns-else-len-ge-MOST_BRANCHES
@@ -38,6 +38,6 @@ returns-else-len-ge-MOST_BRANCHES g c =
     let a = has_branch c.args.name.now _ _ c.self.view_is c.self.invariant ∙ sym c.contains_key.ensures ∙ c.if-contains_key.false in
     let b = ap not (sym c.is_name.ensures ∙ c.if-not-is_name.false) in
     let events = ap length c.events.ensures.events in
-    let far = le-ltb (length c.args.from.now.branch.events) c.args.place (omega (arith, events, c.if-events-place.false)) in
-    let d = lt-leb 16 (length c.args.self.now.branches) (omega (arith, how_many _ _ c.self.view_is, c.len.ensures.len, c.if-len-ge-MOST_BRANCHES.false)) in
+    let far = le-ltb (length c.args.from.now.branch.events) c.args.place (omega (arith, events, c.len.ensures.length, c.if-len-place.false)) in
+    let d = lt-leb 16 (length c.args.self.now.branches) (omega (arith, how_many _ _ c.self.view_is, c.len-else-len-place.ensures.len, c.if-len-ge-MOST_BRANCHES.false)) in
     is_free c.args.self.now c.args.place c.args.name.now c.args.from.now.branch a b far d

@@ -1,64 +1,15 @@
-use Rattle.std.specs.Prelude.{◌≡◌, Result, IfErr}
-use Rattle.std.proofs.Common.{sym, subst}
-use Rattle.pfl_base.specs.declared.refusal.Refusal.{Refusal}
-use Rattle.pfl_language.specs.declared.event.Event.{Event}
-use Rattle.pfl_world.specs.Events.{step, IsRefusalOf, IsEventRefusal}
-use Rattle.pfl_world.specs.Meanings.{Stepped}
-use Rattle.pfl_world.specs.Worlds.{World}
-use Rattle.pfl_world.proofs.Stepping.{step_at, step_of}
-use Rattle.pfl_world.proofs.Sending.{flush_refused, flush_accepted, flush_weight}
-use Rattle.pfl_world.proofs.Restarted.{step_restart, restart_few, restart_whole}
-use Rattle.pfl_world.proofs.Little.{may_hold}
+use Rattle.std.proofs.Common.{length, ap, arith}
+use Rattle.pfl_world.proofs.Recording.{fits_since, back_since, kind_since}
 use Rattle.pfl_world.proofs.world.World.apply.Goals as goal
 
--- the refusal is that of the event's part
-as_step : {X : Type 0} (w : World) (e : Event) (at : Result Stepped Refusal) → step w e ≡ at → (result : Result X Refusal) → IfErr result (IsRefusalOf at) → IfErr result (IsEventRefusal w e)
-as_step w e at is result why = subst (λ (v : Result Stepped Refusal). IfErr result (IsRefusalOf v)) (sym is) why
+pub returns-clause-fits : goal.returns-clause-fits
+returns-clause-fits g c = rw c.new-change.ensures.list at (fits_since c.in_ok-outcome.ensures.recorded)
 
-pub returns-in-At-clause-refused : goal.returns-in-At-clause-refused
-returns-in-At-clause-refused g c = as_step c.args.self.now c.args.event.now _ (step_at c.args.self.now c.args.event.now c.in-At.node c.in-At.event c.in-At.is) c.at_node.result c.at_node.ensures.refused
+pub returns-clause-back : goal.returns-clause-back
+returns-clause-back g c = rw c.new-change.ensures.list at (back_since c.in_ok-outcome.ensures.recorded)
 
-pub returns-in-At-clause-step : goal.returns-in-At-clause-step
-returns-in-At-clause-step g c = rw (step_at c.args.self.now c.args.event.now c.in-At.node c.in-At.event c.in-At.is) c.at_node.ensures.step
+pub returns-clause-weight : goal.returns-clause-weight
+returns-clause-weight g c = omega (arith, c.in_ok-outcome.ensures.few, ap length c.new-change.ensures.list)
 
-pub returns-in-At-clause-weight : goal.returns-in-At-clause-weight
-returns-in-At-clause-weight g c = rw c.in-At.is c.at_node.ensures.weight
-
-pub returns-in-At-clause-small : goal.returns-in-At-clause-small
-returns-in-At-clause-small g c = may_hold _ _ c.in-At.is (λ x little. little) c.at_node.result c.at_node.ensures.little
-
-pub returns-in-Of-clause-refused : goal.returns-in-Of-clause-refused
-returns-in-Of-clause-refused g c = as_step c.args.self.now c.args.event.now _ (step_of c.args.self.now c.args.event.now c.in-Of.ticket c.in-Of.event c.in-Of.is) c.of_frame.result c.of_frame.ensures.refused
-
-pub returns-in-Of-clause-step : goal.returns-in-Of-clause-step
-returns-in-Of-clause-step g c = rw (step_of c.args.self.now c.args.event.now c.in-Of.ticket c.in-Of.event c.in-Of.is) c.of_frame.ensures.step
-
-pub returns-in-Of-clause-weight : goal.returns-in-Of-clause-weight
-returns-in-Of-clause-weight g c = rw c.in-Of.is c.of_frame.ensures.weight
-
-pub returns-in-Of-clause-small : goal.returns-in-Of-clause-small
-returns-in-Of-clause-small g c = may_hold _ _ c.in-Of.is (λ x little. little) c.of_frame.result c.of_frame.ensures.little
-
-pub returns-in-Restart-clause-refused : goal.returns-in-Restart-clause-refused
-returns-in-Restart-clause-refused g c = as_step c.args.self.now c.args.event.now _ (step_restart c.args.self.now c.args.event.now c.in-Restart.node c.in-Restart.is) c.restart.result c.restart.ensures.refused
-
-pub returns-in-Restart-clause-step : goal.returns-in-Restart-clause-step
-returns-in-Restart-clause-step g c = rw (step_restart c.args.self.now c.args.event.now c.in-Restart.node c.in-Restart.is) c.restart.ensures.step
-
-pub returns-in-Restart-clause-weight : goal.returns-in-Restart-clause-weight
-returns-in-Restart-clause-weight g c = rw c.in-Restart.is (restart_few c.restart.result c.restart.ensures.weight)
-
-pub returns-in-Flush-clause-refused : goal.returns-in-Flush-clause-refused
-returns-in-Flush-clause-refused g c = flush_refused c.args.self.now c.args.event.now c.in-Flush.node c.in-Flush.is c.flush.result c.flush.ensures.refused
-
-pub returns-in-Flush-clause-step : goal.returns-in-Flush-clause-step
-returns-in-Flush-clause-step g c = flush_accepted c.args.self.now c.flush.new.self c.args.event.now c.in-Flush.node c.in-Flush.is c.flush.result c.flush.ensures.not_refused c.flush.ensures.world c.flush.ensures.outcome
-
-pub returns-in-Flush-clause-weight : goal.returns-in-Flush-clause-weight
-returns-in-Flush-clause-weight g c = flush_weight c.args.self.now c.args.event.now c.in-Flush.node c.in-Flush.is c.flush.result c.flush.ensures.weight
-
-pub returns-in-Flush-clause-small : goal.returns-in-Flush-clause-small
-returns-in-Flush-clause-small g c = may_hold _ _ c.in-Flush.is (λ x little. little) c.flush.result c.flush.ensures.little
-
-pub returns-in-Restart-clause-small : goal.returns-in-Restart-clause-small
-returns-in-Restart-clause-small g c = restart_whole c.args.event.now c.in-Restart.node c.in-Restart.is c.restart.result c.restart.ensures.whole
+pub returns-clause-small : goal.returns-clause-small
+returns-clause-small g c = rw c.new-change.ensures.list at (kind_since c.in_ok-outcome.ensures.recorded)

@@ -1,33 +1,19 @@
-use Rattle.std.proofs.Common.{◌∙◌, ap, List, ◌++◌}
-use Rattle.pfl_world.proofs.OnTapes.{above-appended, below-appended}
-use Rattle.pfl_world.specs.declared.edit.WorldEdit.{WorldEdit}
-use Rattle.pfl_world.proofs.Stepping.{event_wants}
+use Rattle.pfl_world.specs.Weights.{weight}
+use Rattle.pfl_world.specs.inner.Recording.{Recorded}
+use Rattle.pfl_world.proofs.Recording.{kept_below, on_ok, fits_since, back_since, kind_since, few_since}
 use Rattle.pfl_world.proofs.world.World.apply_on.Goals as goal
 
-pub returns-then-is_err-clause-refused : goal.returns-then-is_err-clause-refused
-returns-then-is_err-clause-refused g c = event_wants c.args.self.now c.args.event.now _ c.in_ok-outcome.ensures.step
-
 pub returns-clause-taped : goal.returns-clause-taped
-returns-clause-taped g c =
-    let appended = c.append.ensures.list ∙ ap (λ (es : List (WorldEdit _)). es ++ c.in_ok-outcome.change.list) c.reserve.ensures.list in
-    below-appended _ _ _ appended
+returns-clause-taped g c = kept_below _ _ _ _ _ c.apply_to.result c.apply_to.ensures.unrecorded c.apply_to.ensures.recorded
 
 pub returns-clause-fits : goal.returns-clause-fits
-returns-clause-fits g c =
-    let appended = c.append.ensures.list ∙ ap (λ (es : List (WorldEdit _)). es ++ c.in_ok-outcome.change.list) c.reserve.ensures.list in
-    rw (above-appended _ _ _ appended) c.in_ok-outcome.ensures.fits
+returns-clause-fits g c = on_ok c.apply_to.result (λ (r : Recorded _ _ _ _ _). fits_since r) c.apply_to.ensures.recorded
 
 pub returns-clause-back : goal.returns-clause-back
-returns-clause-back g c =
-    let appended = c.append.ensures.list ∙ ap (λ (es : List (WorldEdit _)). es ++ c.in_ok-outcome.change.list) c.reserve.ensures.list in
-    rw (above-appended _ _ _ appended) c.in_ok-outcome.ensures.back
+returns-clause-back g c = on_ok c.apply_to.result (λ (r : Recorded _ _ _ _ _). back_since r) c.apply_to.ensures.recorded
 
 pub returns-clause-weight : goal.returns-clause-weight
-returns-clause-weight g c =
-    let appended = c.append.ensures.list ∙ ap (λ (es : List (WorldEdit _)). es ++ c.in_ok-outcome.change.list) c.reserve.ensures.list in
-    rw (above-appended _ _ _ appended) c.in_ok-outcome.ensures.weight
+returns-clause-weight g c = on_ok c.apply_to.result (few_since c.args.tape.now.list c.apply_to.new.to.list (weight c.args.self.now c.args.event.now)) c.apply_to.ensures.few
 
 pub returns-clause-small : goal.returns-clause-small
-returns-clause-small g c =
-    let appended = c.append.ensures.list ∙ ap (λ (es : List (WorldEdit _)). es ++ c.in_ok-outcome.change.list) c.reserve.ensures.list in
-    rw (above-appended _ _ _ appended) c.in_ok-outcome.ensures.small
+returns-clause-small g c = on_ok c.apply_to.result (λ (r : Recorded _ _ _ _ _). kind_since r) c.apply_to.ensures.recorded

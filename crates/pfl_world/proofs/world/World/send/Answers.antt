@@ -1,34 +1,39 @@
-use Rattle.std.proofs.Common.{arith, ◌≤◌, ◌∙◌, sym, ap}
-use Rattle.std.specs.Prelude.{[], ◌∷◌, ◌++◌, List}
-use Rattle.pfl_link.specs.Links.{Link}
+use Rattle.std.specs.Prelude.{[], ◌∷◌}
+use Rattle.std.proofs.Common.{◌<◌, ◌∙◌, ◌++◌, List, length, sym, ap, subst, refl, arith, length-append}
 use Rattle.pfl_world.specs.declared.edit.WorldEdit.{WorldEdit}
 use Rattle.pfl_world.specs.declared.edit.WorldEdit.TheVariants.{OfLink}
-use Rattle.pfl_world.specs.Worlds.{joined}
+use Rattle.pfl_world.specs.inner.WorldEdits.{of_node}
+use Rattle.pfl_world.specs.Worlds.{IsWorld, joined}
 use Rattle.pfl_world.proofs.Leads.{where_ok}
-use Rattle.pfl_world.proofs.Sending.{sent_leads_back}
-use Rattle.pfl_world.proofs.Little.{and_link}
+use Rattle.pfl_world.proofs.Recording.{recorded_node, recorded_link, recorded-as, recorded-then, count_node}
 use Rattle.pfl_world.proofs.world.World.send.Goals as goal
+
+pub record_all-requires : goal.record_all-requires
+record_all-requires g c =
+    let room : c.len.result < (g.R.Recorder.edits c.reserve_one_more.new.self).spare = where_ok c.reserve_one_more.result (sym c.is_err.ensures.value ∙ c.if-is_err.false) c.reserve_one_more.ensures.room in
+    record { room = omega (arith, room, c.len.ensures.length) }
 
 pub push-requires : goal.push-requires
 push-requires g c =
-    let room : 1 ≤ c.reserve.new.self.spare = where_ok c.reserve.result (sym c.is_err.ensures.value ∙ c.if-is_err.false) c.reserve.ensures.room in
-    record { room = omega (arith, room) }
+    let room : c.len.result < (g.R.Recorder.edits c.reserve_one_more.new.self).spare = where_ok c.reserve_one_more.result (sym c.is_err.ensures.value ∙ c.if-is_err.false) c.reserve_one_more.ensures.room in
+    record { room = omega (arith, room, c.len.ensures.length, c.record_all.ensures.spare) }
 
-pub invariant_of-self : goal.invariant_of-self
-invariant_of-self g c = record {
-  nodes = c.self.invariant.nodes;
-  link = ap (λ (l : Link). l.limit) c.in-Ok.ensures.link ∙ c.self.invariant.link;
-  mtu = ap (λ (l : Link). l.mtu) c.in-Ok.ensures.link ∙ c.self.invariant.mtu;
-  countable = c.self.invariant.countable;
-}
+pub returns-clause-recorded : goal.returns-clause-recorded
+returns-clause-recorded g c =
+    let w = joined c.self.inside.nodes c.self.inside.link c.self.inside.next_boot in
+    let before = g.R.Recorder.edits c.args.to.now in
+    let mid = g.R.Recorder.edits c.record_all.new.to in
+    let after = g.R.Recorder.edits c.push.new.self in
+    let list = c.record_all.ensures.list ∙ ap (λ (es : List (WorldEdit _)). es ++ of_node c.args.node c.args.change.list) c.reserve_one_more.ensures.list in
+    recorded-then
+    (recorded_node before mid c.args.self.now c.known.ensures.world c.args.node c.args.change.list c.requires.fits list)
+    (recorded-as (recorded_link mid after w (subst IsWorld (sym c.self.view_is) c.known.ensures.world) c.in-Ok.edit c.send.new.self c.in-Ok.ensures.leads_back c.push.ensures.list) c.self.view_is refl)
 
-pub returns-clause-leads_back : goal.returns-clause-leads_back
-returns-clause-leads_back g c =
-    sent_leads_back c.args.self.now (joined c.self.inside.nodes c.self.inside.link c.self.inside.next_boot) c.self.view_is c.known.ensures.world
-    c.args.edits.list c.push.new.self.list c.in-Ok.edit c.send.new.self c.requires.fits c.in-Ok.ensures.leads_back
-    (c.push.ensures.list ∙ ap (λ (es : List (WorldEdit _)). es ++ OfLink c.in-Ok.edit ∷ []) c.reserve.ensures.list)
-
-pub returns-clause-little : goal.returns-clause-little
-returns-clause-little g c =
-    and_link c.args.edits.list c.push.new.self.list c.in-Ok.edit
-    (c.push.ensures.list ∙ ap (λ (es : List (WorldEdit _)). es ++ OfLink c.in-Ok.edit ∷ []) c.reserve.ensures.list) c.requires.little
+pub returns-clause-few : goal.returns-clause-few
+returns-clause-few g c =
+    omega (
+      arith,
+      count_node c.args.node c.args.change.list _ _ c.record_all.ensures.list,
+      ap length c.reserve_one_more.ensures.list,
+      ap length c.push.ensures.list ∙ length-append (g.R.Recorder.edits c.record_all.new.to).list (OfLink c.in-Ok.edit ∷ []),
+    )

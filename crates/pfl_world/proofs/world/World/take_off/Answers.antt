@@ -1,25 +1,16 @@
-use Rattle.std.proofs.Common.{arith, ◌≤◌, ◌∙◌, sym, ap, subst}
-use Rattle.std.specs.Prelude.{[], ◌∷◌, ◌++◌, List, is_some, IsTrue}
+use Rattle.std.specs.Prelude.{is_some, IsTrue, refl}
+use Rattle.std.proofs.Common.{sym, ap, subst, ◌∙◌}
 use Rattle.pfl_edits.specs.Maps as maps
 use Rattle.pfl_link.specs.Links.{Link}
-use Rattle.pfl_world.specs.declared.edit.WorldEdit.{WorldEdit}
-use Rattle.pfl_world.specs.declared.edit.WorldEdit.TheVariants.{OfLink}
-use Rattle.pfl_world.specs.Worlds.{World, joined}
-use Rattle.pfl_world.proofs.Leads.{where_ok}
-use Rattle.pfl_world.proofs.Sending.{sent_leads_back}
+use Rattle.pfl_world.specs.Worlds.{World, IsWorld, joined}
 use Rattle.pfl_world.proofs.Delivered.{not_missing}
-use Rattle.pfl_world.proofs.Little.{and_link}
+use Rattle.pfl_world.proofs.Recording.{recorded_link, recorded-as}
 use Rattle.pfl_world.proofs.world.World.take_off.Goals as goal
 
 pub unreachable-requires : goal.unreachable-requires
 unreachable-requires g c =
     let w = joined c.self.inside.nodes c.self.inside.link c.self.inside.next_boot in
     not_missing w c.args.ticket _ (subst (λ (v : World). IsTrue (is_some (maps.get v.link.frames c.args.ticket))) (sym c.self.view_is) c.requires.there) c.in_default.ensures.refused
-
-pub push-requires : goal.push-requires
-push-requires g c =
-    let room : 1 ≤ c.reserve.new.self.spare = where_ok c.reserve.result (sym c.is_err.ensures.value ∙ c.if-is_err.false) c.reserve.ensures.room in
-    record { room = omega (arith, room) }
 
 pub invariant_of-self : goal.invariant_of-self
 invariant_of-self g c = record {
@@ -29,13 +20,7 @@ invariant_of-self g c = record {
   countable = c.self.invariant.countable;
 }
 
-pub returns-clause-leads_back : goal.returns-clause-leads_back
-returns-clause-leads_back g c =
-    sent_leads_back c.args.self.now (joined c.self.inside.nodes c.self.inside.link c.self.inside.next_boot) c.self.view_is c.known.ensures.world
-    c.args.edits.list c.push.new.self.list c.in-Ok.edit c.take.new.self c.requires.fits c.in-Ok.ensures.leads_back
-    (c.push.ensures.list ∙ ap (λ (es : List (WorldEdit _)). es ++ OfLink c.in-Ok.edit ∷ []) c.reserve.ensures.list)
-
-pub returns-clause-little : goal.returns-clause-little
-returns-clause-little g c =
-    and_link c.args.edits.list c.push.new.self.list c.in-Ok.edit
-    (c.push.ensures.list ∙ ap (λ (es : List (WorldEdit _)). es ++ OfLink c.in-Ok.edit ∷ []) c.reserve.ensures.list) c.requires.little
+pub returns-clause-recorded : goal.returns-clause-recorded
+returns-clause-recorded g c =
+    let w = joined c.self.inside.nodes c.self.inside.link c.self.inside.next_boot in
+    recorded-as (recorded_link _ _ w (subst IsWorld (sym c.self.view_is) c.known.ensures.world) c.in-Ok.edit c.take.new.self c.in-Ok.ensures.leads_back c.push.ensures.list) c.self.view_is refl

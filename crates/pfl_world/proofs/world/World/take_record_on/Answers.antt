@@ -1,31 +1,26 @@
-use Rattle.std.proofs.Common.{◌≡◌, ◌≤◌, ◌∙◌, ap, arith, sym, List, ◌++◌}
-use Rattle.pfl_world.proofs.Leads.{where_ok}
-use Rattle.pfl_world.proofs.OnTapes.{above-appended, below-appended}
-use Rattle.pfl_world.specs.declared.edit.WorldEdit.{WorldEdit}
-use Rattle.pfl_world.proofs.OneRecord.{wants}
+use Rattle.std.proofs.Common.{◌∙◌}
+use Rattle.pfl_world.specs.Worlds.{joined}
+use Rattle.pfl_world.specs.inner.Recording.{Recorded}
+use Rattle.pfl_world.proofs.Leads.{agrees_after, back_after}
+use Rattle.pfl_world.proofs.Recording.{kept_below, on_ok, fits_since, back_since}
 use Rattle.pfl_world.proofs.world.World.take_record_on.Goals as goal
 
-pub returns-then-is_err-clause-refused : goal.returns-then-is_err-clause-refused
-returns-then-is_err-clause-refused g c = wants _ c.in_ok-change.ensures.not_refused
-
-pub append-requires : goal.append-requires
-append-requires g c =
-    let room : c.len.result ≤ c.reserve.new.self.spare = where_ok c.reserve.result (sym c.is_err.ensures.value ∙ c.if-is_err.false) c.reserve.ensures.room in
-    record { room = omega (arith, room, c.len.ensures.length) }
+pub invariant_of-self-2 : goal.invariant_of-self-2
+invariant_of-self-2 g c =
+    agrees_after (joined c.self.inside.nodes c.self.inside.link c.self.inside.next_boot) c.args.to c.at_mut.ensures.node c.in_ok-change.ensures.leads_back
+    c.self.invariant
 
 pub returns-clause-taped : goal.returns-clause-taped
-returns-clause-taped g c =
-    let more = c.in_ok-change.change.list in
-    below-appended c.args.tape.now.list c.append.new.self.list more (c.append.ensures.list ∙ ap (λ (es : List (WorldEdit _)). es ++ more) c.reserve.ensures.list)
+returns-clause-taped g c = kept_below _ _ _ _ _ c.lift.result c.lift.ensures.unrecorded c.lift.ensures.recorded
 
 pub returns-clause-fits : goal.returns-clause-fits
-returns-clause-fits g c =
-    let more = c.in_ok-change.change.list in
-    let appended : c.append.new.self.list ≡ c.args.tape.now.list ++ more = c.append.ensures.list ∙ ap (λ (es : List (WorldEdit _)). es ++ more) c.reserve.ensures.list in
-    rw (above-appended c.args.tape.now.list c.append.new.self.list more appended) c.in_ok-change.ensures.leads_back.fits
+returns-clause-fits g c = on_ok c.lift.result (λ (r : Recorded _ _ _ _ _). fits_since r) c.lift.ensures.recorded
 
 pub returns-clause-back : goal.returns-clause-back
 returns-clause-back g c =
-    let more = c.in_ok-change.change.list in
-    let appended : c.append.new.self.list ≡ c.args.tape.now.list ++ more = c.append.ensures.list ∙ ap (λ (es : List (WorldEdit _)). es ++ more) c.reserve.ensures.list in
-    rw (above-appended c.args.tape.now.list c.append.new.self.list more appended) c.in_ok-change.ensures.leads_back.back
+    on_ok c.lift.result
+    (λ (r : Recorded _ _ _ _ _).
+    back_since r
+    ∙ back_after (joined c.self.inside.nodes c.self.inside.link c.self.inside.next_boot) c.args.to c.at_mut.ensures.node c.in_ok-change.ensures.leads_back
+    ∙ c.self.view_is)
+    c.lift.ensures.recorded

@@ -1,4 +1,4 @@
--- The refused request is answered by `Err`, and owns nothing; any other one gets what the heap gives. The walk borrows `self` twice, for
+-- The refused request returns `Err`, and owns nothing; any other one gets what the heap gives. The walk borrows `self` twice, for
 -- `counts` and for `heap`, and hands the heap the layout that it was given.
 use Rattle.test_devices.proofs.memory.RefusesOneAllocator.allocate.Statement.{statement}
 use Rattle.test_devices.specs.contracts.memory.RefusesOneAllocator.allocate as f
