@@ -121,7 +121,7 @@ SHELL: Dict[str, Help] = {
         "Events after the cursor count too, and are marked as undone.",
     ),
     "quiet": Help(
-        "quiet [BRANCH]", "flushes and delivers, bulk turns too, until nothing is pending or in flight, telling each step"
+        "quiet [BRANCH]", "flushes and delivers, bulk turns too, until nothing is pending or in flight, and reports each step"
     ),
     SEARCH: Help(
         "\n".join((*FOR_PEOPLE, f"{SEARCH} BRANCH DEPTH RUNS GOAL [; CHOICE]..")),

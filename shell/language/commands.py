@@ -89,11 +89,11 @@ STEP = Line(
     "Answers the outcome: see help EVENT.", ("step OUTCOME dropped N",), ("NoBranch", "Event"),
 )
 BACK = Line(
-    "back", _BRANCH_N, "undoes the last N events, which stay behind the cursor",
+    "back", _BRANCH_N, "undoes the last N events, which stay after the cursor",
     "Answers `at CURSOR`, or refused TooFarBack.", ("at CURSOR",), ("NoBranch", "TooFarBack"),
 )
 FORWARD = Line(
-    "forward", _BRANCH_N, "lets the next N events behind the cursor happen again",
+    "forward", _BRANCH_N, "lets the next N events after the cursor happen again",
     "Answers `at CURSOR`, or refused NothingForward.", ("at CURSOR",), ("NoBranch", "NothingForward"),
 )
 FORK = Line(

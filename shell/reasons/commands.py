@@ -60,7 +60,7 @@ def _nothing_forward(lab: Laboratory, words: Sequence[str]) -> List[str]:
     undone = pair.events - pair.cursor
     if number <= undone:
         return [NOT_SHOWN]
-    behind = f"{counted(undone, 'undone event')} of {words[1]} {'is' if undone == 1 else 'are'} behind the cursor"
+    behind = f"{counted(undone, 'undone event')} of {words[1]} {'is' if undone == 1 else 'are'} after the cursor"
     return [f"{counted(number, 'event')} cannot happen again: {behind}"]
 
 

@@ -345,7 +345,7 @@ COMMANDS: Cases = {
     "too far back": (WALLS + QUERY + "back main 3", ["3 events cannot be undone: 1 event of main stands"]),
     "nothing forward": (
         WALLS + QUERY + "back main 1\nforward main 2",
-        ["2 events cannot happen again: 1 undone event of main is behind the cursor"],
+        ["2 events cannot happen again: 1 undone event of main is after the cursor"],
     ),
     "a fork of too many": (WALLS + QUERY + "fork main 2 x", ["main has 1 event, so there are no first 2 of them"]),
     "a place after all events": (WALLS + QUERY + "past main 2", ["main has 1 event, so there are no first 2 of them"]),
