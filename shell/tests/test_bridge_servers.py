@@ -166,8 +166,11 @@ class Ends(Bridged):
         self.assertEqual(watcher.update(), {"ended": missing})
 
 
+# Whoever runs the tests may have interrupts ignored, as a shell does for what it starts in the background.
 PROGRAM = """
+import signal
 import sys
+signal.signal(signal.SIGINT, signal.default_int_handler)
 sys.path.insert(0, {top!r})
 from shell.pages.live import OPENING, begun, serve
 

@@ -2,6 +2,7 @@
 from __future__ import annotations
 
 import io
+import os
 import signal
 import subprocess
 import time
@@ -59,7 +60,8 @@ class Said(unittest.TestCase):
 
     def test_a_long_silence_has_a_line(self) -> None:
         now, said = 1000.0, io.StringIO()
-        with mock.patch("sys.stderr", said), mock.patch("time.monotonic", side_effect=lambda: now):
+        clock = mock.patch("time.monotonic", side_effect=lambda: now)
+        with mock.patch("sys.stderr", said), mock.patch("proving.build.LOGS", os.devnull), clock:
             progress = Progress({"pfl_low": 30.0, "pfl_run": 90.0})
             for now in (1010.0, 1299.0, 1300.0, 1310.0):
                 progress.show(["pfl_low"])
