@@ -1,4 +1,4 @@
-"""A run of the program, to which a load is given part by part, and what each part costs it. Linux alone."""
+"""A run of the program that gets a load part by part, and what each part costs it. Linux only."""
 from __future__ import annotations
 
 import array
@@ -15,11 +15,11 @@ LONGEST_NAP = 0.02
 
 
 class Wrong(Exception):
-    """A reply is not what it has to be, or the program has ended."""
+    """A reply is not what it must be, or the program has ended."""
 
 
 class Late(Exception):
-    """The load has had its time."""
+    """The load has used up its time."""
 
     def __init__(self, cost: Cost):
         super().__init__("given up")
@@ -38,7 +38,7 @@ class Cost:
 
 
 class MeasuredRun:
-    """The program reads from a pipe and writes to a file in memory, so that no reply wakes anybody."""
+    """The program reads from a pipe and writes to a file in memory, so that no reply wakes any process."""
 
     def __init__(self, program: str, seconds: float):
         self.end = time.monotonic() + seconds
@@ -46,21 +46,21 @@ class MeasuredRun:
         self.run = subprocess.Popen([program, "run"], bufsize=0, stdin=subprocess.PIPE, stdout=self.replies, stderr=subprocess.PIPE)
         assert self.run.stdin and self.run.stderr
         self.pipe, self.faults = self.run.stdin, self.run.stderr
-        # (the number of the clock that counts another process's processor time)
+        # (the number of the clock for the processor time of another process)
         self.clock = ~self.run.pid << 3 | 2
         self.input = self.pipe.fileno()
         fcntl.fcntl(self.input, fcntl.F_SETPIPE_SZ, PIPE_BYTES)
         os.set_blocking(self.input, False)
         self.seen = 0
 
-    def tell(self, lines: Sequence[str], wanted: Sequence[str], commands: int) -> Cost:
-        """Gives lines and waits for the replies, which have to be those wanted; what that took, for that many commands."""
+    def send(self, lines: Sequence[str], wanted: Sequence[str], commands: int) -> Cost:
+        """Sends lines and waits for the replies, which must be those wanted; returns what that took, for this many commands."""
         left = memoryview("".join(f"{it}\n" for it in lines).encode())
         before, nap = self.taken(0), 0.0005
         while left or not self.waits():
             left = left[self.give(left) :]
             if time.monotonic() > self.end:
-                answered = self.told().count(b"\n") * len(lines) // max(1, len(wanted))
+                answered = self.written().count(b"\n") * len(lines) // max(1, len(wanted))
                 raise Late(self.since(before, answered, is_late=True))
             time.sleep(nap)
             nap = min(2 * nap, LONGEST_NAP)
@@ -69,7 +69,7 @@ class MeasuredRun:
         return took
 
     def give(self, left: memoryview) -> int:
-        """As many of the bytes as there is room for."""
+        """Writes as many of the bytes as there is room for."""
         try:
             return os.write(self.input, left) if left else 0
         except BlockingIOError:
@@ -78,7 +78,7 @@ class MeasuredRun:
             raise self.ended() from None
 
     def waits(self) -> bool:
-        """The program has read all that it was given, and waits for more."""
+        """Whether the program has read all that it was given, and waits for more."""
         if self.run.poll() is not None:
             raise self.ended()
         unread = array.array("i", [0])
@@ -90,20 +90,20 @@ class MeasuredRun:
     def ended(self) -> Wrong:
         return Wrong(f"the program ended with {self.run.wait()}: {self.faults.read().decode().strip()}")
 
-    def told(self) -> bytes:
-        """What the program has written since it was last looked at."""
+    def written(self) -> bytes:
+        """What the program has written since the last look."""
         return os.pread(self.replies, os.fstat(self.replies).st_size - self.seen, self.seen)
 
     def compare(self, wanted: bytes) -> None:
-        told = self.told()
-        if told != wanted:
-            pairs = enumerate(zip(told.split(b"\n"), wanted.split(b"\n")), 1)
+        written = self.written()
+        if written != wanted:
+            pairs = enumerate(zip(written.split(b"\n"), wanted.split(b"\n")), 1)
             line, (it, other) = next(pair for pair in pairs if pair[1][0] != pair[1][1])
-            raise Wrong(f"line {line} of the replies is {it.decode()!r}, and not {other.decode()!r}")
-        self.seen += len(told)
+            raise Wrong(f"line {line} of the replies is {it.decode()!r}, not {other.decode()!r}")
+        self.seen += len(written)
 
     def taken(self, commands: int) -> Cost:
-        """What the program has taken since its start."""
+        """What the program has cost since its start."""
         return Cost(commands, time.clock_gettime(self.clock), self.memory("VmHWM"), self.memory("VmRSS"))
 
     def since(self, before: Cost, commands: int, is_late: bool = False) -> Cost:
@@ -111,7 +111,7 @@ class MeasuredRun:
         return Cost(commands, now.seconds - before.seconds, now.most, now.kept - before.kept, is_late)
 
     def memory(self, field: str) -> int:
-        """Bytes, by a field of what /proc says of the program."""
+        """Bytes, from a field of the program's status in /proc."""
         with open(f"/proc/{self.run.pid}/status", encoding="utf-8") as it:
             found = re.search(rf"^{field}:\s+(\d+) kB", it.read(), re.M)
         return 1024 * int(found[1]) if found else 0

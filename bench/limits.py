@@ -1,4 +1,4 @@
-"""What the machine takes for what no program of this kind goes without, in microseconds."""
+"""How long the machine takes for what no program of this kind can do without, in microseconds."""
 from __future__ import annotations
 
 import array
@@ -9,7 +9,7 @@ from typing import Callable
 REPLY = b"step pass 1.12345 dropped 0\n"
 WRITES = 200_000
 LOOKUPS = 1_000_000
-# 32 MiB: far more than a processor keeps near, about as much as the states of a full table take.
+# 32 MiB: far more than a processor's caches, and about as much as the states of a full table take.
 FAR = 1 << 22
 NEAR = 1 << 9
 
@@ -21,7 +21,7 @@ def microseconds(work: Callable[[int], None], many: int) -> float:
 
 
 def write_of_a_reply() -> float:
-    """A write of a reply to a file in memory, with what the interpreter takes for a call, some 0.05 microseconds."""
+    """A write of a reply to a file in memory, including the interpreter's time for a call, some 0.05 microseconds."""
     file = os.memfd_create("replies")
 
     def work(many: int) -> None:
@@ -35,7 +35,7 @@ def write_of_a_reply() -> float:
 
 
 def chase(size: int) -> float:
-    """Microseconds a look-up, each of which has to wait for the one before; the places follow no order."""
+    """Microseconds per look-up, where each has to wait for the one before; the places are in random order."""
     places = array.array("Q", ((at * 2_862_933 + 3_037_493) % size for at in range(size)))
 
     def work(many: int) -> None:
@@ -48,5 +48,5 @@ def chase(size: int) -> float:
 
 
 def cache_miss() -> float:
-    """What a look-up far away takes longer than one that is near."""
+    """How much longer a look-up far away takes than one nearby."""
     return chase(FAR) - chase(NEAR)

@@ -1,7 +1,7 @@
-"""The loads of the benchmark: commands, each with the reply that it has to get, made from a seed.
+"""The loads of the benchmark: commands, each with the reply that it must get, made from a seed.
 
-A load is a function that gives its parts in order. A part that is named is measured; the others prepare. Replies are computed
-here and not asked of the program, so that a load that does not do what it is meant to do is seen.
+A load is a function that yields its parts in order. A part with a name is measured; the others prepare. Replies are computed
+here and not taken from the program, so that a load that does not do what it should is noticed.
 """
 from __future__ import annotations
 
@@ -42,7 +42,7 @@ def rules_of_timeouts() -> List[str]:
 
 
 class Part:
-    """Commands of one kind, and the lines that have to answer them. `more` of them belong to others, whose cost has theirs in it."""
+    """Commands of one kind, and the lines that must answer them. `more` of them belong to others, whose cost includes theirs."""
 
     def __init__(self, what: Optional[str] = None):
         self.what, self.more = what, 0
@@ -58,7 +58,7 @@ class Part:
 
 
 class TrackedPair:
-    """What was told to the pair so far, as far as replies depend on it; its states are flows of UDP through node a."""
+    """What the pair has been sent so far, as far as replies depend on it; its states are UDP flows through node a."""
 
     def __init__(self, states: int, commands: int, chance: random.Random):
         self.states, self.commands, self.chance = states, commands, chance
@@ -66,7 +66,7 @@ class TrackedPair:
         self.flows = [self.ends(at, 53) for at in chance.sample(range(1 << 24), states)]
 
     def ends(self, at: int, port: int) -> Ends:
-        """The near end of a flow, which no other flow has, and its far end."""
+        """The near end of a flow, which is its alone, and its far end."""
         near = f"10.{at >> 16}.{at >> 8 & 255}.{at & 255}:{self.chance.randint(1024, 65535)}"
         return near, f"192.0.2.{self.chance.randint(1, 254)}:{port}"
 
@@ -75,7 +75,7 @@ class TrackedPair:
         self.cursor += 1
 
     def begin(self, first: int, last: int, what: Optional[str] = None) -> Part:
-        """A packet of each of some new flows, in order."""
+        """A packet for each of some new flows, in order."""
         part = Part(what)
         for near, far in self.flows[first:last]:
             self.step(part, f"packet a out udp {near} {far} 40", f"pass 1.{self.next_id}")
@@ -86,27 +86,27 @@ class TrackedPair:
         return self.begin(0, self.states)
 
     def packet(self, part: Part, flow: int, is_out: bool) -> None:
-        """A packet of a flow that stands."""
+        """A packet of an existing flow."""
         near, far = self.flows[flow]
         ends = f"out udp {near} {far}" if is_out else f"in udp {far} {near}"
         self.step(part, f"packet a {ends} 80", f"pass 1.{flow + 1}")
 
     def answer(self, flows: Iterable[int], what: Optional[str] = None) -> Part:
-        """The first answer of each of some flows."""
+        """The first answer for each of some flows."""
         part = Part(what)
         for flow in flows:
             self.packet(part, flow, False)
         return part
 
     def settle(self) -> Part:
-        """A packet more in each direction of each flow: from then on no packet changes the class of a state."""
+        """One more packet in each direction of each flow: from then on no packet changes the class of a state."""
         part = self.answer(range(self.states))
         for flow in range(self.states):
             self.packet(part, flow, True)
         return part
 
     def hit(self, flows: Iterable[int], what: Optional[str] = None, hits_a_tick: Optional[int] = None) -> Part:
-        """A packet of each of some flows that stand, in either direction, and a tick before every `hits_a_tick` of them."""
+        """A packet for each of some existing flows, in either direction, and a tick before every `hits_a_tick` of them."""
         part = Part(what)
         for at, flow in enumerate(flows):
             if hits_a_tick and at % hits_a_tick == 0:
@@ -132,7 +132,7 @@ class TrackedPair:
 
 
 def replies(pair: TrackedPair) -> Iterator[Part]:
-    """What any command costs: a line that is passed over, and one that is answered and does nothing else."""
+    """What any command costs: a line that is passed over, and one that gets a reply and does nothing else."""
     yield pair.fill()
     passed = Part("a line that is passed over")
     for _ in range(pair.commands):
@@ -153,7 +153,7 @@ def flows(pair: TrackedPair) -> Iterator[Part]:
 
 
 def rooms(pair: TrackedPair) -> Iterator[Part]:
-    """New flows where as many stood before, so that what they keep is history alone: the pair has the room for them already."""
+    """New flows where there were as many before, so that they add only history: the pair already has room for them."""
     yield pair.fill()
     expired = Part()
     pair.clock += EXPIRED_MS
@@ -164,7 +164,7 @@ def rooms(pair: TrackedPair) -> Iterator[Part]:
 
 
 def hits(pair: TrackedPair) -> Iterator[Part]:
-    """Packets of states whose insertion is queued: first answers, which change the class, and then hits, which change none."""
+    """Packets of states whose insertion is queued: first answers, which change the class, and then hits, which do not."""
     yield pair.fill()
     yield pair.answer(pair.chance.sample(range(pair.states), min(pair.states, pair.commands)), "the first answer of a flow")
     yield pair.settle()
@@ -197,7 +197,7 @@ def undo(pair: TrackedPair) -> Iterator[Part]:
 
 
 def segments(near: str, far: str, chance: random.Random) -> Iterator[str]:
-    """The packets of a connection of TCP, from the handshake to the end that closed last."""
+    """The packets of a TCP connection, from the handshake to the end that closes last."""
     own, other = chance.randrange(1 << 32), chance.randrange(1 << 32)
 
     def segment(is_out: bool, flags: str, sent: int, seen: int, length: int = 0) -> str:
@@ -217,11 +217,11 @@ def segments(near: str, far: str, chance: random.Random) -> Iterator[str]:
 
 
 def connections(pair: TrackedPair) -> Iterator[Part]:
-    """Connections from handshake to close, each tenth of the states a closed one that the next of its ports takes the place of."""
+    """Connections from handshake to close, where each tenth of the states is a closed one, which the next with its ports replaces."""
     ports = max(1, pair.states // 10)
     yield pair.begin(0, pair.states - ports)
     ends = [pair.ends(at, 80) for at in pair.chance.sample(range(1 << 24), ports)]
-    # (the ports of every connection but the first few have a closed state, so the table is full all the while)
+    # (the ports of every connection but the first few have a closed state, so the table is always full)
     for what, many in ((None, ports), ("a packet of a connection", max(1, pair.commands // 8))):
         part = Part(what)
         for connection in range(many):
@@ -232,20 +232,20 @@ def connections(pair: TrackedPair) -> Iterator[Part]:
 
 
 class Sender:
-    """What a node has to tell the other, by batches of frames that are in flight together."""
+    """What a node has to send the other, in batches of frames that are in flight together."""
 
     def __init__(self, pair: TrackedPair, node: str, record: int):
         self.pair, self.node, self.size = pair, node, record
         self.most = (MTU - FRAME_HEADER - GROUP_HEADER) // record
 
-    def frames(self, told: List[int]) -> List[List[List[int]]]:
-        """What each frame of a batch tells, batch by batch."""
-        frames = [told[at : at + self.most] for at in range(0, len(told), self.most)]
+    def frames(self, sent: List[int]) -> List[List[List[int]]]:
+        """What each frame of a batch carries, batch by batch."""
+        frames = [sent[at : at + self.most] for at in range(0, len(sent), self.most)]
         return [frames[at : at + FRAMES_IN_FLIGHT] for at in range(0, len(frames), FRAMES_IN_FLIGHT)]
 
-    def send(self, told: List[int], what: str, taken: List[int]) -> Iterator[Part]:
-        """Flushes all, and delivers or loses each frame, in any order; `taken` gets what is delivered."""
-        for batch in self.frames(told):
+    def send(self, sent: List[int], what: str, taken: List[int]) -> Iterator[Part]:
+        """Flushes everything, and delivers or loses each frame, in any order; `taken` gets what is delivered."""
+        for batch in self.frames(sent):
             flushed = Part(f"a flush of {what}")
             fates: Dict[int, List[int]] = {}
             for frame in batch:
@@ -270,7 +270,7 @@ class Sender:
 
 
 def frames(pair: TrackedPair) -> Iterator[Part]:
-    """Node a tells b of all its states and of updates; b asks for those that it never got. One frame in ten is lost."""
+    """Node a sends b all its states and updates; b asks for the states that it never got. One frame in ten is lost."""
     yield pair.fill()
     known: List[int] = []
     updated: List[int] = []
@@ -306,7 +306,7 @@ def purges(pair: TrackedPair) -> Iterator[Part]:
 
 
 def scattered(pair: TrackedPair) -> Iterator[Part]:
-    """As `purges`, where the states expire in any order: each has had one more packet since, at one of some hundred times."""
+    """Like `purges`, but the states expire in any order: each has had one more packet since, at one of some hundred times."""
     yield pair.fill()
     part, flows = Part(), pair.chance.sample(range(pair.states), pair.states)
     packets_a_tick = max(1, pair.states // TIMEOUTS)
@@ -319,7 +319,7 @@ def scattered(pair: TrackedPair) -> Iterator[Part]:
 
 
 def timeouts(pair: TrackedPair) -> Iterator[Part]:
-    """As `scattered`, since the states have many timeouts."""
+    """Like `scattered`, because the states have many timeouts."""
     places = pair.chance.sample(range(1 << 24), pair.states)
     pair.flows = [pair.ends(at, FIRST_PORT + pair.chance.randrange(TIMEOUTS)) for at in places]
     yield pair.fill()
@@ -327,7 +327,7 @@ def timeouts(pair: TrackedPair) -> Iterator[Part]:
 
 
 def shown(pair: TrackedPair, many: int) -> Iterator[str]:
-    """The lines of a pair that has seen a packet of each of its first flows and nothing else."""
+    """The lines of a pair that has seen a packet of each of its first flows, and nothing else."""
     yield f"branch main events {pair.cursor} cursor {many}"
     yield f"node a clock 0 boot 1 id {many + 1} seq {many + 1} push 0 serve - sync -"
     yield f"count a {many} 0 0 0 0 0 0"
@@ -351,7 +351,7 @@ def shows(pair: TrackedPair) -> Iterator[Part]:
 
 
 def pasts(pair: TrackedPair) -> Iterator[Part]:
-    """Looks at other places: all the way to the opening and back, and half of it, where there are half as many states to show."""
+    """Looks at other places: all the way to the opening and back, and half of it, with half as many states to show."""
     yield pair.fill()
     for what, place in (("a look at the opening", 0), ("a look half the way back", pair.states // 2)):
         part, lines = Part(what), list(shown(pair, place))
@@ -361,7 +361,7 @@ def pasts(pair: TrackedPair) -> Iterator[Part]:
 
 
 def whys(pair: TrackedPair) -> Iterator[Part]:
-    """Explanations of the newest event, over and over, and of one half the way back."""
+    """Explanations of the newest event, over and over, and of one halfway back."""
     yield pair.fill()
     for what, place, times in (("a reason of the newest event", pair.cursor, WHYS), ("a reason half the way back", pair.cursor // 2, ROUNDS)):
         part, (near, far) = Part(what), pair.flows[place - 1]
@@ -372,13 +372,13 @@ def whys(pair: TrackedPair) -> Iterator[Part]:
 
 
 def request_frame() -> str:
-    """The frame in which a node with the setup's rules asks for all states, in hexadecimal."""
+    """The frame with which a node with the setup's rules asks for all states, in hexadecimal."""
     length = FRAME_HEADER + GROUP_HEADER + NAME_RECORD
     return f"0500{length:04x}{hashlib.md5(b'pass out' + bytes([10])).hexdigest()}05000001{'00' * NAME_RECORD}"
 
 
 def traces(pair: TrackedPair) -> Iterator[Part]:
-    """Looks at the newest frame, over and over, and at one that was sent half the way back: each asks for all states."""
+    """Looks at the newest frame, over and over, and at one that was sent halfway back: each asks for all states."""
     places: List[int] = []
     for ticket, first in enumerate((0, pair.states // 2), 1):
         yield pair.begin(first, first + pair.states // 2)
@@ -396,7 +396,7 @@ def traces(pair: TrackedPair) -> Iterator[Part]:
 
 
 def forks(pair: TrackedPair) -> Iterator[Part]:
-    """Branches of all events so far, which are dropped again."""
+    """Branches with all events so far, which are dropped again."""
     yield pair.fill()
     forked, removed = Part("a fork of all events"), Part("a drop")
     for at in range(FORKS):
@@ -407,7 +407,7 @@ def forks(pair: TrackedPair) -> Iterator[Part]:
 
 
 def short_forks(pair: TrackedPair) -> Iterator[Part]:
-    """Branches of some thousand events, one after the other."""
+    """Branches with some thousand events, one after another."""
     yield pair.fill()
     yield pair.hit(pair.chance.choices(range(pair.states), k=SHORT_EVENTS - pair.states))
     part = Part(f"a fork of {SHORT_EVENTS:,} events")
@@ -417,7 +417,7 @@ def short_forks(pair: TrackedPair) -> Iterator[Part]:
 
 
 def limits(pair: TrackedPair) -> Iterator[Part]:
-    """Restarts and forks of a pair that has few states, and room for as many as there may be."""
+    """Restarts and forks of a pair that has few states, and room for as many as are allowed."""
     yield pair.fill()
     restarts, forked = Part("a restart at the greatest limits"), Part("a fork of all that at the greatest limits")
     for boot in range(RESTARTS):
@@ -435,7 +435,7 @@ LOADS: Dict[str, Callable[[TrackedPair], Iterator[Part]]] = {
         *(purges, scattered, timeouts, shows, pasts, whys, traces, forks, short_forks, limits),
     )
 }
-# The number of states of the loads that are measured at one number alone.
+# The number of states for loads that are measured at only one number.
 STATES_OF = {"short_forks": SHORT_STATES, "limits": 10}
 SETUPS = {"limits": setup_of(MOST_FRAMES, MOST_MTU), "timeouts": setup_of(rules=rules_of_timeouts())}
 

@@ -1,13 +1,13 @@
 #!/usr/bin/env python3
-"""Measures what a long seminar costs a server, and that its journal gives the replies that its sessions had.
+"""Measures what a long seminar costs a server, and checks that its journal gives the replies that its sessions had.
 
 usage: bench/seminar.py [--program PATH] [--sessions N] [--commands N]
 
 Each of the sessions (8) gives its commands (100,000) as fast as they are answered, on a branch of its own: ticks, and their undoing, so
-that branches keep next to nothing. What was there after the first thousand is not counted. Then the first one follows the journal from its beginning, a run of the same setup carries out
-what it is shown, and each reply is compared with the one that the session had. Last a session looks after each of 10,000 commands
-as the shell does: by `view` at the server, and by `show` at a run of its own. The output is a table for docs/PERFORMANCE.md; the status
-is 1 where a reply is another one. Linux alone.
+that branches keep next to nothing. What was there after the first thousand is not counted. Then the first one follows the journal from
+the beginning, a run of the same setup carries out what it is shown, and each reply is compared with the one that the session had. Last,
+a session looks after each of 10,000 commands as the shell does: by `view` at the server, and by `show` in a run of its own. The output
+is a table for docs/PERFORMANCE.md; the status is 1 if a reply differs. Linux only.
 """
 from __future__ import annotations
 
@@ -26,13 +26,13 @@ PROGRAM = f"{TOP}/crates/pfl_lab/out/pfl_lab"
 SETUP = "rule a pass out\nrule b pass out\nopen\n"
 # How many commands a session gives before it reads their replies.
 BATCH = 200
-# How many it gives before the memory of the server is looked at first.
+# How many it gives before the first look at the memory of the server.
 WARM = 1000
 LOOKS = 10_000
 
 
-class Told(argparse.Namespace):
-    """What the words of the command say."""
+class Options(argparse.Namespace):
+    """The parsed command line."""
 
     program: str
     sessions: int
@@ -95,7 +95,7 @@ class Server:
         self.sessions = [Served(port) for _ in range(sessions)]
 
     def kilobytes(self) -> int:
-        """What it has in memory."""
+        """The memory that it takes."""
         with open(f"/proc/{self.process.pid}/status", encoding="ascii") as status:
             found = re.search(r"VmRSS:\s+(\d+) kB", status.read())
         assert found
@@ -134,7 +134,7 @@ class Replay:
 
 
 def agree(server: Server, replay: Replay, entries: int) -> bool:
-    """Whether the journal's commands give each session the replies that it had, one after another."""
+    """Whether the journal's commands give each session the replies that it had, in order."""
     places: Dict[int, int] = {}
     batch: List[Tuple[int, str]] = []
     for entry in server.sessions[0].followed(0, entries):
@@ -160,7 +160,7 @@ def fork(server: Server) -> None:
 
 
 def work(server: Server, commands: int) -> float:
-    """All sessions work at the same time, in this many seconds."""
+    """All sessions work at the same time; returns the seconds that this takes."""
     threads = [threading.Thread(target=it.work, args=(f"s{number}", commands)) for number, it in enumerate(server.sessions, 1)]
     before = time.monotonic()
     for thread in threads:
@@ -194,14 +194,14 @@ def main() -> int:
     parser.add_argument("--program", default=PROGRAM)
     parser.add_argument("--sessions", type=int, default=8)
     parser.add_argument("--commands", type=int, default=100_000)
-    told = parser.parse_args(namespace=Told())
-    server, replay = Server(told.program, told.sessions), Replay(told.program)
+    options = parser.parse_args(namespace=Options())
+    server, replay = Server(options.program, options.sessions), Replay(options.program)
     fork(server)
     work(server, WARM)
     before = server.kilobytes()
-    seconds = work(server, told.commands)
-    new, kept = told.sessions * told.commands, (server.kilobytes() - before) * 1024
-    print(f"| {told.sessions} sessions of {told.commands:,} commands | {seconds:.1f} s, {seconds / new * 1e6:.1f} µs a command |")
+    seconds = work(server, options.commands)
+    new, kept = options.sessions * options.commands, (server.kilobytes() - before) * 1024
+    print(f"| {options.sessions} sessions of {options.commands:,} commands | {seconds:.1f} s, {seconds / new * 1e6:.1f} µs a command |")
     print(f"| memory of the server for {new:,} entries | {kept / 1e6:.1f} MB, {kept / new:.1f} bytes an entry |")
     entries = sum(len(it.had) for it in server.sessions)
     began = time.monotonic()

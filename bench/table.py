@@ -1,4 +1,4 @@
-"""The table of costs: a row for each kind of command, and for each number of states its figures."""
+"""The table of costs: a row for each kind of command, with its figures for each number of states."""
 from __future__ import annotations
 
 import sys
@@ -9,13 +9,13 @@ from loads import STATES_OF
 
 
 def figure(value: float) -> str:
-    """About three digits that count."""
+    """About three significant digits."""
     places = 4 if value < 0.0995 else 2 if value < 9.995 else 1 if value < 99.95 else 0
     return f"{value:,.{places}f}"
 
 
 class Table:
-    """What each kind of command took, by the number of states, in the order in which it was measured."""
+    """What each kind of command took, by the number of states, in the order of measurement."""
 
     def __init__(self, states: Sequence[int]):
         self.states = states
@@ -23,8 +23,8 @@ class Table:
 
     def put(self, load: str, what: str, states: int, cost: Cost) -> None:
         self.rows.setdefault((load, what), {})[states] = cost
-        told = f"{self.each(cost)} µs, {self.all(cost)} s, {self.most(cost)} MB, {self.kept(cost)} bytes kept"
-        print(f"bench: {load} at {states:,}: {what}: {cost.commands:,} at {told}", file=sys.stderr, flush=True)
+        figures = f"{self.each(cost)} µs, {self.all(cost)} s, {self.most(cost)} MB, {self.kept(cost)} bytes kept"
+        print(f"bench: {load} at {states:,}: {what}: {cost.commands:,} at {figures}", file=sys.stderr, flush=True)
 
     def text(self) -> str:
         many = [f"{it:,}" for it in self.states]
@@ -37,7 +37,7 @@ class Table:
         return "\n".join(lines + self.alone()) + "\n"
 
     def alone(self) -> List[str]:
-        """The loads of one number of states, in a table of their own."""
+        """The loads with only one number of states, in a table of their own."""
         rows = [
             self.line(load, what, f"{states:,}", self.each(cost), self.most(cost), self.kept(cost))
             for (load, what), costs in self.rows.items()

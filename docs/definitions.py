@@ -1,4 +1,4 @@
-"""The definitions of `crates/*/specs/`, and which of them others are made of: what a reader has to believe of one of them."""
+"""The definitions of `crates/*/specs/`, and which others they are made of: what a reader of one of them has to believe."""
 from __future__ import annotations
 
 import functools
@@ -11,10 +11,10 @@ CRATES = Path(__file__).resolve().parent.parent / "crates"
 HEAD = re.compile(r" *(?:(?:abbrev|unfoldable) )?(?:pub )?(?:record |data )?(?P<name>[^\W\d][\w']*|◌\S+◌) (?=[:({])")
 STARTS = re.compile(r" *(?:abbrev|unfoldable|pub record|pub data) ")
 IMPORT = re.compile(r"(?:ghost )?use Rattle\.(?P<module>[\w.]+?)(?:\.\{(?P<names>.*)\}| as (?P<alias>\w+));?$")
-# A line by which a crate passes on the specs of one below it, or what that passes on.
+# A line with which a crate passes on the specs of one below it, or what that one passes on.
 PASSES = re.compile(r"pub use Rattle\.(?P<crate>\w+)\.specs(?:\.(?P<aliases>[\w.]+))? as (?P<name>\w+)$", re.MULTILINE)
 BINDERS = re.compile(r"λ ([^.]*)\.|\blet ([\w']+) |[({]([\w' ]+) :")
-# A name, with the names that stand before it and end with dots.
+# A name, with the names before it that end with dots.
 NAME = re.compile(r"(?<![\w'.])(?P<before>(?:[^\W\d][\w']*\.)*)(?P<name>[^\W\d][\w']*)")
 
 # A definition's module and its name.
@@ -23,13 +23,13 @@ Place = Tuple[str, str]
 
 @functools.lru_cache(maxsize=None)
 def passed_on(crate: str) -> Dict[str, str]:
-    """The crates whose specs a crate passes on, by the names that it gives them."""
+    """The crates whose specs a crate passes on, by the names that it gives to them."""
     path = CRATES / crate / "specs/Lib.antt"
     lines = PASSES.finditer(path.read_text()) if path.exists() else ()
-    return {it["name"]: _behind(it["crate"], (it["aliases"] or "").split(".")) for it in lines}
+    return {it["name"]: _reached_by(it["crate"], (it["aliases"] or "").split(".")) for it in lines}
 
 
-def _behind(crate: str, aliases: Iterable[str]) -> str:
+def _reached_by(crate: str, aliases: Iterable[str]) -> str:
     """The crate that these names lead to, each passed on by the crate before it."""
     for alias in filter(None, aliases):
         crate = passed_on(crate)[alias]
@@ -37,7 +37,7 @@ def _behind(crate: str, aliases: Iterable[str]) -> str:
 
 
 def home(module: str) -> str:
-    """Where a module stands that is named by what a crate passes on."""
+    """The place of a module that is named by what a crate passes on."""
     crate, *rest = module.split(".")
     while rest[:1] == ["specs"] and rest[1:] and rest[1] in passed_on(crate):
         crate, rest = passed_on(crate)[rest[1]], ["specs", *rest[2:]]
@@ -46,7 +46,7 @@ def home(module: str) -> str:
 
 @dataclass
 class Definition:
-    """A definition, without the comment above it, the names of others in it, in their order, and those that are definitions."""
+    """A definition, without the comment above it; the names of others in it, in order; and those of them that are definitions."""
 
     lines: List[str]
     names: List[Place] = field(default_factory=list)
@@ -55,7 +55,7 @@ class Definition:
 
 @dataclass(frozen=True)
 class Scope:
-    """What the names of others mean in a file: definitions, and modules that have a name there."""
+    """What the names of others mean in a file: definitions, and modules with a name there."""
 
     names: Dict[str, Place]
     modules: Dict[str, str]
@@ -74,7 +74,7 @@ class Scope:
         return cls(names, modules)
 
     def cited(self, text: str, own: AbstractSet[str] = frozenset()) -> Iterator[Place]:
-        """The places of the names in a text, but for its own."""
+        """The places of the names in a text, except its own."""
         for found in NAME.finditer(text):
             before = found["before"].rstrip(".")
             if before in self.modules:
@@ -85,7 +85,7 @@ class Scope:
 
 
 def _bound(name: str, lines: List[str]) -> Set[str]:
-    """The names that a definition gives to values: on left sides, and where a `λ`, a `let` or a type's parenthesis binds them."""
+    """The names that a definition gives to values: on left sides, and wherever a `λ`, a `let` or a type's parenthesis binds them."""
     lefts = (re.match(rf" *{re.escape(name)} ([^=]*)=(?: |$)", line) for line in lines[1:])
     parts = [left[1] for left in lefts if left]
     parts += (part for binder in BINDERS.findall("\n".join(lines)) for part in binder)
@@ -106,7 +106,7 @@ def _definitions(lines: List[str]) -> Iterator[Tuple[str, List[str]]]:
 
 @functools.lru_cache(maxsize=None)
 def all_definitions() -> Dict[Place, Definition]:
-    """The definitions of all crates by their places."""
+    """The definitions of all crates, by place."""
     found: Dict[Place, Definition] = {}
     scopes: Dict[str, Scope] = {}
     for path in sorted(CRATES.glob("*/specs/**/*.antt")):
@@ -128,7 +128,7 @@ def places_of(crate: str, name: str) -> List[Place]:
 
 
 def reached(roots: Iterable[Place]) -> Set[Place]:
-    """The roots, and all that they are made of."""
+    """The roots, and everything that they are made of."""
     seen: Set[Place] = set()
     waiting = list(roots)
     while waiting:
@@ -140,6 +140,6 @@ def reached(roots: Iterable[Place]) -> Set[Place]:
 
 
 def size(places: Iterable[Place]) -> Tuple[int, int]:
-    """How many definitions, and how many lines they have."""
+    """How many definitions there are, and how many lines they have."""
     lines = [len(all_definitions()[it].lines) for it in places]
     return len(lines), sum(lines)

@@ -1,7 +1,7 @@
 #!/usr/bin/env python3
 """Refuses imports of another crate's proofs that go past its `proofs/ForCallers.antt`.
 
-That file passes on what the proofs of callers may cite; the rest of proofs/ is the crate's own, and may change without them.
+That file passes on what the proofs of callers may cite; the rest of proofs/ is the crate's own, and may change independently.
 """
 from __future__ import annotations
 
@@ -26,13 +26,13 @@ def sources() -> Iterator[Tuple[str, Path]]:
 
 
 def faults() -> Iterator[str]:
-    """The lines that import what is not for them. The crates of the kit are none of ours."""
+    """The lines that import what is not for them. The crates of the kit are not ours."""
     ours = {path.name for path in CRATES.iterdir()}
     for crate, path in sources():
         for number, line in enumerate(path.read_text().splitlines(), 1):
             found = IMPORT.match(line)
             if found and found[1] in ours - {crate}:
-                yield f"{path.relative_to(CRATES.parent)}:{number}: of the proofs of {found[1]}, ForCallers.antt alone is for others"
+                yield f"{path.relative_to(CRATES.parent)}:{number}: of the proofs of {found[1]}, only ForCallers.antt is for others"
 
 
 def main() -> int:

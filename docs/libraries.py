@@ -1,12 +1,12 @@
 #!/usr/bin/env python3
-"""Refuses lists of libraries in crates.txt that make the kit's `rt` slow, libraries that a crate lists and nowhere names, and crates
-that are passed on whole by `src/lib.rt`.
+"""Refuses lists of libraries in crates.txt that make the kit's `rt` slow, libraries that a crate lists but never names, and crates
+that `src/lib.rt` passes on whole.
 
-`rt` reckons the checksum of a crate from those of the libraries that its line lists, theirs from theirs, anew on each way
-down: so what a check, a build or a test costs before it begins grows with the number of these ways. A crate lists what its
-own code and clauses name, and what it names of crates further down comes from those that pass it on (`specs/Lib.antt`,
-`proofs/ForCallers.antt` and `src/lib.rt` of each). The last does so name by name: of a crate that is passed on whole, a check states
-all that it passes on in turn, on each way down.
+`rt` computes the checksum of a crate from those of the libraries that its line lists, theirs from theirs, again on each path
+down: so what a check, a build or a test costs before it begins grows with the number of these paths. A crate lists what its
+own code and clauses name, and what it names from crates further down comes from those that pass it on (`specs/Lib.antt`,
+`proofs/ForCallers.antt` and `src/lib.rt` of each). The last does so name by name: for a crate that is passed on whole, a check
+states everything that it passes on in turn, on each path down.
 """
 from __future__ import annotations
 
@@ -21,14 +21,14 @@ sys.path.insert(0, str(TOP))
 from proving.crates import PARTS, listed, paths
 
 MOST = 1400
-# What crates are called where another one passes them on.
+# The names of crates where another one passes them on.
 SHORT_NAMES = {name.partition("_")[2] for name in listed()}
 # A line that passes on a whole crate, or one that another crate passes on.
 WHOLE = re.compile(r"^pub use (pfl_\w+(?:::[a-z]\w*)?)(?: as \w+)?;$", re.M)
 
 
 def named(crate: str) -> set[str]:
-    """The names that a crate's sources begin a path with."""
+    """The names that begin paths in a crate's sources."""
     files = (path for part in PARTS for path in (TOP / "crates" / crate / part).rglob("*") if path.suffix in (".rt", ".antt"))
     return {name for path in files for pair in re.findall(r"\bRattle\.(\w+)|\b(\w+)::", path.read_text()) for name in pair}
 
@@ -43,10 +43,10 @@ def passed_on_whole(crate: str) -> list[str]:
 def faults() -> Iterator[str]:
     for name, many in paths(listed()).items():
         if many > MOST:
-            yield f"{many} ways lead down from {name}, more than {MOST}: list what it names, and name what its neighbours pass on"
+            yield f"{many} paths lead down from {name}, more than {MOST}: list what it names, and name what its neighbours pass on"
     for name, crate in listed().items():
         for library in sorted(set(crate.libraries) - named(name)):
-            yield f"{name} lists {library}, and names nothing of it"
+            yield f"{name} lists {library}, but names nothing in it"
         for whole in passed_on_whole(name):
             yield f"{name} passes on {whole} whole: name the types that its callers need"
 

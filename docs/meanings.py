@@ -1,4 +1,4 @@
-"""What refuses an event, read off its meaning: the refusals that its definitions name, in the order in which they stand there."""
+"""What refuses an event, read from its meaning: the refusals that its definitions name, in their order there."""
 from __future__ import annotations
 
 import re
@@ -9,11 +9,11 @@ from definitions import Place
 
 REFUSALS = "pfl_base.specs.declared.refusal.Refusal.TheVariants"
 VARIANT = re.compile(r"^ *(\w+)(?: = \d+)?,$", re.MULTILINE)
-# A line of a definition that tells events apart, which is one line a case: the event, and what is said of it.
+# A line of a definition that distinguishes events, with one line for each case: the event, and what is said about it.
 CASE = re.compile(r"\w+ .*?\w+\.(?P<event>[A-Z]\w*)[^=]*= (?P<said>.*)$")
 WORDS = (("pfl_lines", "event_words"), ("pfl_lines", "node_event_word"), ("pfl_lines", "frame_event_word"))
-# The cases that are told apart again, by the event of a node and by that of a frame.
-TOLD_APART = {"At", "Of"}
+# The cases that are distinguished further, by the event of a node and by that of a frame.
+DISTINGUISHED = {"At", "Of"}
 
 
 def numbers() -> Dict[str, int]:
@@ -24,7 +24,7 @@ def numbers() -> Dict[str, int]:
 
 
 def _named(place: Place, seen: Set[Place]) -> Iterator[str]:
-    """The refusals that a definition names, and those that it is made of, each where it stands."""
+    """The refusals that a definition and those that it is made of name, each at its place."""
     if place[0] == REFUSALS:
         yield place[1]
     elif place in definitions.all_definitions() and place not in seen:
@@ -34,7 +34,7 @@ def _named(place: Place, seen: Set[Place]) -> Iterator[str]:
 
 
 def _cases(place: Place) -> Iterator[re.Match[str]]:
-    """The lines of a definition that tells events apart."""
+    """The lines of a definition that distinguishes events."""
     return filter(None, map(CASE.match, definitions.all_definitions()[place].lines[1:]))
 
 
@@ -45,13 +45,13 @@ def words() -> Dict[str, str]:
 
 
 def refusals(place: Place) -> Dict[str, List[int]]:
-    """The events that a definition of meanings tells apart, each by its word, with the numbers of its refusals in their order."""
+    """The events that a definition of meanings distinguishes, each by its word, with the numbers of its refusals in order."""
     known, called, it = numbers(), words(), definitions.all_definitions()[place]
-    told = {}
+    refused = {}
     for case in _cases(place):
         meaning = set(re.findall(r"[\w']+", case["said"]))
         seen: Set[Place] = set()
         found = dict.fromkeys(why for name in it.names if name[1] in meaning for why in _named(name, seen))
-        if case["event"] not in TOLD_APART:
-            told[called[case["event"]]] = [known[why] for why in found]
-    return told
+        if case["event"] not in DISTINGUISHED:
+            refused[called[case["event"]]] = [known[why] for why in found]
+    return refused

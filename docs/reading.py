@@ -1,27 +1,27 @@
 #!/usr/bin/env python3
-"""Keeps what README.md, docs/*.md and crates/*/*.md quote from the sources as it stands there.
+"""Keeps what README.md, docs/*.md and crates/*/*.md quote from the sources up to date.
 
-A page quotes by a comment on a line of its own, and the fenced block behind it is what this script writes:
+A page quotes by a comment on a line of its own, and the fenced block after it is what this script writes:
 
     <!-- definition CRATE NAME.. -->         definitions of specs/, each with the sentence above it, below the name of its file
     <!-- theorem CRATE NAME -->              what a theorem of proofs/ says, without its proof
     <!-- contracts CRATE FUNCTION.. -->      signatures and clauses of public functions, as in `Pending::mark` or `merge`
     <!-- function CRATE FUNCTION -->         a whole function
     <!-- file PATH -->                       a whole file
-    <!-- naming PATTERN -->                  the files, folder by folder, in which a word fits a regular expression, whatever its case
-    <!-- refusals CRATE NAME .. -->          the refusals, in their order, of the events that these definitions of meanings tell apart
+    <!-- naming PATTERN -->                  the files, folder by folder, with a word that matches a regular expression, in any case
+    <!-- refusals CRATE NAME .. -->          the refusals, in order, of the events that these definitions of meanings distinguish
     <!-- reached CRATE NAME .. -->           how many definitions these definitions of specs/ are made of, crate by crate
-    <!-- reached PAGE -->                    the same of the definitions that the contracts cite which the page quotes
+    <!-- reached PAGE -->                    the same for the definitions cited by the contracts that the page quotes
 
-Names are looked up in the crate, whatever file they stand in; a name that is gone or that stands twice is an error. A contract stands
-on one page alone: a function that is quoted twice over all pages, by `contracts` or by `function`, is an error. On a page that says
-what is reached, a definition that is quoted and not reached is an error: nobody has to believe it. Where it says so of another
-page's contracts, a definition that one of their clauses cites and that it does not quote is an error, too; of a law, a function
-without code, so is a definition that its statement is made of. README.md names in its promises the functions and laws that carry
-them: each has to be quoted in docs/PROVED.md, and a page has to say what that page's contracts reach.
+Names are looked up in the crate, in whatever file they are; a name that is gone or that is there twice is an error. A contract is on
+one page only: a function that is quoted twice over all pages, by `contracts` or by `function`, is an error. On a page that says what
+is reached, a definition that is quoted but not reached is an error: nobody has to believe it. If it says so for another page's
+contracts, a definition that one of their clauses cites and that it does not quote is an error, too; for a law, a function without
+code, so is a definition that its statement is made of. README.md names in its promises the functions and laws that carry them: each
+must be quoted in docs/PROVED.md, and a page must say what that page's contracts reach.
 
     docs/reading.py            writes the blocks
-    docs/reading.py --check    changes nothing, and ends with 1 where a block is stale or a name is not found
+    docs/reading.py --check    changes nothing, and exits with 1 if a block is stale or a name is not found
 """
 
 from __future__ import annotations
@@ -41,15 +41,15 @@ import meanings
 from definitions import Place
 
 TOP = Path(__file__).resolve().parent.parent
-# Crates that are one to a page, so that it need not know in which of them a name stands.
+# Crates that are one to a page, so that it need not know in which of them a name is.
 FAMILIES = {
     "pfl_lab": ("pfl_lab", "pfl_host", "pfl_run"),
     "pfl_node": ("pfl_node", "pfl_desk", "pfl_receive"),
     "test_publish": ("test_publish", "pfl_publish_tests"),
 }
-# The page that names the functions and laws of the promises, the heading under which it does, and the page that quotes them.
+# The page that names the functions and laws of the promises, the heading under which it names them, and the page that quotes them.
 PROMISES = ("README.md", "## What it promises", "docs/PROVED.md")
-# The name of a function or a law, and not a word of a command line: its type stands before it, or it is of several words.
+# The name of a function or a law, and not a word of a command line: it has its type before it, or consists of several words.
 CARRIES = re.compile(r"`((?:\w+::)+\w+|[a-z]\w*_\w+)`")
 WIDTH = 120
 MARKER = re.compile(r"<!-- (definition|theorem|contracts|function|file|naming|reached|refusals) (.+?) -->$")
@@ -57,7 +57,7 @@ DEFINITION = r"^ *(?:abbrev pub|unfoldable pub|pub record|pub data) {name}(?= |$
 THEOREM = r"^{name} :"
 FUNCTION = r"^ *(?:pub(?:\(crate\))? )?(?:const )?fn {name}[(<]"
 CLAUSE = re.compile(r" *(?:ensures|requires)\b")
-# What a change is looked for in: the crates, and what stands around the program.
+# Where to look for a change: the crates, and what is around the program.
 WITH_SOURCES = ("crates/*/src", "crates/*/specs", "crates/*/proofs", "shell", "oracle", "fuzzing")
 SOURCES = (".rt", ".antt", ".py")
 
@@ -68,7 +68,7 @@ T = TypeVar("T")
 
 
 class Missing(Exception):
-    """A name that stands nowhere, or in more than one place."""
+    """A name is nowhere, or in more than one place."""
 
 
 def crates(family: str) -> Tuple[str, ...]:
@@ -83,15 +83,15 @@ def sources(family: str, folder: str, suffix: str) -> Iterator[Tuple[Path, List[
 
 
 def only(found: List[Line], what: str) -> Line:
-    """The one thing that was found."""
+    """The only line that was found."""
     if len(found) != 1:
         places = ", ".join(str(path.relative_to(TOP)) for path, *_ in found)
-        raise Missing(f"{what}: " + (f"stands in more than one place: {places}" if found else "not found"))
+        raise Missing(f"{what}: " + (f"is in more than one place: {places}" if found else "not found"))
     return found[0]
 
 
 def all_found(quote: Callable[[str, str], T], family: str, names: Sequence[str]) -> List[T]:
-    """What is quoted of each name; an error has all names that are not found."""
+    """What is quoted for each name; an error has all names that are not found."""
     found: List[T] = []
     missing = []
     for name in names:
@@ -140,7 +140,7 @@ def one_definition(family: str, name: str) -> Tuple[str, List[str]]:
 
 
 def definition(family: str, *names: str) -> List[str]:
-    """Definitions, those of one file that stand together below its name."""
+    """Definitions; consecutive ones from one file are together below its name."""
     out: List[str] = []
     for where, its in itertools.groupby(all_found(one_definition, family, names), key=lambda it: it[0]):
         out += ["", f"-- {where}", *"\n\n".join("\n".join(text) for _where, text in its).splitlines()]
@@ -148,7 +148,7 @@ def definition(family: str, *names: str) -> List[str]:
 
 
 def folded(statement: str) -> List[str]:
-    """An equation on one line, or its two sides in lines of their own."""
+    """An equation on one line, or its two sides on lines of their own."""
     sides = [statement] if len(statement) <= WIDTH else re.split(r" (?=≡ )", statement, maxsplit=1)
     return [line for at, side in enumerate(sides)
             for line in textwrap.wrap(side, WIDTH, initial_indent="    " if at else "", subsequent_indent="    ",
@@ -164,8 +164,9 @@ def theorem(family: str, name: str) -> List[str]:
     return [f"-- {module(path)}"] + comment + folded(" ".join(line.strip() for line in lines[at:end]))
 
 
-def owner(lines: List[str], at: int) -> str:
-    """The type of the `impl` that the line stands in, or nothing. Its head may have several lines, of which the last begins with `>`."""
+def impl_head(lines: List[str], at: int) -> str:
+    """The head of the `impl` that the line is in, without what is in angle brackets, or nothing. It may have several lines; the last
+    then begins with `>`."""
     if not lines[at].startswith(" "):
         return ""
     while at > 0 and (lines[at].startswith(" ") or not lines[at].strip()):
@@ -176,17 +177,23 @@ def owner(lines: List[str], at: int) -> str:
     head, angles = " ".join(it.strip() for it in lines[start : at + 1]).split("{")[0], re.compile(r"<[^<>]*>")
     while angles.search(head):
         head = angles.sub("", head)
-    return re.split(r" for |^impl ", head)[-1].strip()
+    return head
+
+
+def owner(lines: List[str], at: int) -> str:
+    """The type of the `impl` that the line is in, or nothing."""
+    return re.split(r" for |^impl ", impl_head(lines, at))[-1].strip()
 
 
 @functools.lru_cache(maxsize=None)
 def find_function(family: str, name: str) -> Line:
-    """The one function of the name, which has its type before it if it is a method."""
+    """The one function with the name, which has its type before it if it is a method. A type's own method comes before one of a trait."""
     kind, _, last = name.rpartition("::")
     pattern = re.compile(FUNCTION.format(name=re.escape(last)))
     found = [(path, lines, at) for path, lines in sources(family, "src", ".rt")
              for at, line in enumerate(lines) if pattern.match(line) and owner(lines, at) == kind]
-    return only(found, f"function {name} of {family}")
+    own = [(path, lines, at) for path, lines, at in found if " for " not in impl_head(lines, at)]
+    return only(own or found, f"function {name} of {family}")
 
 
 def indent_of(line: str) -> str:
@@ -194,7 +201,7 @@ def indent_of(line: str) -> str:
 
 
 def body_start(lines: List[str], at: int) -> int:
-    """The index of the line that opens the body: a brace alone, or at the end of a signature without clauses."""
+    """The index of the line that opens the body: a brace on its own, or at the end of a signature without clauses."""
     alone = (indent_of(lines[at]) + "{", indent_of(lines[at]) + "{}")
     while lines[at] not in alone and not (lines[at].endswith((" {", " {}")) and not CLAUSE.match(lines[at])):
         at += 1
@@ -227,7 +234,7 @@ def file(path: str) -> List[str]:
 
 
 def naming(pattern: str) -> List[str]:
-    """The files that have a word of the pattern. Wrong bodies and cases are not among them."""
+    """The files that have a word of the pattern, without wrong bodies and cases."""
     word = re.compile(pattern, re.IGNORECASE)
     out: List[str] = []
     for folder in sorted(it for glob in WITH_SOURCES for it in TOP.glob(glob)):
@@ -242,12 +249,12 @@ def place(crate: str, name: str) -> Place:
     """Where a crate of a family defines the name."""
     found = [it for one in crates(crate) for it in definitions.places_of(one, name)]
     if len(found) != 1:
-        raise Missing(f"definition {name} of {crate}: " + ("stands in more than one place" if found else "not found"))
+        raise Missing(f"definition {name} of {crate}: " + ("is in more than one place" if found else "not found"))
     return found[0]
 
 
 def markers(page: Path) -> List[Tuple[str, List[str]]]:
-    """The words of the comments by which a page quotes, each with what it quotes."""
+    """The words of the comments that quote on a page, each with what it quotes."""
     return [(found[1], found[2].split()) for found in map(MARKER.match, page.read_text().splitlines()) if found]
 
 
@@ -265,64 +272,64 @@ def cited_by(family: str, name: str) -> Set[Place]:
 
 
 def is_law(family: str, name: str) -> bool:
-    """The function has no code: its contract states a theorem over the definitions."""
+    """Whether the function has no code: its contract states a theorem over the definitions."""
     _path, lines, at = find_function(family, name)
     return lines[body_start(lines, at)].endswith("{}")
 
 
-def told_by(family: str, name: str) -> Set[Place]:
-    """The definitions that say what a function's contract says: those that it cites, and of a law those that its statement is made of."""
+def stated_by(family: str, name: str) -> Set[Place]:
+    """The definitions in which a function's contract is stated: those that it cites, and for a law those that its statement is made of."""
     cited = cited_by(family, name)
     return cited.union(*(definitions.all_definitions()[it].cites for it in cited)) if is_law(family, name) else cited
 
 
-def told_on(page: str) -> Set[Place]:
-    """The same of all contracts that a page quotes."""
+def stated_on(page: str) -> Set[Place]:
+    """The same for all contracts that a page quotes."""
     quoted = [its for quote, its in markers(TOP / page) if quote == "contracts"]
-    return {it for family, *names in quoted for name in names for it in told_by(family, name)}
+    return {it for family, *names in quoted for name in names for it in stated_by(family, name)}
 
 
 def reached_from(words: Sequence[str]) -> Set[Place]:
-    """The definitions that those are made of which the words of a comment name."""
+    """The definitions that make up those that the words of a comment name."""
     if len(words) > 1:
         return definitions.reached({place(crate, name) for crate, name in zip(words[::2], words[1::2])})
-    return definitions.reached(told_on(words[0]))
+    return definitions.reached(stated_on(words[0]))
 
 
 def reached(*words: str) -> List[str]:
     found = reached_from(words)
     (count, lines), (all_count, all_lines) = definitions.size(found), definitions.size(definitions.all_definitions())
     by_crate = collections.Counter(module.split(".")[0] for module, _name in found)
-    told = ", ".join(f"{crate} {by_crate[crate]}" for crate in sorted(by_crate))
-    return [f"{count} of {all_count} definitions, {lines} of {all_lines} lines:", *textwrap.wrap(told, WIDTH)]
+    counts = ", ".join(f"{crate} {by_crate[crate]}" for crate in sorted(by_crate))
+    return [f"{count} of {all_count} definitions, {lines} of {all_lines} lines:", *textwrap.wrap(counts, WIDTH)]
 
 
 def refusals(*words: str) -> List[str]:
-    told: Dict[str, List[int]] = {}
+    refused: Dict[str, List[int]] = {}
     for it in zip(words[::2], words[1::2]):
-        told.update(meanings.refusals(place(*it)))
-    return [f"{word:8} {' '.join(map(str, numbers))}" for word, numbers in told.items()]
+        refused.update(meanings.refusals(place(*it)))
+    return [f"{word:8} {' '.join(map(str, numbers))}" for word, numbers in refused.items()]
 
 
 def not_reached(page: Path) -> List[str]:
-    """The definitions that a page shows, and that are reached from none of those of which it says what they reach."""
-    told = [its for quote, its in markers(page) if quote == "reached"]
-    if not told:
+    """The definitions that a page shows but that are not reached from any of those for which it says what they reach."""
+    roots = [its for quote, its in markers(page) if quote == "reached"]
+    if not roots:
         return []
-    known: Set[Place] = set().union(*map(reached_from, told))
-    return [f"{page.relative_to(TOP)}: {name} of {module} is shown, and not reached" for module, name in sorted(shown_on(page) - known)]
+    known: Set[Place] = set().union(*map(reached_from, roots))
+    return [f"{page.relative_to(TOP)}: {name} of {module} is shown, but not reached" for module, name in sorted(shown_on(page) - known)]
 
 
 def not_shown(page: Path) -> List[str]:
-    """The definitions that a page lacks, though the contracts and laws of another page are told by them of which it says what they reach."""
-    told = [its[0] for quote, its in markers(page) if quote == "reached" and len(its) == 1]
-    shown = shown_on(page) if told else set()
-    return [f"{page.relative_to(TOP)}: {name} of {module} is cited by a contract or a law of {other}, and not shown"
-            for other in told for module, name in sorted(told_on(other) - shown)]
+    """The definitions that a page lacks, though the contracts and laws of another page for which it says what they reach need them."""
+    others = [its[0] for quote, its in markers(page) if quote == "reached" and len(its) == 1]
+    shown = shown_on(page) if others else set()
+    return [f"{page.relative_to(TOP)}: {name} of {module} is cited by a contract or a law of {other}, but not shown"
+            for other in others for module, name in sorted(stated_on(other) - shown)]
 
 
 def quoted_functions(page: Path) -> Iterator[Tuple[str, str, str]]:
-    """The functions that a page quotes, each with the place of the comment by which it does."""
+    """The functions that a page quotes, each with the place of the comment that quotes it."""
     for number, found in enumerate(map(MARKER.match, page.read_text().splitlines()), 1):
         if found and found[1] in ("contracts", "function"):
             family, *names = found[2].split()
@@ -330,7 +337,7 @@ def quoted_functions(page: Path) -> Iterator[Tuple[str, str, str]]:
 
 
 def quoted_twice() -> List[str]:
-    """The functions that are quoted again, wherever they are quoted first. What is not found is told page by page."""
+    """The functions that are quoted again, wherever they are quoted first. What is not found is reported page by page."""
     first: Dict[Tuple[Path, int], str] = {}
     faults = []
     for family, name, at in (its for page in pages() for its in quoted_functions(page)):
@@ -345,7 +352,7 @@ def quoted_twice() -> List[str]:
 
 
 def section(page: Path, heading: str) -> List[str]:
-    """The lines below a heading, up to the next one of its rank."""
+    """The lines below a heading, up to the next one of the same rank."""
     lines = page.read_text().splitlines()
     if heading not in lines:
         raise Missing(f"{page.relative_to(TOP)}: has no heading `{heading}`")
@@ -355,21 +362,21 @@ def section(page: Path, heading: str) -> List[str]:
 
 
 def not_carried() -> List[str]:
-    """The functions and laws that promises name, and of which no contract is quoted where those of the promises are."""
+    """The functions and laws that promises name, but whose contract is not quoted with those of the promises."""
     page, heading, other = PROMISES
     try:
         named = CARRIES.findall("\n".join(section(TOP / page, heading)))
     except Missing as fault:
         return [str(fault)]
     quoted = {name for _family, name, _at in quoted_functions(TOP / other)}
-    return [f"{page}: {name} is named by a promise, and {other} quotes no contract of it" for name in named if name not in quoted]
+    return [f"{page}: {name} is named by a promise, but {other} does not quote its contract" for name in named if name not in quoted]
 
 
 def not_judged() -> List[str]:
-    """That no page says what the contracts of the promises reach, so that none has to show what they cite."""
+    """An error if no page says what the contracts of the promises reach, so that none has to show what they cite."""
     other = PROMISES[-1]
-    told = [its for page in pages() for quote, its in markers(page) if quote == "reached"]
-    return [] if [other] in told else [f"{other}: no page says what its contracts reach"]
+    judged = [its for page in pages() for quote, its in markers(page) if quote == "reached"]
+    return [] if [other] in judged else [f"{other}: no page says what its contracts reach"]
 
 
 LANGUAGES: Dict[Callable[..., List[str]], str] = {definition: "antt", theorem: "antt", contracts: "rust", function: "rust", file: "text", naming: "text", reached: "text",

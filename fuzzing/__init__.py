@@ -1,1 +1,1 @@
-"""Scripts that are changed at random, and what the program has to do with them: for `./fuzz`."""
+"""Scripts that are changed at random, and what the program must do with them: for `./fuzz`."""

@@ -1,4 +1,4 @@
-"""AFL++ over a build of the program that tells which of its branches a script takes."""
+"""AFL++ with a build of the program that reports which of its branches a script takes."""
 from __future__ import annotations
 
 import glob
@@ -13,11 +13,11 @@ from .vocabulary import ALIKE, EDGES
 NAME = "pfl_lab"
 RUNTIME = "/usr/lib/afl/afl-compiler-rt.o"
 LONGEST_SCRIPT = 4096
-# One script may take so long, in milliseconds: the greatest limits want time for their tables.
+# A script may take this long, in milliseconds: the greatest limits need time for their tables.
 TIMEOUT = "5000"
 ENVIRONMENT = {
     "AFL_AUTORESUME": "1",
-    # Want of memory is a find, too.
+    # Running out of memory is a find, too.
     "AFL_CRASH_EXITCODE": "3",
     "AFL_I_DONT_CARE_ABOUT_MISSING_CRASHES": "1",
     "AFL_NO_AFFINITY": "1",
@@ -28,11 +28,11 @@ ENVIRONMENT = {
 
 
 class Missing(Exception):
-    """Something that is needed is not there."""
+    """Something that is needed is missing."""
 
 
 def found_by_afl(top: str, room: str, minutes: float, jobs: int) -> Dict[str, List[str]]:
-    """Runs AFL++ for a while, and gives the paths of the scripts that it has kept so far: its queue, crashes and hangs."""
+    """Runs AFL++ for a while; returns the paths of the scripts that it has kept so far: its queue, crashes and hangs."""
     for it in ("afl-fuzz", "cc", "rt"):
         if not shutil.which(it):
             raise Missing(f"there is no {it} on the path")
@@ -48,7 +48,7 @@ def found_by_afl(top: str, room: str, minutes: float, jobs: int) -> Dict[str, Li
 
 
 def run_side_by_side(words: List[str], program: List[str], log: str, jobs: int, top: str) -> None:
-    """This many processes, which tell one another what they find."""
+    """Runs this many processes, which share what they find."""
     names = [["-M", "first"], *(["-S", f"other-{it}"] for it in range(1, jobs))]
     with open(log, "w", encoding="utf-8") as it:
         env = {**os.environ, **ENVIRONMENT, "PYTHONPATH": top}
@@ -56,14 +56,14 @@ def run_side_by_side(words: List[str], program: List[str], log: str, jobs: int, 
         runs = [subprocess.Popen(command, env=env, stdin=subprocess.DEVNULL, stdout=it, stderr=it) for command in commands]
         statuses = [run.wait() for run in runs]
     if any(statuses):
-        raise Missing(f"afl-fuzz stopped; what it said is in {log}")
+        raise Missing(f"afl-fuzz stopped; its output is in {log}")
 
 
 # ---- the program
 
 
 def instrumented(top: str, room: str) -> str:
-    """The proved program as the kit compiles it, but for one flag of its clang; the libraries have to be built."""
+    """The proved program as the kit compiles it, except for one flag of its clang; the libraries must be built."""
     page = subprocess.run(["rt", "doc"], stdout=subprocess.PIPE, text=True, check=True).stdout.strip()
     kit, program = os.path.dirname(page), f"{room}/{NAME}"
     if is_newer(program, f"{top}/crates/{NAME}/out/{NAME}"):
@@ -76,17 +76,17 @@ def instrumented(top: str, room: str) -> str:
         ran = (subprocess.run(it, cwd=f"{top}/crates/{NAME}", stdout=log, stderr=log) for it in commands)
         is_built = not any(it.returncode for it in ran)
     if not is_built:
-        raise Missing(f"the program could not be built for AFL++; what the compilers said is in {room}/build.log")
+        raise Missing(f"the program could not be built for AFL++; the compilers' output is in {room}/build.log")
     return program
 
 
 def is_newer(program: str, proved: str) -> bool:
-    """Whether the program was built since the proved one was; the kit takes minutes to read what was proved."""
+    """Whether the program was built after the proved one; the kit takes minutes to read what was proved."""
     return all(map(os.path.isfile, (program, proved))) and os.stat(program).st_mtime > os.stat(proved).st_mtime
 
 
 def write_toolchain(kit: str, folder: str) -> None:
-    """A folder of links into the kit's toolchain, but for clang, which is a script that has it count branches."""
+    """A folder of links into the kit's toolchain, except clang, which is a script that makes it count branches."""
     os.makedirs(f"{folder}/bin", exist_ok=True)
     links = {f"{folder}/lib": f"{kit}/lib", **{f"{folder}/bin/{it}": f"{kit}/bin/{it}" for it in os.listdir(f"{kit}/bin")}}
     for path, to in links.items():
@@ -100,7 +100,7 @@ def write_toolchain(kit: str, folder: str) -> None:
 
 
 def build_words(kit: str, crates: str) -> Iterator[str]:
-    """The words by which the kit's `rt` has the program built, over the built libraries below it."""
+    """The words with which the kit's `rt` builds the program, from the built libraries below it."""
     libraries = libraries_of(f"{crates}.txt")
     yield from ("--crate-name", NAME, "src/main.rt", "--links", f"{NAME}=", "--jobs", "1", "--incremental", "out/incremental")
     yield from ("--antt-project", f"{kit}/rattle/logic/antt-project.json", "--logic-built", f"{kit}/logic_built")
@@ -112,20 +112,20 @@ def build_words(kit: str, crates: str) -> Iterator[str]:
 
 
 def libraries_of(path: str) -> Dict[str, List[str]]:
-    """The libraries of each crate that the file crates.txt lists."""
+    """The libraries of each crate in the file crates.txt."""
     with open(path, encoding="utf-8") as it:
         lines = [line.partition("#")[0].partition(":") for line in it]
-    return {before.split()[0]: behind.split() for before, colon, behind in lines if colon}
+    return {before.split()[0]: after.split() for before, colon, after in lines if colon}
 
 
 def below(libraries: Dict[str, List[str]], crate: str) -> Dict[str, None]:
-    """The libraries of the repository that a crate is made of, each once, however far below it they are."""
+    """The libraries of the repository below a crate, at any depth, each once."""
     found = {it: None for it in libraries[crate] if it in libraries}
     return {name: None for it in found for name in (it, *below(libraries, it))}
 
 
 def write_corpus(top: str, folder: str) -> None:
-    """The scripts of the corpus without comments, but for the long ones."""
+    """The scripts of the corpus without comments, except the long ones."""
     shutil.rmtree(folder, ignore_errors=True)
     os.makedirs(folder)
     for number, script in enumerate(corpus(top)):

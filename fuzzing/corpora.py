@@ -19,7 +19,7 @@ class Script(NamedTuple):
 
 
 def corpus(top: str) -> List[Script]:
-    """The scripts of a repository in the order of their names, without the replies that stand in them."""
+    """The scripts of a repository in the order of their names, without the replies in them."""
     paths = sorted(path for folder in FOLDERS for path in glob.glob(f"{top}/{folder}/*.pfl"))
     return [split(without_marks(read(path))) for path in paths]
 

@@ -1,4 +1,4 @@
-"""A script whose lines are changed by chance."""
+"""A script whose lines are changed at random."""
 from __future__ import annotations
 
 import random
@@ -16,10 +16,10 @@ from .corpora import Script
 from .lines import change_some, rule, spread, with_other_number, with_other_word
 from .vocabulary import BRANCHES, SHOWN
 
-# So many commands are run in a moment.
+# This many commands run in a moment.
 MOST_COMMANDS = 250
 GREATEST = tuple(f"set {it.word} {it.most}" for it in (STATES, QUEUE, FRAMES, HELD))
-# Those that move what a branch is.
+# The commands that change what a branch is.
 OFTEN = (BACK, FORWARD, FORK, EXCISE, RESTORE)
 
 
@@ -41,7 +41,7 @@ class Draft:
             self.chance.choice(OF_COMMANDS)(self)
 
     def change_setup(self) -> None:
-        """Other limits, mostly small ones, and now and then other rules or a fault."""
+        """Sets other limits, mostly small ones, and now and then other rules or a fault."""
         kind = self.chance.random()
         if kind < 0.3:
             self.setup = [*small_setup(self.chance), OPEN.word]
@@ -58,14 +58,14 @@ class Draft:
         return ["main", *(words[3] for words in forks if len(words) > 3)]
 
     def name(self) -> str:
-        """A branch, which need not be there yet, or any more."""
+        """A branch, which need not exist yet, or any more."""
         return "main" if self.chance.random() < 0.6 else self.chance.choice(self.names())
 
     def place(self) -> int:
         return self.chance.randint(0, len(self.commands))
 
     def run(self) -> slice:
-        """Some lines that follow one another, mostly few."""
+        """Some consecutive lines, mostly few."""
         first = self.place()
         return slice(first, first + self.chance.choice((1, 1, 1, 2, 3, 5, 20)))
 
@@ -103,7 +103,7 @@ class Draft:
             self.commands.insert(self.place(), f"step {self.name()} {event(self.chance, SHOWN)}")
 
     def add_exchange(self) -> None:
-        """What is pending is told and delivered, and a bulk update takes its turns; some of the tickets are in flight."""
+        """What is pending is sent and delivered, and a bulk update takes its turns; some of the tickets are in flight."""
         name, at = self.name(), self.place()
         lines = [f"flush {node}" for node in NODES] + [f"deliver {it}" for it in range(1, self.chance.choice((4, 9, 15)))]
         if self.chance.random() < 0.3:
@@ -111,7 +111,7 @@ class Draft:
         self.commands[at:at] = [f"step {name} {it}" for it in lines if self.chance.random() < 0.9]
 
     def add_flows(self) -> None:
-        """Packets of many flows, so that tables fill; some come again while states are killed."""
+        """Packets of many flows, so that tables fill up; some come again while states are killed."""
         name, node, at = self.name(), self.chance.choice(NODES), self.place()
         many = self.chance.choice((5, 20, 60))
         ends = [f"10.0.0.{self.chance.randint(0, 255)}:{self.chance.randint(0, 65535)}" for _ in range(many)]
@@ -120,7 +120,7 @@ class Draft:
         self.commands[at:at] = [f"step {name} {it}" for it in self.chance.sample(lines + kills, 2 * many)]
 
     def add_command(self) -> None:
-        """A command over a branch, mostly one that can be carried out."""
+        """A command on a branch, mostly one that can be carried out."""
         name = self.name() if self.chance.random() < 0.95 else self.chance.choice(BRANCHES)
         few = self.chance.choice((0, 1, 1, 2, 3, 5, 8, self.chance.randint(0, 60)))
         new = f"n{len(self.names())}" if self.chance.random() < 0.7 else self.chance.choice(BRANCHES)
@@ -130,7 +130,7 @@ class Draft:
         self.commands.insert(self.place(), " ".join([command.word, *words]))
 
     def add_search(self) -> None:
-        """A search of few runs, mostly from a pair in which something is pending or in flight."""
+        """A search of few runs, mostly from a pair where something is pending or in flight."""
         self.commands.insert(self.place(), search_line(self.chance, self.name(), SHOWN))
 
     def change_word(self) -> None:
@@ -151,7 +151,7 @@ class Draft:
         change_some(self.chance, self.setup, with_other_number)
 
     def change_lines_of_setup(self) -> None:
-        """Lines of another setup, or of this one once more; one may go, and `open` may come early."""
+        """Lines of another setup, or of this one again; one may go, and `open` may come early."""
         other = self.chance.choice((self.setup, self.chance.choice(self.scripts).setup))
         at = self.chance.randint(0, len(self.setup))
         self.setup[at:at] = self.chance.sample(other, min(len(other), self.chance.choice((1, 2, 3))))
@@ -159,7 +159,7 @@ class Draft:
             del self.setup[self.chance.randrange(len(self.setup))]
 
     def add_rule(self) -> None:
-        """A rule more, or now and then as many as a node can have."""
+        """One more rule, or now and then as many as a node can have."""
         at = self.chance.randint(0, max(0, len(self.setup) - 1))
         self.setup[at:at] = [rule(self.chance)] * self.chance.choice((*(1,) * 40, 255, 256, 257))
 

@@ -1,4 +1,4 @@
-"""Changes of single lines by chance, after which many are still right."""
+"""Random changes of single lines, after which many are still right."""
 from __future__ import annotations
 
 import random
@@ -15,14 +15,14 @@ from .vocabulary import ALIKE, BY_NAME, EDGES, FEW, LENGTHS
 
 
 def change_some(chance: random.Random, lines: List[str], change: Callable[[random.Random, str], str]) -> None:
-    """Changes one line, or now and then some."""
+    """Changes one line, or now and then several."""
     for _ in range(chance.choice((1, 1, 1, 3)) if lines else 0):
         at = chance.randrange(len(lines))
         lines[at] = change(chance, lines[at])
 
 
 def with_other_word(chance: random.Random, line: str) -> str:
-    """A word is exchanged, mostly for one that can stand in its place, or it goes or stands twice."""
+    """A word is replaced, mostly by one that can take its place, or it is removed or doubled."""
     words = line.split(" ")
     at = chance.randrange(len(words))
     alike = [it for it in ALIKE if words[at] in it]
@@ -33,8 +33,8 @@ def with_other_word(chance: random.Random, line: str) -> str:
 
 
 def with_other_number(chance: random.Random, line: str) -> str:
-    """A number is exchanged for one near to it or at an edge, or gets more digits."""
-    # (Python reads no number of more than 4300 digits)
+    """A number is replaced by one near it or at an edge, or gets more digits."""
+    # (Python reads no number with more than 4300 digits)
     found = [*re.finditer("[0-9]{1,500}", line)]
     if not found:
         return line
@@ -51,7 +51,7 @@ def with_other_number(chance: random.Random, line: str) -> str:
 
 
 def spread(chance: random.Random, line: str) -> str:
-    """Blanks between, before and after the words, a CR at the end, or a line that is as long as one can be."""
+    """Blanks between, before and after the words, a CR at the end, or a line as long as a line can be."""
     words = line.split()
     blanks = [chance.choice((" ", " ", "\t", "  ", " \t ")) for _ in words]
     wide = chance.choice(("", " ", "\t")) + "".join(it + blank for it, blank in zip(words, blanks))
@@ -61,7 +61,7 @@ def spread(chance: random.Random, line: str) -> str:
 
 
 def with_few_runs(text: str) -> str:
-    """A script whose searches try few runs; one whose number of runs is no number keeps it."""
+    """A script whose searches try few runs; a search whose number of runs is not a number keeps it."""
 
     def few(it: "re.Match[str]") -> str:
         return it[1] + (it[2] if int(it[2]) > GREATEST else str(int(it[2]) % (MOST_RUNS + 1)))
@@ -70,7 +70,7 @@ def with_few_runs(text: str) -> str:
 
 
 def rule(chance: random.Random) -> str:
-    """A rule with some of its options, mostly in their order."""
+    """A rule with some of its options, mostly in order."""
     taken = [_option(chance, it) for it in OPTIONS.values() if chance.random() < 0.15]
     if chance.random() < 0.1:
         chance.shuffle(taken)

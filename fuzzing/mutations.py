@@ -1,4 +1,4 @@
-"""Scripts that are changed by chance."""
+"""Scripts that are changed at random."""
 from __future__ import annotations
 
 import random
@@ -11,7 +11,7 @@ from .texts import OF_TEXTS
 
 
 def mutated(chance: random.Random, scripts: Sequence[Script]) -> str:
-    """A script of the corpus whose lines are changed, and now and then its bytes, each of which is one character."""
+    """A script of the corpus with changes of lines, and now and then of bytes; each byte is one character."""
     draft = Draft(chance, chance.choice(scripts), scripts)
     draft.change_setup()
     draft.change_commands(chance.choice((1, 2, 3, 5, 8, 13, 30)))

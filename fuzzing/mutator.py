@@ -1,4 +1,4 @@
-"""Changes of lines for AFL++, which loads this module beside its own changes of bytes (AFL_PYTHON_MODULE)."""
+"""Changes of lines for AFL++, which loads this module in addition to its own changes of bytes (AFL_PYTHON_MODULE)."""
 from __future__ import annotations
 
 import os
@@ -17,7 +17,7 @@ def init(seed: int) -> None:
 
 
 def fuzz(script: bytearray, other: bytearray, longest: int) -> bytearray:
-    """A script in which some lines are changed, or now and then the setup."""
+    """A script with changes in some lines, or now and then in the setup."""
     draft = Draft(CHANCE, split(script.decode("latin-1").split("\n")), SCRIPTS)
     if CHANCE.random() < 0.2:
         draft.change_setup()
@@ -26,4 +26,4 @@ def fuzz(script: bytearray, other: bytearray, longest: int) -> bytearray:
 
 
 def deinit() -> None:
-    """AFL++ asks for it."""
+    """AFL++ requires it."""

@@ -1,4 +1,4 @@
-"""What becomes of an event: its outcomes and refusals, what the pair before it tells of them, and what is shown after it."""
+"""What comes of an event: its outcomes and refusals, what follows for them from the pair before it, and what is shown after it."""
 from __future__ import annotations
 
 import re
@@ -18,26 +18,26 @@ _N = "[0-9]+"
 
 
 def outcome_in(event: str, reply: str) -> str:
-    """The outcome in a reply, or the name of the refusal, which have to be of the event's row."""
+    """The outcome in a reply, or the name of the refusal, which must be in the event's row."""
     row = EVENTS[event.split()[0]]
     accepted = re.fullmatch(f"step (.+) dropped {_N}", reply)
     if accepted and any(re.fullmatch(it.pattern, accepted[1]) for it in row.outcomes):
         return accepted[1]
-    refusals = {f"refused {numbered('Event', COMMAND_REFUSALS)} {told}": name for told, name in zip(row.refused, row.refusals)}
+    refusals = {f"refused {numbered('Event', COMMAND_REFUSALS)} {refused}": name for refused, name in zip(row.refused, row.refusals)}
     if reply not in refusals:
         raise Differs(f"{event}: {reply}, which is none of its replies")
     return refusals[reply]
 
 
 def kind_of(outcome: str) -> str:
-    """An outcome without its numbers, but for the fault of a frame."""
+    """An outcome without its numbers, except the fault of a frame."""
     first, _, rest = outcome.partition(" ")
     return outcome if first in (DROPPED.word, BROKEN.word) or rest == "-" else first
 
 
 @dataclass(frozen=True)
 class Case:
-    """An event with what became of it, and the pair before and after it."""
+    """An event with what came of it, and the pair before and after it."""
 
     setup: Setup
     words: List[str]
@@ -70,45 +70,45 @@ class Case:
 
     @property
     def number(self) -> int:
-        """The number that the outcome tells."""
+        """The number in the outcome."""
         return int(self.outcome[1])
 
-    def told(self, *values: object) -> str:
-        """What the event answers where nothing keeps it from happening, with these values."""
+    def answered(self, *values: object) -> str:
+        """The event's answer with these values, if nothing keeps it from happening."""
         return " ".join([self.event.outcomes[0].word, *map(str, values)])
 
     def sent(self, length: object) -> str:
-        """What an event answers that sends a frame, where there is room for it."""
+        """The answer of an event that sends a frame, or that there is no room for one."""
         is_full = len(self.before.frames) == self.setup.limits[FRAMES]
-        return "LinkFull" if is_full else self.told(self.before.next_ticket, length)
+        return "LinkFull" if is_full else self.answered(self.before.next_ticket, length)
 
 
 def compare_event(setup: Setup, before: Sequence[str], after: Sequence[str], event: str, outcome: str) -> None:
-    """An outcome has to be the one that the pair before the event tells, where that does, and what it says has to be shown after
-    the event. One that was refused has no other pair after it."""
+    """An outcome must be the one that follows from the pair before the event, if one follows, and what it says must be shown after
+    the event. An event that was refused leaves the pair as it was."""
     was, now = (read_shown(["branch main events 0 cursor 0", *it]) for it in (before, after))
     it = Case(setup, event.split(), outcome.split(), was, now)
     foretold, is_shown = _CHECKS[it.event]
     wanted = "NoSuchFrame" if it.words[0] in OF_FRAME and it.ticket not in it.before.frames else foretold(it)
-    # (a queue or a counter that would overflow takes more to foresee)
+    # (it takes more to foresee that a queue or a counter would overflow)
     if wanted is not None and not re.fullmatch(wanted, outcome) and outcome not in ("QueueFull", "CountFull"):
-        raise Differs(f"{event}: {outcome}, and not {wanted}")
+        raise Differs(f"{event}: {outcome}, not {wanted}")
     if after is not before and not is_shown(it):
         raise Differs("\n".join([f"{event}: {outcome}, which is not shown", "before:", *before, "after:", *after]))
 
 
 def _tick(it: Case) -> str:
     clock = it.node.clock + int(it.words[2])
-    return it.told(clock) if clock <= LAST_MILLISECOND else "ClockFull"
+    return it.answered(clock) if clock <= LAST_MILLISECOND else "ClockFull"
 
 
 def _kill(it: Case) -> str:
-    return it.told() if Name.read(it.words[2]) in it.node.states else "NoSuchState"
+    return it.answered() if Name.read(it.words[2]) in it.node.states else "NoSuchState"
 
 
 def _release(it: Case) -> str:
     due = sum(held.since + it.setup.limits[DEFER_MS] <= it.node.clock for held in it.node.held)
-    return it.told(due) if due else "TooEarly" if it.node.held else "NothingPending"
+    return it.answered(due) if due else "TooEarly" if it.node.held else "NothingPending"
 
 
 def _retry(it: Case) -> str:
@@ -117,7 +117,7 @@ def _retry(it: Case) -> str:
     tries, asked = map(int, it.node.sync.split("/"))
     if it.node.clock < asked + it.setup.limits[BULK_MS]:
         return "TooEarly"
-    return it.told(tries + 1) if tries < MOST_TRIES else SERVED.word
+    return it.answered(tries + 1) if tries < MOST_TRIES else SERVED.word
 
 
 def _packet_is_counted(it: Case) -> bool:
@@ -135,7 +135,7 @@ def _is_gone(it: Case) -> bool:
     return it.ticket not in it.after.frames and len(it.after.frames) == len(it.before.frames) - 1
 
 
-# Of each event the outcome that the pair before it tells, if it does, and whether what its outcome says is shown after it.
+# For each event the outcome that follows from the pair before it, if any, and whether what the outcome says is shown after it.
 _CHECKS: Dict[Event, Tuple[Callable[[Case], Optional[str]], Callable[[Case], bool]]] = {
     events.PACKET: (lambda it: None, _packet_is_counted),
     events.TICK: (_tick, lambda it: it.now.clock == it.number),
@@ -143,16 +143,16 @@ _CHECKS: Dict[Event, Tuple[Callable[[Case], Optional[str]], Callable[[Case], boo
     events.PURGE: (lambda it: None, lambda it: True),
     events.RELEASE: (_release, lambda it: len(it.now.held) == len(it.node.held) - it.number),
     events.KILL: (_kill, lambda it: Name.read(it.words[2]) not in it.now.states),
-    events.CLEAR: (lambda it: it.told(len(it.node.states)), lambda it: not it.now.states),
-    events.TURN: (lambda it: "NotSyncing" if it.node.serve == "-" else it.told(_N), lambda it: True),
+    events.CLEAR: (lambda it: it.answered(len(it.node.states)), lambda it: not it.now.states),
+    events.TURN: (lambda it: "NotSyncing" if it.node.serve == "-" else it.answered(_N), lambda it: True),
     events.RETRY: (_retry, lambda it: (it.now.sync == "-") == (it.outcome[0] == SERVED.word)),
     events.FLUSH: (lambda it: it.sent(_N) if it.node.pending else "NothingPending", _is_in_flight),
-    events.RESTART: (lambda it: it.told(it.before.next_boot), lambda it: it.now.boot == it.number),
+    events.RESTART: (lambda it: it.answered(it.before.next_boot), lambda it: it.now.boot == it.number),
     events.DELIVER: (lambda it: "|".join(outcome.pattern for outcome in it.event.outcomes), _is_gone),
-    events.LOSE: (lambda it: it.told(), _is_gone),
+    events.LOSE: (lambda it: it.answered(), _is_gone),
     events.REPEAT: (lambda it: it.sent(it.length), _is_in_flight),
     events.CUT: (
-        lambda it: it.told(min(it.length, int(it.words[2]))),
+        lambda it: it.answered(min(it.length, int(it.words[2]))),
         lambda it: len(it.after.frames[it.ticket].data) == it.number,
     ),
 }

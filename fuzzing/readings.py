@@ -14,7 +14,7 @@ from shell.setups import Rule, Setup
 
 @functools.lru_cache(maxsize=4096)
 def fault_of(line: str, of_setup: bool) -> str:
-    """The number and the name of a line's first fault; empty where it has none."""
+    """The number and the name of a line's first fault; empty if it has none."""
     try:
         check_line(line, of_setup)
     except LineFault as fault:
@@ -24,7 +24,7 @@ def fault_of(line: str, of_setup: bool) -> str:
 
 @dataclass
 class Reading:
-    """A script's setup, up to its line `open` or its fault, which is empty where there is none, and the lines after it."""
+    """A script's setup, up to its line `open` or its fault, which is empty if there is none, and the lines after it."""
 
     setup: Setup
     fault: str
@@ -32,8 +32,8 @@ class Reading:
     commands: List[str]
 
     @property
-    def told(self) -> str:
-        """What the program tells on standard error."""
+    def reported(self) -> str:
+        """What the program reports on standard error."""
         return f"pfl_lab: setup line {self.first}: {self.fault}\n" if self.fault else ""
 
     @property
@@ -46,7 +46,7 @@ class Reading:
         return [(number, fault_of(line, False)) for number, line in numbered if has_word(line)]
 
     def checked(self) -> str:
-        """What a check writes."""
+        """The output of a check."""
         if self.fault:
             return ""
         faults = self.faults()
@@ -55,8 +55,8 @@ class Reading:
 
 
 def read(script: str) -> Reading:
-    """Reads a script as far as no event has to happen."""
-    # (a CR at the end of a script is no part of a line's end; where there is another one it counts)
+    """Reads a script as far as that is possible without events."""
+    # (a CR at the end of a script is not part of a line's end; a second one there counts)
     setup, lines = Setup(), lines_of(script + "\r" * script.endswith("\r"))
     for number, line in enumerate(lines, 1):
         if not has_word(line):
@@ -71,7 +71,7 @@ def read(script: str) -> Reading:
 
 
 def fault_of_rules(setup: Setup) -> str:
-    """The first fault of the rules, those of node a first."""
+    """The first fault of the rules; those of node a come first."""
     names = [it for rules in setup.rules.values() for it in [_fault_of(rules)] if it]
     return f"rule {RULE_FAULTS.index(names[0]) + 1}" if names else ""
 

@@ -1,4 +1,4 @@
-"""Changes of a script's bytes by chance, each byte as one character."""
+"""Random changes of a script's bytes, each byte as one character."""
 from __future__ import annotations
 
 import random
@@ -23,18 +23,18 @@ def cut_out(chance: random.Random, text: str) -> str:
 
 
 def double(chance: random.Random, text: str) -> str:
-    """A part stands once more, wherever that is."""
+    """A part is repeated, anywhere."""
     at, to = (chance.randrange(len(text) + 1) for _ in range(2))
     return text[:to] + text[at : at + chance.choice((1, 5, 50, 300))] + text[to:]
 
 
 def end_early(chance: random.Random, text: str) -> str:
-    """The end is missing, mostly no more than the last line feed."""
+    """The end is missing, mostly only the last line feed."""
     return text[: -chance.choice((1, 1, 1, 2, 3, chance.randint(1, len(text) + 1)))]
 
 
 def lengthen(chance: random.Random, text: str) -> str:
-    """A line is as long as one can be, or longer: a comment, blanks, or words."""
+    """A line is as long as a line can be, or longer: a comment, blanks, or words."""
     lines = text.split("\n")
     at, length = chance.randrange(len(lines)), chance.choice(LENGTHS)
     filler = chance.choice((" ", "\t", "0", "x", "\0", "\xff", " x"))
@@ -44,7 +44,7 @@ def lengthen(chance: random.Random, text: str) -> str:
 
 
 def end_lines(chance: random.Random, text: str) -> str:
-    """Other ends of lines: all with a CR, some, one alone in the middle, or two line feeds."""
+    """Other line ends: a CR in all of them, in some, a CR alone in the middle, or two line feeds."""
     how = chance.randrange(4)
     if how == 0:
         return text.replace("\n", "\r\n")
@@ -55,7 +55,7 @@ def end_lines(chance: random.Random, text: str) -> str:
 
 
 def open_otherwise(chance: random.Random, text: str) -> str:
-    """No line `open`, two, one that has a fault, or one in another place."""
+    """No line `open`, two, one with a fault, or one in another place."""
     lines = [it for it in text.split("\n") if it != "open"]
     for _ in range(chance.choice((0, 1, 1, 2))):
         how = chance.choice(("open", "open", "open ", "\topen\r", "open open", "Open", "open\0"))

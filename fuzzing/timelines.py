@@ -1,4 +1,4 @@
-"""The branches of a script, and the reply that each of its commands has to get (docs/FORMATS.md)."""
+"""The branches of a script, and the reply that each of its commands must get (docs/FORMATS.md)."""
 from __future__ import annotations
 
 import contextlib
@@ -23,14 +23,14 @@ BRANCH_NAME = "[a-z][a-z0-9-]{0,15}"
 
 
 class Timeline:
-    """The branches after a setup that the laboratory was told."""
+    """The branches after a setup that was sent to the laboratory."""
 
     def __init__(self, lab: Subject, seen: Seen):
         self.lab, self.seen, self.chance = lab, seen, random.Random(0)
         self.branches: Dict[str, WantedBranch] = {"main": WantedBranch.at_opening(lab)}
 
     def take(self, line: str) -> List[str]:
-        """A line that has a word: its reply, which is the one that is wanted."""
+        """Takes a line that has a word; returns its reply, which is the one that is wanted."""
         words = line.split()
         fault = fault_of(line, False)
         if fault:
@@ -64,7 +64,7 @@ class Timeline:
         return reply
 
     def search(self, line: str, name: str) -> List[str]:
-        """A search from a branch: its reply, which is right as far as steps can tell. It has changed nothing."""
+        """A search from a branch; returns its reply, which is right as far as steps can show. It has changed nothing."""
         reply, branch = self.lab.answer(line), self.branches[name]
         self.seen[SEARCH, reply[0].split(" ")[0]] += 1
         branch.compare(self.lab, name, line)
@@ -74,8 +74,8 @@ class Timeline:
         return reply
 
     def wanted(self, command: str, words: Sequence[str]) -> List[str]:
-        """The reply that a command has to get, but for a step on a branch; the branches are then as they have to be. Each other
-        command has a method of its name."""
+        """The reply that a command must get, except a step on a branch; the branches are then as they must be. Each other command has
+        a method of its name."""
         if words and words[0] not in self.branches:
             return [refused("NoBranch")]
         reply: Callable[..., List[str]] = getattr(self, command)
@@ -146,9 +146,9 @@ class Timeline:
         return [self.branches[name].restore()]
 
     def room_for(self, name: str, events: int) -> ContextManager[Room]:
-        """Where what an excision leaves can be tried: on a fork, or in another run where there is room for none."""
+        """Where what an excision leaves can be tried: on a fork, or in another run if there is no room for a fork."""
         if len(self.branches) == MOST_BRANCHES:
-            return beside(self.lab, self.branches[name].events[:events])
+            return apart(self.lab, self.branches[name].events[:events])
         spare = next(it for it in (f"w{i}" for i in range(MOST_BRANCHES)) if it not in self.branches)
         return fork_for(self.lab, name, events, spare)
 
@@ -163,7 +163,7 @@ class Timeline:
 
 
 def how(reply: str) -> str:
-    """How a command went: the first word of its reply, and where it was refused why."""
+    """How a command went: the first word of its reply, and if it was refused, why."""
     words = reply.split()
     return words[2] if words[0] == "refused" else words[0]
 
@@ -173,21 +173,21 @@ def refused(name: str) -> str:
 
 
 @contextlib.contextmanager
-def beside(lab: Subject, events: Sequence[str]) -> Iterator[Room]:
+def apart(lab: Subject, events: Sequence[str]) -> Iterator[Room]:
     """A run of its own over the same setup, in which these events have happened."""
     other = Subject(lab.program, lab.seconds)
     try:
         other.open(lab.setup)
         for event in events:
             if not other.ask(f"step main {event}").startswith("step "):
-                raise Differs(f"{event}: it was accepted before, and is refused now")
+                raise Differs(f"{event}: it was accepted before, but is refused now")
         yield other, "main"
     finally:
         other.close()
 
 
 def replies_to(lab: Subject, reading: Reading, seen: Seen) -> List[str]:
-    """Gives a laboratory a script's setup, and then its lines one by one: the lines of all replies, as they have to be."""
+    """Gives a laboratory the setup of a script, and then its lines one by one; returns the lines of all replies, as they must be."""
     lab.open(reading.setup)
     timeline = Timeline(lab, seen)
     replies: List[str] = []
@@ -195,6 +195,6 @@ def replies_to(lab: Subject, reading: Reading, seen: Seen) -> List[str]:
         if has_word(line):
             replies += timeline.take(line)
         else:
-            lab.tell(line)
+            lab.send(line)
     timeline.end()
     return replies

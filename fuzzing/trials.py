@@ -1,4 +1,4 @@
-"""A script is tried in each way that there is, and one that fails is kept with as few lines as fail."""
+"""Tries a script in every way, and keeps one that fails, reduced to as few lines as still fail."""
 from __future__ import annotations
 
 import contextlib
@@ -15,25 +15,25 @@ from .readings import Reading, read
 from .timelines import replies_to
 from .wholes import Ran, ran, ran_in_pieces
 
-# What takes longer hangs, on a machine that has other work, too.
+# Whatever takes longer hangs, even on a machine that has other work.
 SECONDS = 60
 SECONDS_OF_MINIMISING = 120
 WIDEST = 600
 
 
 class Trial(NamedTuple):
-    """How a script is tried: by which program, and the seed of what is left to chance."""
+    """How a script is tried: with which program, and the seed of what is left to chance."""
 
     program: str
     seed: int
 
     def run(self, script: str, seen: Seen) -> None:
-        """Raises what differs first."""
+        """Raises the first difference."""
         reading = read(script)
         seen["setups", reading.fault or "opened"] += 1
         checked, whole = (ran(self.program, word, script, SECONDS) for word in ("check", "run"))
-        compare_runs("check", Ran(reading.checked(), reading.told, reading.status), checked)
-        compare_runs("run", Ran(whole.out, reading.told, reading.status), whole)
+        compare_runs("check", Ran(reading.checked(), reading.reported, reading.status), checked)
+        compare_runs("run", Ran(whole.out, reading.reported, reading.status), whole)
         replies = [] if reading.fault else self.replies(reading, seen)
         compare_runs("run", whole._replace(out="".join(f"{it}\n" for it in replies)), whole)
         chance = random.Random(self.seed)
@@ -44,7 +44,7 @@ class Trial(NamedTuple):
         with contextlib.closing(Subject(self.program, SECONDS)) as lab:
             replies = replies_to(lab, reading, seen)
         if lab.run.returncode != reading.status:
-            raise Differs(f"run, line by line: status {lab.run.returncode}, and not {reading.status}")
+            raise Differs(f"run, line by line: status {lab.run.returncode}, not {reading.status}")
         return replies
 
     def difference(self, script: str, seen: Seen) -> str:
@@ -55,7 +55,7 @@ class Trial(NamedTuple):
         except Differs as it:
             return str(it)
         except Exception:
-            # (what the program writes may be anything, and a reader of it need not expect that)
+            # (the program may write anything, which a reader need not expect)
             return traceback.format_exc()
 
 
@@ -74,7 +74,7 @@ def first_difference(wanted: str, came: str) -> str:
 
 
 def minimised(script: str, fails: Callable[[str], bool]) -> str:
-    """The script with as few lines as still fail, as far as there is time."""
+    """The script with as few lines as still fail, as time permits."""
     lines, until = script.split("\n"), time.monotonic() + SECONDS_OF_MINIMISING
     size = len(lines)
     while size:
@@ -90,19 +90,19 @@ def minimised(script: str, fails: Callable[[str], bool]) -> str:
 
 
 def printable(text: str) -> str:
-    """A text without control characters, and with no line that is too long to be looked at."""
+    """A text without control characters, and without lines that are too long to look at."""
     shown = "".join(it if it.isprintable() or it == "\n" else repr(it)[1:-1] for it in text)
     lines = (it if len(it) <= WIDEST else f"{it[:WIDEST]}.. ({len(it)} characters)" for it in shown.split("\n"))
     return "\n".join(lines)
 
 
 def keep(trial: Trial, folder: str, name: str, script: str, difference: str) -> str:
-    """Keeps a script that fails, whole and minimised, with what differs: what is to be told of it."""
+    """Keeps a script that fails, whole and minimised, with what differs; returns the report on it."""
     least = minimised(script, lambda it: bool(trial.difference(it, Seen())))
     differs_least = trial.difference(least, Seen()) or "(it does not fail each time)"
-    told = printable(f"{difference}\n\nminimised, {name}.least.pfl:\n{least}\n\n{differs_least}\n")
+    report = printable(f"{difference}\n\nminimised, {name}.least.pfl:\n{least}\n\n{differs_least}\n")
     os.makedirs(folder, exist_ok=True)
-    for ending, text in ((".pfl", script), (".least.pfl", least), (".txt", told)):
+    for ending, text in ((".pfl", script), (".least.pfl", least), (".txt", report)):
         with open(f"{folder}/{name}{ending}", "w", encoding="latin-1", newline="") as it:
             it.write(text)
-    return told
+    return report

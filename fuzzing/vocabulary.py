@@ -1,4 +1,4 @@
-"""The words and the numbers that lines are changed with."""
+"""The words and numbers with which lines are changed."""
 from __future__ import annotations
 
 from typing import Sequence, Tuple
@@ -11,7 +11,7 @@ from shell.language.names import NODES
 from shell.language.searches import ANY, GOALS, SCOPES
 from shell.language.setups import CLASS, LIMITS, OPTIONS, TIMEOUT
 
-# The numbers at which something begins or ends, each with its neighbours.
+# The numbers where something begins or ends, each with its neighbours.
 EDGES = (
     *(0, 1, 2, 9, 10, 16, 17, 31, 32, 33, 36, 147, 148, 255, 256, 257, 511, 512, 4096, 4097, 9000, 9001, 65495, 65496),
     *(65535, 65536, 65537, 131072, 131073, 999999999999, 1000000000000, 1000000000001),
@@ -43,7 +43,7 @@ STATES = (
     *("1.1", "1.2", "2.1", "3.1", "1.0", "0.0", "0.1", "01.001", "1.1.1", "1.", ".1", "1"),
     *("4294967295.18446744073709551615", "4294967296.1"),
 )
-# Words that can stand in each other's places.
+# Words that can replace each other.
 ALIKE: Tuple[Sequence[str], ...] = (
     tuple(EVENTS),
     (*KNOWN, "view"),
@@ -64,10 +64,10 @@ ALIKE: Tuple[Sequence[str], ...] = (
     BRANCHES,
     STATES,
 )
-# Words of a form by its name, right ones and others, and numbers where there are none.
+# Words for a form by its name, right ones and others, and numbers if there are none.
 BY_NAME = {"P": PROTOCOLS, "NET": NETS, "PORTS": PORTS, "POOL": POOLS}
 FEW = (0, 1, 1, 2, 2, 3, 53, 80, 1000, 65535)
-# What many pairs show, in the lines that events are made from.
+# Lines that many pairs show, for making events from.
 SHOWN = (
     *(f"frame {it}" for it in range(1, 9)),
     *(f"state {node} {boot}.{it}" for node in NODES for boot in (1, 2, 3) for it in (1, 2)),

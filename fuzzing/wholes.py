@@ -9,22 +9,22 @@ from typing import Iterator, NamedTuple
 
 from oracle.subject import Differs
 
-# A piece is read whole: the program takes this many bytes at a time.
+# A piece is read at once: the program takes this many bytes at a time.
 LONGEST_PIECE = 65536
-# This many pieces take no more time than the run itself.
+# This many pieces take no longer than the run itself.
 MOST_PIECES = 2000
 
 
 class Ran(NamedTuple):
-    """What a run wrote, what it told of faults, and its status, which is negative where a signal ended it."""
+    """The output of a run, the faults that it reported, and its status, which is negative if a signal ended it."""
 
     out: str
-    told: str
+    errors: str
     status: int
 
 
 def ran(program: str, word: str, script: str, seconds: float) -> Ran:
-    """A run over a script that is there at once."""
+    """A run over a script that is all there at once."""
     try:
         it = subprocess.run([program, word], input=script.encode("latin-1"), capture_output=True, timeout=seconds)
     except subprocess.TimeoutExpired as error:
@@ -35,9 +35,9 @@ def ran(program: str, word: str, script: str, seconds: float) -> Ran:
 def ran_in_pieces(program: str, word: str, script: str, seconds: float, chance: random.Random) -> Ran:
     """A run to which the script comes in pieces: each call of read takes one message of a socket."""
     ours, its = socket.socketpair(socket.AF_UNIX, socket.SOCK_SEQPACKET)
-    with ours, tempfile.TemporaryFile() as out, tempfile.TemporaryFile() as told:
+    with ours, tempfile.TemporaryFile() as out, tempfile.TemporaryFile() as errors:
         with its:
-            run = subprocess.Popen([program, word], stdin=its.fileno(), stdout=out, stderr=told)
+            run = subprocess.Popen([program, word], stdin=its.fileno(), stdout=out, stderr=errors)
         ours.settimeout(seconds)
         try:
             _send(ours, pieces(script.encode("latin-1"), chance))
@@ -47,9 +47,9 @@ def ran_in_pieces(program: str, word: str, script: str, seconds: float, chance: 
         finally:
             run.kill()
             run.wait()
-        for it in (out, told):
+        for it in (out, errors):
             it.seek(0)
-        return Ran(out.read().decode("latin-1"), told.read().decode("latin-1"), run.returncode)
+        return Ran(out.read().decode("latin-1"), errors.read().decode("latin-1"), run.returncode)
 
 
 def _send(to: socket.socket, parts: Iterator[bytes]) -> None:
@@ -57,7 +57,7 @@ def _send(to: socket.socket, parts: Iterator[bytes]) -> None:
         for part in parts:
             to.send(part)
     except OSError:
-        # (where a setup has a fault the run ends before it has read all; where it hangs, its end is waited for)
+        # (if a setup has a fault the run ends before it has read everything; if it hangs, we wait for its end)
         pass
     to.close()
 

@@ -1,1 +1,1 @@
-"""Putting the built program, its shell, manual pages, completion and examples into a folder of the user's, and removing them."""
+"""Installs the built program, its shell, manual pages, completion and examples in a folder of the user, and removes them."""

@@ -1,4 +1,4 @@
-"""A Python package as one file that python3 runs, with the same bytes whenever and wherever it is made."""
+"""Makes a Python package into one file that python3 runs, with the same bytes whenever and wherever it is made."""
 from __future__ import annotations
 
 import io
@@ -14,7 +14,7 @@ UNIX = 3
 
 
 def archive(package: Path, data: Path, start: str) -> bytes:
-    """A package without its tests, one of data, and a module that is run at its start, as a file in the form of Python's `zipapp`."""
+    """A package without its tests, a package of data, and a module to run at the start, as a file in the form of Python's `zipapp`."""
     out = io.BytesIO()
     out.write(FIRST_LINE)
     with zipfile.ZipFile(out, "w", zipfile.ZIP_STORED) as its:
@@ -26,7 +26,7 @@ def archive(package: Path, data: Path, start: str) -> bytes:
 
 
 def modules(package: Path) -> Dict[str, bytes]:
-    """The modules of a package by their names in an archive; its tests are left out."""
+    """The modules of a package by their names in an archive, without its tests."""
     found = (it for it in package.rglob("*.py") if "tests" not in it.relative_to(package).parts)
     return {f"{package.name}/{it.relative_to(package).as_posix()}": it.read_bytes() for it in found}
 

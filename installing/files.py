@@ -11,7 +11,7 @@ COMMANDS = ("pfl_lab", "pfl_shell")
 EXAMPLES = "share/pfl_lab/examples"
 START = "import sys\n\nfrom shell.installed import main\n\nsys.exit(main())\n"
 RUNNABLE, READABLE = 0o755, 0o644
-# What examples say of the checkout's commands, and what stands for it where there is no checkout.
+# The commands of a checkout, as the examples have them, and what replaces them if there is no checkout.
 INSTALLED_WORDS = (
     *((f"./lab {word}", f"pfl_lab {word}") for word in ("run", "check", "serve")),
     *((f"./lab {word}", f"pfl_shell {word}") for word in ("shell", "verify", "annotate", "chart", "page", "whatif", "compare", "import")),
@@ -29,7 +29,7 @@ class File(NamedTuple):
 
 
 def files(program: str) -> List[File]:
-    """All that is installed where this is the proved program."""
+    """Everything that is installed, with this proved program."""
     return [
         File("bin/pfl_lab", RUNNABLE, Path(program).read_bytes()),
         File("bin/pfl_shell", RUNNABLE, archive(TOP / "shell", TOP / "page", START)),
@@ -40,7 +40,7 @@ def files(program: str) -> List[File]:
 
 
 def completions() -> Iterator[File]:
-    """The words that bash and zsh complete, at the places where they look for them."""
+    """The completions of bash and zsh, in the places where these look for them."""
     folder = TOP / "installing/completions"
     for it in COMMANDS:
         yield File(f"share/bash-completion/completions/{it}", READABLE, (folder / f"bash/{it}").read_bytes())
@@ -48,7 +48,7 @@ def completions() -> Iterator[File]:
 
 
 def examples() -> Iterator[File]:
-    """The examples with their pictures and pages, and what is said about them, in the words of the installed commands."""
+    """The examples with their pictures, pages and descriptions, in the words of the installed commands."""
     for path in sorted((TOP / "examples").iterdir()):
         if path.suffix in (".pfl", ".md", ".svg", ".html"):
             text = path.read_text(encoding="utf-8")

@@ -1,7 +1,7 @@
-"""Installing into a folder, and removing from it what was installed.
+"""Installs into a folder, and removes from it what was installed.
 
-All files are written beside their places first, so that want of room or a fault leaves what was there. Then each takes its place
-whole. In between the list names the former files and the new ones, so that it names what is there at every moment.
+All files are first written next to their places, so that lack of room or a fault leaves what was there. Then each takes its place
+whole. In between, the list names both the former files and the new ones, so that at every moment it names what is there.
 """
 from __future__ import annotations
 
@@ -21,12 +21,12 @@ DEFAULT_PREFIX = "~/.local"
 FOLDER_MODE = 0o755
 ENDING = (signal.SIGINT, signal.SIGTERM, signal.SIGHUP)
 
-# A file that is written, and the place that it is to take.
+# A file that was written, and the place that it is to take.
 Staged = Tuple[str, str]
 
 
 def place(prefix: str) -> str:
-    """The whole path of the folder that is meant."""
+    """The full path of the folder that is meant."""
     path = os.path.expanduser(prefix)
     if path.startswith("~"):
         raise NotInstalled(f"there is no home folder for {prefix}: name another one")
@@ -36,7 +36,7 @@ def place(prefix: str) -> str:
 
 
 def install(program: str, prefix: str) -> List[str]:
-    """Installs this program and what goes with it: lines that say what is where now."""
+    """Installs this program and what goes with it; returns lines that say where everything is."""
     prefix = place(prefix)
     old, wanted = lists.read(prefix), files(program)
     refuse_foreign(prefix, wanted, old)
@@ -52,12 +52,12 @@ def install(program: str, prefix: str) -> List[str]:
         meanwhile, last = (stage(prefix, list_file(it), undoing) for it in (old.both(new), new))
         with uninterrupted():
             put(prefix, [meanwhile, *staged], [it for it in gone if old.has(prefix, it)], last)
-        # (what took its place is no more where it was written, and a folder with something in it stays)
+        # (a file that took its place is no longer where it was written, and a folder with something in it stays)
     return report(prefix, wanted)
 
 
 def put(prefix: str, staged: Sequence[Staged], gone: Sequence[str], last: Staged) -> None:
-    """Has files take their places, removes those that are no longer installed, and then writes the list."""
+    """Moves files into their places, removes those that are no longer installed, and then writes the list."""
     for path, target in staged:
         os.replace(path, target)
     for name in gone:
@@ -70,7 +70,7 @@ def list_file(its: Installed) -> File:
 
 
 def refuse_foreign(prefix: str, wanted: Sequence[File], old: Installed) -> None:
-    """Refuses where a file would be overwritten that was not installed, or that was changed since."""
+    """Refuses to overwrite a file that was not installed, or that was changed since."""
     found = []
     for it in wanted:
         path = os.path.join(prefix, it.name)
@@ -81,7 +81,7 @@ def refuse_foreign(prefix: str, wanted: Sequence[File], old: Installed) -> None:
 
 
 def make_folders(prefix: str, wanted: Sequence[File], undoing: ExitStack) -> List[str]:
-    """Makes the folders that files need and that are not there: those that were made, as the list names them."""
+    """Makes the missing folders that files need; returns those that were made, as the list names them."""
     made: List[str] = []
     for it in (*wanted, list_file(Installed())):
         make_folder(os.path.dirname(os.path.join(prefix, it.name)), made, undoing)
@@ -89,7 +89,7 @@ def make_folders(prefix: str, wanted: Sequence[File], undoing: ExitStack) -> Lis
 
 
 def make_folder(path: str, made: List[str], undoing: ExitStack) -> None:
-    """Makes a folder with those above it that are not there."""
+    """Makes a folder and the missing ones above it."""
     if os.path.isdir(path):
         return
     if os.path.lexists(path):
@@ -103,7 +103,7 @@ def make_folder(path: str, made: List[str], undoing: ExitStack) -> None:
 
 
 def stage(prefix: str, it: File, undoing: ExitStack) -> Staged:
-    """Writes a file beside its place."""
+    """Writes a file next to its place."""
     target = os.path.join(prefix, it.name)
     folder, name = os.path.split(target)
     try:
@@ -126,14 +126,14 @@ def remove(path: str) -> None:
 
 
 def remove_folder(path: str) -> None:
-    """Removes a folder where it is empty."""
+    """Removes a folder if it is empty."""
     with suppress(OSError):
         os.rmdir(path)
 
 
 @contextmanager
 def uninterrupted() -> Iterator[None]:
-    """Has signals that end the installer wait: between making something and noting it, and until files have taken their places."""
+    """Makes signals that end the installer wait: between making something and noting it, and until files have taken their places."""
     before = signal.pthread_sigmask(signal.SIG_BLOCK, ENDING)
     try:
         yield
@@ -142,7 +142,7 @@ def uninterrupted() -> Iterator[None]:
 
 
 def uninstall(prefix: str) -> Iterator[str]:
-    """Removes what was installed and is as it was, and the folders that are empty then: a line for each file, as it goes on."""
+    """Removes what was installed and is unchanged, and the folders that are then empty; yields a line for each file as it goes on."""
     prefix = place(prefix)
     if not lists.is_installed(prefix):
         raise NotInstalled(f"nothing is installed in {prefix}: there is no {os.path.join(prefix, lists.NAME)}")
@@ -172,7 +172,7 @@ def report(prefix: str, wanted: Sequence[File]) -> List[str]:
         f"  {EXAMPLES}    {scripts} scripts, and a page about them",
         "  share/bash-completion, share/zsh/site-functions",
         "                            words that a shell completes",
-        f"  {lists.NAME}   the list by which `./lab uninstall` removes all of it",
+        f"  {lists.NAME}   the list from which `./lab uninstall` removes all of it",
     ]
     if folder in os.environ.get("PATH", "").split(os.pathsep):
         return lines

@@ -21,7 +21,7 @@ class NotInstalled(Exception):
 
 @dataclass
 class Installed:
-    """What was installed into a folder: the checksums that each file may have, and the folders that were made."""
+    """What was installed in a folder: the checksums that each file may have, and the folders that were made."""
 
     digests: Dict[str, Set[str]] = field(default_factory=dict)
     folders: List[str] = field(default_factory=list)
@@ -30,11 +30,11 @@ class Installed:
         self.digests.setdefault(name, set()).add(digest)
 
     def has(self, prefix: str, name: str) -> bool:
-        """Whether the file of this name is there as it was installed."""
+        """Whether the file of this name is there, as it was installed."""
         return digest_of(os.path.join(prefix, name)) in self.digests.get(name, set())
 
     def both(self, other: "Installed") -> "Installed":
-        """What this list and another one have."""
+        """What this list or another one has."""
         found = Installed({name: {*its} for name, its in self.digests.items()}, [*self.folders])
         for name, its in other.digests.items():
             for digest in its:
@@ -43,7 +43,7 @@ class Installed:
         return found
 
     def text(self) -> str:
-        """The list as its file has it; `sha256sum -c` reads it too."""
+        """The list as in its file; `sha256sum -c` reads it, too."""
         folders = "".join(f"{FOLDER}{it}\n" for it in self.folders)
         return HEAD + folders + "".join(f"{digest}  {name}\n" for name, its in self.digests.items() for digest in sorted(its))
 
@@ -53,7 +53,7 @@ def digest(content: bytes) -> str:
 
 
 def digest_of(path: str) -> str:
-    """The checksum of a file; none where there is no file, or something else."""
+    """The checksum of a file; none if there is no file, or something else."""
     try:
         if not stat.S_ISREG(os.lstat(path).st_mode):
             return ""
@@ -64,12 +64,12 @@ def digest_of(path: str) -> str:
 
 
 def is_installed(prefix: str) -> bool:
-    """Whether a folder has a list of what was installed into it."""
+    """Whether a folder has a list of what was installed in it."""
     return os.path.lexists(os.path.join(prefix, NAME))
 
 
 def read(prefix: str) -> Installed:
-    """What a folder's list says was installed into it; nothing where it has none."""
+    """What was installed in a folder, according to its list; nothing if it has none."""
     path, found = os.path.join(prefix, NAME), Installed()
     if not is_installed(prefix):
         return found

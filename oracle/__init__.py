@@ -1,1 +1,1 @@
-"""What the laboratory has to show, by a model that knows of events only what was shown: for `./random-runs` and `./fuzz`."""
+"""What the laboratory must show, by a model that knows about events only what was shown: for `./random-runs` and `./fuzz`."""

@@ -1,4 +1,4 @@
-"""Events by chance, of all kinds, of which many are refused."""
+"""Random events of all kinds, many of which are refused."""
 from __future__ import annotations
 
 import random
@@ -8,7 +8,7 @@ from shell.language import events
 from shell.language.events import EVENTS, LAST_MILLISECOND, PACKET, Event
 from shell.language.names import NODES
 
-# Those without which nothing else happens come more often.
+# The kinds without which nothing else happens come more often.
 WEIGHTS: Dict[Event, float] = {
     **{PACKET: 30, events.FLUSH: 17, events.DELIVER: 18, events.REPEAT: 4, events.CUT: 1, events.TICK: 9},
     **{events.PURGE: 3, events.KILL: 3, events.CLEAR: 1, events.TURN: 5, events.RETRY: 3},
@@ -17,7 +17,7 @@ LONG = (LAST_MILLISECOND - 1,)
 
 
 def flow(chance: random.Random) -> Tuple[str, str, str]:
-    """A protocol and the ends of one of a few flows, the inner one first."""
+    """A protocol and the ends of one of a few flows, the inner end first."""
     kind = chance.random()
     inner = chance.choice(("10.0.0.1", "10.0.0.1", "10.0.0.1", "10.0.0.2", "203.0.113.1"))
     # (rules of `setups.py` translate to this address and these ports)
@@ -31,7 +31,7 @@ def flow(chance: random.Random) -> Tuple[str, str, str]:
 
 
 def packet(chance: random.Random, node: str) -> str:
-    """A packet of a flow in either direction; of TCP, mostly one that fits the connection."""
+    """A packet of a flow in either direction; a TCP packet mostly fits the connection."""
     direction = chance.choice(("in", "out"))
     protocol, inner, outer = flow(chance)
     ends = f"{outer} {inner}" if direction == "in" else f"{inner} {outer}"

@@ -1,4 +1,4 @@
-"""The bytes of a frame, read without the program: what `frame` has to write of them (docs/FORMATS.md)."""
+"""The bytes of a frame, read without the program: what `frame` must write about them (docs/FORMATS.md)."""
 from __future__ import annotations
 
 import ipaddress
@@ -40,7 +40,7 @@ class Bytes:
         return f"{level} {'-' if scale == 255 else scale} {window} {lo} {hi}"
 
     def changing(self) -> str:
-        """The ends, the class and the seconds that are left."""
+        """The ends, the class and the seconds left."""
         ends, its_class = f"{self.end()} {self.end()}", CLASSES[self.number(1)].word
         self.take(3)
         return f"{ends} {its_class} {self.number(4)}"
@@ -60,13 +60,13 @@ _READERS: Dict[RecordKind, Callable[[Bytes], str]] = {
     **dict.fromkeys((INSERT, UPDATE, DELETE), _state),
     SHORT_UPDATE: lambda data: f"{data.name()} {data.changing()}",
     CLEAR: lambda data: f"{data.number(4)} {data.number(8)}",
-    # (behind the creator)
+    # (after the creator)
     BULK_STATUS: lambda data: str(data.number(5) & 255),
 }
 
 
 def fault_of(data: bytes) -> str:
-    """Why a frame cannot be read, empty where it can: only a cut makes one so, and keeps the length in its header."""
+    """Why a frame cannot be read; empty if it can. Only a cut makes a frame unreadable, and it keeps the length in the header."""
     if len(data) < HEADER:
         return "Short"
     return "Length" if int.from_bytes(data[2:4], "big") != len(data) else ""

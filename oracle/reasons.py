@@ -1,4 +1,4 @@
-"""What a reply to `why` has to say: what the pairs before and after the event tell of it, reckoned without the program."""
+"""What a reply to `why` must say: what follows from the pairs before and after the event, worked out without the program."""
 from __future__ import annotations
 
 from typing import List, Sequence, Tuple
@@ -20,12 +20,12 @@ from .frames import contents
 from .subject import Differs
 
 _OUTCOMES = {"": "pass -", "block": "drop block", "max": "drop max", "full": "drop full", "wire": "drop key", "stack": "drop key"}
-# What has to be, and what came.
+# What is wanted, and what came.
 Both = Tuple[object, object]
 
 
 def compare_reason(setup: Setup, reply: Sequence[str], before: Sequence[str], after: Sequence[str]) -> None:
-    """An explanation has to be what the pairs before and after the event tell."""
+    """An explanation must be what the pairs before and after the event show."""
     was, now = (read_shown(["branch main events 0 cursor 0", *it]) for it in (before, after))
     it = read_explanation(reply)
     kind, about, *_ = it.event.words
@@ -48,7 +48,7 @@ def compare_reason(setup: Setup, reply: Sequence[str], before: Sequence[str], af
 def _packet(setup: Setup, it: Explanation, was: Node, now: Node) -> Both:
     packet = read_packet(it.event.line)
     state = was.found(packet)
-    # (a closed connection is deleted where a new one begins)
+    # (a closed connection is deleted when a new one begins)
     if state is None or state.name not in now.states:
         wanted = _judged(setup, was, packet)
         return (wanted, _outcome(setup, packet, wanted)), (it.reason, it.event.came)
@@ -60,11 +60,11 @@ def _packet(setup: Setup, it: Explanation, was: Node, now: Node) -> Both:
 
 
 def _outcome(setup: Setup, packet: PacketEvent, judged: Judged) -> str:
-    """What follows for the packet. That of a new state is held on its way out, where deferring is on and the state is told to the peer."""
+    """What follows for the packet. That of a new state is held on its way out, if deferring is on and the peer gets the state."""
     if judged.how != "new" or judged.rule is None:
         return _OUTCOMES[judged.how]
-    is_told = not setup.rules[packet.node][judged.rule].has(NO_SYNC)
-    is_held = setup.limits[DEFER] and packet.direction == "out" and is_told
+    is_shared = not setup.rules[packet.node][judged.rule].has(NO_SYNC)
+    is_held = setup.limits[DEFER] and packet.direction == "out" and is_shared
     return f"{'held' if is_held else 'pass'} {judged.name}"
 
 
@@ -76,7 +76,7 @@ def _edges(state: State, packet: PacketEvent) -> List[str]:
 
 
 def _judged(setup: Setup, node: Node, packet: PacketEvent) -> Judged:
-    """What the rules make of a packet that no state takes, or over a closed one."""
+    """What the rules make of a packet that no state takes, or in place of a closed state."""
     closed, rules = node.found(packet), setup.rules[packet.node]
     standing = [it for it in node.states.values() if it is not closed]
     number, name = deciding(rules, packet), closed.name if closed else None
@@ -108,22 +108,22 @@ def _with_keys(states: Sequence[State], protocol: str, keys: Keys) -> List[Tuple
 
 
 def _delivery(it: Explanation, frame: Frame, was: Node, now: Node) -> Both:
-    """Its records, as many bad and stale ones as are counted."""
+    """Its records; as many of them must be bad and stale as are counted."""
     first, *_ = lines = contents(frame.data)
     if not first.startswith("record "):
         return (None, first), (it.reason, it.event.came)
     records = [words[: BY_WORD[words[0]].words + 1] for _, *words in map(str.split, lines)]
     counted = [now.counters[name] - was.counters[name] for name in ("bad", "stale")]
-    told = [sum(record.is_bad for record in it.records), sum(bool(record.stale) for record in it.records)]
+    faulty = [sum(record.is_bad for record in it.records), sum(bool(record.stale) for record in it.records)]
     came = [[record.kind.word, *record.about] for record in it.records]
-    return (records, counted, f"taken {len(records)}"), (came, told, it.event.came)
+    return (records, counted, f"taken {len(records)}"), (came, faulty, it.event.came)
 
 
 # ---- a purge
 
 
 def _purge(setup: Setup, it: Explanation, was: Node, now: Node) -> Both:
-    """When each state expires; those that are due are deleted."""
+    """When each state expires; the states that are due are deleted."""
     expiries, many = [], len(was.states)
     for name, state in sorted(was.states.items()):
         seconds = setup.seconds(was.id, state.rule, state.timeout_class)

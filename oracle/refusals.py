@@ -1,4 +1,4 @@
-"""The numbers that stand against an event that is refused, out of the shown pair: for `why BRANCH EVENT`."""
+"""The numbers for which an event is refused, from the shown pair: for `why BRANCH EVENT`."""
 from __future__ import annotations
 
 from typing import List
@@ -10,7 +10,7 @@ from shell.setups import Setup
 
 
 def against(setup: Setup, pair: Pair, event: str, refusal: str) -> List[str]:
-    """The line of the numbers that refuse the event for this; none where the refusal has none."""
+    """The line of the numbers for this refusal of the event; none if the refusal has none."""
     word, about, *_ = event.split()
     if word in OF_FRAME and int(about) not in pair.frames:
         return [f"ticket {pair.next_ticket}"]

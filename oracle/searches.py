@@ -1,5 +1,5 @@
-"""Searches: lines by chance, and what an answer has to be, as far as steps can tell. A run that is found is one of the choices, it
-leads to the goal, and no shorter part of it does; where none is found, or none that is shorter, random runs find none either."""
+"""Searches: random lines, and what an answer must be, as far as steps can show. A run that is found consists of the choices, it leads
+to the goal, and no shorter part of it does; if none is found, or none that is shorter, random runs find none either."""
 from __future__ import annotations
 
 import random
@@ -15,14 +15,14 @@ from .branches import Room
 from .events import event, packet
 from .subject import Differs
 
-# How many random runs are tried beside a search, and of how many events at most.
+# How many random runs are tried besides a search, and of how many events at most.
 WALKS, LONGEST_WALK = 4, 8
-# A search of no more runs than this takes a moment.
+# A search of at most this many runs takes a moment.
 MOST_RUNS = 300
 
 
 class Search(NamedTuple):
-    """A line `search` of good form. The choices are events as a log tells them, those of any frame with `any` as their ticket."""
+    """A line `search` of good form. The choices are events as in a log, those of any frame with `any` as their ticket."""
 
     branch: str
     depth: int
@@ -44,7 +44,7 @@ class Search(NamedTuple):
         return cls(words[1], int(words[2]), int(words[3]), scope, goal[0], asked, uses)
 
     def is_met(self, room: Room, pair: Pair) -> bool:
-        """Whether a pair meets the goal, where the room's branch shows it."""
+        """Whether a pair, which the room's branch shows, meets the goal."""
         if self.scope and pair.frames or self.scope == SETTLED and not (_is_idle(pair.a) and _is_idle(pair.b)):
             return False
         if self.question == APART:
@@ -57,7 +57,7 @@ class Search(NamedTuple):
 
 
 def _is_idle(node: Node) -> bool:
-    """Whether nothing is pending at the node, which neither serves a bulk update nor waits for one."""
+    """Whether nothing is pending at the node, and it neither serves a bulk update nor waits for one."""
     return not node.pending and node.serve == node.sync == "-"
 
 
@@ -67,7 +67,7 @@ def _what(choice: Sequence[str]) -> str:
 
 
 def _fits(what: str, event_line: str) -> bool:
-    """Whether an event is one that a choice allows."""
+    """Whether a choice allows an event."""
     words, its = what.split(), event_line.split()
     return what == event_line or words[1:2] == [ANY] and (words[0], words[2:]) == (its[0], its[2:])
 
@@ -80,7 +80,7 @@ def _pair(room: Room) -> Pair:
 
 
 def compare_answer(search: Search, reply: Sequence[str]) -> List[str]:
-    """The events of a reply, which has to be one of the line: none where there is no run."""
+    """The events of a reply, which must be a possible reply to the line; none if there is no run."""
     words = reply[0].split() or [""]
     how, runs = words[0], words[-1]
     events = [it.partition(f" step {search.branch} ")[2] for it in reply[1:-1]]
@@ -97,7 +97,7 @@ def compare_answer(search: Search, reply: Sequence[str]) -> List[str]:
 
 
 def compare_search(room: Room, search: Search, reply: Sequence[str], chance: random.Random) -> None:
-    """What a reply says of runs, as far as steps can tell. The room's branch stands where the search began."""
+    """Checks what a reply says about runs, as far as steps can show. The room's branch stands where the search began."""
     events = compare_answer(search, reply)
     if reply[0].startswith("gave up"):
         return
@@ -108,20 +108,20 @@ def compare_search(room: Room, search: Search, reply: Sequence[str], chance: ran
 
 
 def compare_found(room: Room, search: Search, events: Sequence[str]) -> None:
-    """The events have to be a run of the choices that leads to the goal, and no shorter part of it may do so."""
+    """The events must be a run of the choices that leads to the goal, and no shorter part of it may do so."""
     if not is_allowed(search, events):
-        raise Differs("\n".join(["found, and not of the choices:", *events]))
+        raise Differs("\n".join(["found, but not of the choices:", *events]))
     lab, name = room
     for at in range(len(events) + 1):
         if search.is_met(room, _pair(room)) != (at == len(events)):
-            raise Differs("\n".join([f"found, and the goal is {'not ' * (at == len(events))}met after {at} events:", *events]))
+            raise Differs("\n".join([f"found, but the goal is {'not ' * (at == len(events))}met after {at} events:", *events]))
         reply = lab.ask(f"step {name} {events[at]}") if at < len(events) else "step "
         if not reply.startswith("step "):
-            raise Differs("\n".join([f"found, and {events[at]} is answered {reply}:", *events]))
+            raise Differs("\n".join([f"found, but the reply to {events[at]} is {reply}:", *events]))
 
 
 def is_allowed(search: Search, events: Sequence[str]) -> bool:
-    """Whether each event can be given to a choice, none of which gets more than its uses."""
+    """Whether each event can be given to a choice, so that no choice gets more than its uses."""
     given: Dict[int, List[int]] = {at: [] for at in range(len(search.choices))}
 
     def give(number: int, seen: List[int]) -> bool:
@@ -142,7 +142,7 @@ def is_allowed(search: Search, events: Sequence[str]) -> bool:
 
 
 def compare_walks(room: Room, search: Search, most: int, chance: random.Random) -> None:
-    """Random runs of the choices, of at most this many events, may not lead to the goal."""
+    """Random runs of the choices, of at most this many events, must not lead to the goal."""
     lab, name = room
     for _ in range(WALKS if most >= 0 else 0):
         uses, taken = [uses for _, uses in search.choices], 0
@@ -150,7 +150,7 @@ def compare_walks(room: Room, search: Search, most: int, chance: random.Random) 
         while True:
             pair = _pair(room)
             if search.is_met(room, pair):
-                raise Differs("\n".join([f"no run of {most} events was found, and this one leads to the goal:", *walked]))
+                raise Differs("\n".join([f"no run of {most} events was found, but this one leads to the goal:", *walked]))
             line = _one_more(search, pair, uses, chance) if taken < min(most, LONGEST_WALK) else ""
             if not line:
                 break
@@ -161,7 +161,7 @@ def compare_walks(room: Room, search: Search, most: int, chance: random.Random) 
 
 
 def _one_more(search: Search, pair: Pair, uses: List[int], chance: random.Random) -> str:
-    """An event that the choices allow, which takes a use; none where there is none."""
+    """An event that the choices allow, which takes a use; none if there is none."""
     allowed = [(at, line) for at, (what, _) in enumerate(search.choices) if uses[at] for line in _instances(what, pair)]
     if not allowed:
         return ""
@@ -178,7 +178,7 @@ def _instances(what: str, pair: Pair) -> Iterator[str]:
         yield what.replace(ANY, str(ticket), 1)
 
 
-# ---- lines by chance
+# ---- random lines
 
 
 def line_of(chance: random.Random, name: str, shown: Sequence[str]) -> str:

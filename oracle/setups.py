@@ -1,4 +1,4 @@
-"""Setups by chance, whose limits are soon met."""
+"""Random setups, whose limits are soon met."""
 from __future__ import annotations
 
 import random
@@ -7,20 +7,20 @@ from typing import Dict, Iterator, Sequence
 from shell.language.names import NODES
 from shell.language.setups import AEND, ASTART, BATCH, BULK_MS, CLASSES, DEFER, FRAMES, HELD, MAXUPD, MTU, QUEUE, STATES, Limit
 
-# Of each limit that is set the values that it is given, and of some the one that it has in every other setup.
+# The values given to each limit that is set, and for some the value that it has in every other setup.
 TRIED: Dict[Limit, Sequence[int]] = {
     **{STATES: range(1, 7), QUEUE: range(1, 13), FRAMES: range(1, 7), HELD: range(1, 4), BATCH: range(1, 3)},
     **{MTU: (MTU.least, 200, 300, MTU.default), DEFER: (0, 1), MAXUPD: (1, 2, MAXUPD.default)},
     **{BULK_MS: (1, 1000, BULK_MS.default)},
 }
 SMALLEST: Dict[Limit, int] = {STATES: 3, QUEUE: 2, FRAMES: 2, HELD: 1, BATCH: 1}
-# The ports of the flows of `events.py`, some of them, and none.
+# Ports that take in all flows of `events.py`, some of them, or none.
 PORTS = ("53", "80:80", "53:80", "54:79", "1000:1001", "0:65535")
 
 
 def setup(chance: random.Random) -> Iterator[str]:
-    """Limits so small that events are refused, for every other seed the smallest, timeouts of some classes, and a few rules, mostly the
-    same at both."""
+    """Limits so small that events are refused, the smallest for every other seed, timeouts of some classes, and a few rules, mostly the
+    same at both nodes."""
     smallest = chance.random() < 0.5
     for limit, values in TRIED.items():
         yield f"set {limit.word} {SMALLEST[limit] if smallest and limit in SMALLEST else chance.choice(values)}"

@@ -1,4 +1,4 @@
-"""A run of the program, to which one line after another is given."""
+"""A run of the program that gets one line after another."""
 from __future__ import annotations
 
 import subprocess
@@ -11,12 +11,12 @@ from shell.setups import Setup
 
 
 class Differs(Exception):
-    """What is shown is not what it has to be."""
+    """What is shown is not what it must be."""
 
 
 class Subject:
-    """A run of the program that is held against a model, and ended where it takes longer than these seconds. A line has a
-    character for each byte."""
+    """A run of the program that is compared with a model, and ended if it takes longer than this many seconds. A line has a character
+    for each byte."""
 
     def __init__(self, program: str, seconds: Optional[float] = None):
         self.run = subprocess.Popen([program, "run"], stdin=subprocess.PIPE, stdout=subprocess.PIPE)
@@ -30,7 +30,7 @@ class Subject:
         if seconds:
             self.watch.start()
 
-    def tell(self, line: str) -> None:
+    def send(self, line: str) -> None:
         self.lines.append(line)
         try:
             self.input.write(f"{line}\n".encode("latin-1"))
@@ -39,14 +39,14 @@ class Subject:
             raise Differs(f"{line}: the program has ended") from error
 
     def open(self, setup: Setup) -> None:
-        """Tells the lines of a setup, and ends it."""
+        """Sends the lines of a setup, and ends it."""
         for line in (*setup.lines, OPEN.word):
-            self.tell(line)
+            self.send(line)
         self.setup = setup
 
     def answer(self, line: str) -> List[str]:
         """The whole reply to a command."""
-        self.tell(line)
+        self.send(line)
         reply = read_reply(self.replies)
         if not reply:
             raise Differs(f"{line}: no reply")
@@ -62,13 +62,13 @@ class Subject:
     def need(self, line: str, wanted: str) -> None:
         reply = self.ask(line)
         if reply != wanted:
-            raise Differs(f"{line}: {reply}, and not {wanted}")
+            raise Differs(f"{line}: {reply}, not {wanted}")
 
     def shown(self, branch: str, events: int, cursor: int) -> List[str]:
-        """The pair as a branch shows it that has these numbers of events and of those that stand."""
+        """The pair as shown by a branch with this many events, of which this many stand."""
         first, *shown = self.answer(f"show {branch}")
         if first != f"branch {branch} events {events} cursor {cursor}":
-            raise Differs(f"show {branch}: {first}, and not {events} events and {cursor}")
+            raise Differs(f"show {branch}: {first}, not {events} events and {cursor}")
         return shown
 
     def close(self) -> None:
@@ -76,7 +76,7 @@ class Subject:
         try:
             self.input.close()
         except OSError:
-            # (it has ended before it read all)
+            # (it ended before it read everything)
             pass
         self.run.wait()
         self.output.close()

@@ -28,7 +28,7 @@ export class Actions {
       () => `back ${viewer.branch.name} ${viewer.newest - viewer.place}`);
     this.excise = sending("excise", "Take this event out", "All other events happen again without it, for everybody",
       () => `excise ${viewer.branch.name} ${viewer.place}`);
-    this.restore = sending("restore", "Bring it back", "Bring back what the newest taking out took",
+    this.restore = sending("restore", "Bring it back", "Bring back what was last taken out",
       () => `restore ${viewer.branch.name}`);
     this.drop = doing("drop", "Drop this branch", "Remove this branch, for everybody", () => this.askDrop());
     const forkTitle = "A new branch begins with the events up to this one";

@@ -74,7 +74,7 @@ export class Panels {
     byId("changes").replaceChildren(...listed);
     if (changes.length) return;
     const isKnown = moment?.edits !== null && walk.changedBy === BY_EVENT;
-    const nothing = isKnown ? "nothing" : "not shown: in so long a run the tables are not looked at after each event";
+    const nothing = isKnown ? "nothing" : "not shown: in a run this long the tables are not read after each event";
     byId("changes").append(make("li", { class: "nothing" }, moment ? nothing : "no event yet"));
   }
 

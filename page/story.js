@@ -65,7 +65,7 @@ export class Story {
     const parted = others.filter((it) => partingOf(it, branch) === place);
     return [
       ...begun.map((it) => this.way(it, `Branch ${it.name} begins here`)),
-      ...parted.map((it) => this.way(it, `${it.former ? "The earlier run" : "Branch"} ${it.name} goes on otherwise`)),
+      ...parted.map((it) => this.way(it, `${it.former ? "The earlier run" : "Branch"} ${it.name} goes on differently`)),
     ];
   }
 

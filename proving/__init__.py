@@ -1,1 +1,1 @@
-"""How the crates are proved and built side by side, and how long that takes."""
+"""Proves and builds the crates side by side, and knows how long that takes."""

@@ -1,4 +1,4 @@
-"""Proves and builds crates side by side: of those whose libraries are built, the one at the foot of the dearest chain first."""
+"""Proves and builds crates side by side: of those whose libraries are built, the one at the foot of the most expensive chain first."""
 from __future__ import annotations
 
 import os
@@ -16,14 +16,14 @@ from .costs import checks_at_once, files_of, jobs_of_check
 from .crates import PARTS, TOP, Crate, Crates, below, chains
 
 LOGS = f"{TOP}/out/lab"
-# How many seconds may pass without a line where the progress does not go to a terminal.
+# How many seconds may pass without a line if the progress does not go to a terminal.
 SILENCE = 300.0
-# How much a check that is not on the dearest chain gives way to the one that is.
+# How much a check that is not on the most expensive chain gives way to the one that is.
 NICE = "10"
 
 
 def made_of(crate: Crate, what: str) -> bool:
-    """Whether a file of the crate's is there, and no source of the crate and of those below it is newer."""
+    """Whether a file of the crate is there, and no source of the crate or of those below it is newer."""
     if not os.path.exists(f"{crate.folder}/{what}"):
         return False
     made = os.stat(f"{crate.folder}/{what}").st_mtime
@@ -32,23 +32,23 @@ def made_of(crate: Crate, what: str) -> bool:
 
 
 def functions_of(name: str) -> Optional[List[int]]:
-    """How many of a crate's functions its check has seen, and of how many, as far as its log says."""
+    """How many of a crate's functions its check has seen, and how many there are, as far as its log says."""
     with suppress(OSError):
         with open(f"{LOGS}/{name}.log", encoding="utf-8", errors="replace") as it:
-            told = re.findall(r"^so far: (\d+) of (\d+) functions", it.read(), re.M)
-        if told:
-            return [int(it) for it in told[-1]]
+            counts = re.findall(r"^so far: (\d+) of (\d+) functions", it.read(), re.M)
+        if counts:
+            return [int(it) for it in counts[-1]]
     return None
 
 
 def failed_log(name: str) -> str:
-    """What the checker said of a crate when it failed, until it fails again."""
+    """The file with the checker's output for a crate when it failed, until it fails again."""
     return f"{LOGS}/{name}.failed.log"
 
 
 class Progress:
-    """Says on standard error how far the work is: on a terminal in one line that renews itself, elsewhere in a line a crate, and in one
-    where nothing was said for long."""
+    """Reports on standard error how far the work is: on a terminal in one line that renews itself, elsewhere in a line for each crate,
+    and in one when nothing was reported for long."""
 
     def __init__(self, costs: Dict[str, float]):
         self.costs, self.done, self.start = costs, 0.0, time.monotonic()
@@ -88,7 +88,7 @@ class Progress:
 
 
 class Lane:
-    """A view of the repository by hard links, since rt works in one crate at a time and holds the libraries below it."""
+    """A view of the repository through hard links, since rt works in one crate at a time and locks the libraries below it."""
 
     def __init__(self, folder: str):
         self.folder = folder
@@ -108,7 +108,7 @@ class Lane:
             it.write(f"{crate.line}\n")
 
     def prove(self, name: str, words: List[str], is_first: bool) -> subprocess.Popen[bytes]:
-        """Begins to prove and build a crate, whose libraries are built, in a group of processes of its own."""
+        """Begins to prove and build a crate whose libraries are built, in a process group of its own."""
         for it in below(name).values():
             self.take(it)
         command = [*([] if is_first else ["nice", "-n", NICE]), "rt", *words]
@@ -123,7 +123,7 @@ class Lane:
             )
 
     def give(self, crate: Crate) -> None:
-        """Puts what was made into the repository, whole."""
+        """Moves what was made into the repository, whole."""
         new, to = f"{self.folder}/{crate.name}.new", f"{crate.folder}/out"
         subprocess.run(["cp", "-al", f"{self.folder}/crates/{crate.name}/out", new], check=True)
         if os.path.isdir(to):
@@ -132,7 +132,7 @@ class Lane:
 
 
 def stop(checks: List[subprocess.Popen[bytes]]) -> None:
-    """Ends checks with all that they started."""
+    """Ends checks and all that they started."""
     for sign in (signal.SIGTERM, signal.SIGKILL):
         for it in checks:
             with suppress(OSError):
@@ -143,7 +143,7 @@ def stop(checks: List[subprocess.Popen[bytes]]) -> None:
 
 
 def seconds_of(process: subprocess.Popen[bytes]) -> Optional[float]:
-    """The processor seconds of a check that has ended, and of all that it started; None while it runs."""
+    """The processor seconds of a check that has ended and of all that it started; None while it runs."""
     number, status, used = os.wait4(process.pid, os.WNOHANG)
     if not number:
         return None
@@ -161,7 +161,7 @@ class Check:
 
 
 class Build:
-    """The proofs of crates, those of a program's last. `program` is the one that is built whole, and each other a library."""
+    """The proofs of crates, those of the program last. `program` is built whole, and every other crate as a library."""
 
     def __init__(self, crates: Crates, program: str, room: str, progress: Progress):
         self.crates, self.program, self.progress = crates, program, progress
@@ -173,7 +173,7 @@ class Build:
         self.seconds: Dict[str, float] = {}
 
     def run(self) -> Optional[str]:
-        """Proves all; the name of one that is not proved, if any."""
+        """Proves all; returns the name of one that is not proved, if any."""
         try:
             while self.left or self.running:
                 self.begin()
@@ -190,7 +190,7 @@ class Build:
         return not any(it in self.left or it in self.running for it in self.crates[name].libraries)
 
     def begin(self) -> None:
-        """Begins the checks for which there is a lane, the one with the dearest chain above it first."""
+        """Begins checks while there are lanes for them, the one with the most expensive chain above it first."""
         for name in [it for it in self.left if self.is_ready(it)][: len(self.idle)]:
             words = ["run", "--jobs", self.jobs, "--", "--help"] if name == self.program else ["lib", "--jobs", self.jobs]
             self.left.remove(name)
@@ -198,7 +198,7 @@ class Build:
             self.running[name] = Check(lane, lane.prove(name, words, not self.running))
 
     def take_done(self) -> Optional[str]:
-        """Keeps what the checks have made that have ended; the name of one that failed, if any."""
+        """Keeps what the checks that have ended have made; returns the name of one that failed, if any."""
         for name, check in list(self.running.items()):
             seconds = seconds_of(check.process)
             if seconds is None:

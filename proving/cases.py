@@ -1,9 +1,9 @@
-"""The number of case files, which the gate compares with what the test that runs them prints.
+"""The number of case files, which the gate compares with the output of the test that runs them.
 
     python3 -m proving.cases
 
-Reports, with status 1, where crates/test_cases/stdout does not say as many as there are in the folders that its `args` names: the gate
-would find it after an hour.
+Reports, with status 1, if crates/test_cases/stdout does not have the number of cases in the folders that its `args` names: the gate
+would find this only after an hour.
 """
 from __future__ import annotations
 

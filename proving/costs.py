@@ -1,4 +1,4 @@
-"""What it costs to prove a crate from nothing, as seconds.txt has it, and how that comes out on this machine."""
+"""What it costs to prove a crate from scratch, as in seconds.txt, and what that means on this machine."""
 from __future__ import annotations
 
 import bz2
@@ -13,11 +13,11 @@ KNOWN = f"{TOP}/proving/seconds.txt"
 HEAD = "# Processor seconds of each crate in a first ./lab build, where one processor packs the text of proving/costs.py in {:.3f} s"
 MACHINE = re.compile(r"in (\d+\.\d+) s$", re.MULTILINE)
 ROW = re.compile(r"^(\w+) (\d+)$", re.MULTILINE)
-# What a check of a large crate takes at most with one job, and what each further job takes.
+# The most memory that a check of a large crate takes with one job, and what each further job takes.
 MEMORY, MEMORY_OF_JOB = 3_000_000_000, 1_000_000_000
-# The share of a check that one processor does alone: it reads the libraries, and takes the parts together.
+# The share of a check that one processor does alone: reading the libraries, and joining the parts.
 ALONE = 0.3
-# Processor seconds for a kilobyte of sources, of a crate that has no row.
+# Processor seconds for a kilobyte of sources, for a crate without a row.
 SECONDS_OF_KILOBYTE = 1.2
 
 
@@ -27,12 +27,12 @@ def known() -> str:
 
 
 def files_of(folder: str) -> Set[str]:
-    """The sources of a crate, and the folders that they stand in."""
+    """The sources of a crate, and the folders that they are in."""
     return {file for part in PARTS for at, _, names in os.walk(f"{folder}/{part}") for file in (at, *(f"{at}/{name}" for name in names))}
 
 
 def costs(crates: Crates) -> Dict[str, float]:
-    """The processor seconds of each crate's proof on the machine of the table; of one that is not in it, by the size of its sources."""
+    """The processor seconds of each crate's proof on the machine of the table; without a row there, by the size of its sources."""
     rows = {name: float(seconds) for name, seconds in ROW.findall(known())}
     return {name: rows.get(name) or SECONDS_OF_KILOBYTE * sum(map(os.path.getsize, files_of(it.folder))) / 1000 for name, it in crates.items()}
 
@@ -43,7 +43,7 @@ def table(seconds: Dict[str, float]) -> str:
 
 
 def bzip2_seconds() -> float:
-    """How long one processor of this machine takes to pack a fixed text by bzip2: the least of three times."""
+    """How long one processor of this machine takes to pack a fixed text with bzip2: the best of three times."""
     text = b" ".join(str(it * it).encode() for it in range(200_000))
     found = []
     for _ in range(3):
@@ -54,7 +54,7 @@ def bzip2_seconds() -> float:
 
 
 def slowness() -> float:
-    """How much slower than the machine of the table this one is."""
+    """How much slower this machine is than the machine of the table."""
     there = MACHINE.search(known())
     return bzip2_seconds() / float(there[1]) if there else 1.0
 
@@ -69,18 +69,18 @@ def processors() -> int:
 
 
 def checks_at_once() -> int:
-    """How many crates are proved side by side: one a processor, as far as memory goes."""
+    """How many crates are proved side by side: one for each processor, as far as memory goes."""
     return max(1, min(processors(), memory() // MEMORY))
 
 
 def jobs_of_check() -> int:
-    """How many jobs a check gets: as many as there are processors, so that a check that is alone takes them all, as far as memory goes."""
+    """How many jobs a check gets: one for each processor, so that a check that runs alone takes them all, as far as memory goes."""
     return max(1, min(processors(), memory() // checks_at_once() // MEMORY_OF_JOB - 1))
 
 
 class Estimate:
-    """The course of a build, second by second, as it would be where the checks under way took equal shares of the processors, and
-    none of them more than it has jobs."""
+    """The course of a build, second by second, if the checks under way took equal shares of the processors, and none of them more than
+    it has jobs."""
 
     def __init__(self, crates: Crates, seconds: Dict[str, float], at_once: int, jobs: int):
         self.crates, self.at_once, self.jobs = crates, at_once, jobs

@@ -15,7 +15,7 @@ Crates = Dict[str, "Crate"]
 
 @dataclass(frozen=True)
 class Crate:
-    """A crate, its line, and those of its libraries that are of this repository."""
+    """A crate, its line, and those of its libraries that belong to this repository."""
 
     name: str
     line: str
@@ -37,7 +37,7 @@ def listed() -> Crates:
 
 
 def below(name: str) -> Crates:
-    """A crate with all that it stands on, lowest first."""
+    """A crate with everything below it, lowest first."""
     found: Crates = {}
     for it in listed()[name].libraries:
         found.update(below(it))
@@ -46,7 +46,7 @@ def below(name: str) -> Crates:
 
 
 def paths(crates: Crates) -> Dict[str, int]:
-    """How many ways lead from each crate down through the libraries of crates.txt, the one of no step among them."""
+    """How many paths lead down from each crate through the libraries of crates.txt, including the path of no step."""
     found: Dict[str, int] = {}
 
     def count(name: str) -> int:
@@ -58,7 +58,7 @@ def paths(crates: Crates) -> Dict[str, int]:
 
 
 def chains(crates: Crates, costs: Dict[str, float]) -> Dict[str, float]:
-    """What each crate costs together with the dearest chain of crates above it."""
+    """What each crate costs together with the most expensive chain of crates above it."""
     found: Dict[str, float] = {}
     above: Dict[str, List[str]] = {name: [] for name in crates}
     for name, crate in crates.items():

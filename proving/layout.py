@@ -1,8 +1,8 @@
-"""The layout of the crates' files, which the gate wants as `rt fmt` writes it.
+"""The layout of the crates' files, which the gate wants to be that of `rt fmt`.
 
     python3 -m proving.layout
 
-Puts each file of every crate into it, reports those that were not, and exits 1 where there were some.
+Puts each file of every crate into that layout, reports the files that were not, and exits with 1 if there were any.
 """
 from __future__ import annotations
 
@@ -14,7 +14,7 @@ from .crates import listed
 
 
 def formatted() -> Iterator[str]:
-    """What `rt fmt` reports of each crate: a line for each file that it wrote, or for what went wrong."""
+    """What `rt fmt` reports for each crate: a line for each file that it wrote, or for what went wrong."""
     for crate in listed().values():
         ran = subprocess.run(("rt", "fmt"), cwd=crate.folder, stdout=subprocess.PIPE, stderr=subprocess.STDOUT, text=True)
         yield from (f"{crate.name}: {line}" for line in ran.stdout.splitlines())

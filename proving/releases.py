@@ -1,4 +1,4 @@
-"""The release: the proved program as it comes with the sources, and how it is known that it is theirs.
+"""The release: the proved program that comes with the sources, and how we know that it belongs to them.
 
 release/RELEASE names it:
 
@@ -8,8 +8,8 @@ release/RELEASE names it:
     kit NAME logic LOGIC
 
 The sum of the sources is that of a text: the lines of crates.txt for the program's crates, lowest first; what `sha256sum` prints for
-HANDLES and each file of their `src`, `specs` and `proofs`, in the order of their bytes; and the kit's line. The stamp, which has that
-sum in it, is left out.
+HANDLES and each file of their `src`, `specs` and `proofs`, in the order of their bytes; and the kit's line. The stamp, which contains
+that sum, is left out.
 """
 from __future__ import annotations
 
@@ -57,18 +57,18 @@ def sum_of(content: bytes) -> str:
 
 
 def content_of(path: str) -> bytes:
-    """What a file of the repository has."""
+    """The content of a file of the repository."""
     with open(f"{TOP}/{path}", "rb") as it:
         return it.read()
 
 
 def stamped() -> str:
-    """The stamp of the tree, empty where it has none."""
+    """The stamp of the tree; empty if it has none."""
     return content_of(STAMP).decode("utf-8", "replace") if os.path.exists(f"{TOP}/{STAMP}") else ""
 
 
 def sources() -> Iterator[str]:
-    """The files that the program is made from, but for the stamp and for its lines of crates.txt."""
+    """The files that the program is made from, except the stamp and its lines of crates.txt."""
     yield "HANDLES"
     for crate in below(NAME).values():
         files = (os.path.relpath(it, TOP) for it in files_of(crate.folder) if os.path.isfile(it))
@@ -93,14 +93,14 @@ class Release:
 
     @staticmethod
     def read() -> "Release":
-        """The release that is there."""
+        """The current release."""
         try:
             text = content_of(RECORD).decode("ascii", "replace")
         except OSError:
             raise NoRelease(f"there is no {RECORD}") from None
         fields = FORM.fullmatch(text)
         if not fields:
-            raise NoRelease(f"{RECORD} is damaged: it has not the four lines of a release")
+            raise NoRelease(f"{RECORD} is damaged: it does not have the four lines of a release")
         return Release(int(fields["number"]), fields["sources"], fields["program"], fields["kit"])
 
     def text(self) -> str:
@@ -127,7 +127,7 @@ class Release:
         return content
 
     def unpacked(self) -> str:
-        """The path of the program, unpacked, which it stays for the next time."""
+        """The path of the program, unpacked; it is kept for the next time."""
         if (platform.system(), platform.machine()) != ("Linux", "x86_64"):
             raise NoRelease(f"the release is for Linux on x86-64, and this is {platform.system()} on {platform.machine()}")
         path = f"{room()}/{self.program[:16]}/{NAME}"
@@ -137,7 +137,7 @@ class Release:
 
 
 def room() -> str:
-    """The folder for unpacked programs: one of the tree, or, where that cannot be written to, the user's."""
+    """The folder for unpacked programs: one in the tree, or one of the user's if the tree cannot be written to."""
     if os.access(f"{TOP}/out" if os.path.isdir(f"{TOP}/out") else TOP, os.W_OK):
         return f"{TOP}/out/release"
     return f"{os.environ.get('XDG_CACHE_HOME') or os.path.expanduser('~/.cache')}/{NAME}"
@@ -152,7 +152,7 @@ def is_file_with(path: str, wanted: str) -> bool:
 
 
 def write_whole(path: str, content: bytes) -> None:
-    """Writes a program, so that nobody sees a part of it."""
+    """Writes a program so that nobody sees a part of it."""
     os.makedirs(os.path.dirname(path), exist_ok=True)
     number, new = tempfile.mkstemp(dir=os.path.dirname(path))
     try:
@@ -167,7 +167,7 @@ def write_whole(path: str, content: bytes) -> None:
 
 
 def stamp(kit: str) -> Release:
-    """Writes the stamp of the tree's sources: the release that they are to have, whose program is not known yet."""
+    """Writes the stamp of the tree's sources; returns their release, whose program is not known yet."""
     its_sum = sources_sum(kit)
     former: Optional[Release] = None
     with suppress(NoRelease):
@@ -182,7 +182,7 @@ def stamp(kit: str) -> Release:
 
 
 def pack(release: Release, program: str) -> None:
-    """Makes the release of a program that was built from the stamped tree."""
+    """Makes the release from a program that was built from the stamped tree."""
     with open(program, "rb") as it:
         content = it.read()
     os.makedirs(f"{TOP}/{FOLDER}", exist_ok=True)
@@ -194,11 +194,11 @@ def pack(release: Release, program: str) -> None:
 
 
 def fault(program: Optional[str] = None) -> str:
-    """What is wrong with the release as that of the tree, or of the tree's program where it is given; empty where nothing is."""
+    """What is wrong with the release as that of the tree, or of the tree's program if that is given; empty if nothing is."""
     try:
         release = Release.read()
         if not release.is_of_tree():
-            return f"the release is of another tree than this one; renew it: {RENEWED_BY}"
+            return f"the release is not of this tree; renew it: {RENEWED_BY}"
         content = release.content()
     except NoRelease as why:
         return f"{why}; renew it: {RENEWED_BY}"
@@ -210,7 +210,7 @@ def fault(program: Optional[str] = None) -> str:
 
 
 def main() -> int:
-    """Checks the release, before anything is proved: the status."""
+    """Checks the release before anything is proved; returns the status."""
     why = fault(*sys.argv[1:2])
     if why:
         print(f"release: {why}", file=sys.stderr)

@@ -1,4 +1,4 @@
-"""What the words of the command line may be: of `./lab`, and of the installed `pfl_shell`."""
+"""The command-line arguments of `./lab` and of the installed `pfl_shell`."""
 from __future__ import annotations
 
 import argparse
@@ -11,12 +11,14 @@ from .dumps.comparing import Tolerance
 from .importing.firewall import Own
 from .laboratory import Unknown
 from .language.names import Name
+from .outputs import print_help
+from .scripts import DRY_RUN
 from .shell import STRICT_STATUS
 from .whatif.asked import Options, add_options
 
 
 class Words(Options):
-    """What the words of the command say; those of another word than its own are not there."""
+    """The parsed command line. Only the attributes of its own word are set."""
 
     name: str
     program: str
@@ -26,6 +28,7 @@ class Words(Options):
     setup: Optional[str]
     echo: bool
     strict: bool
+    dry_run: bool
     version: bool
     file: str
     picture: Optional[str]
@@ -48,13 +51,23 @@ class Words(Options):
     unopened: bool
 
 
-# The words that run no program, beside those that ask for help.
+# The words that run no program, besides those that ask for help.
 WITHOUT_PROGRAM = ("compare", "import")
 
 
+class Parser(argparse.ArgumentParser):
+    """A parser that reports help which could not be written, as on a full device. Those of the words are such parsers too."""
+
+    def print_help(self, file: object = None) -> None:
+        # (help is asked for on standard output alone)
+        status = print_help(self.format_help().rstrip("\n"), os.path.basename(self.prog.split(" ")[0]))
+        if status:
+            self.exit(status)
+
+
 def parser(name: str = "./lab") -> argparse.ArgumentParser:
-    """What may follow the command's name, which is also what it calls itself in messages, without a folder."""
-    words = argparse.ArgumentParser(prog=name, description="What stands around the laboratory's program.")
+    """The parser of what follows the command's name. Messages use that name without its folder."""
+    words = Parser(prog=name, description="The shell and the other tools around the laboratory's program.")
     words.set_defaults(name=os.path.basename(name))
     words.add_argument("--program", required=True, help=argparse.SUPPRESS)
     _version(words, False)
@@ -67,7 +80,7 @@ def parser(name: str = "./lab") -> argparse.ArgumentParser:
         )
     )
     _scripts(kinds.add_parser("verify", help="compares the replies with the lines `#>` of scripts"))
-    _scripts(kinds.add_parser("annotate", help="writes the replies into scripts, as lines `#>`"))
+    _annotate(kinds.add_parser("annotate", help="writes the replies into scripts, as lines `#>`"))
     _chart(kinds.add_parser("chart", help="draws what happened in a script"))
     _page(
         kinds.add_parser(
@@ -75,7 +88,7 @@ def parser(name: str = "./lab") -> argparse.ArgumentParser:
             help="shows what happens in a script as a page for a browser",
             usage=f"{name} page SCRIPT OUT.html\n       {name} page --serve PORT [SCRIPT | --port P [--setup FILE]]",
             description="Writes what happens in a script as a page, which is one file and needs nothing else; or serves a page that"
-            " shows a pair as it goes on, and steps it, to the browsers of this machine.",
+            " shows a pair as it goes on, and steps it, to browsers on this machine.",
         )
     )
     _further(kinds.add_parser, name)
@@ -88,8 +101,8 @@ def _further(add: Callable[..., argparse.ArgumentParser], name: str) -> None:
         add(
             "whatif",
             help="tries each single fault of what happened in a script",
-            description="Plays what happened in a script again with each single fault by itself, as a lost frame or a restart, and groups"
-            " the faults by what they change.",
+            description="Replays what happened in a script with each single fault by itself, such as a lost frame or a restart, and"
+            " groups the faults by what they change.",
         )
     )
     _compare(
@@ -97,14 +110,14 @@ def _further(add: Callable[..., argparse.ArgumentParser], name: str) -> None:
             "compare",
             help="compares the state tables of two firewalls, as pfctl printed them",
             usage=f"{name} compare A B [--stats A B] [--apart S] [--all]",
-            description="Compares two files with what `pfctl -ss -vv` printed at the firewalls of a pair: which states stand at one alone,"
-            " and which differ, field by field. Status: 0 they agree, 1 they differ, 2 a file could not be read.",
+            description="Compares two files with the output of `pfctl -ss -vv` at the two firewalls of a pair: which states only one"
+            " has, and which differ, field by field. Status: 0 if they agree, 1 if they differ, 2 if a file could not be read.",
         )
     )
     _import(
         add(
             "import",
-            help="takes the rules of an interface in from a pf.conf",
+            help="takes in the rules of an interface from a pf.conf",
             description="Writes the rules that a pf.conf(5) has for one interface as a setup of the laboratory, and reports on standard"
             " error what is approximated or out.",
         )
@@ -118,8 +131,8 @@ def _version(words: argparse.ArgumentParser, default: object) -> None:
 
 def _shell(words: argparse.ArgumentParser) -> None:
     _version(words, argparse.SUPPRESS)
-    words.add_argument("files", nargs="*", metavar="FILE", help="scripts that are read first")
-    words.add_argument("--port", type=port, metavar="P", help="a session of the server at this port, and no pair of its own")
+    words.add_argument("files", nargs="*", metavar="FILE", help="scripts to read first")
+    words.add_argument("--port", type=port, metavar="P", help="joins the server at this port, with no pair of its own")
     words.add_argument("--setup", metavar="FILE", help="with --port: the setup that the server read, if it does not report it")
     words.add_argument("--echo", action="store_true", help="shows each line before its reply")
     words.add_argument(
@@ -131,16 +144,21 @@ def _scripts(words: argparse.ArgumentParser) -> None:
     words.add_argument("files", nargs="+", metavar="FILE")
 
 
+def _annotate(words: argparse.ArgumentParser) -> None:
+    _scripts(words)
+    words.add_argument(*DRY_RUN, action="store_true", help="shows what would change, as `diff -u` does, and writes nothing")
+
+
 def _chart(words: argparse.ArgumentParser) -> None:
     words.add_argument("file", metavar="FILE")
     words.add_argument(
         "picture", nargs="?", type=picture, metavar="FILE.svg", help="the picture's file; without it the chart comes as text"
     )
-    words.add_argument("--branch", default="main", metavar="BRANCH", help="draws this branch in place of `main`")
+    words.add_argument("--branch", default="main", metavar="BRANCH", help="draws this branch instead of `main`")
     words.add_argument("--from", dest="first", type=event, default=1, metavar="K", help="draws from the K-th event on")
     words.add_argument("--to", dest="last", type=event, metavar="L", help="draws up to the L-th event")
-    words.add_argument("--flow", type=flow, metavar="NAME", help="draws what is about the state NAME alone, as 1.3")
-    words.add_argument("--notes", action="store_true", help="draws the script's comments, too, each above its event")
+    words.add_argument("--flow", type=flow, metavar="NAME", help="draws only what is about the state NAME, such as 1.3")
+    words.add_argument("--notes", action="store_true", help="also draws the script's comments, each above its event")
 
 
 def _page(words: argparse.ArgumentParser) -> None:
@@ -150,29 +168,30 @@ def _page(words: argparse.ArgumentParser) -> None:
         "--serve", type=port, metavar="PORT", help="serves the page at this port of 127.0.0.1, and prints its addresses"
     )
     words.add_argument(
-        "--port", type=port, metavar="P", help="with --serve: a session of the server at this port, and no pair of its own"
+        "--port", type=port, metavar="P", help="with --serve: joins the server at this port, with no pair of its own"
     )
     words.add_argument("--setup", metavar="FILE", help="with --port: the setup that the server read, if it does not report it")
 
 
 def _whatif(words: argparse.ArgumentParser) -> None:
     words.add_argument("file", metavar="SCRIPT")
-    words.add_argument("--branch", default="main", metavar="BRANCH", help="tries the events of this branch in place of `main`")
+    words.add_argument("--branch", default="main", metavar="BRANCH", help="tries the events of this branch instead of `main`")
     add_options(words)
 
 
 def _compare(words: argparse.ArgumentParser) -> None:
-    words.add_argument("dumps", nargs=2, metavar="FILE", help="what `pfctl -ss -vv` printed, at the one firewall and at the other")
+    words.add_argument("dumps", nargs=2, metavar="FILE", help="the output of `pfctl -ss -vv` at one firewall and at the other")
     words.add_argument(
-        "--stats", nargs=2, default=[], metavar="FILE", help="what `netstat -s -p pfsync` printed, where it is not in those files, too"
+        "--stats", nargs=2, default=[], metavar="FILE", help="the output of `netstat -s -p pfsync`, if those files do not have it too"
     )
     words.add_argument(
         "--apart",
         type=tolerance,
         metavar="S",
-        help=f"ages and times of expiry may differ by S seconds; without it only the latter count, which may by {Tolerance().seconds}",
+        help="how many seconds ages and expiry times may differ; without it ages are not compared, and expiry times may differ by"
+        f" {Tolerance().seconds} seconds",
     )
-    words.add_argument("--all", action="store_true", help="lists each state, and not the first of those that have something in common")
+    words.add_argument("--all", action="store_true", help="lists every state, not only the first of those that have something in common")
 
 
 def tolerance(word: str) -> int:
@@ -189,39 +208,39 @@ def _import(words: argparse.ArgumentParser) -> None:
         action="append",
         type=own_address,
         metavar="[IF=]ADDRESS/LENGTH",
-        help="an address of the interface, or of IF; may be there several times",
+        help="an address of the interface, or of IF; may be given several times",
     )
-    words.add_argument("--group", action="append", type=group, metavar="GROUP=IF", help="IF is in this group, as egress=em0")
-    words.add_argument("--node", default="both", choices=("a", "b", "both"), help="the node that gets the rules; without it both do")
-    words.add_argument("--rc", metavar="FILE", help="an rc.conf(5), of which `maxupd` and `defer` of pfsync0 are taken in")
-    words.add_argument("--strict", action="store_true", help="writes nothing where a statement is out, with status 4")
-    words.add_argument("-o", "--output", metavar="FILE", help="the setup's file; without it the setup comes on standard output")
-    words.add_argument("--unopened", action="store_true", help="leaves out the last line, `open`, so that a setup can go on")
+    words.add_argument("--group", action="append", type=group, metavar="GROUP=IF", help="IF is in this group, such as egress=em0")
+    words.add_argument("--node", default="both", choices=("a", "b", "both"), help="the node that gets the rules; the default is both")
+    words.add_argument("--rc", metavar="FILE", help="an rc.conf(5), from which `maxupd` and `defer` of pfsync0 are taken in")
+    words.add_argument("--strict", action="store_true", help="writes nothing if a statement is out, with status 4")
+    words.add_argument("-o", "--output", metavar="FILE", help="the setup's file; without it the setup goes to standard output")
+    words.add_argument("--unopened", action="store_true", help="leaves out the last line, `open`, so that more of the setup can follow")
 
 
 def interface(word: str) -> str:
     """The name of an interface or of a group."""
     if not word or not word.isprintable() or " " in word:
-        raise argparse.ArgumentTypeError(f"{word!r} is no name of an interface")
+        raise argparse.ArgumentTypeError(f"{word!r} is not the name of an interface")
     return word
 
 
 def own_address(word: str) -> Tuple[str, Own]:
-    """An address with its length, and before it the interface that has it, where that is named."""
+    """An address with its length, after the interface that has it, if that is named."""
     name, _, address = word.rpartition("=")
     try:
         if "/" not in address:
             raise ValueError
         return name, ipaddress.ip_interface(address)
     except ValueError as error:
-        raise argparse.ArgumentTypeError(f"{word} is no [IF=]ADDRESS/LENGTH, as 192.0.2.1/24 or em1=10.0.0.1/8") from error
+        raise argparse.ArgumentTypeError(f"{word} is not [IF=]ADDRESS/LENGTH, such as 192.0.2.1/24 or em1=10.0.0.1/8") from error
 
 
 def group(word: str) -> Tuple[str, str]:
-    """A group, and an interface that is in it."""
+    """A group, and an interface in it."""
     name, _, member = word.partition("=")
     if not name or not member:
-        raise argparse.ArgumentTypeError(f"{word} is no GROUP=IF, as egress=em0")
+        raise argparse.ArgumentTypeError(f"{word} is not GROUP=IF, such as egress=em0")
     return name, member
 
 
@@ -249,18 +268,18 @@ def port(word: str) -> int:
 
 def page_name(word: str) -> str:
     if not word.endswith((".html", ".htm")):
-        raise argparse.ArgumentTypeError(f"{word}: the name of a page ends in .html")
+        raise argparse.ArgumentTypeError(f"{word}: the name of a page must end in .html")
     return word
 
 
 def picture(word: str) -> str:
     if not word.endswith(".svg"):
-        raise argparse.ArgumentTypeError(f"{word}: the name of a picture ends in .svg")
+        raise argparse.ArgumentTypeError(f"{word}: the name of a picture must end in .svg")
     return word
 
 
 def page_fault(words: Words) -> str:
-    """What is wrong with the words of a page, which do not all go together; empty where nothing is."""
+    """What is wrong with the words of a page, which do not all go together; empty if nothing is."""
     if not words.serve:
         return "a page needs SCRIPT and OUT.html, or --serve PORT" if not words.page or words.port or words.setup else ""
     if words.page:

@@ -1,4 +1,4 @@
-"""A branch as `log` tells it: the lines of its events, and how many of them stand; and one of its events with what came of it."""
+"""A branch as `log` shows it: the lines of its events, and how many of them stand; and one of its events with what came of it."""
 from __future__ import annotations
 
 from dataclasses import dataclass, field
@@ -9,7 +9,7 @@ from .language.events import EVENTS, Event
 
 @dataclass(frozen=True)
 class Branch:
-    """The events of a branch, those that were undone too, as the lines behind `step BRANCH`, and how many of them stand."""
+    """The events of a branch, including those that were undone, as the lines after `step BRANCH`, and how many of them stand."""
 
     name: str
     events: List[str] = field(default_factory=list)
@@ -17,7 +17,7 @@ class Branch:
 
 
 def read_log(lines: Sequence[str]) -> Branch:
-    """The branch that a reply to `log` tells."""
+    """The branch that a reply to `log` shows."""
     head = lines[0].split()
     return Branch(head[1], [line.split(" ", 4)[4] for line in lines[1:-1]], int(head[5]))
 
@@ -28,7 +28,7 @@ def common(one: Sequence[str], two: Sequence[str]) -> int:
 
 
 class Mark(NamedTuple):
-    """A place in a branch to which somebody gave a name: the branch, and the events that stood there."""
+    """A named place in a branch: the branch, and the events that stood there."""
 
     branch: str
     stood: Tuple[str, ...]
@@ -38,7 +38,7 @@ class Mark(NamedTuple):
 
 
 class Happened(NamedTuple):
-    """An event by its place from 1 on and its line, and what came of it: its outcome, or `refused K NAME`."""
+    """An event: its place, counted from 1, its line, and what came of it: its outcome, or `refused K NAME`."""
 
     number: int
     line: str
@@ -46,7 +46,7 @@ class Happened(NamedTuple):
 
     @classmethod
     def read(cls, event: str, came: str) -> "Happened":
-        """One that a reply tells in two lines."""
+        """An event that a reply gives in two lines."""
         _, number, _, _, line = event.split(" ", 4)
         return cls(int(number), line, came if came.startswith("refused ") else came.partition(" ")[2])
 

@@ -10,12 +10,12 @@ from .laboratory import Laboratory
 
 
 def changes(lab: Laboratory, branch: Branch, number: int, paint: Paint) -> List[str]:
-    """The event with its outcome, and each thing that it changed, before and after."""
+    """The event with its outcome, and everything that it changed, before and after."""
     it = lab.explanation(branch.name, number).event
     before, after = (lab.with_contents(lab.past(branch.name, place), branch) for place in (number - 1, number))
     lines = [paint.head(f"event {number}: {it.line}: {it.came}")]
     if number > branch.cursor:
-        lines.append(paint.dim("  it was undone: so it changed the pair while it stood"))
+        lines.append(paint.dim("  it was undone: this is what it changed while it stood"))
     found = differences(before, after)
     if not found:
         return [*lines, "  it changed nothing"]

@@ -9,7 +9,7 @@ from .setups import Rule
 
 
 def canonical_text(rule: Rule) -> str:
-    """The canonical text of a rule that the program has taken. Its words stand in order already."""
+    """The canonical text of a rule that the program has taken. Its words are already in order."""
     canonical: List[str] = []
     words = iter(rule.words)
     for word in words:

@@ -1,4 +1,4 @@
-"""The program that the environment names in place of the one that is there."""
+"""The program that the environment names instead of the one that is there."""
 from __future__ import annotations
 
 import errno
@@ -7,11 +7,11 @@ import shutil
 
 
 class NoProgram(Exception):
-    """What the environment names cannot be run, with the reason."""
+    """The program that the environment names cannot be run, with the reason."""
 
 
 def chosen() -> str:
-    """The path of the program that PFL_LAB names, by a path or as a command; empty where it names none."""
+    """The path of the program that PFL_LAB names, by a path or as a command; empty if it names none."""
     named = os.environ.get("PFL_LAB", "")
     path = shutil.which(named) if named else ""
     if path is None:
@@ -20,7 +20,7 @@ def chosen() -> str:
 
 
 def _fault(path: str) -> int:
-    """The number of the fault of a path at which there is no program."""
+    """The error number for a path without a program."""
     if not os.path.exists(path):
         return errno.ENOENT
     return errno.EISDIR if os.path.isdir(path) else errno.EACCES

@@ -1,10 +1,10 @@
-"""Colours, on a terminal alone."""
+"""Colours, for a terminal only."""
 from __future__ import annotations
 
 import re
 from dataclasses import dataclass
 
-# What begins a colour, and what ends it.
+# The sequences that begin and end a colour.
 CODE = re.compile("\033\\[[0-9;]*m")
 END = "\033[0m"
 
@@ -35,7 +35,7 @@ class Paint:
         return self._as("33", text)
 
     def dim(self, text: str) -> str:
-        """What stands beside the matter."""
+        """A side note."""
         return self._as("2", text)
 
 

@@ -1,4 +1,4 @@
-"""What a word can be, by the words before it: for the key that completes a line."""
+"""What a word can be, given the words before it: for the key that completes a line."""
 from __future__ import annotations
 
 import glob
@@ -8,10 +8,10 @@ from typing import Callable, Dict, Iterable, List, Sequence, Tuple
 
 from .charts.windows import FLOW, WINDOW_WORDS
 from .helps import CHART, NOTES, SHELL, VIEW, WHATIF, WHATIF_OPTIONS, WORDS
-from .laboratory import Laboratory
+from .laboratory import MOST_ENDS, Laboratory
 from .language.commands import BACK, COMMANDS, FORK, FRAME, RULE, SETUP, STEP, TYPED, WHY
 from .language.events import EVENTS
-from .language.forms import ACTION, NODE, RULE_DIRECTION
+from .language.forms import ACTION, DESTINATION, NODE, RULE_DIRECTION, SOURCE
 from .language.names import NODES
 from .language.searches import SEARCH
 from .language.setups import LIMITS, OPTIONS, TIMEOUT
@@ -33,7 +33,7 @@ def _pair(lab: Laboratory, words: Sequence[str]) -> Pair:
 
 
 def _tickets(lab: Laboratory, words: Sequence[str]) -> Sequence[str]:
-    """The frames in flight, or all that were sent."""
+    """The frames in flight, or all frames that were sent."""
     pair = _pair(lab, words)
     return [*map(str, range(1, pair.next_ticket) if words[0] == FRAME.word else pair.frames)]
 
@@ -43,11 +43,23 @@ def _state_names(lab: Laboratory, words: Sequence[str]) -> Sequence[str]:
     return [str(it) for it in node.states] if node else ()
 
 
-# What can stand where a form has a name, if that is not the same everywhere.
+def _ends(lab: Laboratory, words: Sequence[str]) -> List[str]:
+    """The ends of packets that were stepped here, the newest first, and then those of states, translated ones too. A packet does not go
+    to where it is from."""
+    # (a server keeps every command that it was asked, so none is asked for this)
+    nodes = _pair(lab, words).nodes.values() if lab.port is None or lab.is_mirrored else ()
+    keys = [key for node in nodes for it in node.states.values() for key in (it.wire, it.stack)]
+    seen = dict.fromkeys([*reversed([*lab.ends]), *(end for key in keys for end in (key.near, key.far))])
+    return [it for it in seen if it != words[-1]][:MOST_ENDS]
+
+
+# What can take the place of a name in a form, if that is not the same everywhere.
 CHOICES: Dict[str, Choice] = {
     "BRANCH": _branches,
     "TICKET": _tickets,
     "NAME": _state_names,
+    SOURCE.name: _ends,
+    DESTINATION.name: _ends,
     "EVENT": lambda lab, words: EVENTS,
     "LIMIT": lambda lab, words: (*LIMITS, TIMEOUT.word),
     "WORD": lambda lab, words: WORDS,
@@ -55,7 +67,7 @@ CHOICES: Dict[str, Choice] = {
 
 
 def candidates(lab: Laboratory, before: Sequence[str], begun: str) -> List[str]:
-    """What the word that has begun can be, after the words before it."""
+    """What the word being typed can be, given the words before it."""
     words = list(before)
     if not words:
         return _matching(WORDS, begun)
@@ -93,7 +105,7 @@ def _following(lab: Laboratory, words: Sequence[str], part: Sequence[str], begun
 
 
 def _values(part: Sequence[str]) -> List[Tuple[str, Sequence[str]]]:
-    """The names of what can follow the first word of a part of a line, each with the words that it can be where these are always the
+    """The names of what can follow the first word of a part of a line, each with the words that it can be if these are always the
     same."""
     word = part[0]
     if word in SHELL:
@@ -104,7 +116,7 @@ def _values(part: Sequence[str]) -> List[Tuple[str, Sequence[str]]]:
 
 
 def _chart(lab: Laboratory, words: Sequence[str], begun: str) -> Iterable[str]:
-    """What can follow the words of a chart: a branch, parts of it in their order, and a file."""
+    """What can follow the words of a chart: a branch, parts of it in order, and a file."""
     if words[-1] == FLOW:
         return _states_of_both(lab, words)
     if words[-1] in WINDOW_WORDS:
@@ -128,7 +140,7 @@ def _view(lab: Laboratory, words: Sequence[str]) -> Iterable[str]:
 
 
 def _places(lab: Laboratory, words: Sequence[str], begun: str) -> Iterable[str]:
-    """What can follow `back` and `fork`: the marks after `back to` and `back BRANCH to`, else what the program takes and these words."""
+    """What can follow `back` and `fork`: the marks after `back to` and `back BRANCH to`, else the program's words, and `to` or `here`."""
     if words[0] == BACK.word and words[-1] == TO and len(words) < 4:
         return lab.marks
     own = {BACK.word: TO, FORK.word: HERE}[words[0]]
@@ -137,7 +149,7 @@ def _places(lab: Laboratory, words: Sequence[str], begun: str) -> Iterable[str]:
 
 
 def _whatif(lab: Laboratory, words: Sequence[str], begun: str) -> Iterable[str]:
-    """What can follow the words of a `whatif`: a branch, options that are not there yet, and what these say."""
+    """What can follow the words of a `whatif`: a branch, options that are not there yet, and their values."""
     values: Dict[str, Iterable[str]] = {"--faults": KINDS, "--watch": WATCHED, "--out": _paths(begun)}
     options = {it.split()[0]: it.split()[1:] for it in WHATIF_OPTIONS}
     if options.get(words[-1]):
@@ -147,13 +159,13 @@ def _whatif(lab: Laboratory, words: Sequence[str], begun: str) -> Iterable[str]:
 
 
 def _options(word: str) -> Iterable[str]:
-    """What can follow an option of a rule, or what is before the options."""
+    """What can follow an option of a rule, or the words before the options."""
     values = OPTIONS[word].values if word in OPTIONS else ()
     return values[0].words if values else OPTIONS
 
 
 def _search(lab: Laboratory, words: Sequence[str], begun: str) -> List[str]:
-    """What can stand in a search, in people's words and in the program's."""
+    """What can come in a search, in people's words and in the program's."""
     found = offers(words)
     if not found.event:
         return _matching((*found.words, *(_branches(lab, words) if len(words) == 1 else ())), begun)
@@ -164,7 +176,7 @@ def _search(lab: Laboratory, words: Sequence[str], begun: str) -> List[str]:
 
 
 def _paths(begun: str) -> List[str]:
-    """The paths that begin so. That of a folder ends with a slash, since it goes on."""
+    """The paths that begin this way. The path of a folder ends with a slash, since more can follow."""
     return [f"{it}/" if os.path.isdir(it) else it for it in glob.glob(glob.escape(begun) + "*")]
 
 

@@ -22,38 +22,38 @@ class Loop(cmd.Cmd):
         super().__init__(stdout=out)
         self.lab, self.out, self.paint = lab, out, paint
         self.is_typed = self.use_rawinput = is_typed
-        # Of a server that is followed, where somebody types.
-        self.notes: Optional[Notes] = Notes(lab.shared, self.tell, paint) if lab.shared and is_typed else None
+        # Only on a server that is followed, at a terminal.
+        self.notes: Optional[Notes] = Notes(lab.shared, self.show, paint) if lab.shared and is_typed else None
         self._watch: Optional[Watch] = None
         self.set_prompt()
 
     @property
     def columns(self) -> Optional[int]:
-        """The columns of the terminal that the output goes to, where it goes to one."""
+        """The columns of the terminal that the output goes to, if it goes to one."""
         return columns_of(self.out)
 
-    def tell(self, lines: Sequence[str]) -> None:
-        """Prints lines for people, which fit a terminal."""
-        self.tell_whole(fitted(lines, self.columns))
+    def show(self, lines: Sequence[str]) -> None:
+        """Prints lines for people, fitted to the terminal."""
+        self.show_whole(fitted(lines, self.columns))
 
     def answer(self, lines: Sequence[str]) -> None:
-        """Prints the answer to a question. A long one goes through a pager where somebody types."""
+        """Prints the answer to a question. At a terminal a long one goes through a pager."""
         self.answer_whole(fitted(lines, self.columns))
 
     def answer_whole(self, lines: Sequence[str]) -> None:
-        """Prints such an answer in lines that are as they should be."""
+        """Prints an answer whose lines must not be broken."""
         if not self.is_typed or not paged(lines, self.out):
-            self.tell_whole(lines)
+            self.show_whole(lines)
 
-    def tell_whole(self, lines: Sequence[str]) -> None:
-        """Prints lines as they are, such as those of the language, which somebody may copy."""
+    def show_whole(self, lines: Sequence[str]) -> None:
+        """Prints lines as they are, such as lines of the language, which people may copy."""
         for line in lines:
             print(line, file=self.out, flush=self.is_typed)
 
     # ---- prompts
 
     def watch(self) -> None:
-        """Has notes come above the prompt while a line is typed there, where the terminal can show that."""
+        """Shows notes above the prompt while a line is being typed, if the terminal can do that."""
         if self.notes:
             self._watch = watch(self.notes, self.out, lambda: self.prompt)
 
@@ -64,7 +64,7 @@ class Loop(cmd.Cmd):
         """The branch in use, and how many of its events stand."""
         if not self.lab.is_open:
             return "setup"
-        # (a server keeps every command that it was asked, so none is asked for a prompt)
+        # (a server keeps every command that it gets, so a prompt asks it nothing)
         if self.lab.port is None or self.lab.is_mirrored:
             with contextlib.suppress(Unknown):
                 branch = self.lab.branch(self.lab.in_use)
@@ -85,7 +85,7 @@ class Loop(cmd.Cmd):
         return stop
 
     def _prompt(self) -> None:
-        """Readies the next prompt, with the notes above it."""
+        """Prepares the next prompt, with the notes above it."""
         self.set_prompt()
         if self.notes:
             self.notes.show()
@@ -109,7 +109,7 @@ class Loop(cmd.Cmd):
     def completenames(self, text: str, *ignored: object) -> List[str]:
         return spaced(candidates(self.lab, (), text))
 
-    # (Any, since cmd.Cmd has it)
+    # (Any, as in cmd.Cmd)
     def completedefault(self, *words: Any) -> List[str]:
         text, line, begun, _ = words
         try:
@@ -122,5 +122,5 @@ class Loop(cmd.Cmd):
 
 
 def spaced(words: List[str]) -> List[str]:
-    """The words with the space that ends each, which readline leaves to the completer; the path of a folder goes on."""
+    """The words with the space that ends each, which readline leaves to the completer; the path of a folder gets none."""
     return [it if it.endswith("/") else f"{it} " for it in words]

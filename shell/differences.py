@@ -26,7 +26,7 @@ from .words import (
 
 @dataclass(frozen=True)
 class Difference:
-    """A difference: at a node or on the link, in what, of which subject and part. A text is empty where there is nothing."""
+    """A difference: at a node or on the link, in what, of which subject and part. A text is empty if there is nothing."""
 
     where: str
     what: str
@@ -68,7 +68,7 @@ def _changed(where: str, what: str, before: Dict[str, str], after: Dict[str, str
 
 
 def _moved(where: str, what: str, before: Sequence[Item], after: Sequence[Item]) -> List[Difference]:
-    """What differs between two lists, whose order counts: an entry in another place is gone and new."""
+    """What differs between two lists, whose order counts: an entry that moved is both gone and new."""
     found: List[Difference] = []
     if before == after:
         return found
@@ -110,7 +110,7 @@ def _of_states(where: str, before: Node, after: Node) -> List[Difference]:
 
 
 def node_numbers(node: Node) -> Dict[str, str]:
-    """What a node has but for its tables and lists, each with its name."""
+    """What a node has apart from its tables and lists, each with its name."""
     return {
         "clock": seconds(node.clock),
         "boot": str(node.boot),
@@ -163,7 +163,7 @@ def _frame_text(frame: Frame) -> str:
 
 
 def _of_records(before: Frame, after: Frame) -> List[Difference]:
-    """The records that differ; where one of the frames cannot be read, only what it is."""
+    """The records that differ; if one of the frames cannot be read, only what it is."""
     subject = str(before.ticket)
     if before.broken or after.broken:
         old, new = before.summary, after.summary
@@ -174,7 +174,7 @@ def _of_records(before: Frame, after: Frame) -> List[Difference]:
 
 
 def _of_frame(before: Frame, after: Frame) -> List[Difference]:
-    """What differs between two frames of one ticket; their bytes, where nothing does that the bytes say."""
+    """What differs between two frames with one ticket; their bytes, if nothing that the bytes say differs."""
     subject = str(before.ticket)
     parts = {
         "receiver": (before.to, after.to),
@@ -204,7 +204,7 @@ def _of_link(before: Pair, after: Pair) -> List[Difference]:
 
 
 def differences(before: Pair, after: Pair) -> List[Difference]:
-    """All that differs between two pairs: both nodes and the link, but not how many events a branch has."""
+    """Everything that differs between two pairs: both nodes and the link, but not how many events a branch has."""
     found: List[Difference] = []
     for node in NODES:
         found += _of_node(node, before.nodes[node], after.nodes[node])

@@ -29,9 +29,9 @@ from .words import (
     state_line,
 )
 
-# What nodes that agree may have apart: each uses a state at its own times, and keeps for itself what it has to tell of it.
+# What may differ on nodes that agree: each uses a state at its own times, and keeps to itself what it has to send about it.
 NOT_SHARED = ("last use", "flags", "update count", "last change by the peer")
-# The field that means the same at both nodes only where their rules are the same.
+# The field that means the same at both nodes only if their rules are the same.
 RULE = ("rule",)
 
 
@@ -40,19 +40,19 @@ RULE = ("rule",)
 
 @dataclass
 class Compared:
-    """The states of both nodes, set against each other."""
+    """The states of both nodes, compared."""
 
     only: Dict[str, List[State]] = field(default_factory=lambda: {it: [] for it in NODES})
-    # States of a rule with `no-sync`, which no peer is told of.
+    # States of a rule with `no-sync`, which are never sent to the peer.
     unsynchronised: Dict[str, List[State]] = field(default_factory=lambda: {it: [] for it in NODES})
     agreeing: List[Name] = field(default_factory=list)
-    # What should be the same of a state and is not; and what may be apart, and is.
+    # What should be the same in a state and is not; and what may differ, and does.
     differing: Dict[Name, List[str]] = field(default_factory=dict)
     apart: Dict[Name, List[str]] = field(default_factory=dict)
 
 
 def between_nodes(pair: Pair, setup: Optional[Setup], paint: Paint) -> List[str]:
-    """Whether both nodes have the same states, what is on its way between them, and each difference."""
+    """Whether both nodes have the same states, what is on its way between them, and every difference."""
     compared = compare(pair, setup)
     only, twice = compared.only, sum(bool(_names_of_flow(pair.b, it)) for it in compared.only["a"])
     counts = Counts(len(only["a"]), len(only["b"]), len(compared.differing), len(compared.agreeing), twice)
@@ -70,7 +70,7 @@ def between_nodes(pair: Pair, setup: Optional[Setup], paint: Paint) -> List[str]
 
 
 def compare(pair: Pair, setup: Optional[Setup]) -> Compared:
-    """The states of both nodes, set against each other by their names."""
+    """The states of both nodes, compared by name."""
     compared = Compared()
     for node in (pair.a, pair.b):
         for name, state in sorted(node.states.items()):
@@ -97,7 +97,7 @@ def is_one_rule_set(setup: Optional[Setup]) -> bool:
 
 
 def unequal_fields(one: State, two: State) -> Dict[str, Tuple[str, str]]:
-    """The fields of two states that are not the same, each with both texts; but for those that need not be."""
+    """The fields that differ between two states, each with both texts, except for those that may differ."""
     first, second = state_fields(one), state_fields(two)
     return {it: (first[it], second[it]) for it in first if it not in NOT_SHARED and first[it] != second[it]}
 
@@ -107,7 +107,7 @@ def _both(parts: Dict[str, Tuple[str, str]]) -> List[str]:
 
 
 def _times_apart(pair: Pair, name: Name, setup: Optional[Setup]) -> List[str]:
-    """How long ago each node used a state, by its own clock, and when each has it expire; where these are apart."""
+    """How long ago each node used a state, by its own clock, and when it expires at each, if these differ."""
     used_a, used_b = (node.clock - node.states[name].last for node in (pair.a, pair.b))
     left_a, left_b = (milliseconds_left(setup, node, node.states[name]) for node in (pair.a, pair.b))
     said = [f"last used {seconds(used_a)} | {seconds(used_b)} ago"] if used_a != used_b else []
@@ -115,7 +115,7 @@ def _times_apart(pair: Pair, name: Name, setup: Optional[Setup]) -> List[str]:
 
 
 def _only_apart(compared: Compared) -> List[str]:
-    """The states that agree but for what need not be the same: those that are apart by the same in a line."""
+    """The states that agree except for what may differ: one line for those that differ in the same way."""
     names: Dict[str, List[str]] = {}
     for it in compared.agreeing:
         if it in compared.apart:
@@ -124,7 +124,7 @@ def _only_apart(compared: Compared) -> List[str]:
 
 
 class Counts(NamedTuple):
-    """How many states are only on a, only on b, on both and differ, and on both and agree; and how many flows have two names."""
+    """How many states are only on a, only on b, on both but differ, and on both and agree; and how many flows have two names."""
 
     only_a: int
     only_b: int
@@ -146,7 +146,7 @@ class Counts(NamedTuple):
 
 
 def circumstances(pair: Pair, setup: Optional[Setup], paint: Paint) -> List[str]:
-    """What explains why the nodes are apart, or may still make them agree."""
+    """What explains why the nodes differ, or may still make them agree."""
     lines: List[str] = []
     if pair.a.pending + pair.b.pending + len(pair.frames):
         pending = f"pending: {pair.a.pending} at a, {pair.b.pending} at b"
@@ -165,7 +165,7 @@ def circumstances(pair: Pair, setup: Optional[Setup], paint: Paint) -> List[str]
 
 
 def _alone(pair: Pair, node: str, state: State, setup: Optional[Setup], paint: Paint) -> str:
-    """A state that the other node has not; it may have the flow under another name."""
+    """A state that the other node does not have; it may have the flow under another name."""
     line = f"{state_line(state)}  {expiry(milliseconds_left(setup, pair.nodes[node], state))}"
     peer = pair.nodes[other(node)]
     names = ", ".join(map(str, _names_of_flow(peer, state)))
@@ -173,7 +173,7 @@ def _alone(pair: Pair, node: str, state: State, setup: Optional[Setup], paint: P
 
 
 def _names_of_flow(node: Node, state: State) -> List[Name]:
-    """The other names under which a node has a flow: its wire key or its stack key, of the same protocol."""
+    """The other names under which a node has a flow: its wire key or its stack key, with the same protocol."""
     same = (it for it in node.states.values() if it.protocol == state.protocol and it.name != state.name)
     return sorted(it.name for it in same if it.wire == state.wire or it.stack == state.stack)
 
@@ -187,11 +187,11 @@ def between_branches(lab: Laboratory, one: Branch, two: Branch, paint: Paint) ->
     answer = "show the same pair" if not found else f"show pairs that differ in {counted(len(found), 'place')}"
     colour = paint.bad if found else paint.good
     lines = [colour(f"{one.name} and {two.name} {answer}"), *_where_they_part(one, two)]
-    return lines + _told(found, one.name, two.name)
+    return lines + _difference_lines(found, one.name, two.name)
 
 
 def _where_they_part(one: Branch, two: Branch) -> List[str]:
-    """The first event that is not the same in both, of those that stand."""
+    """The first event that stands and is not the same in both."""
     events = list(zip_longest(one.events[: one.cursor], two.events[: two.cursor]))
     for number, (first, second) in enumerate(events, 1):
         if first != second:
@@ -201,8 +201,8 @@ def _where_they_part(one: Branch, two: Branch) -> List[str]:
     return [f"their events are the same: {counted(len(events), 'event')}"]
 
 
-def _told(found: List[Difference], one: str, two: str) -> List[str]:
-    """The differences, those of one subject in a line."""
+def _difference_lines(found: List[Difference], one: str, two: str) -> List[str]:
+    """The differences, one line for each subject."""
     lines: List[str] = []
     for (where, what, subject), group in groupby(found, lambda it: (it.where, it.what, it.subject)):
         of = " ".join(it for it in (what, subject) if it)

@@ -1,4 +1,4 @@
-"""What the program answers to `why`: what came of an event of a branch, or would come of one, and why."""
+"""The program's answer to `why`: what came of an event of a branch, or would come of one, and why."""
 from __future__ import annotations
 
 from typing import Dict, List, NamedTuple, Optional, Sequence, Tuple, Union
@@ -10,11 +10,11 @@ from .setups import Adaptive
 
 
 class NotExplained(ValueError):
-    """The text is not that of an explanation."""
+    """The text is not an explanation."""
 
 
 class Edge(NamedTuple):
-    """A number of a packet of TCP, the one or the two that bound it, and by how much it lies beyond, if it does."""
+    """A number of a TCP packet, the one or two numbers that bound it, and by how much it lies beyond, if it does."""
 
     number: int
     bounds: Tuple[int, ...]
@@ -22,15 +22,15 @@ class Edge(NamedTuple):
 
 
 class OfState(NamedTuple):
-    """A state has the key of the packet. One of TCP is tested: its edges are `right`, `left`, and `ack` where that counts."""
+    """A state has the key of the packet. A TCP packet is tested: its edges are `right`, `left`, and `ack` if that counts."""
 
     name: Name
     edges: Dict[str, Edge]
 
 
 class Judged(NamedTuple):
-    """The rules judged the packet, after a closed connection of its ends went: the rule that decided, if one matches, and what came
-    of it: `block`, `max MOST STATES`, `full LIMIT STATES`, `wire NAME`, `stack NAME` or `new NAME`; nothing where none matches."""
+    """The rules judged the packet, after a closed connection of its ends was deleted: the rule that decided, if one matches, and what
+    came of it: `block`, `max MOST STATES`, `full LIMIT STATES`, `wire NAME`, `stack NAME` or `new NAME`; nothing if none matches."""
 
     closed: Optional[Name]
     rule: Optional[int]
@@ -42,12 +42,12 @@ class Judged(NamedTuple):
         return Name.read(self.values[0])
 
 
-# The ends of a record that are behind those of the state, by the word for them.
+# The ends of a record that are behind those of the state, by their word.
 _STALE: Dict[str, Tuple[str, ...]] = {"-": (), "src": ("source",), "dst": ("destination",), "both": ("source", "destination")}
 
 
 class TakenRecord(NamedTuple):
-    """A record of a frame, by its kind and what it is about, and the words of what became of it."""
+    """A record of a frame: its kind, what it is about, and the words for what became of it."""
 
     kind: RecordKind
     about: Tuple[str, ...]
@@ -69,7 +69,7 @@ class TakenRecord(NamedTuple):
 
 
 class Expiry(NamedTuple):
-    """A state that a purge found: the seconds of its class, those as the number of states shortens them, and when it expires."""
+    """A state that a purge found: the seconds of its class, those seconds as shortened by the number of states, and when it expires."""
 
     name: Name
     timeout_class: str
@@ -84,7 +84,7 @@ class Expiry(NamedTuple):
 
 
 class Purge(NamedTuple):
-    """What a purge looked at: the clock, how many states it found, between which numbers timeouts shrink, and the states by name."""
+    """What a purge looked at: the clock, how many states there were, between which numbers timeouts shrink, and the states by name."""
 
     clock: int
     states: int
@@ -98,18 +98,18 @@ class Purge(NamedTuple):
 
 
 class Against(NamedTuple):
-    """The numbers that stand against an event that is refused, as they follow the word for them: `ticket NEXT`, `frames LIMIT
-    FRAMES`, `pending LIMIT PENDING`, `clock MS LAST` or `due MS DUE`; none where the refusal has none."""
+    """The numbers for which an event is refused, after the word for them: `ticket NEXT`, `frames LIMIT FRAMES`,
+    `pending LIMIT PENDING`, `clock MS LAST` or `due MS DUE`; none if the refusal has none."""
 
     numbers: Tuple[int, ...]
 
 
-# What there is to say beside the outcome: of a frame that can be read its records, and of most events nothing.
+# What there is to say besides the outcome: for a frame that can be read, its records; for most events, nothing.
 Reason = Union[OfState, Judged, List[TakenRecord], Purge, Against, None]
 
 
 class Explanation(NamedTuple):
-    """An event with what came of it, or would come of it, and why; the lines of the reason as the program writes them."""
+    """An event, what came of it or would come of it, and why; and the lines of the reason as the program writes them."""
 
     event: Happened
     reason: Reason

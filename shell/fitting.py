@@ -1,4 +1,4 @@
-"""Lines that fit a terminal: those that are too long for it are broken at spaces, and never within a word."""
+"""Fits lines to a terminal: those that are too long are broken at spaces, never within a word."""
 from __future__ import annotations
 
 import re
@@ -7,38 +7,38 @@ from typing import IO, Iterable, Iterator, List, Optional
 
 from .colours import CODE, END
 
-# A short word with two spaces or more after it, and then what it is about: that goes on below itself.
+# A short word, two or more spaces, and then a text: the text continues below its own beginning.
 _TERM = re.compile(r" *\S+ {2,}")
-# How much farther in than its beginning any other line goes on.
+# How much deeper than its beginning any other line continues.
 _FURTHER = 4
-# A word longer than any of the language's, of which the first characters are kept; a path has short ones between its slashes.
+# A word longer than any word of the language is cut to its first characters; a path has short words between its slashes.
 _LONG = re.compile(r"([^\s`/;,]{40})[^\s`/;,]{21,}")
 
 
 def columns_of(stream: IO[str]) -> Optional[int]:
-    """The columns of the terminal that a stream goes to; None where it goes to none."""
+    """The columns of the terminal that a stream goes to; None if it goes to none."""
     return shutil.get_terminal_size().columns if stream.isatty() else None
 
 
 def fitted(lines: Iterable[str], columns: Optional[int]) -> List[str]:
-    """The lines in rows of at most these columns, a longer word alone in its row. Where there is no terminal they are as they were."""
+    """The lines in rows of at most this many columns; a longer word has a row to itself. Without a terminal they stay as they are."""
     if columns is None:
         return list(lines)
     return [row for line in lines for part in line.split("\n") for row in _rows(part, columns)]
 
 
 def shortened(text: str) -> str:
-    """A text in which very long words, as somebody typed them, are cut to their first 40 characters."""
+    """The text with very long words, as someone typed them, cut to their first 40 characters."""
     return _LONG.sub(r"\1..", text)
 
 
 def length_of(text: str) -> int:
-    """How many columns a text takes, which may have colours."""
+    """How many columns a text takes; it may have colours."""
     return len(CODE.sub("", text))
 
 
 def _rows(line: str, columns: int) -> Iterator[str]:
-    """The rows of a line. A colour ends with its row, and begins again in the next one."""
+    """The rows of a line. A colour ends with its row and begins again in the next."""
     if length_of(line) <= columns:
         yield line
         return
@@ -55,7 +55,7 @@ def _rows(line: str, columns: int) -> Iterator[str]:
 
 
 def _indent(plain: str, columns: int) -> int:
-    """How far in a line without colours goes on, which leaves room for half a row."""
+    """How deep a line without colours continues, which leaves room for half a row."""
     term = _TERM.match(plain)
     wanted = term.end() if term else len(plain) - len(plain.lstrip()) + _FURTHER
     return min(wanted, columns // 2)

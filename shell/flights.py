@@ -1,4 +1,4 @@
-"""What the program answers to `frame BRANCH TICKET`: a frame that an event sent, and what became of it."""
+"""The program's answer to `frame BRANCH TICKET`: a frame that an event sent, and what became of it."""
 from __future__ import annotations
 
 from dataclasses import dataclass, field, replace
@@ -12,7 +12,7 @@ from .pair import other
 
 @dataclass
 class Flight:
-    """A frame as it was sent, the event that sent it, and those that befell it, in their order."""
+    """A frame as it was sent, the event that sent it, and the later events about it, in order."""
 
     frame: Frame
     sent: Happened
@@ -41,7 +41,7 @@ class Flight:
 
     @property
     def now(self) -> Frame:
-        """What its cuts have left of it."""
+        """The frame as its cuts have left it."""
         return replace(self.frame, data=self.frame.data[: min(int(it.outcome[1]) for it in self.cuts)]) if self.cuts else self.frame
 
     @property

@@ -14,7 +14,7 @@ HEADER = 20
 
 @dataclass(frozen=True)
 class Carried(Flow):
-    """A state as an insertion, an update or a deletion carries it, with the seconds that are left of it at the sender."""
+    """A state as an insertion, an update or a deletion carries it, with the seconds that it has left at the sender."""
 
     remaining: int
     rule: Optional[int]
@@ -33,8 +33,8 @@ class Changes:
 
 @dataclass(frozen=True)
 class Record:
-    """A record by its kind and what it is about: a name, or of a clear a creator and the greatest id, or of a bulk status where the
-    update is; and what it carries of a state."""
+    """A record: its kind, what it is about (a name; for a clear a creator and the greatest id; for a bulk status how far the update
+    is), and what it carries of a state."""
 
     kind: RecordKind
     about: Tuple[str, ...]
@@ -59,7 +59,7 @@ class Record:
 
 @dataclass(frozen=True)
 class Frame:
-    """A frame on its way: the node that it goes to, its bytes, and the records in them, where those were asked for."""
+    """A frame on its way: the node that it goes to, its bytes, and the records in them, if those were asked for."""
 
     ticket: int
     to: str
@@ -73,11 +73,11 @@ class Frame:
 
     @property
     def broken(self) -> str:
-        """Why its receiver cannot read it, empty where it can: a cut frame still has its first length in its header."""
+        """Why its receiver cannot read it; empty if it can. A cut frame still has its original length in its header."""
         length, first = len(self.data), int.from_bytes(self.data[2:4], "big")
         if length < HEADER:
-            return f"it has {length} bytes, and a header alone has {HEADER}"
-        return "" if first == length else f"bytes 2 and 3 of its header say {first} bytes, and {length} are there"
+            return f"it has {length} bytes, but a header alone has {HEADER}"
+        return "" if first == length else f"bytes 2 and 3 of its header say {first} bytes, but {length} are there"
 
     @property
     def checksum(self) -> str:

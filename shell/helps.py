@@ -1,9 +1,9 @@
-"""What `help` says of each word: its form, what it does, and what it answers."""
+"""What `help` says about each word: its form, what it does, and what it answers."""
 from __future__ import annotations
 
 import re
 import textwrap
-from typing import Dict, List, NamedTuple, Optional
+from typing import Dict, Iterable, List, NamedTuple, Optional
 
 from .language import commands, events
 from .language.commands import Line
@@ -13,7 +13,7 @@ from .language.searches import SEARCH
 
 
 class Help(NamedTuple):
-    """A word's form, what it does, and what more is to be known of it."""
+    """A word's form, what it does, and what else to know about it."""
 
     form: str
     what: str
@@ -32,14 +32,15 @@ WHATIF_PARTS = "\n".join(
         "The events of the branch that stand happen again with each fault, and then what is pending is sent and delivered, as by `quiet`; "
         "nothing changes here. The groups that change most come first, each with the reason in its first fault.",
         "--faults KINDS: only these, joined by commas: undone (a loss, cut, repeat, restart, kill or clear of the run as if it had not "
-        "been), lose, twice, cut, late, last (a frame), skip (a packet or another event of a node), restart, clock (61 s ahead).",
-        "--watch WHAT: shows only the groups in which a packet passes that did not (pass), or the reverse (drop), in which the nodes are "
-        "apart otherwise at the end (apart), or in which the packets of events with these numbers get other verdicts; joined by commas.",
+        "happened), lose, twice, cut, late, last (a frame), skip (a packet or another event of a node), restart, clock (61 s ahead).",
+        "--watch WHAT: shows only the groups in which a packet passes that did not (pass), or the reverse (drop), in which the nodes "
+        "differ in another way at the end (apart), or in which the packets of events with these numbers get other verdicts; joined by "
+        "commas.",
         "--from K, --to L: faults at these events.",
-        "--pairs: each two faults together; restarts and clocks only where --faults names them.",
-        "--only N: shows the N-th group alone, with all of its faults and the whole reason.",
+        "--pairs: every two faults together; restarts and clocks only if --faults names them.",
+        "--only N: shows only the N-th group, with all of its faults and the whole reason.",
         "--out FILE.pfl: writes the dialogue as a script, with a branch for the first fault of each group that is shown.",
-        "An interrupt (Ctrl-C) ends it, and what was found is shown.",
+        "An interrupt (Ctrl-C) ends it and shows what was found.",
     )
 )
 # The names in forms that the help writes out.
@@ -55,7 +56,7 @@ def _of_line(it: Line) -> Help:
 
 
 def _of_event(it: Event) -> Help:
-    """The help of an event: what it answers and refuses is put into words here."""
+    """The help of an event, with what it answers and refuses in words."""
     *others, last = (f"`{outcome.form}`{outcome.help}" for outcome in it.outcomes)
     answers = f"{', '.join(others)}{',' * (len(others) > 1)} or {last}" if others else last
     more = f"Answers {answers}. Refused: {', '.join(it.refused)}. {it.more}".strip()
@@ -64,13 +65,13 @@ def _of_event(it: Event) -> Help:
 
 SETUP = {word: _of_line(it) for word, it in commands.SETUP.items()}
 COMMANDS = {word: _of_line(it) for word, it in commands.TYPED.items()}
-# What the shell takes beside the forms of the laboratory's own words.
+# What the shell takes besides the forms of the laboratory's own words.
 ADDED = {
     "back to": Help(
         "back [BRANCH] to K\nback [BRANCH] to MARK",
         "goes to where the first K events stand, or to a mark, by `back` or `forward`",
-        "Without BRANCH it goes there in the branch in use, or in the one where the mark was set. In another one a mark is found where the "
-        "same events are. A branch that is called `to` takes the two forms without BRANCH for itself.",
+        "Without BRANCH it goes there in the branch in use, or in the one where the mark was set. In another branch a mark is found if the "
+        "same events are there. If a branch is called `to`, the two forms without BRANCH are about that branch.",
     ),
     "fork here": Help("fork here NEW", "makes a branch NEW of the events that stand in the branch in use"),
 }
@@ -79,9 +80,9 @@ EVENTS = {word: _of_event(it) for word, it in events.EVENTS.items()}
 SEARCH_PARTS = "\n".join(
     (
         "The search goes on from where the branch in use stands, and changes nothing. A packet that is refused or held counts as "
-        "dropped. The nodes are apart where one has a state whose name the other one has not. Parts stand between commas:",
-        "settled: ask only where nothing is in flight or pending, and no bulk update is under way; the default.",
-        "landed: ask only where no frame is in flight.",
+        "dropped. The nodes are apart if one has a state whose name the other does not have. Commas separate the parts:",
+        "settled: ask only when nothing is in flight or pending, and no bulk update is under way; the default.",
+        "landed: ask only when no frame is in flight.",
         "anywhere: ask after each event.",
         "within N: of runs of at most N events, up to 64; the default is 8.",
         "deliver N: any frame is delivered, at most N times in all; the default is as often as there are events.",
@@ -89,18 +90,18 @@ SEARCH_PARTS = "\n".join(
         "lose N, repeat N, cut LENGTH N: any frame is lost, doubled, or cut to its first LENGTH bytes, at most N times in all; the "
         "default is never.",
         "EVENT [N times]: this event may happen, at most N times, or once; `lose 2 1 times` loses frame 2.",
-        "at most RUNS: give up where more runs than that are to be tried at a depth; the default is 1,000,000.",
-        "Runs of no event are searched first, then those of one, and so on. An interrupt (Ctrl-C) ends the search, and it reports how "
-        "far it came. `take` steps what was found. The last form is the program's own line (docs/FORMATS.md). On a server this needs one that "
-        "reports its setup.",
+        "at most RUNS: give up if a depth needs more runs than that; the default is 1,000,000.",
+        "Runs of no event are searched first, then those of one, and so on. An interrupt (Ctrl-C) ends the search, which reports how far "
+        "it got. `take` steps what was found. The last form is the program's own line (docs/FORMATS.md). A search on a server needs one "
+        "that reports its setup.",
     )
 )
 
 SHELL: Dict[str, Help] = {
     VIEW: Help(
         "view [BRANCH] [K]\nview [BRANCH] [K] NODE\nview [BRANCH] [K] NAME",
-        "shows the pair in the words of pfctl: states, counters, queues, held packets, frames; or a node alone, or a state at both nodes",
-        "With K it shows the pair as it was after the first K events, those after the cursor too; the branch stays as it is.",
+        "shows the pair in the words of pfctl: states, counters, queues, held packets, frames; or one node, or a state at both nodes",
+        "With K it shows the pair as it was after the first K events, even events after the cursor; the branch stays as it is.",
     ),
     "diff": Help(
         "diff [BRANCH]\ndiff BRANCH BRANCH",
@@ -112,7 +113,7 @@ SHELL: Dict[str, Help] = {
     ),
     "why": Help(
         "why [[BRANCH] K]\nwhy [BRANCH] EVENT",
-        "gives the reason for the last reply, or for what became of the K-th event; or what would come of an event, and why",
+        "gives the reason for the last reply, or for what came of the K-th event; or what would come of an event, and why",
         "The event does not happen: the branch stays as it is.",
     ),
     "frame": Help(
@@ -125,43 +126,52 @@ SHELL: Dict[str, Help] = {
     ),
     SEARCH: Help(
         "\n".join((*FOR_PEOPLE, f"{SEARCH} BRANCH DEPTH RUNS GOAL [; CHOICE]..")),
-        "finds a shortest run of events after which a packet would be dropped, or would pass, or the nodes have not the same "
+        "finds a shortest run of events after which a packet would be dropped, or would pass, or the nodes do not have the same "
         "states; or proves that there is none",
         SEARCH_PARTS,
     ),
     "take": Help(
         "take [NAME]",
         "steps what the last search found, on a new branch",
-        "The branch NAME (`found`, then `found-2`, .. if it is left out) is forked from the one that was searched, and is in use then.",
+        "The branch NAME (`found`, then `found-2`, .. if it is left out) is forked from the one that was searched, and comes into use.",
     ),
     CHART: Help(
         f"{CHART} [BRANCH] [from K] [to L] [flow NAME] [FILE.svg]",
-        "draws what happened: two lanes, frames as arrows; as text, or as a picture into a file",
+        "draws what happened: two lanes, frames as arrows; as text, or as a picture in a file",
         "With K and L it draws the events from the K-th to the L-th; with NAME only what is about this state: packets of its flow, "
-        "frames with a record about it, and what takes it from a node.",
+        "frames with a record about it, and what removes it from a node.",
     ),
     WHATIF: Help(
         f"{WHATIF} [BRANCH] {' '.join(f'[{it}]' for it in WHATIF_OPTIONS)}",
-        "tries each single fault of the branch in a run of its own, as a lost frame or a restart, and groups the faults by what they "
+        "tries each single fault of the branch, such as a lost frame or a restart, in a run of its own, and groups the faults by what they "
         "change",
         WHATIF_PARTS,
     ),
-    "summary": Help("summary", "asks a server for a few numbers of all branches, which is no command and waits for nobody"),
+    "summary": Help("summary", "asks a server for a few numbers that sum up all branches; this is no command, and waits for no one"),
     NOTES: Help(
         f"{NOTES} on\n{NOTES} off",
-        "shows what other sessions of a server do, a line for each command but looks, as it does at first; or stops that",
-        "Each comes above the prompt. `notes` alone says whether they are on.",
+        "shows what other sessions of a server do, a line for each command except looks, as it does at first; or stops that",
+        "Notes come above the prompt. `notes` alone says whether they are on.",
     ),
     "mark": Help(
         "mark [NAME]",
-        "gives the place where the branch in use stands a name, for `back to NAME`; without NAME lists the marks",
-        "Marks last as long as the dialogue, and `save` does not write them.",
+        "names the place where the branch in use stands, for `back to NAME`; without NAME lists the marks",
+        "Marks last as long as the dialogue; `save` does not write them.",
     ),
-    "use": Help("use BRANCH", "makes a branch the one that events and questions without a branch are meant of"),
+    "use": Help("use BRANCH", "makes a branch the one that events and questions without a branch are about"),
     "verify": Help("verify FILE..", "runs scripts by themselves, and reports where their lines `#>` and the replies differ"),
-    "annotate": Help("annotate FILE..", "writes the replies into scripts, as lines `#>`"),
-    "read": Help("read FILE", "takes the lines of a file, as if they were typed"),
-    "save": Help("save FILE", "writes the setup and the commands of this session with their replies, as a script"),
+    "annotate": Help(
+        "annotate [--dry-run] FILE..",
+        "writes the replies into scripts, as lines `#>`",
+        "A dry run (-n) shows what would change, as `diff -u` does, and writes nothing.",
+    ),
+    "read": Help("read FILE", "takes the lines of a file as if they were typed"),
+    "save": Help(
+        "save FILE",
+        "writes the setup and the commands of this session with their replies, as a script",
+        "Comments that were typed (`# ..`) stay in it, so a story can be typed as well; faulty lines are left out. On a server it has the "
+        "commands of all sessions, and no typed comments.",
+    ),
     "help": Help("help [WORD]", "lists all words, or explains one"),
     "quit": Help("quit", "ends the shell, as the end of input does"),
 }
@@ -176,7 +186,7 @@ WORDS: Dict[str, Help] = {**SETUP, **COMMANDS, **EVENTS, **SHELL}
 
 
 def overview(columns: Optional[int] = None) -> List[str]:
-    """All words, each with what it does; in lines for a terminal of these columns, where there is one."""
+    """All words, each with what it does; in lines for a terminal of this many columns, if there is one."""
     lines: List[str] = []
     for title, group in GROUPS:
         lines += _wrapped(title, columns)
@@ -186,7 +196,7 @@ def overview(columns: Optional[int] = None) -> List[str]:
 
 
 def about(word: str, columns: Optional[int] = None) -> List[str]:
-    """All about one word."""
+    """Everything about one word."""
     lines: List[str] = []
     for it in (WORDS[word], *(its for added, its in ADDED.items() if added.split()[0] == word)):
         lines += [part for form in it.form.split("\n") for part in _wrapped(form, columns, "", "    ")]
@@ -197,7 +207,13 @@ def about(word: str, columns: Optional[int] = None) -> List[str]:
     return lines
 
 
+def shows(word: str, forms: Iterable[str]) -> bool:
+    """Whether the help of a word has these forms; before that of an event its command may stand."""
+    its = tuple(WORDS[word].form.split("\n")) if word in WORDS else ()
+    return all(_written_out(it).endswith(its) for it in forms)
+
+
 def _wrapped(text: str, columns: Optional[int], first: str = "", others: str = "") -> List[str]:
-    """A text in lines that begin so, which no word is broken for."""
+    """A text in lines with these beginnings, which break no word."""
     width = min(WIDEST, columns or WIDEST)
     return textwrap.wrap(text, width, initial_indent=first, subsequent_indent=others, break_long_words=False, break_on_hyphens=False)

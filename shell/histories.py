@@ -1,5 +1,5 @@
-"""The first events of a branch. The program is asked for what came of one, for a pair or for a frame only where somebody wants to
-know, and once."""
+"""The first events of a branch. The program is asked what came of one, for a pair or for a frame, only when it is needed, and only
+once."""
 from __future__ import annotations
 
 from dataclasses import replace
@@ -13,11 +13,11 @@ from .pair import Pair
 
 
 class History:
-    """The first events of a branch, as their lines."""
+    """The first events of a branch, as lines."""
 
     def __init__(self, lab: Laboratory, branch: str, lines: Sequence[str]):
         self.lab, self.lines = lab, lines
-        # What came of an event and why, and the pair after it, by its place.
+        # What came of an event and why, and the pair after it, by the event's place.
         self.explained: Callable[[int], Explanation] = lru_cache(maxsize=None)(partial(lab.explanation, branch))
         self.pair: Callable[[int], Pair] = lru_cache(maxsize=None)(partial(lab.past, branch))
         self.sent: Callable[[int], Flight] = lru_cache(maxsize=None)(partial(lab.flight, branch))
@@ -28,5 +28,5 @@ class History:
         return replace(it, later=[one for one in it.later if one.number <= len(self.lines)])
 
     def newest_flights(self) -> Iterator[Flight]:
-        """The frames that these events sent, the newest first: tickets are counted from 1."""
+        """The frames that these events sent, newest first: tickets are counted from 1."""
         return map(self.flight, range(self.pair(len(self.lines)).next_ticket - 1, 0, -1))

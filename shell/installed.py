@@ -1,4 +1,4 @@
-"""The command `pfl_shell`: the shell as one file, which `./lab install` puts beside the program."""
+"""The command `pfl_shell`: the shell as one file, which `./lab install` puts next to the program."""
 from __future__ import annotations
 
 import os
@@ -15,7 +15,7 @@ NO_PROGRAM_STATUS = 125
 
 
 def main() -> int:
-    """Carries out the words of the command line, `shell` where there is none, by the program beside it or that of PFL_LAB."""
+    """Carries out the words of the command line, or `shell` if there are none, with the program next to it or that of PFL_LAB."""
     words = sys.argv[1:] or ["shell"]
     needs_none = {"-h", "--help"} & {*words} or words[0] in WITHOUT_PROGRAM
     try:
@@ -31,5 +31,5 @@ def program_of(folder: str) -> str:
     beside = os.path.join(folder, PROGRAM)
     program = chosen() or shutil.which(beside)
     if not program:
-        raise NoProgram(f"there is no program at {beside}; PFL_LAB names another one")
+        raise NoProgram(f"there is no program at {beside}; PFL_LAB can name another one")
     return program

@@ -1,4 +1,4 @@
-"""A laboratory that a person works with: its setup, the program behind it, and the runs that answer her questions."""
+"""A laboratory that a person works with: its setup, the program under it, and the runs that answer questions."""
 from __future__ import annotations
 
 import contextlib
@@ -8,9 +8,11 @@ from typing import ContextManager, Dict, Iterator, List, Optional, Sequence, Tup
 from .branches import Branch, Mark, read_log
 from .explanations import Explanation, read_explanation
 from .flights import Flight, read_flight
-from .held import held_packets, tell_packets
+from .held import held_packets, with_packets
 from .language.commands import NAMES, OPEN, STEP
+from .language.events import PACKET
 from .language.faults import COMMAND_REFUSALS, numbered
+from .language.forms import END
 from .language.lines import check_line, has_word, opens
 from .language.names import NODES
 from .language.readers import LineFault
@@ -22,11 +24,13 @@ from .programs import FOLLOW, VIEW, Client, Ended, Run, Session, check_setup, ru
 from .setups import Setup
 
 
-# What the numbers of a server's summary count, behind the number of commands.
+# What the numbers of a server's summary count, after the number of commands.
 SUMMARY = ("branches", "events", "their cursors together", "states at a", "states at b", "frames in flight", "pending")
 
 
-# The reply of a branch whose events sent no such frame.
+# How many ends of packets are kept.
+MOST_ENDS = 48
+# The reply for a branch whose events sent no such frame.
 NO_FRAME = f"refused {numbered('NoFrame', COMMAND_REFUSALS)}"
 
 
@@ -36,14 +40,14 @@ class Unknown(Exception):
 
 @dataclass(frozen=True)
 class Asked:
-    """A line that was asked, and its reply."""
+    """A line that was sent, and its reply."""
 
     line: str
     reply: Tuple[str, ...]
 
 
 class Laboratory:
-    """One pair with its branches. A question is answered by a run of its own, and changes nothing here."""
+    """A pair with its branches. A question is answered by a run of its own, and changes nothing here."""
 
     def __init__(self, program: str, port: Optional[int] = None, setup: Optional[Setup] = None):
         self.program, self.port = program, port
@@ -51,13 +55,15 @@ class Laboratory:
         self.knows_setup = port is None or setup is not None
         self.session: Optional[Session] = Client(port) if port else None
         self.last: Optional[Asked] = None
-        # The branch that is meant where none is named.
+        # The branch that is meant if none is named.
         self.in_use = "main"
-        # The places that have names.
+        # The named places.
         self.marks: Dict[str, Mark] = {}
+        # The ends of the packets that were stepped here, the newest last.
+        self.ends: Dict[str, None] = {}
 
     def join(self) -> str:
-        """Follows the server, whose sessions are all connected, if it tells its setup: what there is to say of that."""
+        """Follows the server, whose sessions are all connected, if it reports its setup; returns what there is to say about that."""
         assert isinstance(self.session, Client)
         self.session, setup, said = joined(self.session, self.program, self.setup if self.knows_setup else None)
         if setup:
@@ -66,7 +72,7 @@ class Laboratory:
 
     @property
     def shared(self) -> Optional[Shared]:
-        """The session of a server that is followed."""
+        """The session, if it follows its server."""
         return self.session if isinstance(self.session, Shared) else None
 
     @property
@@ -76,15 +82,15 @@ class Laboratory:
 
     @property
     def searches(self) -> bool:
-        """Whether searches are answered; a server does not, and one that is not followed leaves nobody else who could."""
+        """Whether searches are answered: a server does not answer them, and if it is not followed, nothing else can."""
         return self.port is None or self.shared is not None
 
     def one_moment(self) -> ContextManager[None]:
-        """Has the questions within be answered of one moment of the pair, where other sessions could change it in between."""
+        """Answers the questions within about one moment of the pair, though other sessions may change it in between."""
         return self.shared.one_moment() if self.shared else contextlib.nullcontext()
 
     def limit(self, limit: Limit) -> str:
-        """A limit in words, with its number: of a server's own nothing is known without its setup."""
+        """A limit in words, with its number; the limits of a server are not known without its setup."""
         if self.knows_setup:
             return f"the limit `{limit.word}` is {self.setup.limits[limit]}"
         return f"the limit `{limit.word}` of the server is not known here ({limit.default} unless its setup says otherwise; see --setup)"
@@ -95,8 +101,8 @@ class Laboratory:
     def is_open(self) -> bool:
         return self.session is not None
 
-    def tell_setup(self, line: str) -> None:
-        """Takes a line of the setup, or says what is wrong with it."""
+    def take_setup(self, line: str) -> None:
+        """Takes a line of the setup, or raises what is wrong with it."""
         if opens(line):
             self.open()
             return
@@ -106,7 +112,7 @@ class Laboratory:
         self.setup.add(line)
 
     def pass_over(self, line: str) -> None:
-        """Takes a line that is not read, as a comment of the setup."""
+        """Takes a line that is not read, such as a comment of the setup."""
         if not self.is_open:
             self.setup.pass_over(line)
 
@@ -117,39 +123,49 @@ class Laboratory:
         self.session = Run(self.program, self.setup.lines)
 
     def ask(self, line: str) -> List[str]:
-        """The reply to a line behind the setup; none where it is passed over."""
+        """The reply to a line after the setup; empty if the line is passed over."""
         if not has_word(line):
             return []
         if self.session is None:
-            raise Unknown("the pair is not set up: say `rule NODE ..` for its rules, and then `open`")
+            raise Unknown("the pair is not set up: enter `rule NODE ..` for its rules, and then `open`")
         words = line.split()
         if words[0] == FOLLOW and self.shared:
             raise Unknown("this shell follows the server's journal already: `notes` shows what other sessions do")
         reply = self._searched(line) if words[0] == SEARCH and self.searches else self.session.ask(line)
         self.last = Asked(" ".join(words), tuple(reply))
+        if reply[0].startswith(STEP.word) and words[2] == PACKET.word:
+            self._keep_ends(*map(END.plain, words[6:8]))
         if reply[0] == "removed" and words[1] == self.in_use:
             self.in_use = self.names()[0]
         return reply
 
+    def _keep_ends(self, source: str, destination: str) -> None:
+        """Keeps the ends of a packet as the newest, and no more of the oldest than there is room for."""
+        for it in (destination, source):
+            self.ends.pop(it, None)
+            self.ends[it] = None
+        for it in [*self.ends][:-MOST_ENDS]:
+            del self.ends[it]
+
     def show(self, branch: str) -> Pair:
         """The pair that a branch shows."""
-        return read_shown(self._told(f"show {branch}"))
+        return read_shown(self._long_reply(f"show {branch}"))
 
     def past(self, branch: str, place: int) -> Pair:
-        """The pair as it was after the first events of a branch, those after its cursor too."""
-        return read_shown(self._told(f"past {branch} {place}"))
+        """The pair as it was after the first events of a branch, including those after its cursor."""
+        return read_shown(self._long_reply(f"past {branch} {place}"))
 
     def explanation(self, branch: str, event: Union[int, str]) -> Explanation:
-        """What came of an event of a branch by its place, those after its cursor too, and why; or what would come of one by its line
-        where the branch stands."""
-        return read_explanation(self._told(f"why {branch} {event}"))
+        """What came of the event at a place of a branch, even after its cursor, and why; or what would come of an event, given by its
+        line, where the branch stands."""
+        return read_explanation(self._long_reply(f"why {branch} {event}"))
 
     def flight(self, branch: str, ticket: int) -> Flight:
-        """A frame that an event of a branch sent, those after its cursor too, and what became of it."""
-        return read_flight(self._told(f"frame {branch} {ticket}"))
+        """A frame that an event of a branch sent, even after its cursor, and what became of it."""
+        return read_flight(self._long_reply(f"frame {branch} {ticket}"))
 
     def summary(self) -> str:
-        """What a server answers to a viewer, who waits for nobody: a few numbers of one moment, each with its name."""
+        """A server's answer to a viewer, who waits for no one: a few numbers of one moment, each with its name."""
         if self.port is None:
             raise Unknown("`summary` asks a server; here `view` shows the pair")
         words = self._quietly(VIEW)[0].split()
@@ -159,32 +175,32 @@ class Laboratory:
         return f"after {words[1]} commands of all sessions: " + ", ".join(f"{name} {number}" for name, number in numbers)
 
     def branch(self, name: str) -> Branch:
-        """A branch with its events, those that were undone too."""
-        return read_log(self._told(f"log {name}"))
+        """A branch with its events, including those that were undone."""
+        return read_log(self._long_reply(f"log {name}"))
 
     def names(self) -> List[str]:
-        """The names of the branches, in the order of their making."""
+        """The names of the branches, in the order in which they were made."""
         return self._quietly(NAMES.word)[0].split()[1:]
 
-    def _told(self, line: str) -> List[str]:
+    def _long_reply(self, line: str) -> List[str]:
         """A reply of many lines about a branch, whose name is the second word of the line."""
         reply, name = self._quietly(line), line.split()[1]
         if reply[-1] == "end":
             return reply
-        # (a name that is no name makes a faulty line)
+        # (a name of the wrong form makes a faulty line)
         if name not in self.names():
             raise Unknown(no_branch(name))
         what = f"no event of {name} sent a frame {line.split()[2]}" if reply[0] == NO_FRAME else f"the program answers `{reply[0]}` to `{line}`"
         raise Unknown(f"{what}; `log {name}` lists its events")
 
     def _quietly(self, line: str) -> List[str]:
-        """A reply that changes nothing, and that no one asks the reason of."""
+        """The reply to a line that changes nothing, and whose reason no one asks for."""
         if self.session is None:
-            raise Unknown("the pair is not set up: say `rule NODE ..` for its rules, and then `open`")
+            raise Unknown("the pair is not set up: enter `rule NODE ..` for its rules, and then `open`")
         return self.session.ask(line)
 
     def _searched(self, line: str) -> List[str]:
-        """The reply to a search, which can take long: where its branch is there, it is asked of a run of its own."""
+        """The reply to a search, which can take long: if its branch exists, a run of its own is asked."""
         name = "".join(line.split()[1:2])
         if name not in self.names():
             return self._quietly(line)
@@ -203,18 +219,18 @@ class Laboratory:
         return [outcome_of(it[0]) for it in replies]
 
     def with_contents(self, pair: Pair, branch: Optional[Branch] = None) -> Pair:
-        """A shown pair with the records of its frames; and with the packets that its nodes hold, out of its branch: without the setup
-        nobody can tell which those are."""
+        """A shown pair with the records of its frames, and with the packets that its nodes hold, from its branch: without the setup
+        there is no way to know which those are."""
         for ticket, it in pair.frames.items():
             pair.frames[ticket] = it if it.broken else replace(it, records=self.flight(pair.branch, ticket).frame.records)
         if self.knows_setup and any(node.held for node in pair.nodes.values()):
             stood = (branch or self.branch(pair.branch)).events[: pair.cursor]
-            tell_packets(pair, held_packets(stood, self.outcomes(stood)))
+            with_packets(pair, held_packets(stood, self.outcomes(stood)))
         return pair
 
     @contextlib.contextmanager
     def aside(self, branch: Branch) -> Iterator[Run]:
-        """A run of its own in which a branch stands as it does here. An interrupt may end what it is asked: the pair is here."""
+        """A run of its own in which a branch stands as it does here. An interrupt may end that run, and leaves the pair here alone."""
         run = Run(self.program, self.setup.lines)
         try:
             for event in branch.events[: branch.cursor]:
@@ -229,14 +245,14 @@ class Laboratory:
 
     @contextlib.contextmanager
     def beside(self, branch: Branch) -> Iterator["Laboratory"]:
-        """A laboratory of its own, in which a branch stands as it does here."""
+        """A laboratory of its own in which a branch stands as it does here."""
         with self.aside(branch) as run:
             other = Laboratory(self.program, setup=self.setup)
             other.session = run
             yield other
 
     def run(self, lines: Sequence[str]) -> List[List[str]]:
-        """The replies to commands, on a new pair with this setup, which has to be known."""
+        """The replies to commands, on a new pair with this setup, which must be known."""
         ran = run_lines(self.program, (*self.setup.lines, OPEN.word, *lines))
         if len(ran.replies) != len(lines):
             raise Ended("; ".join(ran.faults) or f"the program ended with status {ran.status}")
@@ -244,14 +260,14 @@ class Laboratory:
 
 
 def no_branch(name: str) -> str:
-    """That there is no such branch; a node is none."""
+    """A message that there is no such branch; a node is not a branch."""
     if name in NODES:
         return f"{name} is a node, and there is no branch of that name: `view {name}` shows it, and `diff` compares both"
     return f"there is no branch {name}; `names` lists them"
 
 
 def event_of(words: Sequence[str]) -> str:
-    """An event that was typed, as the program takes it, or what is wrong with it."""
+    """An event that was typed, as the program takes it; raises what is wrong with it."""
     event = " ".join(words)
     try:
         check_line(f"{STEP.word} main {event}", False)
@@ -261,6 +277,6 @@ def event_of(words: Sequence[str]) -> str:
 
 
 def outcome_of(reply: str) -> str:
-    """The outcome of an accepted event, out of its reply; another reply as it is."""
+    """The outcome of an accepted event, from its reply; any other reply as it is."""
     words = reply.split()
     return " ".join(words[1:-2]) if words[0] == STEP.word else reply

@@ -1,4 +1,4 @@
-"""`log BRANCH`: the events of a branch with their outcomes, and where the cursor stands among them."""
+"""`log BRANCH`: the events of a branch with their outcomes, and where the cursor stands."""
 from __future__ import annotations
 
 from typing import List
@@ -10,7 +10,7 @@ from .language.events import BROKEN, DROPPED, HELD_BACK, LOST, PASS
 
 
 def log(lab: Laboratory, branch: Branch, paint: Paint) -> List[str]:
-    """A headline, and each event of the branch with its number, its line and what became of it."""
+    """A headline, and each event of the branch with its number, its line and what came of it."""
     unknown = "" if lab.knows_setup else "; the outcomes are known with --setup FILE, the file that the server read"
     lines = [paint.head(_headline(branch) + unknown)]
     # (without the setup they cannot be run again)
@@ -45,7 +45,7 @@ def _cursor(branch: Branch, width: int) -> str:
 
 
 def tone(outcome: str) -> str:
-    """How an outcome is painted: `good`, `bad` or not at all."""
+    """The colour of an outcome: `good`, `bad` or none."""
     first = outcome.partition(" ")[0]
     if first in (DROPPED.word, BROKEN.word, LOST.word, "refused", "bad"):
         return "bad"

@@ -7,17 +7,17 @@ from .language.events import DELIVER, FLUSH, TICK, TURN
 from .language.names import NODES
 from .pair import Pair
 
-# A pair that is not quiet after so many steps answers itself without end.
+# A pair that is not quiet after this many steps answers itself without end.
 MOST_STEPS = 10_000
 
 # Lets an event happen, and says whether it was accepted.
 Step = Callable[[str], bool]
-# The pair as it stands.
+# The pair as it is now.
 Look = Callable[[], Pair]
 
 
 class NotQuiet(Exception):
-    """Something is pending or in flight, and no step is left that helps."""
+    """Something is pending or in flight, and no step is left that could help."""
 
 
 def deliveries(pair: Pair) -> List[str]:
@@ -31,12 +31,12 @@ def ticks(milliseconds: str) -> List[str]:
 
 
 def next_steps(pair: Pair) -> List[str]:
-    """What brings a pair nearer to quiet: what is in flight arrives first, then each node tells what it has, then bulk turns."""
+    """What brings a pair nearer to quiet: first what is in flight arrives, then each node sends what is pending, then bulk turns."""
     arriving = deliveries(pair)
     if arriving:
         return arriving
-    telling = [f"{FLUSH.word} {node}" for node in NODES if pair.nodes[node].pending]
-    return telling or [f"{TURN.word} {node}" for node in NODES if pair.nodes[node].serve != "-"]
+    flushes = [f"{FLUSH.word} {node}" for node in NODES if pair.nodes[node].pending]
+    return flushes or [f"{TURN.word} {node}" for node in NODES if pair.nodes[node].serve != "-"]
 
 
 def steps_to_quiet(step: Step, look: Look) -> Iterator[str]:

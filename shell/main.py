@@ -27,6 +27,7 @@ from .importing.command import carry_out as import_
 from .laboratory import Laboratory, Unknown
 from .language.forms import one_of
 from .language.lines import has_word, lines_of, opens
+from .outputs import discard_output
 from .pages.live import OPENING, begun, joined, serve
 from .pages.packing import NotPacked, page as page_of
 from .pages.runs import run_of
@@ -43,7 +44,7 @@ INTERRUPTED_STATUS = 130
 
 
 def main(arguments: Sequence[str], name: str = "./lab") -> int:
-    """Carries out the words after the command's name: the status."""
+    """Carries out the words after the command's name; returns the status."""
     kinds = parser(name)
     words = kinds.parse_args(arguments, Words())
     if not words.word and not words.version:
@@ -54,14 +55,14 @@ def main(arguments: Sequence[str], name: str = "./lab") -> int:
         kinds.error(page_fault(words))
     for stream in (sys.stdin, sys.stdout):
         if isinstance(stream, io.TextIOWrapper):
-            # A line has whatever bytes it has: the program judges them.
+            # A line may have any bytes: the program judges them.
             stream.reconfigure(errors="surrogateescape")
     try:
         return (version if words.version else WORDS[words.word])(words)
     except KeyboardInterrupt:
         return INTERRUPTED_STATUS
     except BrokenPipeError:
-        # (who reads has had enough)
+        # (the reader has had enough)
         discard_output()
     except OSError as error:
         say(words, f"{error.filename}: {error.strerror}" if error.filename else error)
@@ -72,23 +73,18 @@ def main(arguments: Sequence[str], name: str = "./lab") -> int:
     return TROUBLE if words.word == "compare" else 1
 
 
-def discard_output() -> None:
-    """What is left to write goes nowhere."""
-    os.dup2(os.open(os.devnull, os.O_WRONLY), sys.stdout.fileno())
-
-
 def say(words: Words, what: object) -> None:
-    """A line on standard error, with the command's name before it."""
+    """Writes a line to standard error, after the command's name."""
     print("\n".join(fitted([f"{words.name}: {what}"], columns_of(sys.stderr))), file=sys.stderr)
 
 
 def show(lines: Sequence[str]) -> None:
-    """Lines for people, which fit a terminal."""
+    """Prints lines for people, fitted to the terminal."""
     show_whole(fitted(lines, columns_of(sys.stdout)))
 
 
 def show_whole(lines: Sequence[str]) -> None:
-    """Lines that are as they should be, through a pager where they are more than a terminal has room for."""
+    """Prints lines that must not be broken, through a pager if the terminal has no room for them all."""
     if not paged(lines, sys.stdout):
         print("\n".join(lines), flush=True)
 
@@ -100,13 +96,14 @@ def version(words: Words) -> int:
 
 def verify(words: Words) -> int:
     found = scripts.verified(words.program, words.files)
-    show(found.lines)
+    show(found.shown(sys.stdout.isatty()))
     return int(found.differing > 0)
 
 
 def annotate(words: Words) -> int:
-    for line in scripts.annotated_all(words.program, words.files):
-        show([line])
+    for line in scripts.annotated_all(words.program, words.files, words.dry_run):
+        # (lines of a script are as they are)
+        (show_whole if words.dry_run else show)([line])
     return 0
 
 
@@ -124,7 +121,7 @@ def chart(words: Words) -> int:
 
 
 def page(words: Words) -> int:
-    """Writes a script's run as a page, or serves the page of a pair."""
+    """Writes the run of a script as a page, or serves the page of a pair."""
     script: Sequence[str] = lines_of(scripts.read(words.script)) if words.script else OPENING
     if words.script and says_faults(words, words.script, script):
         return 1
@@ -155,7 +152,7 @@ def whatif(words: Words) -> int:
     show(found.lines)
     if found.written and words.out:
         scripts.write(words.out, found.written.text)
-        show([found.written.told(words.out)])
+        show([found.written.message(words.out)])
     if found.fault:
         say(words, found.fault)
     return INTERRUPTED_STATUS if found.is_interrupted else int(bool(found.fault))
@@ -177,7 +174,7 @@ def compare(words: Words) -> int:
 
 
 def save(path: str, text: str) -> None:
-    """Writes a file. A fault names it, also one that comes after it was opened, as of a full disk."""
+    """Writes a file. A fault names the file, even one after it was opened, such as a full disk."""
     try:
         with open(path, "w", encoding="utf-8") as it:
             it.write(text)
@@ -186,7 +183,7 @@ def save(path: str, text: str) -> None:
 
 
 def says_faults(words: Words, path: str, script: Sequence[str]) -> bool:
-    """Says what the program finds faulty in a script: whether there is something."""
+    """Reports what the program finds faulty in a script; returns whether there is something."""
     faulty = list(faulty_lines(words.program, script))
     for line in faulty:
         say(words, f"{path}:{line}")
@@ -194,7 +191,7 @@ def says_faults(words: Words, path: str, script: Sequence[str]) -> bool:
 
 
 def faulty_lines(program: str, script: Sequence[str]) -> Iterator[str]:
-    """The lines of a script that the program finds faulty, each with its number and its fault."""
+    """The lines of a script that the program finds faulty, each with its number and fault."""
     checked = run_lines(program, script, "check")
     fault = setup_fault(checked.faults)
     if fault:
@@ -206,7 +203,7 @@ def faulty_lines(program: str, script: Sequence[str]) -> Iterator[str]:
 
 
 def drawn_from(program: str, script: Sequence[str], branch: str, window: Window = WHOLE, with_notes: bool = False) -> Chart:
-    """What a script makes of a branch, as a chart, with its comments if they are wanted."""
+    """A chart of what a script makes of a branch, with the comments of the script if they are wanted."""
     lab = Laboratory(program)
     try:
         story = story_of(lab, script)
@@ -256,7 +253,7 @@ def wait(session: Client) -> None:
 
 
 def setup_from(program: str, path: str) -> Setup:
-    """The setup that a file has, up to `open` if it is there, where the program finds no fault in it."""
+    """The setup in a file, up to `open` if that is there, if the program finds no fault in it."""
     lines = list(takewhile(lambda line: not opens(line), lines_of(scripts.read(path))))
     fault = check_setup(program, [line for line in lines if has_word(line)])
     if fault:
@@ -265,7 +262,7 @@ def setup_from(program: str, path: str) -> Setup:
 
 
 def dialogue(it: Shell) -> None:
-    """Lines from a terminal, with a history; an interrupt gives up the line alone."""
+    """Takes lines from a terminal, with a history; an interrupt gives up only the line."""
     history = os.path.expanduser(os.environ.get("PFL_LAB_HISTORY", HISTORY))
     keep_history(history)
     it.watch()
@@ -278,7 +275,7 @@ def dialogue(it: Shell) -> None:
 
 
 def keep_history(path: str) -> None:
-    """Reads the lines of earlier dialogues, and has this one's written at its end."""
+    """Reads the lines of earlier dialogues, and has those of this one written when it ends."""
     try:
         import atexit
         import readline

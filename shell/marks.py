@@ -1,5 +1,5 @@
-"""Places in branches that a person goes back to: by how many events stand there, or by a name that she gave it; and what the shell's
-own forms of the program's commands stand for."""
+"""Places in branches that a person goes back to: by how many events stand there, or by the name of a mark; and the commands of the
+program that the shell's own forms stand for."""
 from __future__ import annotations
 
 import re
@@ -11,30 +11,30 @@ from .language.commands import BACK, FORK, FORWARD
 from .words import counted
 
 TO, HERE = "to", "here"
-# The form of a name, which is that of a branch's.
+# The form of a name, the same as for a branch.
 NAME = re.compile("[a-z][a-z0-9-]{0,15}")
 
 
 class Asked(NamedTuple):
-    """What `back [BRANCH] to PLACE` says; the branch is empty where it is left out."""
+    """What `back [BRANCH] to PLACE` says; the branch is empty if it is left out."""
 
     branch: str
     place: str
 
 
 def mark(lab: Laboratory, name: str) -> List[str]:
-    """Gives the place where the branch in use stands a name; without one, the marks that there are."""
+    """Names the place where the branch in use stands; without a name, lists the marks."""
     if not name:
         return [f"{name}: {it}" for name, it in lab.marks.items()] or ["there are no marks; `mark NAME` sets one"]
     if not NAME.fullmatch(name):
-        raise Unknown(f"{name} is no name of a mark: that is a letter from a to z and at most 15 more of a to z, 0 to 9 and `-`")
+        raise Unknown(f"{name} is not the name of a mark: that is a letter from a to z and at most 15 more of a to z, 0 to 9 and `-`")
     branch = lab.branch(lab.in_use)
     lab.marks[name] = Mark(branch.name, tuple(branch.events[: branch.cursor]))
     return [f"{name}: {lab.marks[name]}"]
 
 
 def line_for(lab: Laboratory, words: Sequence[str]) -> str:
-    """The command that words of the shell stand for; empty where they are none of its own."""
+    """The command that words of the shell stand for; empty if they are no form of its own."""
     if list(words[:2]) == [FORK.word, HERE] and len(words) == 3:
         branch = lab.branch(lab.in_use)
         return f"{FORK.word} {branch.name} {branch.cursor} {words[2]}"
@@ -44,13 +44,13 @@ def line_for(lab: Laboratory, words: Sequence[str]) -> str:
     name, place = _place(lab, asked)
     branch = lab.branch(name)
     if place > len(branch.events):
-        raise Unknown(f"{name} has {counted(len(branch.events), 'event')}, and no place {place}")
+        raise Unknown(f"{name} has {counted(len(branch.events), 'event')}, so it has no place {place}")
     by = branch.cursor - place
     return f"{BACK.word} {name} {by}" if by >= 0 else f"{FORWARD.word} {name} {-by}"
 
 
 def _asked(lab: Laboratory, words: Sequence[str]) -> Optional[Asked]:
-    """The place that words go back to; nothing where they are another line, as that of a branch called `to` is."""
+    """The place that words go back to; nothing if they are another line, such as one about a branch called `to`."""
     if words[0] != BACK.word or TO not in words[1:3]:
         return None
     if len(words) == 4 and words[2] == TO:

@@ -1,6 +1,6 @@
-"""A session of a server that is followed: a run of the program carries out the commands of the server's journal, and answers all looks.
+"""A session that follows its server: a run of the program carries out the commands of the server's journal, and answers all looks.
 
-The server keeps what it is asked until it ends, and a look is long. So it is asked only for what changes the pair, and for `view`."""
+The server keeps all that it is asked until it ends, and a look is long. So it is asked only for what changes the pair, and for `view`."""
 from __future__ import annotations
 
 import contextlib
@@ -13,12 +13,12 @@ from .language.searches import SEARCH
 from .programs import ENTRY, FULL, SETUP_WORD, VIEW, Client, Ended, Run, Session, check_setup, commands_of, uninterrupted
 from .setups import Setup
 
-# How many seconds an entry is waited for that the server has.
+# How many seconds to wait for an entry that the server has.
 PATIENCE = 30.0
 
 
 class Entry(NamedTuple):
-    """A command of the journal of a server: its number, counted from 1, the session that gave it, and its line."""
+    """A command of a server's journal: its number, counted from 1, the session that gave it, and its line."""
 
     number: int
     session: int
@@ -31,12 +31,12 @@ class Entry(NamedTuple):
 
     @property
     def changes(self) -> bool:
-        """Whether it changes the pair, or is refused; the others look."""
+        """Whether it changes the pair, or is refused; all others look."""
         return self.command.split()[0] in CHANGING
 
 
 class Given(NamedTuple):
-    """A command of this session whose entry has not come yet: how many entries there were before it, at least, and after it, and its
+    """A command of this session whose entry has not come yet: how many entries there were at least before it, and after it, and its
     reply."""
 
     before: int
@@ -45,30 +45,30 @@ class Given(NamedTuple):
 
     @property
     def is_alone(self) -> bool:
-        """Whether there is no other entry in between, so that the number of its own is known."""
+        """Whether no other entry is in between, so that the number of its own is known."""
         return self.after == self.before + 1
 
 
-# Takes an entry of another session that is no look, with the reply of the mirror, if there is one.
+# Takes an entry of another session that is not a look, with the reply of the mirror, if there is one.
 Heard = Callable[[Entry, Optional[List[str]]], None]
 
 
 class Shared(Session):
-    """A session that follows its server, with a mirror."""
+    """A session that follows its server with a mirror."""
 
     def __init__(self, client: Client, program: str, setup: Sequence[str]):
         self.client = client
         # The number of this session, once an entry of its own is known.
         self.number: Optional[int] = None
-        # How many entries of the journal the mirror has taken, and how many there were when the server last said that it is behind.
+        # How many entries of the journal the mirror has taken, and how many there were when the server last reported being behind.
         self.entries = self.behind = 0
         self.heard: Heard = lambda entry, reply: None
         self.say: Callable[[str], None] = lambda text: print(text, file=sys.stderr)
-        # The lines of the setup, and then all commands that the mirror carried out, with their replies.
+        # The lines of the setup, then all commands that the mirror carried out, with their replies.
         self.journal: List[Tuple[str, Sequence[str]]] = [(it, ()) for it in (*setup, OPEN.word)]
         self._mirror: Optional[Run] = Run(program, setup)
         self._given: Deque[Given] = deque()
-        # Whether the mirror has taken all that the server had at the newest view, or command of this session.
+        # Whether the mirror has taken all that the server had at the newest `view`, or command of this session.
         self.is_level = self._is_one_moment = False
         client.follow()
 
@@ -78,7 +78,7 @@ class Shared(Session):
 
     @property
     def is_behind(self) -> bool:
-        """Whether the server said that it has many entries more than it has sent."""
+        """Whether the server reported that it has many more entries than it has sent."""
         return self.entries < self.behind
 
     def close(self) -> None:
@@ -90,7 +90,7 @@ class Shared(Session):
 
     @contextlib.contextmanager
     def one_moment(self) -> Iterator[None]:
-        """Has the looks within show the pair at one moment, which only commands of this session end."""
+        """Makes the looks within show the pair at one moment, which only commands of this session end."""
         before, self._is_one_moment, self.is_level = self._is_one_moment, True, False
         try:
             yield
@@ -98,20 +98,20 @@ class Shared(Session):
             self._is_one_moment = before
 
     def level(self) -> None:
-        """Waits until the mirror has taken all the entries that the server has by now."""
+        """Waits until the mirror has taken all the entries that the server has now."""
         number = self._commands()
         self.hear()
         while self.entries < number and self.hear(PATIENCE):
             pass
         if self.entries < number:
-            self._give_up(f"the server has {number} entries, and sent none after entry {self.entries} in {PATIENCE:.0f} seconds")
+            self._give_up(f"the server has {number} entries, but sent none after entry {self.entries} in {PATIENCE:.0f} seconds")
         self.is_level = True
 
     def _commands(self) -> int:
         return commands_of(self.client.ask(VIEW)[0])
 
     def catch_up(self) -> None:
-        """Levels the mirror, unless it has that already in the moment that questions are to be of."""
+        """Levels the mirror, unless it was levelled already in the moment that questions are about."""
         if not (self._is_one_moment and self.is_level):
             self.level()
 
@@ -122,7 +122,7 @@ class Shared(Session):
         return self.client.ask(line) if reply is None else reply
 
     def _mirrored(self, line: str) -> Optional[List[str]]:
-        """The reply of the mirror, while there is one."""
+        """The reply of the mirror, as long as there is one."""
         try:
             return self._mirror.ask(line) if self._mirror else None
         except Ended as why:
@@ -133,7 +133,7 @@ class Shared(Session):
         if self._mirror:
             self._mirror.kill()
             self._mirror = None
-            self.say(f"the mirror of the server's pair is used no more, and looks are asked of the server: {why}")
+            self.say(f"the mirror of the server's pair is no longer used, and the server answers looks: {why}")
 
     # ---- lines
 
@@ -147,9 +147,9 @@ class Shared(Session):
         return self._look(line) if word in (*LOOKING, SEARCH) else self.client.ask(line)
 
     def _change(self, line: str) -> List[str]:
-        """The server's reply to a command that changes the pair. The mirror takes it at once where nobody's else came between."""
+        """The server's reply to a command that changes the pair. The mirror takes it at once if no other came in between."""
         self.is_level = False
-        # (while it is not known which session this is, only a window without others' commands says which entry is its own)
+        # (until it is known which session this is, only a window without other commands shows which entry is its own)
         before = self.entries if self.number else self._commands()
         reply, after = self.client.ask(line), self._commands()
         if reply[0].split()[0] in ("bad", FULL):
@@ -166,7 +166,7 @@ class Shared(Session):
     # ---- entries
 
     def hear(self, seconds: float = 0) -> bool:
-        """Takes the entries that have come; where nothing has, it is waited for these seconds at most: whether something came."""
+        """Takes the entries that have come; if there are none, waits at most this many seconds. Returns whether something came."""
         with uninterrupted():
             came = self.client.come(seconds)
             for line in came:
@@ -208,11 +208,11 @@ class Shared(Session):
         if reply is None:
             self.heard(it, its)
         elif its not in (None, reply):
-            self._give_up(f"to entry {it.number}, `{it.command}`, it replied `{its[0] if its else ''}`, and the server `{reply[0]}`")
+            self._give_up(f"to entry {it.number}, `{it.command}`, it replied `{its[0] if its else ''}`, but the server `{reply[0]}`")
 
 
 class Joined(NamedTuple):
-    """A session that was joined to a server, the setup as far as it is known, and what there is to say of it."""
+    """A session that joined a server, the setup as far as it is known, and what there is to say about it."""
 
     session: Union[Client, Shared]
     setup: Optional[Setup]
@@ -220,20 +220,20 @@ class Joined(NamedTuple):
 
 
 def joined(client: Client, program: str, given: Optional[Setup]) -> Joined:
-    """Follows a server that tells its setup. One of an older release does not; then the setup is the one that was given, if one was."""
+    """Follows a server that reports its setup. A server of an older release does not; then the setup is the given one, if any."""
     *lines, last = client.ask(SETUP_WORD)
     if last.startswith("bad "):
         return Joined(client, given)
     fault = check_setup(program, lines)
     if fault:
-        return Joined(client, given, f"the program here does not take the server's setup: {fault.words}; looks are asked of the server")
+        return Joined(client, given, f"the program here does not take the server's setup: {fault.words}; the server answers looks")
     setup = Setup.of(lines)
-    said = "" if given is None or _is_same(setup, given) else "the server's setup is another one than the file of --setup has, and is taken"
+    said = "" if given is None or _is_same(setup, given) else "the server's setup differs from the file of --setup, and is used"
     return Joined(Shared(client, program, lines), setup, said)
 
 
 def _is_same(one: Setup, two: Setup) -> bool:
-    """Whether two setups say the same, comments of an import included."""
+    """Whether two setups say the same, including the comments of an import."""
     return _content(one) == _content(two)
 
 

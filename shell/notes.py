@@ -1,4 +1,4 @@
-"""Notes of what other sessions of a server do: a line for each of their commands but looks, and one line for many."""
+"""Notes of what other sessions of a server do: a line for each of their commands except looks, or one line for many."""
 from __future__ import annotations
 
 import time
@@ -10,18 +10,18 @@ from .laboratory import outcome_of
 from .language.commands import STEP
 from .mirror import Entry, Shared
 
-# How many notes are shown one by one until no more come for some seconds.
+# How many notes are shown one by one before there is a pause of some seconds.
 MOST = 10
 PAUSE = 0.5
 
 
 class Notes:
-    """The notes of a session, which are held until they are shown."""
+    """The notes of a session, held until they are shown."""
 
     def __init__(self, shared: Shared, show: Callable[[Sequence[str]], None], paint: Paint):
         self.shared, self.show_lines, self.paint = shared, show, paint
         self.is_on = True
-        # The newest of those that are held, how many there are, and the sessions that they are of.
+        # The newest notes that are held, how many there are, and their sessions.
         self._held: Deque[str] = deque(maxlen=MOST)
         self._count = 0
         self._sessions: Set[int] = set()
@@ -41,12 +41,12 @@ class Notes:
 
     @property
     def are_due(self) -> bool:
-        """Whether those that are held are to be shown now: a few at once, and more than that in the next pause."""
+        """Whether it is time to show the held notes: a few at once, more than that in the next pause."""
         is_pause = not self.shared.is_behind and time.monotonic() - self._newest >= PAUSE
         return bool(self._held) and (self._since_pause <= MOST or is_pause)
 
     def show(self) -> None:
-        """Shows those that have come: each, or how many they are."""
+        """Shows the notes that have come: each, or how many there are."""
         self.shared.hear()
         lines = [*self._held]
         if self._count > MOST:
@@ -56,7 +56,7 @@ class Notes:
         self.show_lines([self.paint.note(it) for it in lines])
 
     def turn(self, is_on: bool) -> None:
-        """Turns them on or off; those that are held are shown no more."""
+        """Turns notes on or off; those that are held are no longer shown."""
         self.is_on = is_on
         self._forget()
 
@@ -67,12 +67,12 @@ class Notes:
 
 
 def note(it: Entry, reply: Optional[List[str]]) -> str:
-    """A command of another session and what the mirror replied, if there is one."""
+    """A command of another session, and what the mirror replied, if there is a mirror."""
     return f"[session {it.session}] {it.command}" + ("" if reply is None else f" -> {in_short(reply[0])}")
 
 
 def in_short(reply: str) -> str:
-    """A reply; of a step the outcome, and how many undone events it discarded, if it did."""
+    """A reply; for a step the outcome, and how many undone events it discarded, if any."""
     words = reply.split()
     discards = words[0] == STEP.word and words[-1] != "0"
     return outcome_of(reply) + f" dropped {words[-1]}" * discards

@@ -10,14 +10,14 @@ from typing import IO, Iterator, Sequence
 
 from .terminal import PLAIN_TERMINALS
 
-# What less is to do where LESS does not say it: end at once where all fits, show colours, and leave what it showed.
+# What less is to do if LESS does not say it: end at once if everything fits, show colours, and leave what it showed.
 _OPTIONS = {"LESS": "FRX", "LV": "-c"}
-# What a shell answers where it cannot run a command.
+# The status of a shell that cannot run a command.
 _NOT_RUN = (126, 127)
 
 
 def paged(lines: Sequence[str], out: IO[str]) -> bool:
-    """Shows lines in a pager where they are more than the terminal has room for: whether it did."""
+    """Shows lines in a pager if the terminal has no room for them all; returns whether it did."""
     pager = pager_for(lines, out)
     if not pager:
         return False
@@ -29,7 +29,7 @@ def paged(lines: Sequence[str], out: IO[str]) -> bool:
 
 
 def pager_for(lines: Sequence[str], out: IO[str]) -> str:
-    """The pager for lines: PAGER, or less where that is not set; empty where they go through none."""
+    """The pager for lines: PAGER, or less if that is not set; empty if they need none."""
     if not out.isatty() or os.environ.get("TERM", "") in PLAIN_TERMINALS or len(lines) < shutil.get_terminal_size().lines:
         return ""
     pager = os.environ.get("PAGER", "less" if shutil.which("less") else "")

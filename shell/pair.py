@@ -1,4 +1,4 @@
-"""The pair as a shown branch tells it: both nodes, and the link between them."""
+"""The pair as a shown branch has it: both nodes, and the link between them."""
 from __future__ import annotations
 
 from dataclasses import dataclass, field
@@ -11,12 +11,12 @@ from .states import State
 
 
 class NotShown(ValueError):
-    """The text is not that of a shown branch."""
+    """The text is not a shown branch."""
 
 
 @dataclass(frozen=True)
 class Queued:
-    """A state whose name waits to be told to the peer."""
+    """A state whose name waits to be sent to the peer."""
 
     kind: str
     number: int
@@ -25,8 +25,8 @@ class Queued:
 
 @dataclass(frozen=True)
 class Held:
-    """A packet that waits until the peer knows its state. The pair shows the state and since when; which packet it is, the log
-    of the branch tells, and it is empty where nobody has looked."""
+    """A packet that waits until the peer knows its state. The pair shows the state and since when; the packet itself comes from the
+    log of the branch, and is empty until someone has looked there."""
 
     name: Name
     since: int
@@ -40,7 +40,7 @@ class Held:
 
 @dataclass(frozen=True)
 class Cleared:
-    """What the peer is to be told that this node gave up: the states of a creator up to an id."""
+    """What this node gave up, and has to report to the peer: the states of a creator up to an id."""
 
     creator: int
     bound: int
@@ -48,7 +48,7 @@ class Cleared:
 
 @dataclass
 class Node:
-    """All of a node."""
+    """Everything about a node."""
 
     id: str
     clock: int
@@ -72,20 +72,20 @@ class Node:
         return cls(node, int(clock), int(boot), int(next_id), int(number), push == "1", serve, sync)
 
     def found(self, packet: PacketEvent) -> Optional[State]:
-        """The state that has the packet's key: its wire key on the way in, its stack key on the way out."""
+        """The state with the packet's key: its wire key on the way in, its stack key on the way out."""
         is_in = packet.direction == "in"
         by_key = {(it.protocol, it.wire if is_in else it.stack): it for it in self.states.values()}
         return by_key.get((packet.protocol, packet.key))
 
     @property
     def pending(self) -> int:
-        """How much waits to be told to the peer."""
+        """How much waits to be sent to the peer."""
         return len(self.queue) + len(self.asks) + len(self.statuses) + len(self.clears)
 
 
 @dataclass
 class Pair:
-    """A branch with its pair, as `show` tells it."""
+    """A branch with its pair, as `show` shows it."""
 
     branch: str
     events: int
@@ -138,7 +138,7 @@ _OF_NODE: Dict[str, Callable[[Node, List[str]], None]] = {
 
 
 def read_shown(lines: Sequence[str]) -> Pair:
-    """The pair that the lines of a shown branch tell."""
+    """The pair that the lines of a shown branch describe."""
     try:
         head = lines[0].split()
         if head[0] != "branch" or lines[-1] != "end":

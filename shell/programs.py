@@ -1,4 +1,4 @@
-"""The proved program, as the shell speaks with it: a run of its own over a pipe, or a session of a server."""
+"""The proved program, as the shell talks to it: a run of its own over a pipe, or a session of a server."""
 from __future__ import annotations
 
 import contextlib
@@ -18,13 +18,13 @@ from .language.searches import FOUND
 
 # The first words of replies that end with a line `end`.
 MANY_LINES = (*(it.replies[0].split()[0] for it in COMMANDS.values() if it.is_long), FOUND)
-# What a session asks a server beside commands: for the lines of its setup, for the entries of its journal until the session's next
+# What a session asks a server besides commands: for the lines of its setup, for the entries of its journal until the session's next
 # line comes, and for a few numbers.
 SETUP_WORD, FOLLOW, VIEW = "setup", "follow", "view"
-# How the lines of entries begin, and those before and after them.
+# How the lines of entries begin, and the lines before and after them.
 SENT = (ENTRY, BEHIND) = ("entry ", "behind ")
 FOLLOWING, FOLLOWED = "following ", "followed "
-# What a server that has taken all the commands that it can answers to each further one.
+# The answer of a server to each further command once it has taken all that it can.
 FULL = "full"
 
 
@@ -33,7 +33,7 @@ class Ended(Exception):
 
 
 class SetupFault(Exception):
-    """A line of the setup is faulty: its number, counted from 1 over the lines that were given, and the fault."""
+    """A line of the setup is faulty: its number, counted from 1 over the given lines, and the fault."""
 
     def __init__(self, line: int, fault: str):
         super().__init__(fault)
@@ -41,7 +41,7 @@ class SetupFault(Exception):
 
     @property
     def words(self) -> str:
-        """The fault, with the list of docs/FORMATS.md that its number is of."""
+        """The fault, with the list of docs/FORMATS.md that its number belongs to."""
         kind, _, rest = self.fault.partition(" ")
         return f"{_LISTS[kind]} {rest}" if kind in _LISTS else self.fault
 
@@ -51,7 +51,7 @@ _LISTS = {"line": "bad", "rule": "rules", "world": "limits"}
 
 
 def read_reply(lines: Iterator[str]) -> List[str]:
-    """The next whole reply, without line ends; empty where none comes."""
+    """The next whole reply, without line ends; empty if none comes."""
     first = next(lines, None)
     if first is None:
         return []
@@ -66,7 +66,7 @@ def read_reply(lines: Iterator[str]) -> List[str]:
 
 @contextlib.contextmanager
 def uninterrupted() -> Iterator[None]:
-    """Has an interrupt wait: between a line and its reply it would leave the reply for the next line."""
+    """Makes an interrupt wait: between a line and its reply, it would leave the reply for the next line."""
     before = signal.pthread_sigmask(signal.SIG_BLOCK, {signal.SIGINT})
     try:
         yield
@@ -83,11 +83,11 @@ class Session:
             return self.ask_freely(line)
 
     def ask_freely(self, line: str) -> List[str]:
-        """The reply to a line that has one; after an interrupt the session is of no more use."""
+        """The reply to a line that has one; an interrupt leaves the session useless."""
         return self._ask([line])[0]
 
     def ask_together(self, lines: Sequence[str]) -> List[List[str]]:
-        """The replies to a few lines that have one, which are sent together: that is quicker than one after another."""
+        """The replies to a few lines that have one, sent together, which is faster than one by one."""
         with uninterrupted():
             return self._ask(lines)
 
@@ -118,7 +118,7 @@ class Stream(Session):
         return replies
 
     def _reply(self, line: str) -> List[str]:
-        """The reply to a line that was sent; empty where none comes."""
+        """The reply to a line that was sent; empty if none comes."""
         return read_reply(self._replies)
 
     def close(self) -> None:
@@ -147,7 +147,7 @@ class Run(Stream):
             self.process.stdin.write(f"{line}\n")
 
     def kill(self) -> None:
-        """Ends it at once, whatever it does."""
+        """Ends it at once, whatever it is doing."""
         self.process.kill()
         self.close()
 
@@ -159,13 +159,13 @@ class Run(Stream):
 
 
 class Incoming:
-    """The lines that come over a connection: those of replies one after another, and those of entries put aside."""
+    """The lines that come over a connection: those of replies in turn, and those of entries, which are set aside."""
 
     def __init__(self, connection: socket.socket):
         self._connection = connection
         self._rest = b""
         self._lines: Deque[str] = deque()
-        # What came of entries, and nobody has taken yet; and the entry at which the server ended showing them.
+        # The lines of entries that came and were not taken yet; and the entry at which the server stopped showing them.
         self.aside: Deque[str] = deque()
         self.followed = 0
         self.has_ended = False
@@ -174,7 +174,7 @@ class Incoming:
         return self
 
     def __next__(self) -> str:
-        """The next line of a reply, which is waited for."""
+        """The next line of a reply; waits for it."""
         while True:
             self._put_aside()
             if self._lines:
@@ -183,7 +183,7 @@ class Incoming:
                 raise StopIteration
 
     def take(self, seconds: float = 0) -> None:
-        """Takes what has come, and where no entry has waits for one these seconds at most."""
+        """Takes what has come; if no entry has, waits for one at most this many seconds."""
         until = time.monotonic() + seconds
         self._put_aside()
         while not self.has_ended and self.is_there(0 if self.aside else max(0.0, until - time.monotonic())):
@@ -192,7 +192,7 @@ class Incoming:
             self._put_aside()
 
     def is_there(self, seconds: float) -> bool:
-        """Whether something comes, or the end, within these seconds."""
+        """Whether something, or the end, comes within this many seconds."""
         poll = select.poll()
         poll.register(self._connection, select.POLLIN)
         return bool(poll.poll(1000 * seconds))
@@ -206,7 +206,7 @@ class Incoming:
                 self.followed = int(line.split()[1])
 
     def _receive(self, flags: int) -> bool:
-        """Takes a part of what comes: whether there was any. A line whose end never comes is none."""
+        """Takes a part of what comes; returns whether there was any. A line whose end never comes is no line."""
         part = self._connection.recv(1 << 16, flags)
         *lines, self._rest = (self._rest + part).split(b"\n")
         self._lines.extend(it.decode(errors="surrogateescape") for it in lines)
@@ -226,17 +226,17 @@ class Client(Stream):
         super().__init__(self.connection.makefile("w", encoding="utf-8", errors="surrogateescape", newline="\n"), self.incoming)
 
     def wait(self) -> None:
-        """Waits until the server answers, which it does once all its sessions are connected; an interrupt ends that.
-        A `view` is no command, so that nothing is kept of it."""
+        """Waits until the server answers, which it does once all its sessions are connected; an interrupt ends the wait.
+        A `view` is no command, so the server keeps nothing of it."""
         self._ask([VIEW])
 
     def follow(self) -> None:
-        """Has the server show the entries of its journal from the first on: those that there are, and each as it is made."""
+        """Makes the server show the entries of its journal from the first on: those that exist, and each new one as it is made."""
         self._follows = True
         self._follow_on()
 
     def _follow_on(self) -> None:
-        """Follows after the last entry that was shown. The server shows entries until the next line comes, so this is said after each."""
+        """Follows on after the last entry shown. The server shows entries until the next line comes, so this comes after each line."""
         try:
             self._to.write(f"{FOLLOW} {self.incoming.followed}\n")
             self._to.flush()
@@ -250,12 +250,12 @@ class Client(Stream):
         return replies
 
     def watch(self, seconds: float) -> None:
-        """Waits until something comes, these seconds at most."""
+        """Waits until something comes, at most this many seconds."""
         with contextlib.suppress(OSError, ValueError):
             self.incoming.is_there(seconds)
 
     def come(self, seconds: float = 0) -> List[str]:
-        """What the server has shown of entries, in its order; where there is nothing it is waited for these seconds at most."""
+        """The lines of entries that the server has shown, in order; if there are none, waits at most this many seconds."""
         try:
             self.incoming.take(seconds)
         except (OSError, ValueError) as error:
@@ -287,7 +287,7 @@ def commands_of(view: str) -> int:
 
 
 class Result:
-    """What a run of the program over given lines wrote, and its status."""
+    """The output of a run of the program over given lines, and its status."""
 
     def __init__(self, replies: List[List[str]], faults: List[str], status: int):
         self.replies, self.faults, self.status = replies, faults, status
@@ -303,7 +303,7 @@ def run_lines(program: str, lines: Iterable[str], mode: str = "run") -> Result:
 
 
 def setup_fault(faults: Sequence[str]) -> Optional[SetupFault]:
-    """The fault of a setup that the program told on standard error."""
+    """The fault of a setup that the program reported on standard error."""
     for line in faults:
         found = re.search(r"setup line (\d+): (line|rule|world) (\d+)$", line)
         if found:

@@ -25,14 +25,14 @@ def _state(state: Carried) -> str:
 
 
 def _changes(changes: Changes) -> str:
-    # A short update has no protocol; the levels are TCP's where the class is.
+    # A short update has no protocol; the levels are TCP's if the class is.
     protocol = changes.timeout_class.partition(".")[0]
     ends = f"source {_end(protocol, changes.source)}, destination {_end(protocol, changes.destination)}"
     return f"{ends}  {changes.remaining} s left of {changes.timeout_class}"
 
 
 def record_line(record: Record) -> str:
-    """A record behind its kind."""
+    """A record after its kind."""
     if isinstance(record.state, Carried):
         said = _state(record.state)
     elif isinstance(record.state, Changes):

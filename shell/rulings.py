@@ -1,4 +1,4 @@
-"""Which packets a rule matches, and which rule decides over a packet (pf.conf(5))."""
+"""Which packets a rule matches, and which rule decides on a packet (pf.conf(5))."""
 from __future__ import annotations
 
 import ipaddress
@@ -10,7 +10,7 @@ from .setups import Rule
 
 
 def deciding(rules: Sequence[Rule], packet: PacketEvent, any_flags: Optional[int] = None) -> Optional[int]:
-    """The number of the rule that decides over a packet: the last that matches, or the first of these that is quick. The rule
+    """The number of the rule that decides on a packet: the last that matches, or the first of these that is quick. The rule
     `any_flags` counts as one that says `flags any`."""
     decided: Optional[int] = None
     for number, rule in enumerate(rules):
@@ -22,7 +22,7 @@ def deciding(rules: Sequence[Rule], packet: PacketEvent, any_flags: Optional[int
 
 
 def _matches(rule: Rule, packet: PacketEvent, any_flags: bool) -> bool:
-    """Whether a rule is for the packet; a pass rule takes a TCP packet that begins a connection, or any if it says so."""
+    """Whether a rule matches the packet; a pass rule takes a TCP packet that begins a connection, or any TCP packet if it says so."""
     pool = rule.pool
     return (
         rule.words[1] in ("any", packet.direction)
@@ -35,7 +35,7 @@ def _matches(rule: Rule, packet: PacketEvent, any_flags: bool) -> bool:
 
 
 def _meets(rule: Rule, end: str, net: Option, port: Option, protocol: str) -> bool:
-    """Whether an end of a packet is what a rule says of it. Of a port only protocols have something that have ports."""
+    """Whether an end of a packet is what a rule says about it. Only protocols with ports meet a rule with a port."""
     address, _, number = end.rpartition(":")
     if rule.has(net) and ipaddress.ip_address(address.strip("[]")) not in ipaddress.ip_network(rule.value(net), strict=False):
         return False

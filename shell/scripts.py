@@ -1,10 +1,12 @@
-"""Scripts with their replies: comparing the lines `#>` with what comes, and writing them."""
+"""Scripts with their replies: compares the lines `#>` with what comes, and writes them."""
 from __future__ import annotations
 
 import os
 import re
 import tempfile
+import time
 from dataclasses import dataclass, field
+from difflib import unified_diff
 from itertools import takewhile
 from typing import Dict, Iterator, List, Sequence, Tuple
 
@@ -13,7 +15,9 @@ from .programs import run_lines
 
 REPLY, FAULT, CHECKED, STATUS = "#> ", "#! ", "#? ", "#= "
 LONGEST_TITLE = 120
-# A line that somebody wrote as one of these, and that is a comment.
+# The option of `annotate` by which nothing is written.
+DRY_RUN = ("-n", "--dry-run")
+# A line that was meant as one of these, and is a comment.
 LIKE_A_MARK = re.compile(r"\s*#[>!?=]")
 
 
@@ -23,7 +27,7 @@ def is_mark(line: str) -> bool:
 
 
 def title_of(script: Sequence[str]) -> str:
-    """The first sentence of the comment that a script begins with, if it does and the sentence is short enough for a title."""
+    """The first sentence of the comment at the start of a script, if there is one, and it is short enough for a title."""
     begin = takewhile(lambda line: line.startswith("#") and line.strip("# \t\r"), script)
     text = " ".join(line.strip("# \t\r") for line in begin)
     title = re.split(r"(?<=[.?!]) ", text)[0].rstrip(".").replace("`", "")
@@ -31,7 +35,7 @@ def title_of(script: Sequence[str]) -> str:
 
 
 class NotWritten(Exception):
-    """Replies that would be lost: nothing was written."""
+    """Replies would be lost: nothing was written."""
 
 
 @dataclass(frozen=True)
@@ -49,7 +53,7 @@ class Mismatch:
 
 @dataclass
 class Command:
-    """A line that is answered: its number, and the reply that the script expects, each line with its own number."""
+    """A line with an answer: its number, and the reply that the script expects, each line with its own number."""
 
     number: int
     expected: List[Tuple[int, str]] = field(default_factory=list)
@@ -57,7 +61,7 @@ class Command:
 
 @dataclass
 class Script:
-    """A script by its lines, counted from 1, and what it expects."""
+    """A script: its lines, counted from 1, and what it expects."""
 
     lines: List[str]
     commands: List[Command] = field(default_factory=list)
@@ -87,13 +91,13 @@ class Script:
 
 
 def read(path: str) -> str:
-    """A script's text, whatever bytes it has."""
+    """The text of a script, whatever bytes it has."""
     with open(path, encoding="utf-8", errors="surrogateescape", newline="") as it:
         return it.read()
 
 
 def write(path: str, text: str) -> None:
-    """Writes a script, whatever bytes it has. A fault names it, also one that comes after it was opened, as of a full disk."""
+    """Writes a script, whatever bytes it has. A fault names the file, even one after it was opened, such as a full disk."""
     try:
         with open(path, "w", encoding="utf-8", errors="surrogateescape", newline="") as it:
             it.write(text)
@@ -102,7 +106,7 @@ def write(path: str, text: str) -> None:
 
 
 def verify(program: str, text: str) -> List[Mismatch]:
-    """Where the script's marked lines and the replies, faults and status differ: each place, from the first on."""
+    """Where the script's marked lines differ from the replies, faults and status: each place, from the first on."""
     script = Script.of(text)
     ran = run_lines(program, script.lines)
     found = [Mismatch(number, "reply to no line", text, "") for number, text in script.stray]
@@ -125,7 +129,7 @@ def _replies(command: Command, reply: List[str]) -> Iterator[Mismatch]:
 
 
 def _differ(what: str, wanted: List[Tuple[int, str]], came: List[str], at: int) -> Iterator[Mismatch]:
-    """The first place where two lists of lines differ, if they do; at is the line for what stands in no line of the script."""
+    """The first place where two lists of lines differ, if they do; `at` is the line for what is in no line of the script."""
     for place in range(max(len(wanted), len(came))):
         number, text = wanted[place] if place < len(wanted) else (at, "")
         line = came[place] if place < len(came) else ""
@@ -135,7 +139,7 @@ def _differ(what: str, wanted: List[Tuple[int, str]], came: List[str], at: int) 
 
 
 def annotated(program: str, text: str) -> str:
-    """The script with the replies, the faults and the status as they come, in place of those that it has."""
+    """The script with the replies, the faults and the status as they come, instead of those that it has."""
     script = Script.of(text)
     ran = run_lines(program, script.lines)
     if len(ran.replies) < len(script.commands) and not (ran.faults and (script.marked[FAULT] or script.marked[STATUS])):
@@ -162,7 +166,7 @@ def _checked(program: str, script: Script) -> List[str]:
 
 
 def annotate(program: str, path: str) -> bool:
-    """Writes the replies into a script: whether anything changed. The file is whole at every moment."""
+    """Writes the replies into a script; returns whether anything changed. The file is whole at every moment."""
     path = os.path.realpath(path)
     text = read(path)
     new = annotated(program, text)
@@ -176,18 +180,34 @@ def annotate(program: str, path: str) -> bool:
     return True
 
 
+def would_change(program: str, path: str) -> List[str]:
+    """What `annotate` would change in a script, in lines as diff(1) has them; none where it stays as it is."""
+    text = read(path)
+    old, new = (re.findall("[^\n]*\n|[^\n]+", it) for it in (text, annotated(program, text)))
+    lines: List[str] = []
+    for line in unified_diff(old, new, path, path):
+        lines += [line[:-1]] if line.endswith("\n") else [line, "\\ No newline at end of file"]
+    return lines
+
+
 @dataclass(frozen=True)
 class Verified:
-    """What became of scripts that were run beside their replies: a line for each difference, and one for all."""
+    """The result of running scripts against their replies: a line for each difference, and one for all; and how many seconds that
+    took."""
 
     lines: List[str]
     differing: int
+    seconds: float
+
+    def shown(self, is_timed: bool) -> List[str]:
+        """The lines. Where somebody waits for them, the last one has the time; elsewhere they are always the same."""
+        return [*self.lines[:-1], f"{self.lines[-1]}, in {self.seconds:.2f} s" if is_timed else self.lines[-1]]
 
 
 def verified(program: str, paths: Sequence[str]) -> Verified:
-    """Runs scripts, and tells where their marked lines and the replies differ, or why one could not be read."""
+    """Runs scripts, and reports where their marked lines and the replies differ, or why one could not be read."""
     lines: List[str] = []
-    differing = 0
+    differing, begun = 0, time.monotonic()
     for path in paths:
         try:
             found = [f"{path}:{it}" for it in verify(program, read(path))]
@@ -201,13 +221,18 @@ def verified(program: str, paths: Sequence[str]) -> Verified:
     lines.append(
         f"{total}: {f'{differing} differ' if differing > 1 else '1 differs' if differing else 'all replies as they say'}"
     )
-    return Verified(lines, differing)
+    return Verified(lines, differing, time.monotonic() - begun)
 
 
-def annotated_all(program: str, paths: Sequence[str]) -> Iterator[str]:
-    """Writes the replies into scripts, and tells of each what became of it; stops at one that could not be written."""
+def annotated_all(program: str, paths: Sequence[str], is_dry: bool = False) -> Iterator[str]:
+    """Writes the replies into scripts, and reports what became of each; stops at one that could not be written. A dry run writes
+    nothing, and reports what would change."""
     for path in paths:
         try:
-            yield f"{path}: {'replies written' if annotate(program, path) else 'as it was'}"
+            if is_dry:
+                lines = would_change(program, path)
+                yield from [*lines, f"{path}: {'replies would be written' if lines else 'as it was'}"]
+            else:
+                yield f"{path}: {'replies written' if annotate(program, path) else 'as it was'}"
         except NotWritten as why:
             raise NotWritten(f"{path}: {why}") from why

@@ -37,7 +37,7 @@ class Ports(NamedTuple):
 
 
 class Pool(NamedTuple):
-    """An address, as ends have it, with the ports of which one is taken."""
+    """An address, in the form of an end's, and the ports of which one is taken."""
 
     address: str
     ports: Ports
@@ -68,7 +68,7 @@ class Keys(NamedTuple):
 
 
 def _translated(packet: PacketEvent, near: str) -> Key:
-    """The flow of a packet with this near end. An echo of ICMP has its identifier at both ends, and other protocols than TCP and UDP
+    """The flow of a packet with this near end. An ICMP echo has its identifier at both ends, and protocols other than TCP and UDP
     have port 0."""
     (address, _, port), far = near.rpartition(":"), packet.key.far
     if packet.protocol == "icmp":
@@ -78,7 +78,7 @@ def _translated(packet: PacketEvent, near: str) -> Key:
 
 @dataclass(frozen=True)
 class Rule:
-    """A rule of a node, by its words, and where it is from where a comment above it says so."""
+    """A rule of a node: its words, and where it is from, if a comment above it says so."""
 
     words: Sequence[str]
     origin: str = ""
@@ -88,7 +88,7 @@ class Rule:
         return " ".join(self.words)
 
     @property
-    def told(self) -> str:
+    def described(self) -> str:
         """The rule and where it is from, as `pass in proto tcp tport 22; pf.conf:21 @7`."""
         return f"{self.text}; {self.origin}" if self.origin else self.text
 
@@ -100,7 +100,7 @@ class Rule:
         return option.word in self.words
 
     def value(self, option: Option) -> str:
-        """The word that follows an option which the rule has, in the form in which the program prints it."""
+        """The word after an option that the rule has, in the form in which the program prints it."""
         return option.values[0].plain(self.words[self.words.index(option.word) + 1])
 
     def ports(self, option: Option) -> Optional[Ports]:
@@ -109,12 +109,12 @@ class Rule:
 
     @property
     def pool(self) -> Optional[Pool]:
-        """What the rule translates to, by the one or the other of the two options; no rule of a set has both."""
+        """What the rule translates to, by one of the two options; no rule of a set has both."""
         option = RDR if self.has(RDR) else NAT
         return Pool.read(self.value(option)) if self.has(option) else None
 
     def keys(self, packet: PacketEvent) -> Iterator[Keys]:
-        """The keys that a new state of a packet can have under the rule, in the order in which they are tried."""
+        """The keys that a packet's new state can have under the rule, in the order in which they are tried."""
         flow, pool = packet.key, self.pool
         for near in pool.ends if pool else (flow.near,):
             translated = _translated(packet, near)
@@ -133,29 +133,29 @@ class Rule:
 
 
 class Adaptive(NamedTuple):
-    """The numbers of states between which timeouts shrink: the limits `astart` and `aend`, as pf.conf(5) has `adaptive.start` and
-    `adaptive.end`."""
+    """The numbers of states between which timeouts shrink: the limits `astart` and `aend`, which are `adaptive.start` and
+    `adaptive.end` of pf.conf(5)."""
 
     start: int
     end: int
 
     def shortens(self, states: int) -> bool:
-        """Whether a node with this number of states goes by shorter timeouts."""
+        """Whether a node with this number of states has shorter timeouts."""
         return self.start < states and self.start < self.end
 
     def scale(self, states: int) -> Tuple[int, int]:
-        """By which fraction timeouts are scaled where a node has this number of states."""
+        """The fraction that scales the timeouts of a node with this number of states."""
         return (max(0, self.end - states), self.end - self.start) if self.shortens(states) else (1, 1)
 
     def scaled(self, seconds: int, states: int) -> int:
-        """The seconds of a timeout where a node has this number of states."""
+        """The seconds of a timeout on a node with this number of states."""
         part, whole = self.scale(states)
         return seconds * part // whole
 
 
 @dataclass
 class Setup:
-    """The lines of a setup without `open`, and what they say. Its limits have `astart` and `aend` only where these are set, and its
+    """The lines of a setup without `open`, and what they say. Its limits have `astart` and `aend` only if these are set, and its
     timeouts are those of the lines `set timeout`, by class."""
 
     lines: List[str] = field(default_factory=list)
@@ -164,7 +164,7 @@ class Setup:
     rules: Dict[str, List[Rule]] = field(default_factory=lambda: {node: [] for node in NODES})
     # Between which numbers of states timeouts shrink.
     adaptive: Adaptive = field(init=False)
-    # Where the rules are from that come next, as the comment above them says.
+    # Where the next rules are from, as the comment above them says.
     _origin: str = field(default="", init=False)
 
     def __post_init__(self) -> None:
@@ -207,14 +207,14 @@ class Setup:
         self.adaptive = Adaptive(*(self.limits.get(it, self.limits[STATES] * it.fifths // 5) for it in (ASTART, AEND)))
 
     def seconds(self, node: str, number: Optional[int], timeout_class: str) -> int:
-        """The timeout of a state's class under its rule, in seconds, where no number of states shortens it: what the rule says, else
+        """The timeout of a state's class under its rule, in seconds, if no number of states shortens it: what the rule says, else
         what a line `set timeout` says, else the default."""
         rule = self.rule(node, number)
         own = rule.seconds(timeout_class) if rule else None
         return self.timeouts.get(timeout_class, DEFAULT_SECONDS[timeout_class]) if own is None else own
 
     def said_by(self, node: str, number: Optional[int], timeout_class: str) -> str:
-        """What says the timeout of a state's class under its rule: the rule, or `set timeout`; nothing where it is the default."""
+        """What sets the timeout of a state's class under its rule: the rule, or `set timeout`; nothing if it is the default."""
         rule = self.rule(node, number)
         if rule and rule.seconds(timeout_class) is not None:
             return f"rule {number} of {node}"

@@ -5,7 +5,7 @@ import difflib
 import os
 import re
 import sys
-from typing import IO, Iterable, List, Sequence, Tuple
+from typing import IO, Iterable, List, Sequence, Set, Tuple
 
 from . import changes, diffs, helps, logs, macros, marks, scripts, views
 from .branches import Branch
@@ -34,14 +34,14 @@ from .whatif.asked import read as read_whatif
 
 STRICT_STATUS = 4
 BAD_WORDS = ("bad", "refused")
-# What other programs have for a word.
+# What other programs call a word.
 OTHERS_SAY = {"undo": "back", "redo": "forward", "next": "forward"}
-# Outcomes of an event that a person wants to look at.
+# Outcomes of an event that deserve a look.
 BAD_OUTCOMES = (DROPPED.word, BROKEN.word)
 
 
 class Stopped(Exception):
-    """A refused or faulty line, where the first one ends the shell."""
+    """A refused or faulty line, when the first one ends the shell."""
 
 
 class Shell(Loop):
@@ -52,50 +52,57 @@ class Shell(Loop):
         self.strict = strict
         self.lines: List[Tuple[str, Sequence[str]]] = []
         self.has_faults = False
-        # The files that are being read, the newest last.
+        # The forms of lines that were shown with a fault.
+        self.forms: Set[str] = set()
+        # The files being read, newest last.
         self.reading: List[str] = []
         self.finder = Finder(self)
 
     # ---- the loop
 
     def take(self, lines: Iterable[str], echo: bool) -> bool:
-        """Takes lines one after another: whether one of them ends the shell."""
+        """Takes lines in turn; returns whether one of them ends the shell."""
         for line in lines:
             if echo:
-                self.tell_whole([self.paint.dim(f"> {line}")])
+                self.show_whole([self.paint.dim(f"> {line}")])
             if self.onecmd(line):
                 return True
         return False
 
     def onecmd(self, line: str) -> bool:
-        """Takes one line: whether it ends the shell. What goes wrong with a question is told, and nothing has changed."""
+        """Takes one line; returns whether it ends the shell. If a question fails, that is reported, and nothing has changed."""
         try:
             with self.lab.one_moment():
                 return bool(super().onecmd(line))
         except (Stopped, Ended, BrokenPipeError):
             raise
         except SetupFault as fault:
-            self.tell(explain_fault(line, fault.fault, self.columns))
-            self.fault(f"the setup is without this line: {fault.words}")
+            self.explain(line, fault.fault)
+            self.fault(f"this line is left out of the setup: {fault.words}")
         except OSError as error:
             self.fault(f"{error.filename}: {error.strerror}" if error.filename else str(error))
         except (Unknown, macros.NotQuiet, scripts.NotWritten) as error:
             self.fault(str(error))
         except Exception as error:  # a fault of the shell's own must not cost the pair
-            self.fault(f"the shell failed here, and the pair is as it was: {error!r}")
+            self.fault(f"the shell failed here, but the pair is as it was: {error!r}")
         return False
 
     def fault(self, text: str) -> None:
-        """Tells what could not be done; where faults stop the shell, this one does."""
+        """Reports what could not be done; if faults stop the shell, this one does."""
         self.has_faults = True
-        self.tell([self.paint.bad(shortened(text))])
+        self.show([self.paint.bad(shortened(text))])
         if self.strict:
             raise Stopped(text)
+
+    def explain(self, line: str, reply: str) -> None:
+        """Shows what is wrong with a line. The form of what was meant comes once in a dialogue."""
+        word = line.split()[0]
+        self.show(explain_fault(line, reply, self.columns, self.forms) if word in helps.WORDS else [shortened(unknown_word(word))])
 
     # ---- lines of the language
 
     def default(self, line: str) -> None:
-        """A line of the laboratory's own language, or an event alone, which is meant of the branch in use."""
+        """A line of the laboratory's own language, or an event alone, which goes to the branch in use."""
         words = line.split()
         if not has_word(line):
             self.lines.append((line, ()))
@@ -115,18 +122,18 @@ class Shell(Loop):
             self.stand_in(own) if own else self.ask(line)
 
     def stand_in(self, line: str) -> bool:
-        """Asks a line that stands for what was asked: whether it was neither refused nor faulty."""
-        self.tell_whole([self.paint.dim(f"> {line}")])
+        """Asks a line in place of what was typed; returns whether it was neither refused nor faulty."""
+        self.show_whole([self.paint.dim(f"> {line}")])
         return self.ask(line)
 
     def setup_line(self, line: str) -> None:
         if self.lab.is_open:
             self.ask(line)
             return
-        self.lab.tell_setup(line)
+        self.lab.take_setup(line)
         self.lines.append((line, ()))
         if opens(line) and self.is_typed:
-            self.tell([self.paint.dim("the pair is set up; its branch is main. `help` lists the words.")])
+            self.show([self.paint.dim("the pair is set up; its branch is main. `help` lists the words.")])
 
     def events(self, branch: str, event: str, line: str = "") -> None:
         """Lets an event happen, or those that `tick both` and `deliver all` stand for."""
@@ -147,24 +154,23 @@ class Shell(Loop):
                 return
 
     def step(self, branch: str, event: str) -> bool:
-        """A step that stands for a part of what was asked: whether it was accepted."""
+        """A step that is a part of what was typed; returns whether it was accepted."""
         return self.stand_in(f"step {branch} {event}")
 
     def ask(self, line: str) -> bool:
-        """Asks a line and tells the reply: whether it was neither refused nor faulty."""
+        """Asks a line and shows the reply; returns whether it was neither refused nor faulty."""
         in_use = self.lab.in_use
         reply = self.lab.ask(line)
         self.lines.append((line, tuple(reply)))
-        self.tell_whole([self.painted(it) for it in reply])
+        self.show_whole([self.painted(it) for it in reply])
         if self.lab.in_use != in_use:
-            self.tell([self.paint.note(f"the branch in use is now {self.lab.in_use}")])
+            self.show([self.paint.note(f"the branch in use is now {self.lab.in_use}")])
         words = reply[0].split()
         if words[0] not in BAD_WORDS:
             return True
         self.has_faults = self.has_faults or words[0] == "bad"
         if self.is_typed and words[0] == "bad":
-            word = line.split()[0]
-            self.tell(explain_fault(line, reply[0], self.columns) if word in helps.WORDS else [shortened(unknown_word(word))])
+            self.explain(line, reply[0])
         if self.strict:
             raise Stopped(f"`{line}`: {reply[0]}")
         return False
@@ -181,7 +187,7 @@ class Shell(Loop):
         return self.lab.branch(name or self.lab.in_use)
 
     def place(self, words: Sequence[str], what: str) -> Tuple[Branch, int]:
-        """The branch and the place of an event that words tell: `[BRANCH] [K]`, the newest that stands where K is left out."""
+        """The branch and the place of an event, from the words `[BRANCH] [K]`; without K, the newest event that stands."""
         rest = list(words)
         number = rest.pop() if rest and rest[-1].isdecimal() else ""
         if len(rest) > 1:
@@ -233,7 +239,7 @@ class Shell(Loop):
 
     def do_why(self, words: str) -> None:
         said = words.split()
-        # An event that has not happened begins with its word, which a branch may stand before.
+        # An event that has not happened begins with its word, after a branch if one is given.
         begin = next((at for at, word in enumerate(said[:2]) if word in EVENTS), None)
         if not said:
             self.answer(why_last(self.lab, self.paint, self.columns))
@@ -252,7 +258,7 @@ class Shell(Loop):
     def do_quiet(self, words: str) -> None:
         name = words.strip() or self.lab.in_use
         taken = list(macros.steps_to_quiet(lambda event: self.step(name, event), lambda: self.lab.show(name)))
-        self.tell([self.paint.dim(f"quiet: nothing is pending or in flight, after {len(taken)} steps")])
+        self.show([self.paint.dim(f"quiet: nothing is pending or in flight, after {len(taken)} steps")])
 
     def do_take(self, words: str) -> None:
         self.finder.take(words.split())
@@ -268,7 +274,7 @@ class Shell(Loop):
             return
         with open(path, "w", encoding="utf-8") as it:
             it.write(draw(drawn, os.path.splitext(os.path.basename(path))[0]))
-        self.tell([f"written: {path}"])
+        self.show([f"written: {path}"])
 
     def story(self) -> Story:
         """What happened to the branches, as far as it is known."""
@@ -279,7 +285,7 @@ class Shell(Loop):
         return story
 
     def lines_of_pair(self) -> Sequence[Tuple[str, Sequence[str]]]:
-        """The lines of the pair with their replies: those of this dialogue, or those of all sessions of a server that is followed."""
+        """The lines of the pair with their replies: from this dialogue, or from all sessions of a server that is followed."""
         if self.lab.port is None:
             return self.lines
         shared = self.lab.shared
@@ -302,37 +308,43 @@ class Shell(Loop):
         self.lab.in_use = name
 
     def do_mark(self, words: str) -> None:
-        self.tell(marks.mark(self.lab, words.strip()))
+        self.show(marks.mark(self.lab, words.strip()))
 
     def do_summary(self, words: str) -> None:
-        self.tell([self.lab.summary()])
+        self.show([self.lab.summary()])
 
     def do_notes(self, words: str) -> None:
         if self.notes is None:
-            raise Unknown("notes are of what other sessions of a server do, in a dialogue with one that reports its journal")
+            raise Unknown("notes show what other sessions of a server do, in a dialogue with a server that reports its journal")
         said = words.strip()
         if said not in ("", "on", "off"):
             raise Unknown(usage(helps.NOTES))
         if said:
             self.notes.turn(said == "on")
-        self.tell([f"notes are {'on' if self.notes.is_on else 'off'}"])
+        self.show([f"notes are {'on' if self.notes.is_on else 'off'}"])
 
     def do_verify(self, words: str) -> None:
         found = scripts.verified(self.lab.program, self.needed(words, "verify").split())
-        self.tell(found.lines[:-1])
+        *lines, last = found.shown(self.is_typed)
+        self.show(lines)
         if found.differing:
-            self.fault(found.lines[-1])
+            self.fault(last)
         else:
-            self.tell(found.lines[-1:])
+            self.show([last])
 
     def do_annotate(self, words: str) -> None:
-        for line in scripts.annotated_all(self.lab.program, self.needed(words, "annotate").split()):
-            self.tell([line])
+        paths = self.needed(words, "annotate").split()
+        is_dry = paths[0] in scripts.DRY_RUN
+        if not paths[is_dry:]:
+            raise Unknown(usage("annotate"))
+        for line in scripts.annotated_all(self.lab.program, paths[is_dry:], is_dry):
+            # (lines of a script are as they are)
+            (self.show_whole if is_dry else self.show)([line])
 
     def do_read(self, words: str) -> bool:
         path = self.needed(words, "read")
         if os.path.realpath(path) in self.reading:
-            raise Unknown(f"{path} is being read already")
+            raise Unknown(f"{path} is already being read")
         lines = lines_of(scripts.read(path))
         self.reading.append(os.path.realpath(path))
         try:
@@ -343,14 +355,14 @@ class Shell(Loop):
     def do_save(self, words: str) -> None:
         path = self.needed(words, "save")
         scripts.write(path, self.script())
-        self.tell([f"written: {path}"])
+        self.show([f"written: {path}"])
 
     def script(self) -> str:
         """The setup and the commands of the pair with their replies, as a script."""
         lines = self.lines_of_pair()
         if self.lab.port is not None and not lines:
             raise Unknown("a script begins with the setup of its pair, and has the commands of all sessions: this server does not report them")
-        # (a faulty line is a slip of the dialogue, and no part of its script)
+        # (a faulty line is a slip in the dialogue, and not part of its script)
         kept = ((line, reply) for line, reply in lines if not reply or not reply[0].startswith("bad "))
         return "".join(f"{text}\n" for line, reply in kept for text in (line, *(f"{scripts.REPLY}{part}" for part in reply)))
 
@@ -364,7 +376,7 @@ class Shell(Loop):
         self.answer(found.lines)
         if found.written and asked.out:
             scripts.write(asked.out, found.written.text)
-            self.tell([found.written.told(asked.out)])
+            self.show([found.written.message(asked.out)])
         if found.fault:
             self.fault(found.fault)
         if found.is_interrupted and not self.is_typed:
@@ -387,7 +399,7 @@ class Shell(Loop):
 
     def do_EOF(self, words: str) -> bool:
         if self.is_typed:
-            self.tell([""])
+            self.show([""])
         return True
 
 
@@ -397,7 +409,7 @@ def usage(word: str) -> str:
 
 
 def unknown_word(word: str) -> str:
-    """That there is no such word, with the nearest one that there is."""
+    """A message that there is no such word, with the nearest word that there is."""
     if word in pf_conf.RULES:
         return f"there is no word {word}; a rule begins with `rule a` or `rule b`"
     near = [OTHERS_SAY[word]] if word in OTHERS_SAY else difflib.get_close_matches(word, helps.WORDS, 1)

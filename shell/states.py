@@ -1,4 +1,4 @@
-"""States of a node's table, and what a record of one has in common with it."""
+"""States of a node's table, and what they have in common with records of states."""
 from __future__ import annotations
 
 from dataclasses import dataclass
@@ -10,7 +10,7 @@ from .language.packets import Key
 
 @dataclass(frozen=True)
 class End:
-    """An end of a connection, as the window is followed."""
+    """An end of a connection, as the window is tracked."""
 
     level: int
     scale: Optional[int]
@@ -38,12 +38,12 @@ class Flow:
     timeout_class: str
 
 
-# How many words of a line tell a flow, from its name on.
+# How many words of a line describe a flow, from its name on.
 FLOW_WORDS = 18
 
 
 def flow_fields(words: Sequence[str]) -> Tuple[Name, str, str, Key, Key, End, End, str]:
-    """The fields of a flow, out of the words that tell it."""
+    """The fields of a flow, from the words that describe it."""
     name, protocol, direction, wire_far, wire_near, stack_far, stack_near = words[:7]
     keys = Key(wire_far, wire_near), Key(stack_far, stack_near)
     return (Name.read(name), protocol, direction, *keys, End.read(words[7:12]), End.read(words[12:17]), words[17])

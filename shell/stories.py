@@ -12,7 +12,7 @@ from .language.events import plain_event
 from .language.lines import content_of, has_word
 from .scripts import is_mark
 
-# A script can undo and step over again and again: of these runs the newest are kept.
+# A script can undo and step anew again and again: only the newest of these runs are kept.
 MOST_KEPT = 64
 # Paragraphs, or names of branches, by how many events of a branch stood.
 Places = Dict[int, List[str]]
@@ -20,16 +20,16 @@ Places = Dict[int, List[str]]
 
 @dataclass
 class Chapter:
-    """What a story has of a branch: its events, those that were undone too, and how many of them stand; and by the numbers of events
-    the paragraphs about each, and the branches that begin after it."""
+    """What a story has on a branch: its events, including those that were undone, and how many of them stand; and by numbers of
+    events the paragraphs about each, and the branches that begin after it."""
 
     events: List[str] = field(default_factory=list)
     cursor: int = 0
     notes: Places = field(default_factory=dict)
     forks: Places = field(default_factory=dict)
-    # All this as it was before events were undone, if none was stepped since.
+    # All this as it was before events were undone, if none has been stepped since.
     before: Optional["Chapter"] = None
-    # The chapters before each excision that can be taken back, the newest last.
+    # The chapters before each excision that can be taken back, newest last.
     excised: List["Chapter"] = field(default_factory=list)
 
     def first(self, number: int) -> "Chapter":
@@ -37,7 +37,7 @@ class Chapter:
         return Chapter(self.events[:number], number, _kept(self.notes, number), _kept(self.forks, number))
 
     def without(self, gone: Set[int]) -> "Chapter":
-        """The chapter where events are taken out, by their places. Branches that began after one of these begin here no more."""
+        """The chapter without the events at some places. Branches that began after one of these no longer begin here."""
         events = [it for place, it in enumerate(self.events, 1) if place not in gone]
         cursor = self.cursor - sum(it <= self.cursor for it in gone)
         chapter = Chapter(events, cursor, _without(self.notes, gone), _kept(self.forks, min(gone) - 1))
@@ -46,27 +46,27 @@ class Chapter:
 
 
 class Former(NamedTuple):
-    """What a branch was before it was changed otherwise than at its end, with its paragraphs."""
+    """A branch before it was changed anywhere but at its end, with its paragraphs."""
 
     branch: Branch
     notes: Places
 
 
 class Story:
-    """A story that is read line by line, with the replies."""
+    """A story, read line by line, with the replies."""
 
     def __init__(self) -> None:
         # The paragraphs of the setup.
         self.intro: List[str] = []
         self.branches: Dict[str, Chapter] = {"main": Chapter()}
-        # The runs that were undone and stepped over, or lost an event, the newest last.
+        # The runs that were undone and stepped over, or lost an event, newest last.
         self.former: List[Former] = []
-        # The paragraphs that no line has followed yet, and whether the next comment goes on with the last one.
+        # The paragraphs that no line has followed yet, and whether the next comment continues the last one.
         self.waiting: List[str] = []
         self._goes_on = False
 
     def comment(self, line: str) -> None:
-        """Takes a line that is not read: a part of a paragraph, or nothing, which ends one."""
+        """Takes a line that is not read: a part of a paragraph, or an empty line, which ends one."""
         if is_mark(line) or is_of_import(line):
             return
         words = legible(content_of(line).strip().lstrip("#"))
@@ -81,7 +81,7 @@ class Story:
         self.intro += self._paragraphs()
 
     def command(self, line: str, reply: Sequence[str]) -> None:
-        """Takes a command with its reply. A paragraph is about the event that happens next, whatever commands are in between."""
+        """Takes a command with its reply. A paragraph is about the next event, whatever commands come in between."""
         self._goes_on = False
         words, answer = line.split(), reply[0].split()
         change = _CHANGES.get(words[0])
@@ -90,7 +90,7 @@ class Story:
         change(self, words[1], words[2:], answer[1:])
 
     def above(self, name: str) -> Places:
-        """The paragraphs above the events of a branch, by how many events stand before them; those at the end of the script are after
+        """The paragraphs above the events of a branch, by how many events come before them; those at the end of the script come after
         the last event of each branch."""
         chapter = self.branches.get(name, Chapter())
         places = {place - 1: [*those] for place, those in chapter.notes.items() if place <= chapter.cursor}
@@ -109,7 +109,7 @@ class Story:
         self._goes_on = False
         return paragraphs
 
-    # ---- commands that were carried out: a branch, the words after it, and those of the reply after its first
+    # ---- commands that were carried out: a branch, the words after it, and the words of the reply after its first
 
     def _step(self, name: str, words: Sequence[str], answer: Sequence[str]) -> None:
         chapter = self.branches[name]
@@ -168,26 +168,25 @@ _CHANGES: Dict[str, Callable[[Story, str, Sequence[str], Sequence[str]], None]] 
 
 
 def story_of(lab: Laboratory, script: Sequence[str]) -> Story:
-    """Runs a script without faults in a new laboratory, all but its questions: its story."""
+    """Runs a script without faults in a new laboratory, all but its questions; returns its story."""
     story = Story()
     for line in script:
         if not has_word(line):
             story.comment(line)
             lab.pass_over(line)
         elif not lab.is_open:
-            lab.tell_setup(line)
+            lab.take_setup(line)
             story.setup()
         elif line.split()[0] in _CHANGES:
             story.command(line, lab.ask(line))
         else:
-            # (a question ends a paragraph, and no more)
+            # (a question only ends a paragraph)
             story.comment("")
     return story
 
 
 def legible(text: str) -> str:
-    """A text with single spaces, and with U+FFFD in place of what is no character that can be shown: a line has whatever bytes it
-    has."""
+    """A text with single spaces, and with U+FFFD for anything that cannot be shown: a line may have any bytes."""
     return "".join(it if it.isprintable() else "\ufffd" for it in " ".join(text.split()))
 
 

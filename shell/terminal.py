@@ -1,4 +1,4 @@
-"""Notes above the line that a person types at a terminal: the line stays as it is, and so does the place of the cursor in it."""
+"""Notes above the line being typed at a terminal: the line stays as it is, and so does the place of the cursor in it."""
 from __future__ import annotations
 
 import os
@@ -9,14 +9,14 @@ from .fitting import fitted, length_of
 from .notes import Notes
 from .programs import Ended, uninterrupted
 
-# How often it is looked, in seconds, whether notes have become due.
+# How often, in seconds, to look whether notes have become due.
 PERIOD = 0.1
 # Terminals that do not know the control sequences of a VT100.
 PLAIN_TERMINALS = ("", "dumb", "unknown")
 
 
 def above(lines: Sequence[str], columns: int) -> str:
-    """What has a terminal show lines above the one in which the cursor stands. That has one row, and there it stays."""
+    """What makes a terminal show lines above the line with the cursor. That line has one row, and stays where it is."""
     rows = sum(max(1, -(-length_of(it) // columns)) for it in lines)
     # (rows are made below, where the terminal may have to scroll, and inserted here; then the cursor returns to its column, and down)
     text = "\r\n".join(lines)
@@ -27,15 +27,15 @@ class Watch(threading.Thread):
     """Shows notes as they become due while a line is typed."""
 
     def __init__(self, notes: Notes, out: IO[str], typed: Callable[[], str]):
-        """The function gives all that stands in the line, the prompt included."""
+        """The function returns all that is in the line, including the prompt."""
         super().__init__(name="notes", daemon=True)
         self._notes, self._out, self._typed = notes, out, typed
-        # Who has this may ask the session; and whether a line is being typed.
+        # Whoever holds this may ask the session; and whether a line is being typed.
         self.turn = threading.RLock()
         self._is_typing = threading.Event()
 
     def begin(self) -> None:
-        # (an interrupt is for the one who types, and comes to the main thread)
+        # (an interrupt is for the person typing, and goes to the main thread)
         with uninterrupted():
             self.start()
 
@@ -51,7 +51,7 @@ class Watch(threading.Thread):
                     return
 
     def _look(self) -> bool:
-        """Shows what is due: whether the server is there."""
+        """Shows what is due; returns whether the server is there."""
         before, self._notes.show_lines = self._notes.show_lines, self._show
         try:
             self._notes.shared.hear()
@@ -65,7 +65,7 @@ class Watch(threading.Thread):
         return True
 
     def _has_one_row(self) -> bool:
-        """Whether what is typed stands in one row of the terminal, as far as that is known."""
+        """Whether what is being typed fits in one row of the terminal, as far as that is known."""
         typed = self._typed()
         return typed.isascii() and typed.isprintable() and len(typed) < self._columns()
 
@@ -79,7 +79,7 @@ class Watch(threading.Thread):
 
 
 def watch(notes: Notes, out: IO[str], prompt: Callable[[], str]) -> Optional[Watch]:
-    """Begins to watch, where lines are typed by readline at a terminal that can insert lines."""
+    """Begins to watch, if lines are typed with readline at a terminal that can insert lines."""
     try:
         import readline
     except ImportError:

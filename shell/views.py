@@ -35,16 +35,16 @@ from .words import (
     state_line,
 )
 
-# The lines of a long list, and how far in it goes on.
+# The length of the lines of a long list, and how far they are indented.
 WIDTH, FURTHER = 120, 4
 
 
 def view(pair: Pair, setup: Optional[Setup], paint: Paint, columns: Optional[int] = None, part: str = "") -> List[str]:
-    """All of a pair: both nodes, and what is in flight; or a node or a state by its name alone. Long lists are in lines for these
-    columns, where they are known."""
+    """All of a pair: both nodes, and what is in flight; or only a node or a state, by its name. Long lists are in lines for this many
+    columns, if that is known."""
     undone = pair.events - pair.cursor
-    behind = f", {undone} undone" if undone else ""
-    lines = [paint.head(f"branch {pair.branch}") + f"  {counted(pair.cursor, 'event')}{behind}"]
+    rest = f", {undone} undone" if undone else ""
+    lines = [paint.head(f"branch {pair.branch}") + f"  {counted(pair.cursor, 'event')}{rest}"]
     if setup is None:
         lines.append(paint.note(UNKNOWN_SETUP))
     if part and part not in NODES:
@@ -55,7 +55,7 @@ def view(pair: Pair, setup: Optional[Setup], paint: Paint, columns: Optional[int
 
 
 def _both(pair: Pair, name: Name, setup: Optional[Setup], paint: Paint) -> List[str]:
-    """A state at both nodes, or that one has none of this name."""
+    """A state at both nodes, or a line that one of them has no state of this name."""
     lines: List[str] = []
     for node in pair.nodes.values():
         state = node.states.get(name)
@@ -77,13 +77,13 @@ def _node(node: Node, setup: Optional[Setup], paint: Paint, columns: Optional[in
     for name in sorted(node.states):
         lines += _state(node.states[name], node, setup, paint)
     lines.append(_counters(node))
-    lines += _to_be_told(node, paint, min(WIDTH, columns - FURTHER) if columns else WIDTH)
+    lines += _to_be_sent(node, paint, min(WIDTH, columns - FURTHER) if columns else WIDTH)
     lines += [paint.note(f"  {held_packet(it, node, setup)}") for it in node.held]
     return lines + _bulk_update(node, setup, paint)
 
 
 def _state(state: State, node: Node, setup: Optional[Setup], paint: Paint) -> List[str]:
-    """A state as `pfctl -vss` prints it: its flow and levels; of TCP its sequence numbers; and what else is known of it."""
+    """A state as `pfctl -vss` prints it: its flow and levels; for TCP its sequence numbers; and what else is known about it."""
     lines = [f"  {state_line(state)}"]
     indent = " " * (len(str(state.name)) + 4)
     if state.protocol == "tcp":
@@ -102,11 +102,11 @@ def _verbose(state: State, node: Node, setup: Optional[Setup], paint: Paint) -> 
     if state.peer is not None:
         said.append(f"changed by the peer {seconds(node.clock - state.peer)} ago")
     rule = setup.rule(node.id, state.rule) if setup else None
-    return [*said, rule_number(state.rule) + (f": {rule.told}" if rule else "")]
+    return [*said, rule_number(state.rule) + (f": {rule.described}" if rule else "")]
 
 
 def _counters(node: Node) -> str:
-    """The counters: those that are not 0, each with what it counts."""
+    """The counters that are not 0, each with what it counts."""
     said = [f"{it.counts} {node.counters[it.name]}" for it in COUNTERS if node.counters[it.name]]
     if not said:
         return "  counters: all 0"
@@ -114,8 +114,8 @@ def _counters(node: Node) -> str:
     return f"  counters: {', '.join(said)}" + (f"; the other {rest} are 0" if rest else "")
 
 
-def _to_be_told(node: Node, paint: Paint, width: int) -> List[str]:
-    """What a flush has to send, by kind, and whether it is wanted soon."""
+def _to_be_sent(node: Node, paint: Paint, width: int) -> List[str]:
+    """What a flush has to send, by kind, and whether the frame is wanted soon."""
     kinds: Dict[str, List[str]] = {}
     for it in node.queue:
         kinds.setdefault(QUEUES[it.kind], []).append(str(it.name))
@@ -127,9 +127,9 @@ def _to_be_told(node: Node, paint: Paint, width: int) -> List[str]:
         kinds[CLEAR.name] = [cleared(it) for it in node.clears]
     push = ", push asked" if node.push else ""
     if not kinds:
-        return [paint.note("  nothing to be told to the peer, push asked")] if push else []
+        return [paint.note("  nothing to send to the peer, push asked")] if push else []
     text = "; ".join(f"{kind} {', '.join(those)}" for kind, those in kinds.items())
-    lines = textwrap.wrap(f"to be told to {other(node.id)} ({node.pending}{push}): {text}", width, break_long_words=False)
+    lines = textwrap.wrap(f"to send to {other(node.id)} ({node.pending}{push}): {text}", width, break_long_words=False)
     return [paint.note(" " * (FURTHER if at else 2) + it) for at, it in enumerate(lines)]
 
 
@@ -165,7 +165,7 @@ def _link(pair: Pair, setup: Optional[Setup], paint: Paint) -> List[str]:
 
 
 def flight(it: Flight, cursor: int, setup: Optional[Setup], paint: Paint) -> List[str]:
-    """A frame as it was sent, and the events that sent it and befell it, where this number of the branch's events stands."""
+    """A frame as it was sent, and the events that sent it and happened to it, when this many of the branch's events stand."""
     lines = [line[2:] for line in _frame(it.frame, setup, paint)]
     lines += [f"  {one}" if one.number <= cursor else paint.dim(f"  {one}  (undone)") for one in (it.sent, *it.later)]
     is_over = it.ended is not None and it.ended.number <= cursor
@@ -173,7 +173,7 @@ def flight(it: Flight, cursor: int, setup: Optional[Setup], paint: Paint) -> Lis
 
 
 def _frame(frame: Frame, setup: Optional[Setup], paint: Paint) -> List[str]:
-    """A frame in flight, and its records one a line."""
+    """A frame in flight, and its records, one per line."""
     head = f"  {frame_head(frame, setup)}"
     if frame.broken:
         return [f"{head}: {paint.bad(frame.summary)}"]
@@ -186,15 +186,15 @@ def frame_head(frame: Frame, setup: Optional[Setup]) -> str:
 
 
 def _rules(frame: Frame, setup: Optional[Setup]) -> str:
-    """The checksum in the header, beside those of the rules of the sender and of the receiver."""
+    """The checksum in the header, compared with those of the rules of the sender and of the receiver."""
     if len(frame.data) < HEADER:
         return ""
-    told = frame.checksum
-    text = f", rules {told[:8]}"
+    checksum = frame.checksum
+    text = f", rules {checksum[:8]}"
     if setup is None:
         return text
     sender = other(frame.to)
-    if told != rules_checksum(setup.rules[sender]):
+    if checksum != rules_checksum(setup.rules[sender]):
         return f"{text}, not those of {sender}"
-    same = told == rules_checksum(setup.rules[frame.to])
+    same = checksum == rules_checksum(setup.rules[frame.to])
     return f"{text} of {sender}, {frame.to} has {'the same' if same else 'others'}"

@@ -9,7 +9,7 @@ from .pair import Cleared, Node
 from .setups import Adaptive, Setup
 from .states import End, Flow, State
 
-UNKNOWN_SETUP = "the setup is not known here: times of expiry are those of the default timeouts and limits"
+UNKNOWN_SETUP = "the setup is not known here: expiry times are those of the default timeouts and limits"
 FLAGS = {"-": "none", "n": NO_SYNC.word, "k": "waits for an acknowledgement"}
 
 
@@ -19,7 +19,7 @@ def counted(number: int, noun: str, many: Optional[str] = None) -> str:
 
 
 def seconds(milliseconds: int) -> str:
-    """A time in seconds, to the millisecond where it has any: `3 s`, `0.5 s`."""
+    """A time in seconds, to the millisecond if it has any: `3 s`, `0.5 s`."""
     whole, part = divmod(milliseconds, 1000)
     return f"{whole}.{part:03}".rstrip("0").rstrip(".") + " s" if part else f"{whole} s"
 
@@ -36,13 +36,13 @@ def _with_port_of(end: str, other: str) -> str:
 
 
 def flow(it: Flow) -> str:
-    """The flow as pfctl prints a state: the near end, an arrow by the way of its first packet, the far end; in brackets what
+    """The flow as pfctl prints a state: the near end, an arrow in the direction of its first packet, the far end; in brackets what
     translation hides."""
     outward = it.direction == "out"
     printed, other = (it.wire, it.stack) if outward else (it.stack, it.wire)
     near, far = other.near, other.far
     if it.protocol == "icmp":
-        # An echo has its identifier as both ports; pfctl puts it in brackets at one end alone.
+        # An echo has its identifier as both ports; pfctl puts it in brackets at only one end.
         near, far = (near, _with_port_of(far, printed.far)) if outward else (_with_port_of(near, printed.near), far)
     arrow = "->" if outward else "<-"
     return f"{it.protocol} {_with_other(printed.near, near)} {arrow} {_with_other(printed.far, far)}"
@@ -60,7 +60,7 @@ def levels(it: Flow) -> str:
 
 
 def state_line(it: Flow) -> str:
-    """A state in the first line that pfctl prints of it, behind its name."""
+    """A state as the first line that pfctl prints of it, after its name."""
     return f"{it.name}  {flow(it)}  {levels(it)}"
 
 
@@ -71,25 +71,25 @@ def sequence(end: End) -> str:
 
 
 def expires_at(setup: Optional[Setup], node: Node, state: State) -> int:
-    """When a state of a node expires, by the node's clock: its last use, and the timeout of its class under its rule, as short as
-    the number of states makes it that the node has. Without a setup timeouts and limits are the default ones."""
+    """When a state of a node expires, by the node's clock: its last use, and the timeout of its class under its rule, as shortened by
+    the number of states that the node has. Without a setup timeouts and limits are the defaults."""
     known = setup or Setup()
     timeout = known.seconds(node.id, state.rule, state.timeout_class)
     return state.last + 1000 * known.adaptive.scaled(timeout, len(node.states))
 
 
 def milliseconds_left(setup: Optional[Setup], node: Node, state: State) -> int:
-    """How long a state of a node has until it expires. What has none left is deleted by a purge."""
+    """How long until a state of a node expires. A purge deletes a state with no time left."""
     return expires_at(setup, node, state) - node.clock
 
 
 def scaling(setup: Optional[Setup], node: Node) -> str:
-    """By how much the number of states shortens the timeouts of a node; empty where it does not."""
+    """By how much the number of states shortens the timeouts of a node; empty if it does not."""
     return scaled_by((setup or Setup()).adaptive, node.id, len(node.states))
 
 
 def scaled_by(adaptive: Adaptive, node: str, states: int) -> str:
-    """By how much this number of states shortens the timeouts of a node; empty where it does not."""
+    """By how much this number of states shortens the timeouts of a node; empty if it does not."""
     if not adaptive.shortens(states):
         return ""
     start, end = adaptive
@@ -98,7 +98,7 @@ def scaled_by(adaptive: Adaptive, node: str, states: int) -> str:
 
 
 def expiry(left: int) -> str:
-    """When a state expires; the seconds are whole ones, as pfctl and the records of frames have them."""
+    """When a state expires, in whole seconds, as in pfctl and in the records of frames."""
     return "expired" if left <= 0 else f"expires in {left // 1000} s"
 
 
@@ -125,7 +125,7 @@ def end_fields(protocol: str, end: End) -> Dict[str, str]:
 
 
 def state_fields(state: State) -> Dict[str, str]:
-    """All of a state but its name, field by field."""
+    """Everything about a state except its name, field by field."""
     fields = {
         "protocol": state.protocol,
         "direction": state.direction,
@@ -149,7 +149,7 @@ def state_fields(state: State) -> Dict[str, str]:
     return fields
 
 
-# ---- what is told to the peer
+# ---- what is sent to the peer
 
 
 def request(name: Name) -> str:
@@ -169,7 +169,7 @@ def bulk_status(status: int) -> str:
 
 
 def bulk_server(serve: str) -> str:
-    """What a node serves, out of `CURSOR/SINCE`."""
+    """What a node serves, from `CURSOR/SINCE`."""
     if serve == "-":
         return "idle"
     cursor, _, since = serve.partition("/")
@@ -178,7 +178,7 @@ def bulk_server(serve: str) -> str:
 
 
 def bulk_client(sync: str) -> str:
-    """What a node waits for, out of `TRIES/ASKED`."""
+    """What a node waits for, from `TRIES/ASKED`."""
     if sync == "-":
         return "idle"
     tries, _, asked = sync.partition("/")

@@ -1,7 +1,7 @@
-"""A branch as a chart: a lane for each node, time downwards, and the frames on their ways between the lanes.
+"""A branch as a chart: a lane for each node, time downwards, and the frames on their way between the lanes.
 
 What was undone is not drawn. A chart shows one run, in which each frame ends once: drawn below, an undone loss would show a
-frame as lost that is in flight. The heading says how many events were undone, and `log` lists them."""
+frame that is in flight as lost. The heading says how many events were undone, and `log` lists them."""
 from __future__ import annotations
 
 from bisect import bisect_left
@@ -18,7 +18,7 @@ from .marks import Mark, PacketMarks, delivery_mark, node_mark
 from .rows import Chart, Row
 from .windows import WHOLE, Concern, Window
 
-# Texts by the number of events that stand where they belong: paragraphs of a story, or names of branches that begin there.
+# Texts by the number of events before their place: paragraphs of a story, or names of branches that begin there.
 Texts = Mapping[int, Sequence[str]]
 NO_TEXTS: Texts = {}
 # An event, and the frame that it sent, if it did.
@@ -26,7 +26,7 @@ Step = Tuple[Explanation, Optional[Flight]]
 
 
 def chart(lab: Laboratory, branch: Branch, notes: Texts = NO_TEXTS, forks: Texts = NO_TEXTS, window: Window = WHOLE) -> Chart:
-    """The chart of the events of a branch that stand, or of a part of them."""
+    """The chart of the events of a branch that stand, or of some of them."""
     window.within(branch.name, branch.cursor)
     return drawn(branch.name, [*explained(lab, branch)], len(branch.events) - branch.cursor, notes, forks, window)
 
@@ -39,9 +39,8 @@ def drawn(
     forks: Texts = NO_TEXTS,
     window: Window = WHOLE,
 ) -> Chart:
-    """The chart of a branch by the events that stand, each explained and with the frame that it sent, if it did, and by how many
-    were undone. What befell a frame is taken from these events alone. Events between which there are texts have rows of their
-    own."""
+    """The chart of a branch, from the events that stand, each explained and with the frame that it sent, if any, and how many were
+    undone. What happened to a frame is taken from these events alone. Events with texts between them have rows of their own."""
     part = window.within(name, len(events))
     concern = Concern(name, part.flow, [it for it, _ in events]) if part.flow else None
     growing = _Growing(Chart(name, len(events), undone, part), concern, {*notes, *forks})
@@ -53,7 +52,7 @@ def drawn(
 
 
 def explained(lab: Laboratory, branch: Branch) -> Iterator[Step]:
-    """Each event that stands, explained, and the frame that it sent, if it did: tickets are counted from 1."""
+    """Each event that stands, explained, and the frame that it sent, if any: tickets are counted from 1."""
     events = branch.events[: branch.cursor]
     sends = [it.split()[0] in (FLUSH.word, REPEAT.word) for it in events]
     tickets = [*accumulate(map(int, sends))]
@@ -61,7 +60,7 @@ def explained(lab: Laboratory, branch: Branch) -> Iterator[Step]:
         for number, (ticket, is_sent) in enumerate(zip(tickets, sends), 1):
             yield lab.explanation(branch.name, number), lab.flight(branch.name, ticket) if is_sent else None
         return
-    # One run is quicker, in which each is asked for where it has just happened: the program has no long way back to it.
+    # One run that asks about each event just after it happens is faster: the program then has no long way back.
     asked = enumerate(zip(events, tickets, sends), 1)
     lines = [(f"step main {it}", f"why main {at}", f"frame main {ticket}")[: 2 + is_sent] for at, (it, ticket, is_sent) in asked]
     replies = iter(lab.run([line for it in lines for line in it]))
@@ -71,7 +70,7 @@ def explained(lab: Laboratory, branch: Branch) -> Iterator[Step]:
 
 
 class _Growing:
-    """A chart that grows event by event. Nothing is drawn as one between whose events there are breaks."""
+    """A chart that grows event by event. Events with a break between them are not drawn as one."""
 
     def __init__(self, chart: Chart, concern: Optional[Concern], breaks: Container[int]):
         self.chart, self.concern, self.breaks = chart, concern, breaks
@@ -83,7 +82,7 @@ class _Growing:
         event, (first, last, _) = it.event, self.chart.window
         is_meant = self.concern is None or self.concern.has(it, flight)
         if flight and is_meant:
-            # (what befalls it follows, if that stands)
+            # (what happens to the frame follows, if that stands)
             self.chart.flights[flight.ticket] = replace(flight, later=[])
         if event.words[0] in OF_FRAME and int(event.words[1]) in self.chart.flights:
             self.chart.flights[int(event.words[1])].later.append(event)
@@ -94,7 +93,7 @@ class _Growing:
             self.newest = event
 
     def leave_out(self) -> None:
-        """Leaves out the frames that are not seen."""
+        """Leaves out the frames that do not appear."""
         first, last, _ = self.chart.window
         for ticket, flight in [*self.chart.flights.items()]:
             if flight.sent.number > (last or 0) or (flight.ended and flight.ended.number < first):
@@ -132,17 +131,17 @@ class _Growing:
         self.chart.rows.append(Row(it.number, it.number, it.kind.word, tuple(marks), ticket))
 
     def _grow(self, it: Happened, marks: Sequence[Mark]) -> None:
-        """The newest row has an event more."""
+        """Adds an event to the newest row."""
         self.chart.places[it.number] = len(self.chart.rows) - 1
         self.chart.rows[-1] = replace(self.chart.rows[-1], last=it.number, marks=tuple(marks))
 
     def _before(self, it: Happened) -> Optional[Row]:
-        """The row that an event may belong to, too: the newest one, if nothing lies between."""
+        """The row that an event may share: the newest one, if nothing lies between."""
         row = self.chart.rows[-1] if self.chart.rows else None
         return row if row and row.last == it.number - 1 and row.last not in self.breaks else None
 
     def _at_node(self, it: Happened, mark: Mark) -> None:
-        """An event of one node. The same again is in one row with it, and so is the same tick of both."""
+        """An event of one node. A repetition shares its row, and so does the same tick of the other node."""
         row, newest = self._before(it), self.newest
         if row and newest and row.ticket is None and len(row.marks) == 1:
             one = row.marks[0]
@@ -155,7 +154,7 @@ class _Growing:
         self._row(it, (mark,))
 
     def _end(self, explained: Explanation, flight: Flight) -> None:
-        """A frame is delivered or lost: in the row where it was sent, if nothing lies between."""
+        """A frame is delivered or lost, in the row where it was sent if nothing lies between."""
         it, marks = explained.event, () if flight.is_lost else (delivery_mark(explained, flight),)
         if self._before(it) and self.chart.sent(flight) == len(self.chart.rows) - 1:
             self._grow(it, marks)

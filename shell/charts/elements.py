@@ -1,4 +1,4 @@
-"""The elements of a drawing as values: their names, their attributes, and words with their tones; and how wide words may be."""
+"""The elements of a drawing as values: names, attributes, and words with their tones; and how wide words may be."""
 from __future__ import annotations
 
 from functools import lru_cache
@@ -9,8 +9,8 @@ from .rows import broken
 
 # How much wider bold letters are.
 BOLDER = 1.1
-# The names of the colours: of words and lines, of what stands beside the matter, of every second row, of frames, of what is good,
-# bad or calls for a look, and of the paper.
+# The names of the colours: of words and lines, of side notes, of every second row, of frames, of what is good, bad or deserves a look,
+# and of the paper.
 TONES = ("ink", "faint", "band", "frame", "good", "bad", "note", "paper")
 INK, FAINT, BAND, FRAME, GOOD, BAD, NOTE, PAPER = TONES
 NONE = "none"
@@ -35,7 +35,7 @@ class Element(NamedTuple):
     spans: Tuple[Span, ...] = ()
 
     def plain(self) -> List[object]:
-        """It as lists, with coordinates to a tenth."""
+        """The element as lists, with coordinates to a tenth."""
         attributes = {key: round(it, 1) if isinstance(it, float) else it for key, it in self.attributes.items()}
         return [self.name, attributes, *([[list(it) for it in self.spans]] if self.spans else [])]
 
@@ -53,12 +53,12 @@ def _width(text: str) -> float:
 
 
 def text_width(text: str, size: float) -> float:
-    """How wide a text is at most in the usual fonts without serifs, of which DejaVu Sans and Verdana are the widest."""
+    """How wide a text is at most in the usual sans-serif fonts, the widest of which are DejaVu Sans and Verdana."""
     return _width(text) * size
 
 
 def in_lines(spans: Sequence[Span], room: float, size: float) -> List[List[Span]]:
-    """Spans in lines that are no wider than the room; only a span that is wider is broken."""
+    """Spans in lines no wider than the room; only a span that is wider is broken."""
     lines: List[List[Span]] = []
     used = 0.0
     for span in spans:
@@ -75,8 +75,8 @@ def in_lines(spans: Sequence[Span], room: float, size: float) -> List[List[Span]
 
 
 class Sheet:
-    """The elements of a drawing between two heights, in the order in which they are drawn. What is drawn has the heights of the
-    whole drawing, and its elements those of the sheet; lines are cut off at its edges."""
+    """The elements of a drawing between two heights, in drawing order. What is drawn is given in heights of the whole drawing; the
+    elements have heights of the sheet. Lines are cut off at its edges."""
 
     def __init__(self, top: float, bottom: float) -> None:
         self.top, self.bottom = top, bottom
@@ -87,7 +87,7 @@ class Sheet:
         return self.top <= y < self.bottom
 
     def cut(self, points: Sequence[Point]) -> List[Point]:
-        """What of a line is on the sheet, by the sheet's heights; it leaves the sheet once at most."""
+        """The part of a line on the sheet, in the sheet's heights; a line leaves the sheet at most once."""
         kept: List[Point] = []
         for one, two in zip(points, points[1:]):
             if min(one[1], two[1]) <= self.bottom and max(one[1], two[1]) >= self.top:
@@ -96,7 +96,7 @@ class Sheet:
         return [(x, y - self.top) for x, y in kept]
 
     def _within(self, end: Point, other: Point) -> Point:
-        """An end of a line, or where the line to it leaves the sheet."""
+        """An end of a line, or the point where the line to it leaves the sheet."""
         y = min(max(end[1], self.top), self.bottom)
         return end if y == end[1] else (end[0] + (other[0] - end[0]) * (y - end[1]) / (other[1] - end[1]), y)
 
@@ -124,7 +124,7 @@ class Sheet:
         self.add("circle", {**attributes, "stroke": stroke, "stroke-width": 2} if stroke else attributes)
 
     def band(self, top: float, bottom: float, width: int, tone: str) -> None:
-        """A ground over the whole width."""
+        """A background across the whole width."""
         self.add("rect", {"y": top - self.top, "width": width, "height": bottom - top, "fill": tone})
 
     def box(self, middle: float, top: float, size: Point, stroke: str, width: int = 2) -> None:
@@ -138,7 +138,7 @@ class Sheet:
 
 
 def written_points(points: Sequence[Point]) -> str:
-    """Points as a polyline has them."""
+    """Points in the form of a polyline."""
     return " ".join(f"{written(x)},{written(y)}" for x, y in points)
 
 

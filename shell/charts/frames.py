@@ -1,4 +1,4 @@
-"""What a chart says of frames: their records in words, and what deliveries did beside what their outcomes say."""
+"""What a chart says about frames: their records in words, and what deliveries did besides what their outcomes say."""
 from __future__ import annotations
 
 from typing import List, Sequence, Tuple
@@ -9,12 +9,12 @@ from ..language.names import ALL_STATES
 from ..language.records import BULK_STATUS, CLEAR, INSERT_ACK
 from ..words import bulk_status, counted
 
-# A space at which no line is broken.
+# A space where lines are not broken.
 KEPT = "\u00a0"
 
 
-def beside(records: Sequence[TakenRecord]) -> str:
-    """What a delivery did beside taking all records."""
+def besides(records: Sequence[TakenRecord]) -> str:
+    """What a delivery did besides taking all records."""
     bad, stale = sum(it.is_bad for it in records), sum(bool(it.stale) for it in records)
     freed = sum(it.fate[0] == "acknowledged" for it in records)
     asked = [it.about[0] for it in records if it.fate[0] == "asked"]
@@ -24,7 +24,7 @@ def beside(records: Sequence[TakenRecord]) -> str:
 
 
 def record_words(records: Sequence[Record]) -> Tuple[str, ...]:
-    """The records of a frame in words, those of one kind that follow one another together."""
+    """The records of a frame in words; consecutive records of one kind together."""
     groups: List[List[Record]] = []
     for record in records:
         if groups and groups[-1][0].kind is record.kind and record.kind not in (BULK_STATUS, CLEAR):
@@ -42,7 +42,7 @@ def _group_words(records: Sequence[Record]) -> str:
         return f"clear boot {about[0]} up to {'.'.join(about)}"
     wanted = all(isinstance(it.state, Carried) and it.state.asks_for_acknowledgement for it in records)
     names = [str(it.name) for it in records]
-    # (tcpdump(8) has a word that is shorter than the message's name)
+    # (tcpdump(8) has a shorter word than the message's name)
     what = "insert ack" if kind is INSERT_ACK else kind.name
     if len(records) == 1:
         return f"{what} {'0.0 (all)' if names == [str(ALL_STATES)] else names[0]}{f' (wants{KEPT}ack)' if wanted else ''}"

@@ -15,25 +15,25 @@ class Geometry:
     width: int
     lanes: Mapping[str, float]
     margin: int
-    # Between a lane and the words at its side, where packets have their arrows; and where a mark has none.
+    # Between a lane and the words at its side, for marks with the arrow of a packet; and for marks without one.
     gutter: int
     beside: int
-    # Within the link, beside each lane: room for words, where no line is sloped.
+    # Within the link, next to each lane: room for words, where no line is sloped.
     zone: int
-    # The most that words within the link may take, where nothing crosses them.
+    # The most room for words within the link, where nothing crosses them.
     label: int
-    # Of letters, of small ones, and from one line of words to the next.
+    # The size of letters, of small letters, and from one line of words to the next.
     size: int
     small: int
     leading: int
     # Above the first row.
     top: int
-    # Whether it is within a page, which has the heads of the lanes and the notes beside it, and shows it again as it grows: what is
-    # there already then stays where it is.
+    # Whether the drawing is within a page, which has the heads of the lanes and the notes next to it, and shows it again as it grows:
+    # what is already there then stays in its place.
     is_page: bool = False
 
     def inner(self, node: str) -> float:
-        """Where the sloped part of the link begins, beside a lane."""
+        """Where the sloped part of the link begins, next to a lane."""
         return self.lanes[node] - OUTWARDS[node] * self.zone
 
     def side(self, node: str) -> float:
@@ -42,7 +42,7 @@ class Geometry:
 
     @property
     def lost(self) -> float:
-        """The most that words within the link may take above the line of a lost frame, which the word for that follows."""
+        """The most room for words within the link above the line of a lost frame, which ends with the word for that."""
         return min(self.label, self.lanes["b"] - self.lanes["a"] - self.zone - 16)
 
     @property

@@ -1,4 +1,4 @@
-"""Where the rows of a chart lie in a drawing, what stands in them, and the lines of its frames."""
+"""Where the rows of a chart lie in a drawing, what is in them, and the lines of its frames."""
 from __future__ import annotations
 
 from itertools import accumulate
@@ -13,16 +13,16 @@ from ..language.events import CUT, DELIVER, LOSE, REPEAT
 
 # What happens to a frame on its way.
 FRAME_TONES = {REPEAT.word: NOTE, CUT.word: BAD}
-# Above the first row and below the last one, where frames are under way.
+# The room above the first row and below the last one, if frames are under way there.
 UNDER_WAY = 30
-# How many rows there are from the heads of the lanes to the same again; how high those are, and from them to a row.
+# How many rows there are before the heads of the lanes are repeated; how high heads are, and how far they are from a row.
 ROWS, HEAD, BELOW_HEAD = 40, 34, 12
-# The width of a note, and from its edges to its words.
+# The width of a note, and the distance from its edges to its words.
 NOTE_WIDTH, NOTE_EDGE = 800, 12
 
 
 class Layout:
-    """A chart by the measures of a drawing."""
+    """A chart laid out to the measures of a drawing."""
 
     def __init__(self, chart: Chart, geometry: Geometry):
         self.chart, self.geometry = chart, geometry
@@ -32,13 +32,13 @@ class Layout:
         self.middles: List[float] = []
         self.bottoms: List[float] = []
         self.bottom = float(geometry.top)
-        # What stands above the row of a place: branches that begin there and notes, each with its top; and the tops of heads.
+        # What is above the row of a place: branches that begin there and notes, each with its top; and the tops of heads.
         self.forks: Dict[int, Tuple[float, List[List[Span]]]] = {}
         self.notes: Dict[int, Tuple[float, List[List[Span]]]] = {}
         self.heads: Dict[int, float] = {}
         self.entering, self.leaving = _ordered(chart.entering), _ordered(chart.leaving)
         self.said_above = self._said([(chart.sent_before, self.entering)])
-        # Where the lines of frames begin that enter.
+        # Where the lines of frames that enter begin.
         self.begin = self.bottom + geometry.leading * len(self.said_above) + 10
         self.bottom = self.begin + UNDER_WAY if self.entering else self.bottom
         self._rows()
@@ -82,11 +82,11 @@ class Layout:
         return text_width(widest, self.geometry.small)
 
     def gutter(self, mark: Mark) -> int:
-        """Between a lane and the words of a mark."""
+        """The distance between a lane and the words of a mark."""
         return self.geometry.gutter if mark.is_packet else self.geometry.beside
 
     def _label(self, place: int, row: Row, is_crossed: bool) -> List[List[Span]]:
-        """The words within the link: of the frame where it is sent, and of what happens to it on its way."""
+        """The words within the link: for the frame where it is sent, and for what happens to it on its way."""
         if row.kind == LOSE.word:
             return [[]]
         flight, size = self.chart.flights[row.ticket or 0], self.geometry.size
@@ -97,7 +97,7 @@ class Layout:
         return [[Span(frame, FRAME, True), *(lines[0] if lines else [])], *lines[1:]]
 
     def _above(self, place: int) -> None:
-        """Room above a row for what stands there."""
+        """Makes room above a row for what is there."""
         measures, forks, notes = self.geometry, self.chart.forks.get(place), self.chart.notes.get(place)
         if forks:
             before, names, after = begins_here(forks)
@@ -118,7 +118,7 @@ class Layout:
             self.bottom += measures.leading * len(lines) + 2 * NOTE_EDGE + 8
 
     def _crossed(self) -> List[bool]:
-        """Of each row whether it has a sloped line, or is crossed by one."""
+        """For each row, whether it has a sloped line, or is crossed by one."""
         changes = [0] * (len(self.chart.rows) + 1)
         for flight in self.chart.flights.values():
             sent, ended = self.chart.sent(flight), self.chart.ended(flight)
@@ -130,7 +130,7 @@ class Layout:
     # ---- frames
 
     def _said(self, parts: Sequence[Tuple[str, Sequence[Flight]]]) -> List[List[Span]]:
-        """What is said of frames that enter or leave."""
+        """The words about frames that enter or leave."""
         lines: List[List[Span]] = []
         for words, flights in parts:
             tickets = ", ".join(f"#{it.ticket}" for it in flights)
@@ -139,12 +139,12 @@ class Layout:
         return lines
 
     def _shares(self, flights: Sequence[Flight]) -> Dict[int, float]:
-        """Where frames enter or leave, by their tickets."""
+        """Where frames enter or leave, by ticket."""
         left, right = self.geometry.inner("a"), self.geometry.inner("b")
         return {it.ticket: left + at / (len(flights) + 1) * (right - left) for at, it in enumerate(flights, 1)}
 
     def _way(self, flight: Flight) -> List[Point]:
-        """The line of a frame: sloped only in the middle, so that it meets no words."""
+        """The line of a frame: sloped only in the middle, so it meets no words."""
         lanes, inner, way = self.geometry.lanes, self.geometry.inner, -OUTWARDS[flight.source]
         sent, ended = self.chart.sent(flight), self.chart.ended(flight)
         points = self._start(flight, sent)
@@ -167,7 +167,7 @@ class Layout:
         return [(self.geometry.lanes[flight.source], start), (self.geometry.inner(flight.source), start)]
 
     def at(self, flight: Flight, place: int) -> Point:
-        """Where a frame that is under way is at a row. (Its way is known, as it was sent before its copies.)"""
+        """Where a frame that is under way is at a row. (Its way is known, since it was sent before its copies.)"""
         points, y = self.ways[flight.ticket], self.middles[place]
         for (x1, y1), (x2, y2) in zip(points, points[1:]):
             if y1 <= y <= y2 and y1 != y2:
@@ -176,13 +176,13 @@ class Layout:
 
 
 def _ordered(flights: Sequence[Flight]) -> List[Flight]:
-    """Frames under way, from lane a to lane b: the older of a node's frames are farther on their ways, and those from a are left of
+    """Frames under way, from lane a to lane b: the older frames of a node are farther along, and those from a are to the left of
     those from b, so that few of their lines cross."""
     return [it for it in reversed(flights) if it.source == "a"] + [it for it in flights if it.source == "b"]
 
 
 def _mark_spans(row: Row, mark: Mark) -> List[Span]:
-    """The words beside a lane."""
+    """The words next to a lane."""
     spans = [Span(it.replace("->", "→"), INK) for it in mark.words]
     tone = mark.tone or INK
     if mark.kind == DELIVER.word and len(spans) > 1:

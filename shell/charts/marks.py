@@ -1,4 +1,4 @@
-"""What a chart has at a lane: the words for what happens at a node, and what became of it."""
+"""What a chart has at a lane: the words for what happens at a node, and for what came of it."""
 from __future__ import annotations
 
 import ipaddress
@@ -13,13 +13,13 @@ from ..language.faults import FRAME_FAULTS
 from ..language.forms import DIRECTION
 from ..language.names import Name
 from ..words import counted, seconds
-from .frames import KEPT, beside
+from .frames import KEPT, besides
 
 
 @dataclass(frozen=True)
 class Mark:
-    """What a row has at a lane: words that may stand on lines of their own, and what became of it. The tone is good, bad, note
-    or nothing."""
+    """What a row has at a lane: words that may have lines of their own, and what came of the event. The tone is good, bad, note or
+    nothing."""
 
     node: str
     kind: str
@@ -41,12 +41,12 @@ def end_words(end: str) -> str:
 
 
 def duration(milliseconds: int) -> str:
-    """A time on a clock: in seconds, but for less than one."""
+    """A time on a clock, in seconds unless it is less than one."""
     return f"{milliseconds} ms" if 0 < milliseconds < 1000 else seconds(milliseconds)
 
 
 def state_of(explained: Explanation) -> Optional[Name]:
-    """The state that a packet made or met, if it did: the one that dropped it too."""
+    """The state that a packet made or met, if any, even the one that dropped it."""
     outcome = explained.event.outcome
     if outcome[0] in (PASS.word, HELD_BACK.word):
         return None if outcome[1] == "-" else Name.read(outcome[1])
@@ -54,13 +54,13 @@ def state_of(explained: Explanation) -> Optional[Name]:
 
 
 def ends_of(it: Happened) -> FrozenSet[str]:
-    """The two ends of a packet, whichever sent it."""
+    """The two ends of a packet, regardless of which sent it."""
     return frozenset(it.words[4:6])
 
 
 class PacketMarks:
-    """The marks of packets, one after another. A packet of TCP has the name of its state in place of its ends, once a packet with
-    these ends has shown them."""
+    """The marks of packets, one after another. A TCP packet has the name of its state in place of its ends, once a packet with these
+    ends has shown them."""
 
     def __init__(self) -> None:
         self._shown: Set[Tuple[Name, FrozenSet[str]]] = set()
@@ -82,14 +82,14 @@ class PacketMarks:
 
 
 def _segment(words: Sequence[str]) -> str:
-    """The numbers of a packet of TCP from its flags on, as far as they say something."""
+    """The numbers of a TCP packet from its flags on, as far as they say something."""
     flags, sequence, acknowledged, _, length = words
     numbers = (("seq", sequence, True), ("ack", acknowledged, "A" in flags), ("len", length, length != "0"))
     return " ".join(f"{name}{KEPT}{number}" for name, number, is_said in numbers if is_said)
 
 
 def node_mark(it: Happened) -> Mark:
-    """The mark of an event at one node that is no packet."""
+    """The mark of an event at one node that is not a packet."""
     number = int(it.outcome[1]) if len(it.outcome) > 1 else 0
     counts = {"states": counted(number, "state"), "packets": counted(number, "held packet"), "clock": duration(number)}
     fate = it.kind.outcome_of(it.outcome).drawn.format(n=number, **counts)
@@ -102,6 +102,6 @@ def delivery_mark(explained: Explanation, flight: Flight) -> Mark:
     how, number = explained.event.outcome
     if how == BROKEN.word:
         return Mark(flight.to, DELIVER.word, (), f"broken: {FRAME_FAULTS[int(number) - 1]}", "bad")
-    also = beside(explained.records)
+    also = besides(explained.records)
     words = (f"taken {number}:", also) if also else (f"taken {number}",)
     return Mark(flight.to, DELIVER.word, words, "", "note" if also else "")

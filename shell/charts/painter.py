@@ -1,4 +1,4 @@
-"""What is drawn on a sheet: the grounds of rows, the lanes, the frames, and what happens at the lanes."""
+"""What is drawn on a sheet: the backgrounds of rows, the lanes, the frames, and what happens at the lanes."""
 from __future__ import annotations
 
 from typing import Iterable, Sequence
@@ -19,10 +19,10 @@ class Painter:
         self.layout, self.sheet, self.places = layout, sheet, places
         self.chart, self.measures = layout.chart, layout.geometry
 
-    # ---- grounds and lanes
+    # ---- backgrounds and lanes
 
     def bands(self) -> None:
-        """The grounds of every second row."""
+        """The backgrounds of every second row."""
         for place in self.places:
             if place % 2 == 0:
                 self.sheet.band(self.layout.tops[place], self.layout.bottoms[place], self.measures.width, BAND)
@@ -88,13 +88,13 @@ class Painter:
             self.sheet.head((x - 2 * way, y), way, FRAME)
 
     def _leader(self, node: str, at: Point, tone: str) -> None:
-        """A thin line from the words beside a lane to the place on a frame's way that they speak of."""
+        """A thin line from the words next to a lane to the place on a frame's way that they are about."""
         if self.sheet.holds(at[1]):
             self.sheet.line([(self.measures.lanes[node] - OUTWARDS[node] * 12, at[1]), at], tone, 1, "1 3")
             self.sheet.circle(at, 4, tone)
 
     def _said(self, top: float, lines: Sequence[Sequence[Span]]) -> None:
-        """What is said of frames that enter or leave."""
+        """The words about frames that enter or leave."""
         for line, spans in enumerate(lines):
             y = top + 14 + self.measures.leading * line
             self.sheet.text((self.measures.middle, y), spans, self.measures.size, "middle")
@@ -159,7 +159,7 @@ class Painter:
             self.sheet.text((x, first + self.measures.leading * line), spans, self.measures.size, anchor)
 
     def _packet(self, mark: Mark, y: float) -> None:
-        """The arrow of a packet, to its lane or from it; it ends halfway where the packet is dropped or held."""
+        """The arrow of a packet, to its lane or from it; it ends halfway if the packet is dropped or held."""
         lane, way, tone = self.measures.lanes[mark.node], OUTWARDS[mark.node], mark.tone or INK
         near, far = lane + way * 4, lane + way * (self.measures.gutter - 8)
         start, end = (near, far) if mark.kind == "out" else (far, near)

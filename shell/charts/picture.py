@@ -1,4 +1,4 @@
-"""A chart as a picture of its own, the same bytes for the same chart, and as the drawing within a page, in sheets."""
+"""A chart as a picture of its own, with the same bytes for the same chart, and as the drawing within a page, in sheets."""
 from __future__ import annotations
 
 from typing import Dict, List, NamedTuple, Sequence, Tuple
@@ -17,8 +17,8 @@ ROWS = 100
 
 
 class PageSheet(NamedTuple):
-    """A piece of a tall drawing. Its rows are [first event, last event, top, bottom], and its ways are the lines of frames by their
-    tickets, as far as they cross it, source end first. The heights of all these are counted from its own top."""
+    """A piece of a tall drawing. Its rows are [first event, last event, top, bottom], and its ways are the lines of frames by
+    ticket, as far as they cross it, source end first. All heights are counted from its own top."""
 
     top: float
     height: float
@@ -27,7 +27,7 @@ class PageSheet(NamedTuple):
     ways: List[Tuple[int, List[Point]]]
 
     def plain(self) -> Dict[str, object]:
-        """It as lists and dictionaries, with coordinates to a tenth."""
+        """The sheet as lists and dictionaries, with coordinates to a tenth."""
         return {
             "top": round(self.top, 1),
             "height": round(self.height, 1),
@@ -38,7 +38,7 @@ class PageSheet(NamedTuple):
 
 
 class PageChart(NamedTuple):
-    """A chart for a page: its width and height, where its lanes are and what stands at their heads, and its sheets from above."""
+    """A chart for a page: its width and height, where its lanes are and what is at their heads, and its sheets from the top down."""
 
     width: int
     height: float
@@ -47,7 +47,7 @@ class PageChart(NamedTuple):
     sheets: List[PageSheet]
 
     def plain(self) -> Dict[str, object]:
-        """It as lists and dictionaries, for JSON."""
+        """The chart as lists and dictionaries, for JSON."""
         return _plain(self, [it.plain() for it in self.sheets])
 
 
@@ -78,7 +78,7 @@ def picture(chart: Chart, title: str) -> Sheet:
 
 
 class Part(NamedTuple):
-    """What is drawn on a sheet of a page: the rows of these places, and the frames that cross them."""
+    """What is drawn on a sheet of a page: the rows of some places, and the frames that cross them."""
 
     layout: Layout
     sheet: Sheet
@@ -87,7 +87,7 @@ class Part(NamedTuple):
 
     @property
     def key(self) -> Tuple[object, ...]:
-        """All that the sheet is drawn by: where this is the same, so is the drawing."""
+        """Everything that the drawing of the sheet depends on: if this is the same, so is the drawing."""
         layout, first, end = self.layout, self.places.start, self.places.stop
         heights = [its[first:end] for its in (layout.tops, layout.middles, layout.bottoms)]
         labels = [layout.labels.get(it) for it in self.places]
@@ -111,7 +111,7 @@ class Part(NamedTuple):
 
 
 def _parts(chart: Chart) -> Tuple[PageChart, List[Part]]:
-    """The chart for a page without its sheets, and what is to be drawn on these."""
+    """The chart for a page without its sheets, and what is to be drawn on them."""
     layout = Layout(chart, PAGE)
     starts = range(0, max(len(chart.rows), 1), ROWS)
     flights: List[List[Flight]] = [[] for _ in starts]
@@ -135,7 +135,7 @@ def sheets(chart: Chart) -> PageChart:
 
 
 class Drawing:
-    """The chart of a branch for its page, of which sheets that are as they were are not drawn again."""
+    """The chart of a branch for its page; sheets that have not changed are not drawn again."""
 
     def __init__(self) -> None:
         self._sheets: List[Tuple[Tuple[object, ...], Dict[str, object]]] = []

@@ -1,4 +1,4 @@
-"""What a chart has: rows with marks at the lanes, and the frames on their ways between the lanes."""
+"""What a chart has: rows with marks at the lanes, and the frames on their way between the lanes."""
 from __future__ import annotations
 
 import re
@@ -15,7 +15,7 @@ from .windows import Window
 
 @dataclass(frozen=True)
 class Row:
-    """One event, or a few that are one thing to look at; and the frame that begins, changes or ends in it."""
+    """One event, or a few that belong together; and the frame that begins, changes or ends in it."""
 
     first: int
     last: int
@@ -25,7 +25,7 @@ class Row:
 
     @property
     def times(self) -> int:
-        """How many events it has that say the same."""
+        """How many events in it say the same."""
         return self.last - self.first + 1 if self.ticket is None and len(self.marks) == 1 else 1
 
     def numbers(self, dash: str) -> str:
@@ -42,13 +42,13 @@ class Chart:
     undone: int
     window: Window
     rows: List[Row] = field(default_factory=list)
-    # Of each event the place of its row, from 0 on.
+    # For each event the place of its row, from 0 on.
     places: Dict[int, int] = field(default_factory=dict)
     flights: Dict[int, Flight] = field(default_factory=dict)
-    # Of the nodes before the first row; and by the places of restarts which node begins which boot there.
+    # The boots of the nodes before the first row; and by the places of restarts, which node begins which boot there.
     boots: Dict[str, int] = field(default_factory=lambda: {"a": 1, "b": 2})
     restarts: Dict[int, Tuple[str, int]] = field(default_factory=dict)
-    # What stands above the row of a place, or below the last one: paragraphs, and names of branches that begin there.
+    # What is above the row of a place, or below the last one: paragraphs, and names of branches that begin there.
     notes: Dict[int, List[str]] = field(default_factory=dict)
     forks: Dict[int, List[str]] = field(default_factory=dict)
 
@@ -72,12 +72,12 @@ class Chart:
 
     @property
     def sent_before(self) -> str:
-        """What is said of the frames that enter."""
+        """The words for the frames that enter."""
         return f"sent before event {self.window.first}:"
 
     @property
     def left(self) -> List[Tuple[str, List[Flight]]]:
-        """What is said of the frames that leave, and which those are."""
+        """The words for the frames that leave, and those frames."""
         parts = (("still in flight:", False), (f"under way after event {self.window.last}:", True))
         said = [(words, [it for it in self.leaving if bool(it.ended) is has_ended]) for words, has_ended in parts]
         return [it for it in said if it[1]]
@@ -88,7 +88,7 @@ class Chart:
         return {node: f"boot {later.get(node, boot)}" for node, boot in self.boots.items()}
 
     def frame_words(self, row: Row, flight: Flight) -> Tuple[str, Tuple[str, ...]]:
-        """What the link says of a frame in a row: which frame it is, and what it has or what happens to it."""
+        """The words at the link for a frame in a row: which frame it is, and what it has or what happens to it."""
         frame = f"#{flight.ticket}"
         if row.kind == FLUSH.word:
             records = record_words(flight.frame.records)
@@ -106,7 +106,7 @@ class Chart:
         events = counted(self.events, "event") if is_whole else f"{_span(first, last or first)} of {self.events}"
         about = f", what is about {flow}" if flow else ""
         undone = f", {self.undone} undone and not drawn" if self.undone else ""
-        # Frames are named by their tickets: in 80 columns there is no room for the word.
+        # Frames are named by their tickets alone: 80 columns have no room for the word.
         legend = "; #N is frame N" if self.flights else ""
         return f"{self.branch}, {events}{about}{undone}{legend}"
 
@@ -116,7 +116,7 @@ def _span(first: int, last: int) -> str:
 
 
 def begins_here(names: Sequence[str]) -> Tuple[str, List[str], str]:
-    """What is said of branches that begin at a place, in three parts: the names are the second."""
+    """The words for branches that begin at a place, in three parts: the names are the second."""
     named = [f"{it}{',' * (it != names[-1])}" for it in names]
     return ("branch", named, "begins here") if len(names) == 1 else ("branches", named, "begin here")
 

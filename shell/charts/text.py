@@ -1,4 +1,4 @@
-"""A chart as text: two lanes, time downwards; of box-drawing characters, or of ASCII where those cannot be written."""
+"""A chart as text: two lanes, time downwards; in box-drawing characters, or in ASCII if those cannot be written."""
 from __future__ import annotations
 
 import sys
@@ -35,14 +35,14 @@ ASCII = Glyphs("|", "|", "|", "-", ">", "<", "X", ".", "*", "=", "^", "v", "->")
 
 # Words of one colour; the colour is the name of a method of Paint.
 Piece = Tuple[str, str]
-# Of the events' numbers at the left, for up to 99 events.
+# The width of the events' numbers at the left, for up to 99 events.
 NUMBERS = 6
 NARROWEST, WIDEST = 72, 100
 # What happens to a frame on its way.
 FRAME_STYLES = {REPEAT.word: "note", CUT.word: "bad"}
 # Between a lane and the words at its side: an arrow and a space.
 GUTTER = 4
-# How many rows there are from the heads of the lanes to the same again.
+# How many rows there are before the heads of the lanes are repeated.
 ROWS = 40
 
 
@@ -56,7 +56,7 @@ def glyphs_of(encoding: Optional[str]) -> Glyphs:
 
 
 def wrapped(pieces: Sequence[Piece], room: int) -> List[List[Piece]]:
-    """Pieces in lines with at most this room for characters; a longer piece is broken."""
+    """Pieces in lines of at most this many characters; a longer piece is broken."""
     lines: List[List[Piece]] = []
     used = 0
     for text, style in pieces:
@@ -128,7 +128,7 @@ class _Drawing:
         return self.lines
 
     def _said(self, words: str, flights: Sequence[Flight]) -> None:
-        """What is said of frames that enter or leave."""
+        """The words about frames that enter or leave."""
         if flights:
             said = [*words.split(), *", ".join(f"#{it.ticket} to {it.to}" for it in flights).split()]
             self._lines(0, [(it, "note") for it in said])
@@ -146,7 +146,7 @@ class _Drawing:
             line.put(self.lanes[node] - len(words) // 2, words, "head")
 
     def _above(self, place: int) -> None:
-        """What stands above a row: branches that begin there, the heads of the lanes again, and the story."""
+        """What is above a row: branches that begin there, the heads of the lanes again, and the story."""
         if place in self.chart.forks:
             before, names, after = begins_here(self.chart.forks[place])
             self._lines(self.numbers, [(it, "note") for it in (before, *names, after)])
@@ -205,7 +205,7 @@ class _Drawing:
             line.put(at, self.glyphs.point)
 
     def _packet(self, line: _Line, mark: Mark) -> None:
-        """The arrow of a packet, to its lane or from it; it ends at a cross where the packet is dropped."""
+        """The arrow of a packet, to its lane or from it; it ends at a cross if the packet is dropped."""
         shapes, at = self.glyphs, self.lanes[mark.node]
         to_right = (mark.node == "a") == (mark.kind == "in")
         head = {"bad": shapes.lost, "note": shapes.wait}.get(mark.tone, shapes.right if to_right else shapes.left)
@@ -215,7 +215,7 @@ class _Drawing:
     # ---- on the link
 
     def _labels(self, place: int, row: Row, flight: Flight) -> List[List[Piece]]:
-        """The words of a frame: within its line, or above it where they are too long."""
+        """The words of a frame: within its line, or above it if they are too long."""
         label = self._label(row, flight)
         tail, tip = self._ends(place, flight)
         if len(tail) + _length(label) + 3 + len(tip[0]) <= self.link:
@@ -231,7 +231,7 @@ class _Drawing:
         shapes, to_right = self.glyphs, flight.to == "b"
         tail = shapes.line if self._leaves(place, flight) else shapes.dots * 2
         if self.chart.ended(flight) != place:
-            # A space keeps what was just sent from the other lane, where it has not come.
+            # A space keeps what was just sent away from the other lane, which it has not reached.
             space = " " * self._leaves(place, flight)
             return tail, (shapes.dots * 2 + space if to_right else space + shapes.dots * 2, "")
         if flight.is_delivered:
@@ -239,7 +239,7 @@ class _Drawing:
         return tail, (f"{shapes.lost} lost" if to_right else f"lost {shapes.lost}", "bad")
 
     def _leaves(self, place: int, flight: Flight) -> bool:
-        """Whether a row is the one where a node sends the frame."""
+        """Whether a node sends the frame in this row."""
         return self.chart.sent(flight) == place and flight.origin is None
 
     def _link(self, place: int, last: int, labels: Sequence[Sequence[Piece]], flight: Flight) -> None:
@@ -272,6 +272,6 @@ def _spaced(pieces: Sequence[Piece]) -> List[Piece]:
 
 
 def text(chart: Chart, paint: Paint, width: int = WIDEST, encoding: Optional[str] = None) -> List[str]:
-    """The chart as lines of at most the width, but for a narrow one; for standard output where no encoding is given."""
+    """The chart as lines of at most this width, unless it is too narrow; for standard output if no encoding is given."""
     glyphs = glyphs_of(encoding or getattr(sys.stdout, "encoding", None))
     return [it.printed(paint) for it in _Drawing(chart, max(width, NARROWEST), glyphs).drawn()]

@@ -14,19 +14,19 @@ from ..language.records import BULK_STATUS, CLEAR as CLEAR_RECORD
 from ..laboratory import Unknown
 from .marks import ends_of, state_of
 
-# How many states are named where one is not found.
+# How many states are named if one is not found.
 MOST_NAMES = 6
 
 
 class Window(NamedTuple):
-    """The events from the first to the last, the newest where there is none, and the state that alone is meant, if one is."""
+    """The events from the first to the last, which is the newest if none is given; and the one state that is meant, if any."""
 
     first: int = 1
     last: Optional[int] = None
     flow: Optional[Name] = None
 
     def within(self, branch: str, events: int) -> "Window":
-        """The same of a branch with this number of events that stand, or what is wrong with it."""
+        """The same for a branch with this many events that stand; raises what is wrong with it."""
         last = events if self.last is None else self.last
         for number in (self.first, last) if self.last is not None or self.first > 1 else ():
             if not 1 <= number <= events:
@@ -44,7 +44,7 @@ WINDOW_WORDS = (FROM, TO, FLOW)
 
 
 class Asked(NamedTuple):
-    """The branch that is to be drawn, or nothing for the one in use, what of it, and the file of its picture, if it has one."""
+    """The branch to draw, or nothing for the one in use, which part of it, and the file of its picture, if any."""
 
     branch: str
     window: Window
@@ -52,7 +52,7 @@ class Asked(NamedTuple):
 
 
 def read_asked(words: Sequence[str]) -> Optional[Asked]:
-    """What `[BRANCH] [from K] [to L] [flow NAME] [FILE.svg]` asks for; nothing where words have another form."""
+    """What `[BRANCH] [from K] [to L] [flow NAME] [FILE.svg]` asks for; nothing if words have another form."""
     rest = list(words)
     file = rest.pop() if rest and rest[-1].endswith(".svg") else ""
     branch = rest.pop(0) if len(rest) % 2 else ""
@@ -74,13 +74,13 @@ def read_place(word: str) -> int:
 def read_flow(word: str) -> Name:
     """The name of a state."""
     if NAME.wrong(word):
-        raise Unknown(f"{word}: a flow is meant by {NAME.what}, as 1.3")
+        raise Unknown(f"{word}: a flow is named by {NAME.what}, such as 1.3")
     return Name.read(word)
 
 
 class Concern:
-    """What of a branch is about one state: the packets that made or met it, and those of its ends that met none; the frames with a
-    record about it; and what takes states from a node."""
+    """What in a branch is about one state: the packets that made or met it, and packets of its ends that met none; the frames with a
+    record about it; and what removes states from a node."""
 
     def __init__(self, branch: str, flow: Name, events: Sequence[Explanation]):
         self.flow = flow
@@ -88,7 +88,7 @@ class Concern:
         self._ends: Set[Tuple[str, FrozenSet[str]]] = {_key(it) for it in packets if state_of(it) == flow}
         if not self._ends:
             raise Unknown(f"no packet of {branch} that stands made a state {flow}{_made(packets)}")
-        # The frames about it, by their tickets; and the nodes that hold a packet of it.
+        # The frames about it, by ticket; and the nodes that hold a packet of it.
         self._tickets: Set[int] = set()
         self._holding: Set[str] = set()
 
@@ -115,7 +115,7 @@ class Concern:
         return name == self.flow or (met_none and _key(it) in self._ends)
 
     def _has_frame(self, flight: Flight) -> bool:
-        """Whether a frame that is sent is about it; a copy is where the first one is."""
+        """Whether a frame that is sent is about it; a copy is if the first one is."""
         if flight.origin in self._tickets or any(map(self._has_record, flight.frame.records)):
             self._tickets.add(flight.ticket)
         return flight.ticket in self._tickets
@@ -134,4 +134,4 @@ def _made(packets: Sequence[Explanation]) -> str:
     """The states that packets made."""
     names = [*dict.fromkeys(str(name) for name in map(state_of, packets) if name)]
     more = [f"{len(names) - MOST_NAMES} more"] if len(names) > MOST_NAMES else []
-    return f"; made were {', '.join(names[:MOST_NAMES] + more)}" if names else ", nor any other"
+    return f"; those made are {', '.join(names[:MOST_NAMES] + more)}" if names else ", nor any other"

@@ -1,1 +1,1 @@
-"""Two dumps of a pair's state tables, as pfctl(8) prints them, read and set against each other."""
+"""Two dumps of a pair's state tables, as pfctl(8) prints them, read and compared."""

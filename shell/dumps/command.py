@@ -1,4 +1,4 @@
-"""`compare`: two dumps, read and set against each other, with what their counters say."""
+"""`compare`: two dumps, read and compared, with what their counters say."""
 from __future__ import annotations
 
 from collections import deque
@@ -26,7 +26,7 @@ class Answer(NamedTuple):
 
 
 def compared(files: Sequence[str], others: Sequence[str], how: Shown, say: Say) -> Answer:
-    """Compares a file of each node, whose counters stand there, too, or in a file of their own."""
+    """Compares one file from each node; the counters are in the same files or in files of their own."""
     dumps = {node: Dump(path, say) for node, path in zip(NODES, files)}
     found = compare(dumps["a"].states(), dumps["b"].states(), how.tolerance)
     counters = {node: it.counters for node, it in dumps.items()}
@@ -39,6 +39,6 @@ def compared(files: Sequence[str], others: Sequence[str], how: Shown, say: Say) 
 
 
 def _counters(dump: Dump) -> Dict[str, int]:
-    """The counters that a file has, whatever else it has."""
+    """The counters in a file, whatever else it has."""
     deque(dump.states(), maxlen=0)
     return dump.counters

@@ -1,4 +1,4 @@
-"""Two dumps set against each other: which states stand at one node alone, and which differ in what."""
+"""Compares two dumps: which states only one node has, and which differ, and how."""
 from __future__ import annotations
 
 from dataclasses import dataclass, field
@@ -13,12 +13,12 @@ from .states import Dumped, as_state, ends
 
 # The fields that are compared as they are printed.
 LEVELS = ("source level", "destination level")
-# Words that say what a node keeps for itself of a state's source address.
+# Words for what a node keeps to itself about a state's source address.
 OF_A_NODE = frozenset(("src-track", "source-track", "sticky-address"))
 
 
 class Kind(Enum):
-    """In what a state differs; of several kinds the first counts."""
+    """How a state differs; of several kinds the first counts."""
 
     FLOWS = "keys"
     LEVELS = "levels"
@@ -30,7 +30,7 @@ class Kind(Enum):
 
 @dataclass(frozen=True)
 class Tolerance:
-    """How many seconds times may be apart; whether that goes for ages, too."""
+    """How many seconds times may be apart, and whether that holds for ages, too."""
 
     seconds: int = 10
     is_of_ages: bool = False
@@ -40,7 +40,7 @@ class Tolerance:
 
 
 class Two(NamedTuple):
-    """One state at both nodes."""
+    """A state at both nodes."""
 
     a: Dumped
     b: Dumped
@@ -48,19 +48,19 @@ class Two(NamedTuple):
 
 @dataclass
 class Compared:
-    """What two dumps have, set against each other."""
+    """What two dumps have, compared."""
 
     sizes: Dict[str, int] = field(default_factory=lambda: {it: 0 for it in NODES})
-    # How many states have no name; and how many came more than once, of which the first counts.
+    # How many states have no name; and how many came more than once, where the first counts.
     unnamed: Dict[str, int] = field(default_factory=lambda: {it: 0 for it in NODES})
     again: Dict[str, int] = field(default_factory=lambda: {it: 0 for it in NODES})
     only: Dict[str, List[Dumped]] = field(default_factory=lambda: {it: [] for it in NODES})
     unsynchronised: Dict[str, List[Dumped]] = field(default_factory=lambda: {it: [] for it in NODES})
-    # Flows that have another name at either node; their states count as those of one node alone.
+    # Flows with a different name at each node; their states count as states of one node only.
     twice: List[Two] = field(default_factory=list)
     differing: Dict[Kind, List[Two]] = field(default_factory=lambda: {it: [] for it in Kind})
     agreeing: int = 0
-    # How many of those that agree differ in their windows by less than a window.
+    # How many of the states that agree differ in their windows by less than a window.
     moved: int = 0
 
     @property
@@ -69,12 +69,12 @@ class Compared:
 
     @property
     def is_same(self) -> bool:
-        """Whether nothing is apart but what no peer is told of, or what packets between the dumps explain."""
+        """Whether nothing differs except what is never sent to the peer, or what packets between the dumps explain."""
         return not (self.differ or any(self.only.values()))
 
 
 def compare(a: Iterable[Dumped], b: Iterable[Dumped], tolerance: Tolerance) -> Compared:
-    """Reads the first dump, and sets the states of the second one against it as they come."""
+    """Reads the first dump, and compares the states of the second with it as they come."""
     found = Compared()
     table = Table.read(a, found)
     rest: Dict[object, Dumped] = {}
@@ -94,13 +94,13 @@ def compare(a: Iterable[Dumped], b: Iterable[Dumped], tolerance: Tolerance) -> C
 
 
 def key_of(state: Dumped) -> object:
-    """What pairs a state with that of the other node: its name, and where it has none its flow at its interface."""
+    """What pairs a state with one of the other node: its name, or if it has none its flow at its interface."""
     return (state.interface, state.flow) if state.name is None else state.name
 
 
 @dataclass
 class Table:
-    """The states of the first dump by their names or flows; None once they have met that of the second."""
+    """The states of the first dump by their names or flows; None once they have met their state of the second."""
 
     states: Dict[object, Optional[Dumped]]
 
@@ -116,7 +116,7 @@ class Table:
 
 
 def _take(table: Table, key: object, state: Dumped, found: Compared, tolerance: Tolerance) -> None:
-    """Sets a state of the second dump against that of the first."""
+    """Compares a state of the second dump with its state of the first."""
     partner = table.states[key]
     if partner:
         table.states[key] = None
@@ -125,7 +125,7 @@ def _take(table: Table, key: object, state: Dumped, found: Compared, tolerance: 
         found.again["b"] += 1
 
 
-# ---- states without a partner of their name
+# ---- states without a partner of the same name
 
 
 class Flows:
@@ -138,7 +138,7 @@ class Flows:
             self._by_key.setdefault(key, []).append(state)
 
     def take(self, state: Dumped) -> Optional[Dumped]:
-        """A state with a key of this one that was not taken yet."""
+        """A state that shares a key with this one and was not taken yet."""
         wire, stack = map(self._last, _keys(state))
         found = wire or stack
         if found:
@@ -146,7 +146,7 @@ class Flows:
         return found
 
     def _last(self, key: object) -> Optional[Dumped]:
-        """The last state of a key that was not taken; those after it are forgotten."""
+        """The last state of a key that was not taken; later ones are forgotten."""
         its = self._by_key.get(key, [])
         while its and its[-1].line in self._taken:
             its.pop()
@@ -159,7 +159,7 @@ def _keys(state: Dumped) -> Tuple[object, object]:
 
 
 def _pair_by_flows(left: List[Dumped], rest: List[Dumped], found: Compared, tolerance: Tolerance) -> None:
-    """Pairs those states by their flows that have no name at one of the nodes, and finds the flows that have two names."""
+    """Pairs states that have no name at one of the nodes by their flows, and finds the flows with two names."""
     flows = Flows(left if rest else ())
     judged: Dict[str, Set[int]] = {it: set() for it in NODES}
     for state in rest:
@@ -183,7 +183,7 @@ def _stand_alone(node: str, states: Iterable[Dumped], found: Compared) -> None:
 
 
 def _judge(two: Two, found: Compared, tolerance: Tolerance) -> None:
-    """Counts a state of both nodes where it belongs."""
+    """Counts a state of both nodes under its kind."""
     kind = kind_of(two, tolerance)
     if kind:
         found.differing[kind].append(two)
@@ -193,7 +193,7 @@ def _judge(two: Two, found: Compared, tolerance: Tolerance) -> None:
 
 
 def kind_of(two: Two, tolerance: Tolerance) -> Optional[Kind]:
-    """In what a state differs first; None where it is the same but for what packets between the dumps explain."""
+    """The first way in which a state differs; None if it is the same, except for what packets between the dumps explain."""
     a, b = two
     if a.flow != b.flow:
         return Kind.FLOWS
@@ -223,8 +223,8 @@ def _are_windows_apart(two: Two) -> bool:
 
 
 def _is_outside(one: Sequence[str], two: Sequence[str]) -> bool:
-    """Whether the sequence number that one node has of an end is beyond the window of the other, or what is added or the scale
-    is not the same."""
+    """Whether the sequence number that one node has for an end is beyond the window of the other, or whether what is added or the
+    scale differs."""
     if one[2:] != two[2:]:
         return True
     ahead = (int(one[0]) - int(two[0])) % CIRCLE
@@ -232,7 +232,7 @@ def _is_outside(one: Sequence[str], two: Sequence[str]) -> bool:
 
 
 def fields(two: Two, tolerance: Tolerance) -> List[str]:
-    """All in which a state differs, field by field."""
+    """Everything in which a state differs, field by field."""
     a, b = two
     parts = [f"levels {a.levels} | {b.levels}"] if a.levels != b.levels else []
     unequal = unequal_fields(as_state(a, has_windows(two)), as_state(b, has_windows(two)))
@@ -250,7 +250,7 @@ def fields(two: Two, tolerance: Tolerance) -> List[str]:
 
 
 def _rest(two: Two) -> List[str]:
-    """What differs of the interface, the routes, and the words after the rule; of the last two only what both dumps have."""
+    """What differs in the interface, the routes, and the words after the rule; in the last two only if both dumps have them."""
     a, b = two
     parts = [f"interface {a.interface} | {b.interface}"] if a.interface != b.interface else []
     if has_details(two) and (a.marks.words ^ b.marks.words) - OF_A_NODE:

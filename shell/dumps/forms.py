@@ -1,4 +1,4 @@
-"""The lines that pfctl(8) prints of a state: `print_state` of FreeBSD 13, as it is recalled from its sources."""
+"""The lines that pfctl(8) prints for a state: `print_state` of FreeBSD 13, as recalled from its sources."""
 from __future__ import annotations
 
 import re
@@ -6,7 +6,7 @@ from functools import lru_cache
 from typing import Dict, FrozenSet, NamedTuple, Optional, Sequence, Tuple
 
 _GAP = r"[ \t]+"
-# An address, or its name where pfctl was to look it up, with a port as `:443` or `[443]`.
+# An address, or its name if pfctl was to look it up, with a port such as `:443` or `[443]`.
 _HOST = r"[0-9A-Za-z_.:%?/-]+(?:\[\d{1,5}\])?"
 _PLACE = rf"({_HOST})(?:{_GAP}\(({_HOST})\))?"
 _LEVELS = r"([A-Z_0-9]{1,20}:[A-Z_0-9]{1,20}|<BAD STATE LEVELS \d{1,3}:\d{1,3}>)"
@@ -20,7 +20,7 @@ _NAME = rf"id:{_GAP}([0-9a-f]{{1,16}}){_GAP}creatorid:{_GAP}([0-9a-f]{{1,8}})(?!
 _ROUTE = r"(?:gateway|origif|route-to|rt): "
 
 _ARROW = r"[^\n]*? (?:->|<-) "
-# What may be a state's first line, well formed or not: what follows is not of the state before it.
+# What may be a state's first line, well formed or not: what follows does not belong to the state before it.
 LIKE_A_HEAD = re.compile(_ARROW)
 
 # `all tcp 203.0.113.1:51512 (10.0.0.17:51512) -> 192.0.2.80:443       ESTABLISHED:ESTABLISHED`
@@ -41,8 +41,8 @@ def _whole(pattern: str) -> str:
     return re.sub(r"(?<!\\)\((?!\?)", "(?:", pattern.replace(_GAP, " "))
 
 
-# All lines of a state in their usual form, up to the first line of the next one: so nearly all come, and one search is quicker than
-# one for each line.
+# All lines of a state in their usual form, up to the first line of the next one: nearly all come like this, and one search is faster
+# than one for each line.
 RECORD = re.compile(
     rf"{_INTERFACE} ({_whole(_PROTOCOL)} {_whole(_PLACE)} (?:->|<-) {_whole(_PLACE)}) +{_LEVELS}\r?\n"
     rf"(?:[ \t]+({_whole(_END)}  ?{_whole(_END)})\r?\n)?"
@@ -56,21 +56,21 @@ _NUMBERED = re.compile(r"(rule|anchor) (\d{1,10})", re.ASCII)
 _MARK = re.compile(r"\(?([a-z][a-z-]*(?: (?:[a-z]+|0x[0-9a-f]+|\([0-9a-fx ]+\)))*)\)?", re.ASCII)
 
 _SAID = re.compile(r"\s*(?:([a-z-]+): (\S+)|\(?([a-z]+(?:-[a-z]+)*)\)?)(?!\S)", re.ASCII)
-# Where the state's first packet came in; each node has its own.
+# The interface where the state's first packet came in; each node has its own.
 ORIGIN = "origif"
 NO_SYNC = "no-sync"
 
 
 class Marks(NamedTuple):
-    """What stands after a state's times, packets and bytes: its rule, and words such as `sloppy`."""
+    """What follows a state's times, packets and bytes: its rule, and words such as `sloppy`."""
 
     rule: Optional[int]
     words: FrozenSet[str]
 
 
 class End(NamedTuple):
-    """The sequence numbers of an end as they are printed: the next one, how many may follow, what is added to them, and the scale of
-    the window."""
+    """The sequence numbers of an end as printed: the next one, how many may follow, what is added to them, and the scale of the
+    window."""
 
     lo: str
     span: str
@@ -94,7 +94,7 @@ class Named(NamedTuple):
 
 
 def times(text: str) -> Optional[Times]:
-    """The details of a state, where the text is such a line."""
+    """The details of a state, if the text is such a line."""
     found = TIMES.fullmatch(text)
     marks = marks_of(found[3]) if found else None
     return Times(seconds(found[1]), seconds(found[2]), marks) if found and marks else None
@@ -125,7 +125,7 @@ def marks_of(text: str) -> Optional[Marks]:
 
 
 def named(text: str) -> Optional[Named]:
-    """The name of a state, where the text is such a line."""
+    """The name of a state, if the text is such a line."""
     found = NAME.fullmatch(text)
     after = routes(found[3]) if found else None
     return Named(name_of(found[1], found[2]), after) if found and after is not None else None
@@ -138,7 +138,7 @@ def name_of(identity: str, creator: str) -> str:
 
 @lru_cache(1 << 14)
 def routes(text: str) -> Optional[Tuple[str, ...]]:
-    """What a rest such as `gateway: 192.0.2.1 origif: em0` says, but for the interface of origin; None where it is something else."""
+    """What a rest such as `gateway: 192.0.2.1 origif: em0` says, except the interface of origin; None if it is something else."""
     said, at, end = [], 0, len(text.rstrip())
     while at < end:
         found = _SAID.match(text, at)
@@ -151,12 +151,12 @@ def routes(text: str) -> Optional[Tuple[str, ...]]:
 
 
 def kind_of_route(route: str) -> str:
-    """What a route or word is about: no state has two of a kind."""
+    """What a route or word is about: no state has two of one kind."""
     return route.partition(" ")[0]
 
 
 def numbers(text: str) -> Sequence[str]:
-    """What a line that WINDOWS matches has of both ends, each as `End` has it, in the order in which they are printed."""
+    """What a line that WINDOWS matches has about both ends, each as in `End`, in the order in which they are printed."""
     found = WINDOWS.match(text)
     assert found
     return found.groups()

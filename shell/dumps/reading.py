@@ -39,7 +39,7 @@ class Growing:
         return cls(line, intern(interface), f"{protocol} {near} {arrow} {far}", intern(levels))
 
     def take(self, text: str) -> bool:
-        """Takes a line that may follow those that were read: whether it is such a line, and in its order."""
+        """Takes a line that may follow those that were read; returns whether it is such a line, and in order."""
         taker = _TAKERS.get(text[0])
         return taker is not None and taker(self, text)
 
@@ -74,7 +74,7 @@ class Growing:
 
 
 def whole_of(line: int, found: Match[str]) -> Optional[Dumped]:
-    """The state that RECORD has found at a line, where all of it is understood."""
+    """The state that RECORD has found at a line, if all of it is understood."""
     interface, flow, levels, windows, age, expires, rest, identity, creator, after = found.groups()
     marks, said = marks_of(rest) if rest else NO_MARKS, routes(after) if after else ()
     if marks is None or said is None:
@@ -84,7 +84,7 @@ def whole_of(line: int, found: Match[str]) -> Optional[Dumped]:
     return Dumped(line, intern(interface), flow, intern(levels), windows or "", *times_of_it, marks, name, said)
 
 
-# By the character that a line begins with.
+# By the first character of a line.
 _TAKERS: Dict[str, Callable[[Growing, str], bool]] = {
     "[": Growing.take_windows,
     "a": Growing.take_times,
@@ -94,7 +94,7 @@ _TAKERS: Dict[str, Callable[[Growing, str], bool]] = {
 
 
 class Dump:
-    """A file that a node's state table was captured in, its pfsync counters, or both."""
+    """A file with a capture of a node's state table, of its pfsync counters, or of both."""
 
     def __init__(self, path: str, say: Say):
         self.path = path
@@ -105,7 +105,7 @@ class Dump:
         self._is_counting = False
 
     def states(self) -> Iterator[Dumped]:
-        """The states as the file has them; the counters are there after the last one."""
+        """The states in the order of the file; the counters are known after the last one."""
         for text in blocks(self.path):
             yield from self._of_block(text)
         if self._state:
@@ -113,7 +113,7 @@ class Dump:
         self.faults.end()
 
     def _of_block(self, text: str) -> Iterator[Dumped]:
-        """The states that end in some lines. What is not a whole state in its usual form is read line by line."""
+        """The states that end in these lines. Whatever is not a whole state in its usual form is read line by line."""
         at = 0
         while at < len(text):
             record = RECORD.match(text, at)
@@ -141,7 +141,7 @@ class Dump:
             self._state = None if LIKE_A_HEAD.match(text) else self._state
 
     def _take(self, number: int, line: str, text: str) -> bool:
-        """Takes a line that is none of the state before it: whether it was understood."""
+        """Takes a line that does not belong to the state before it; returns whether it was understood."""
         if self._is_counting and self._count(text):
             return True
         began = Growing.read(number, text)
@@ -154,7 +154,7 @@ class Dump:
         return False
 
     def _count(self, text: str) -> bool:
-        """Takes a counter; the first one of a name counts."""
+        """Takes a counter; the first one with a name counts."""
         found = COUNT.fullmatch(text)
         if found:
             self.counters.setdefault(title(found[2]), int(found[1]))

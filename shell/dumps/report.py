@@ -1,4 +1,4 @@
-"""What two dumps come to, in words: the verdict first, then what is serious, and last what packets between the dumps explain."""
+"""The comparison of two dumps in words: first the verdict, then what is serious, and last what packets between the dumps explain."""
 from __future__ import annotations
 
 from collections import Counter
@@ -14,7 +14,7 @@ from .comparing import Compared, Kind, Tolerance, Two, fields
 from .forms import clock
 from .states import Dumped, ends
 
-# How many groups of a kind, and states of a group, are listed where not all are asked for.
+# How many groups of a kind, and states of a group, are listed if not all are asked for.
 MOST_GROUPS = 10
 MOST_STATES = 3
 
@@ -22,11 +22,11 @@ _WHY_ALONE = "an insertion or a deletion was lost, or is on its way: lessons los
 _WHY_TWICE = "each node let a packet of the flow make a state of its own: lessons split-brain.pfl, lost-bulk-frame.pfl"
 _WHY: Dict[Kind, str] = {
     Kind.LEVELS: "an update was lost, or is on its way: lesson asymmetric-routing.pfl",
-    Kind.RULES: "a node keeps the number of the peer's rule only where both have the same rules: compare `pfctl -sr` of both",
+    Kind.RULES: "a node keeps the number of the peer's rule only if both have the same rules: compare `pfctl -sr` of both",
     Kind.FLOWS: "one state with two sets of addresses: compare the translations, `pfctl -sn` of both",
     Kind.WINDOWS: "the node behind has not seen what the other one has: lesson failover-in-mid-stream.pfl",
     Kind.TIMES: "one node expects packets for longer than the other: lessons early-purge.pfl, adaptive-timeouts.pfl",
-    Kind.REST: "the nodes have other interfaces, routes or options",
+    Kind.REST: "the nodes have different interfaces, routes or options",
 }
 
 
@@ -35,7 +35,7 @@ Key = TypeVar("Key", bound=Hashable)
 
 
 class Shown(NamedTuple):
-    """How a report is to be: colours, the tolerance, and whether all states are listed."""
+    """The form of a report: colours, the tolerance, and whether all states are listed."""
 
     paint: Paint
     tolerance: Tolerance
@@ -43,7 +43,7 @@ class Shown(NamedTuple):
 
 
 def report(found: Compared, files: Dict[str, str], how: Shown) -> List[str]:
-    """The whole report of what two files have."""
+    """The whole report on two files."""
     counts = Counts(len(found.only["a"]), len(found.only["b"]), found.differ, found.agreeing, len(found.twice))
     parts = [
         [counts.answer(how.paint)],
@@ -58,7 +58,7 @@ def report(found: Compared, files: Dict[str, str], how: Shown) -> List[str]:
 
 
 def _files(found: Compared, files: Dict[str, str], how: Shown) -> List[str]:
-    """What stands in which file, and what that leaves open."""
+    """What is in which file, and what that leaves open."""
     lines = ["; ".join(f"{node}: {counted(found.sizes[node], 'state')} in {path}" for node, path in files.items())]
     for node, path in files.items():
         if found.again[node]:
@@ -67,13 +67,13 @@ def _files(found: Compared, files: Dict[str, str], how: Shown) -> List[str]:
             unnamed = counted(found.unnamed[node], "state without a name", "states without names")
             lines.append(f"{path}: {unnamed}, paired by flow alone; `pfctl -ss -vv` prints names")
     if all(found.sizes.values()) and not found.agreeing + found.differ:
-        lines.append("no state stands at both nodes: are these files of one pair, and does pfsync run?")
+        lines.append("no state is at both nodes: are these files of one pair, and is pfsync running?")
     return [how.paint.note(it) if at else it for at, it in enumerate(lines)]
 
 
 def _unsynchronised(found: Compared) -> List[str]:
     return [
-        f"no-sync, only on {node}: {counted(len(states), 'state')}, which no peer is told of"
+        f"no-sync, only on {node}: {counted(len(states), 'state')}, never sent to the peer"
         for node, states in found.unsynchronised.items()
         if states
     ]
@@ -85,11 +85,11 @@ def _moved(found: Compared) -> List[str]:
     return [f"{counted(found.moved, 'state differs', 'states differ')} only in windows, by less than a window: packets came in between"]
 
 
-# ---- states of one node alone
+# ---- states of only one node
 
 
 class Group(NamedTuple):
-    """What states of one node alone have in common."""
+    """What states of only one node have in common."""
 
     protocol: str
     direction: str
@@ -108,7 +108,7 @@ class Group(NamedTuple):
 
 
 def _alone(node: str, found: Compared, how: Shown) -> List[str]:
-    """The states of one node alone, those that have something in common together."""
+    """The states of only one node; those that have something in common together."""
     states = found.only[node]
     if not states:
         return []
@@ -119,7 +119,7 @@ def _alone(node: str, found: Compared, how: Shown) -> List[str]:
 
 
 def _of_them(groups: Dict[Group, List[Dumped]]) -> str:
-    """How many states of one node alone may have begun or expired between the dumps."""
+    """How many states of only one node may have begun or expired between the dumps."""
     numbers: Counter[str] = Counter()
     for group, its in groups.items():
         numbers[group.when] += len(its)
@@ -156,7 +156,7 @@ def _state(it: Dumped) -> str:
 
 
 def _differing(kind: Kind, those: Sequence[Two], how: Shown) -> List[str]:
-    """The states that differ first in this, those with the same difference together."""
+    """The states that differ first in this; those with the same difference together."""
     if not those:
         return []
     head = how.paint.bad(f"differ in {kind.value}: ") + f"{counted(len(those), 'state')}; {_WHY[kind]}"
@@ -169,7 +169,7 @@ def _fields(it: Two, tolerance: Tolerance) -> str:
 
 
 def _both(kind: Kind, two: Two) -> str:
-    """What a kind of difference comes to at either node, where few states have each."""
+    """What a kind of difference amounts to at each node, if few states have each."""
     if kind is Kind.LEVELS:
         return f"{two.a.levels} | {two.b.levels}"
     if kind is Kind.RULES:
@@ -193,7 +193,7 @@ def _twice(those: Sequence[Two], how: Shown) -> List[str]:
 
 
 def _grouped(items: Iterable[Item], of: Callable[[Item], Key]) -> Dict[Key, List[Item]]:
-    """What has the same key together."""
+    """The items, with those of one key together."""
     groups: Dict[Key, List[Item]] = {}
     for it in items:
         groups.setdefault(of(it), []).append(it)

@@ -1,4 +1,4 @@
-"""A state as a dump has it, and as the shell has states."""
+"""A state as a dump has it, and as the shell has it."""
 from __future__ import annotations
 
 from typing import NamedTuple, Optional, Tuple
@@ -12,12 +12,12 @@ from .forms import FLOW, NO_SYNC, Marks, windows
 NO_MARKS = Marks(None, frozenset())
 NO_END = End(0, None, 0, 0, 0)
 OUT = "->"
-# The protocols whose ports say which service a flow is of.
+# The protocols whose ports say which service a flow belongs to.
 WITH_SERVICES = ("tcp", "udp", "sctp")
 
 
 class Dumped(NamedTuple):
-    """A state of a dump, as texts where they are the same at both nodes. What its dump does not say is None, or empty."""
+    """A state of a dump, as texts where these are the same at both nodes. What its dump does not say is None or empty."""
 
     line: int
     interface: str
@@ -40,7 +40,7 @@ class Dumped(NamedTuple):
         return "" if self.name is None else self.name.partition("/")[2]
 
     def named(self) -> str:
-        """Its name, or its line where it has none."""
+        """Its name, or its line if it has none."""
         return self.name or f"line {self.line}"
 
 
@@ -54,7 +54,7 @@ class Ends(NamedTuple):
 
     @property
     def service(self) -> str:
-        """The port that the first packet went to; empty where the protocol has none."""
+        """The port that the first packet went to; empty if the protocol has none."""
         end = self.wire.far if self.direction == "out" else self.stack.near
         return _port(end) if self.protocol in WITH_SERVICES else ""
 
@@ -66,8 +66,8 @@ def _port(end: str) -> str:
 
 
 def ends(flow: str) -> Ends:
-    """The parts of a flow: on its way out the keys on the wire are printed, and those of the stack in brackets; on its way in it is
-    the other way round."""
+    """The parts of a flow: on its way out the keys on the wire are printed, and those of the stack in brackets; on its way in the
+    other way round."""
     found = FLOW.fullmatch(flow)
     assert found
     protocol, near, hidden_near, arrow, far, hidden_far = found.groups()
@@ -83,7 +83,7 @@ def _end(it: forms.End) -> End:
 
 
 def as_state(it: Dumped, with_windows: bool) -> State:
-    """The state as the shell has it, but for its name. What no dump says is 0 or `-`; levels are compared as they are printed."""
+    """The state as the shell has it, except its name. What no dump says is 0 or `-`; levels are compared as they are printed."""
     protocol, direction, wire, stack = ends(it.flow)
     first, second = NO_END, NO_END
     if with_windows:

@@ -1,4 +1,4 @@
-"""The counters that `netstat -s -p pfsync` prints: `pfsync_stats` of FreeBSD 13, as it is recalled from its sources."""
+"""The counters that `netstat -s -p pfsync` prints: `pfsync_stats` of FreeBSD 13, as recalled from its sources."""
 from __future__ import annotations
 
 import re
@@ -11,19 +11,19 @@ from ..words import counted
 
 SECTION = "pfsync:"
 COUNT = re.compile(r"(\d{1,20})\s+([a-zA-Z].*)", re.ASCII)
-# The words that have an s where they are counted: `1 packet received`, `0 packets received`.
+# The words that have a plural when counted: `1 packet received`, `0 packets received`.
 _PLURAL = re.compile(r"\b(packet|state|insert|ack|update|request|delete|mark|failure|error)s\b", re.ASCII)
 _FAMILIES = ("IPv4", "IPv6")
 _WAYS = (("a", "b"), ("b", "a"))
 
 
 def title(text: str) -> str:
-    """A counter's text as it is for one; a bracket may be misplaced."""
+    """The singular of a counter's text; a bracket may be misplaced."""
     return _PLURAL.sub(r"\1", re.sub(r"[(){}]", "", text)).strip()
 
 
 class Counter(NamedTuple):
-    """What a counter above 0 means: in the laboratory's counter of this name, if there is one, and in a lesson."""
+    """What a counter above 0 means; the laboratory's counter for it, if there is one; and a lesson."""
 
     meaning: str
     counts: str = ""
@@ -32,7 +32,7 @@ class Counter(NamedTuple):
 
 _FOREIGN = "the frame was not read, and what it said is lost"
 COUNTED: Dict[str, Counter] = {
-    "packet discarded for bad interface": Counter("frames came in on another interface than `syncdev`"),
+    "packet discarded for bad interface": Counter("frames came in on an interface other than `syncdev`"),
     "packet discarded for bad ttl": Counter("frames came with a TTL other than 255, so they were routed, or forged"),
     "packet shorter than header": Counter(f"frames were cut: {_FOREIGN}", "broken", "lost-insertion.pfl"),
     "packet discarded for bad version": Counter(f"the peer sends another version of pfsync: {_FOREIGN}", "broken"),
@@ -53,7 +53,7 @@ _NAMES = {it.name: it.counts for it in COUNTERS}
 
 
 def report(counters: Dict[str, Dict[str, int]], paint: Paint) -> List[str]:
-    """What the counters of both nodes say, by node; nothing where neither has any."""
+    """What the counters of both nodes say, by node; nothing if neither has any."""
     if not any(counters.values()):
         return []
     lines = [paint.head("pfsync counters of a and b")]
@@ -67,7 +67,7 @@ def report(counters: Dict[str, Dict[str, int]], paint: Paint) -> List[str]:
 
 
 def _on_the_way(family: str, way: Tuple[str, str], counters: Dict[str, Dict[str, int]], paint: Paint) -> List[str]:
-    """How many frames one node sent and the other one received."""
+    """How many frames one node sent and the other received."""
     sender, receiver = way
     sent, received = counters[sender].get(f"packet sent {family}"), counters[receiver].get(f"packet received {family}")
     if sent is None or received is None or not sent | received:

@@ -1,4 +1,4 @@
-"""Sets of addresses, as spans of numbers, and the fewest nets that are the same set."""
+"""Sets of addresses, as spans of numbers, and the fewest nets that make the same set."""
 from __future__ import annotations
 
 import ipaddress
@@ -14,7 +14,7 @@ FAMILIES = (4, 6)
 
 
 def merged(spans: Iterable[Span]) -> List[Span]:
-    """The spans in order, those that touch as one."""
+    """The spans in order, with those that touch joined."""
     found: List[Span] = []
     for low, high in sorted(it for it in spans if it[0] <= it[1]):
         if found and low <= found[-1][1] + 1:
@@ -83,7 +83,7 @@ class Addresses(NamedTuple):
         return any(low <= int(address) <= high for low, high in self.spans(address.version))
 
     def networks(self, most: Optional[int] = None) -> List[Network]:
-        """The fewest nets that are the set, IPv4 first; of each family at most as many as it says."""
+        """The fewest nets that make the set, IPv4 first; at most this many of each family."""
         v4 = (ipaddress.summarize_address_range(ipaddress.IPv4Address(low), ipaddress.IPv4Address(high)) for low, high in self.v4)
         v6 = (ipaddress.summarize_address_range(ipaddress.IPv6Address(low), ipaddress.IPv6Address(high)) for low, high in self.v6)
         return [*islice((net for nets in v4 for net in nets), most), *islice((net for nets in v6 for net in nets), most)]
@@ -95,8 +95,8 @@ NETS = {4: ipaddress.ip_network("0.0.0.0/0"), 6: ipaddress.ip_network("::/0")}
 
 
 def as_table(entries: Sequence[Tuple[Network, bool]]) -> Addresses:
-    """The addresses of a table: each entry is a net, and whether it is one with `!`. Of all entries that hold an address the one with
-    the longest net counts."""
+    """The addresses of a table: each entry is a net, and whether it has a `!`. Of all entries that hold an address, the one with the
+    longest net counts."""
     found = NONE
     for length in sorted({net.prefixlen for net, _ in entries}):
         found = found.plus(Addresses.of(net for net, is_not in entries if net.prefixlen == length and not is_not))

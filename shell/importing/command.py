@@ -17,7 +17,7 @@ from .writing import first_too_many, report, setup_lines
 
 
 def carry_out(words: Words) -> int:
-    """Writes the setup, and reports on standard error what is not exact: the status."""
+    """Writes the setup, and reports on standard error what is not exact; returns the status."""
     rc = of_rc(words.rc) if words.rc else Rc()
     its = Import(firewall_of(words), list(Sources().lines(words.conf)))
     too_many = first_too_many(its)
@@ -38,16 +38,16 @@ def say(lines: Iterable[str]) -> None:
 
 
 def firewall_of(words: Words) -> Firewall:
-    """What the command line says of the firewall."""
-    told = words.group or []
-    firewall = Firewall(words.on, groups={name: {member for group, member in told if group == name} for name, _ in told})
+    """What the command line says about the firewall."""
+    groups = words.group or []
+    firewall = Firewall(words.on, groups={name: {member for group, member in groups if group == name} for name, _ in groups})
     for interface, own in words.address or []:
         firewall.add_address(interface or words.on, own)
     return firewall
 
 
 def write(path: Optional[str], lines: List[str]) -> None:
-    """Writes lines to a file, or to standard output where none is named. A fault names the file, also that of a full disk."""
+    """Writes lines to a file, or to standard output if none is named. A fault names the file, even that of a full disk."""
     text = "".join(f"{line}\n" for line in lines)
     try:
         if path:

@@ -1,5 +1,5 @@
 """The comments that an import writes above the lines of a setup, each with its place in the pf.conf: FILE:LINE, and pf's number @N; and
-where a translation comes first its kind and place."""
+if a translation comes first, its kind and place."""
 from __future__ import annotations
 
 import re
@@ -17,19 +17,19 @@ _OURS = re.compile(rf"# \S+:[0-9]+ (?:{_OF_RULE}|{_OTHERS})")
 
 
 def origin(line: str) -> str:
-    """Where the rules below a comment are from, as `pf.conf:21 @7`, `pf.conf:21 @7, nat pf.conf:12` or, where no rule of the filter is
-    asked or matches, `pf.conf:12`; empty for another line."""
+    """Where the rules below a comment are from, as `pf.conf:21 @7`, `pf.conf:21 @7, nat pf.conf:12` or, if no rule of the filter is
+    asked or matches, `pf.conf:12`; empty for any other line."""
     found = _ORIGIN.match(line) or _ORIGIN_OF_TRANSLATION.match(line)
     return found["place"].rstrip(":") if found else ""
 
 
 def is_of_import(line: str) -> bool:
-    """Whether an import wrote a comment, above a line of a setup or in place of one."""
+    """Whether an import wrote a comment, above a line of a setup or instead of one."""
     return _OURS.match(line) is not None
 
 
 def of_rule(where: str, number: int, text: str, matches: bool = True) -> str:
-    """The comment above the lines of one of pf's rules, or in their place where it matches nothing."""
+    """The comment above the lines of one of pf's rules, or instead of them if it matches nothing."""
     return f"# {where} @{number} {'' if matches else 'matches nothing: '}{short(text)}"
 
 

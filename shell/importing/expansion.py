@@ -1,4 +1,4 @@
-"""The rules that pfctl(8) makes of a statement: one for each combination of what stands in its lists, in its order."""
+"""The rules that pfctl(8) makes of a statement: one for each combination of the members of its lists, in its order."""
 from __future__ import annotations
 
 import re
@@ -18,7 +18,7 @@ Item = TypeVar("Item")
 
 
 class PfRule(NamedTuple):
-    """A rule as pf has it, of the words of its statement; None where it says nothing."""
+    """A rule as pf has it, made of the words of its statement; None where it says nothing."""
 
     words: Filter
     interface: Optional[Interface]
@@ -57,7 +57,7 @@ def expanded(firewall: Firewall, words: Filter) -> List[PfRule]:
 
 
 def _families(rule: PfRule) -> Set[int]:
-    """The families that a rule and its addresses give it, and 0."""
+    """The families that a rule gets from its own words and its addresses, and 0."""
     return {0, rule.words.match.family, rule.source.family, rule.destination.family}
 
 

@@ -1,4 +1,4 @@
-"""What is known of the firewall beside its pf.conf: which interface is taken, addresses, groups, and its tables."""
+"""What is known about the firewall besides its pf.conf: which interface is taken, addresses, groups, and its tables."""
 from __future__ import annotations
 
 import ipaddress
@@ -10,7 +10,7 @@ from .addresses import Addresses
 from .grammar import Interface
 
 Own = Union[ipaddress.IPv4Interface, ipaddress.IPv6Interface]
-# Whose interfaces are in a group of that name (ifconfig(8)).
+# Interfaces of these kinds are in a group of that name (ifconfig(8)).
 _CLONED = {
     *("bridge", "carp", "disc", "edsc", "enc", "epair", "faith", "gif", "gre", "ipsec", "lagg", "lo", "me", "ng", "ovpn", "pflog"),
     *("pfsync", "ppp", "stf", "tap", "tun", "vlan", "vmnet", "vxlan", "wg", "wlan"),
@@ -20,7 +20,7 @@ _LOOPBACK = ("127.0.0.1/8", "::1/128")
 
 @dataclass
 class TableContent:
-    """What a table has, and what is to be said of it where that is not all that it has on the firewall."""
+    """What a table has, and what to report if that is not all that it has on the firewall."""
 
     addresses: Addresses
     lost: str = ""
@@ -28,7 +28,7 @@ class TableContent:
 
 @dataclass
 class Firewall:
-    """The interface that is taken, the addresses of interfaces by their names, and the interfaces of each group."""
+    """The interface that is taken, the addresses of interfaces by name, and the interfaces of each group."""
 
     on: str
     addresses: Dict[str, List[Own]] = field(default_factory=lambda: {"lo0": [ipaddress.ip_interface(it) for it in _LOOPBACK]})
@@ -40,19 +40,19 @@ class Firewall:
         own += [address] * (address not in own)
 
     def is_on(self, name: str) -> bool:
-        """Whether a name is that of the interface, or of a group that it is in."""
+        """Whether this is the name of the interface, or of a group that it is in."""
         return name in (self.on, "all") or self.on in self.groups.get(name, ()) or (name in _CLONED and _stem(self.on) == name)
 
     def is_for(self, interface: Optional[Interface]) -> bool:
-        """Whether a rule of this interface is for the one that is taken."""
+        """Whether a rule for this interface is for the one that is taken."""
         return interface is None or self.is_on(interface.name) != interface.is_not
 
     def is_unknown_group(self, name: str) -> bool:
-        """Whether a name looks like that of a group of which nothing is said: those of interfaces end in a number."""
+        """Whether a name looks like the name of an unknown group: names of interfaces end in a number."""
         return not (name[-1:].isdigit() or self.is_on(name) or name in self.groups or name in _CLONED)
 
     def addresses_of(self, name: str) -> Optional[List[Own]]:
-        """The addresses of an interface, of those of a group, or of the firewall itself; None where they are not known."""
+        """The addresses of an interface, of the interfaces of a group, or of the firewall itself; None if they are not known."""
         if name == "self":
             return [it for its in self.addresses.values() for it in its]
         members = [name] if name in self.addresses else sorted(self.groups.get(name, ()))

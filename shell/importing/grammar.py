@@ -22,7 +22,7 @@ class HostKind(Enum):
 
 @dataclass(frozen=True)
 class Host:
-    """An address of a rule: of a range its two ends, and of a net its length."""
+    """An address of a rule; a range has its two ends, a net its length."""
 
     kind: HostKind
     text: str = ""
@@ -49,7 +49,7 @@ class Interface(NamedTuple):
 
 @dataclass(frozen=True)
 class IcmpType:
-    """A type of ICMP, or with `version` 6 of ICMPv6, with a code if the rule has one."""
+    """A type of ICMP, or of ICMPv6 if `version` is 6, with a code if the rule has one."""
 
     version: int
     text: str
@@ -58,7 +58,7 @@ class IcmpType:
 
 @dataclass(frozen=True)
 class End:
-    """What a rule says of a packet's source or destination; empty lists are for all."""
+    """What a rule says about a packet's source or destination; empty lists are for all."""
 
     hosts: Tuple[Host, ...] = ()
     ports: Tuple[Operation, ...] = ()
@@ -93,7 +93,7 @@ class Filter:
 
     action: str
     match: Match = field(default_factory=Match)
-    # What a block rule does beside dropping; empty where `set block-policy` says it.
+    # What a block rule does besides dropping; empty if `set block-policy` says it.
     answer: str = ""
     direction: str = "any"
     is_quick: bool = False
@@ -102,7 +102,7 @@ class Filter:
     groups: List[Operation] = field(default_factory=list)
     flags: str = ""
     icmp_types: List[IcmpType] = field(default_factory=list)
-    # `keep`, `modulate`, `synproxy` or `no`; empty where the rule does not say it.
+    # `keep`, `modulate`, `synproxy` or `no`; empty if the rule does not say it.
     state: str = ""
     state_options: List[Option] = field(default_factory=list)
     options: List[Option] = field(default_factory=list)
@@ -110,7 +110,7 @@ class Filter:
 
 @dataclass
 class Antispoof:
-    """`antispoof`: which interfaces it is for, those in parentheses by their place in `dynamic`."""
+    """`antispoof`: which interfaces it is for, and in `dynamic`, by place, which of them are in parentheses."""
 
     interfaces: List[Host]
     family: int = 0
@@ -119,7 +119,7 @@ class Antispoof:
 
 @dataclass
 class Translation:
-    """`nat`, `rdr` or `binat`: what becomes of an address, to which one, and to which ports. `no` keeps one as it is."""
+    """`nat`, `rdr` or `binat`: which address is translated, to which one, and to which ports. `no` leaves it as it is."""
 
     kind: str
     match: Match
@@ -152,7 +152,7 @@ class Setting:
 
 @dataclass
 class Macro:
-    """A macro and what it stands for."""
+    """A macro and its value."""
 
     name: str
     value: str
@@ -167,7 +167,7 @@ class Include:
 
 @dataclass
 class Other:
-    """A statement of which no more is needed than its kind: `scrub`, `altq`, `queue`, `load` and the anchors of translations."""
+    """A statement of which only the kind is needed: `scrub`, `altq`, `queue`, `load` and the anchors of translations."""
 
     kind: str
     interfaces: List[Interface] = field(default_factory=list)

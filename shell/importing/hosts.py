@@ -1,4 +1,4 @@
-"""What the addresses of a rule come to, as pfctl(8) writes them out: each one is a rule of its own."""
+"""The addresses of a rule, as pfctl(8) expands them: each one makes a rule of its own."""
 from __future__ import annotations
 
 import ipaddress
@@ -31,7 +31,7 @@ class NotKnown(Exception):
 
 
 def resolved(firewall: Firewall, hosts: Sequence[Host]) -> List[Resolved]:
-    """What addresses come to, in pf's order; for all where there are none."""
+    """The resolved addresses, in pf's order; for all if there are none."""
     return [it for host in hosts for it in _resolved(firewall, host)] or [Resolved()]
 
 
@@ -57,13 +57,13 @@ def _each(firewall: Firewall, host: Host) -> List[Resolved]:
     if host.kind is HostKind.RANGE:
         first, last = (_address(firewall, it) for it in (host.text, host.last))
         if first.version != last.version or int(first) > int(last):
-            raise NotKnown(f"`{host.text} - {host.last}` is no range of addresses")
+            raise NotKnown(f"`{host.text} - {host.last}` is not a range of addresses")
         return [_single(Addresses.between(first, last), first.version, host.is_not)]
     return [_single(Addresses.of([it]), it.version, host.is_not) for it in networks_of(firewall, host)]
 
 
 def networks_of(firewall: Firewall, host: Host) -> List[Network]:
-    """The nets of an address that is written out: of an interface one for each of its addresses."""
+    """The nets of an address that is expanded: for an interface one for each of its addresses."""
     net = _network(firewall, host)
     return _nets(*_own(firewall, host.text), host.length) if net is None else [net]
 
@@ -73,7 +73,7 @@ def targets_of(firewall: Firewall, host: Host) -> List[Network]:
     if host.kind is HostKind.TABLE and host.text in firewall.tables:
         return firewall.tables[host.text].addresses.networks()
     if host.kind not in (HostKind.ADDRESS, HostKind.DYNAMIC) or host.is_not:
-        raise NotKnown("what follows `->` is no address, and no table of the file")
+        raise NotKnown("what follows `->` is neither an address nor a table of the file")
     return networks_of(firewall, host)
 
 
@@ -91,7 +91,7 @@ def _both(addresses: Addresses, is_not: bool) -> Resolved:
 
 
 def _single(addresses: Addresses, family: int, is_not: bool) -> Resolved:
-    """A set of one family, which its rule has then, too: what `!` leaves is of this family alone."""
+    """A set of one family, which its rule then has, too: what `!` leaves is of this family only."""
     return Resolved(addresses.complement([family]) if is_not else addresses, family)
 
 
@@ -99,26 +99,26 @@ def _single(addresses: Addresses, family: int, is_not: bool) -> Resolved:
 
 
 def _network(firewall: Firewall, host: Host) -> Optional[Network]:
-    """The net that an address with its length is; None where it is a name."""
+    """The net of an address with its length; None if it is a name."""
     address, length = _without_scope(firewall, host.text), host.length
     if re.fullmatch(r"[0-9]+(\.[0-9]+){0,3}", address):
         octets = [int(it) for it in address.split(".")]
         if max(octets) > 255:
-            raise NotKnown(f"`{host.text}` is no address")
+            raise NotKnown(f"`{host.text}` is not an address")
         dotted = ".".join(map(str, (*octets, *[0] * (4 - len(octets)))))
         return _net(dotted, str(_imputed(octets)) if length is None else length, 32)
     return _net(address, "128" if length is None else length, 128) if ":" in address and _is_v6(address) else None
 
 
 def _net(address: str, length: str, most: int) -> Network:
-    """A net of an address, whose bits after the length do not count."""
+    """The net of an address; its bits after the length do not count."""
     if number_of(length, most) is None:
-        raise NotKnown(f"`{address}/{length}` has no length of a net from 0 to {most}")
+        raise NotKnown(f"`{address}/{length}` has a length that is not from 0 to {most}")
     return ipaddress.ip_network(f"{address}/{length}", strict=False)
 
 
 def _imputed(octets: Sequence[int]) -> int:
-    """The length of a net that has none: that of its class, or of all octets that are there."""
+    """The length of a net without one: that of its class, or of all octets that are there."""
     of_class = 8 if octets[0] < 128 else 16 if octets[0] < 192 else 24 if octets[0] < 224 else 4 if octets[0] < 240 else 32
     return max(of_class, 8 * len(octets))
 
@@ -135,7 +135,7 @@ def _without_scope(firewall: Firewall, text: str) -> str:
     """An address without the interface of its scope, which is the one that is taken."""
     address, scoped, scope = text.partition("%")
     if scoped and scope != firewall.on:
-        raise NotKnown(f"`{text}` is an address of another interface than {firewall.on}")
+        raise NotKnown(f"`{text}` is an address of an interface other than {firewall.on}")
     return address
 
 
@@ -143,7 +143,7 @@ def _address(firewall: Firewall, text: str) -> Address:
     """An end of a range."""
     net = _network(firewall, Host(HostKind.ADDRESS, text))
     if net is None or net.num_addresses > 1:
-        raise NotKnown(f"`{text}` is no end of a range of addresses")
+        raise NotKnown(f"`{text}` is not an end of a range of addresses")
     return net.network_address
 
 
@@ -151,7 +151,7 @@ def _address(firewall: Firewall, text: str) -> Address:
 
 
 def _own(firewall: Firewall, text: str) -> Tuple[List[Own], List[str]]:
-    """The addresses of an interface that is named, and what follows its name."""
+    """The addresses of a named interface, and what follows its name."""
     name, *words = text.split(":")
     wrong = [it for it in words if it not in ("network", "broadcast", "0")]
     if wrong and _INTERFACE.match(name):
@@ -159,15 +159,15 @@ def _own(firewall: Firewall, text: str) -> Tuple[List[Own], List[str]]:
     own = firewall.addresses_of(name)
     if own is None and (words or _INTERFACE.match(name)):
         this = "" if name == firewall.on else f"{name}="
-        raise NotKnown(f"the addresses of {name} are not known: --address {this}ADDRESS/LENGTH says them")
+        raise NotKnown(f"the addresses of {name} are not known: --address {this}ADDRESS/LENGTH gives them")
     if own is None:
-        or_told = "" if "." in text else f"; if it is an interface, --address {text}=ADDRESS/LENGTH says its addresses"
-        raise NotKnown(f"`{text}` is a name that pfctl looks up: write its address{or_told}")
+        or_given = "" if "." in text else f"; if it is an interface, --address {text}=ADDRESS/LENGTH gives its addresses"
+        raise NotKnown(f"`{text}` is a name that pfctl looks up: write its address{or_given}")
     return _first_ones(own) if "0" in words else own, words
 
 
 def _first_ones(own: Sequence[Own]) -> List[Own]:
-    """The first address of each family: the others are aliases."""
+    """The first address of each family; the others are aliases."""
     firsts = [next((it for it in own if it.version == family), None) for family in (4, 6)]
     return [it for it in own if it in firsts]
 

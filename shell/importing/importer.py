@@ -1,4 +1,4 @@
-"""Takes a pf.conf(5) in: what becomes of each of its statements on one interface."""
+"""Takes in a pf.conf(5): what becomes of each of its statements on one interface."""
 from __future__ import annotations
 
 from collections import Counter
@@ -24,7 +24,7 @@ from .translations import TOO_MANY, Piece, translated
 RULE_WORDS = ("pass", "block", "antispoof")
 TRANSLATION_WORDS = ("nat", "rdr", "binat")
 _OTHERS = {
-    "scrub": "packets are not normalised: they are no fragments, and none of their fields is changed",
+    "scrub": "packets are not normalised: they are not fragments, and none of their fields is changed",
     "altq": "bandwidth is left out",
     "queue": "bandwidth is left out",
 }
@@ -37,12 +37,12 @@ class Verdict(Enum):
     EXACT = "exact"
     APPROXIMATED = "approximated"
     OUT = "out"
-    # For other interfaces than the one that is taken.
+    # For interfaces other than the one that is taken.
     ELSEWHERE = "for other interfaces"
 
 
 class Numbered(NamedTuple):
-    """A rule of pf by its number, with its lines here."""
+    """A rule of pf, by number, with its lines here."""
 
     number: int
     lines: Sequence[RuleLine]
@@ -50,7 +50,7 @@ class Numbered(NamedTuple):
 
 @dataclass
 class Judged:
-    """A statement, what became of it, and why where it is not exact; and its lines: of a setup, and by the rules of pf that it is."""
+    """A statement, what became of it, and why if it is not exact; and its lines: those of a setup, and those of each pf rule of it."""
 
     line: Line
     is_rule: bool = False
@@ -70,7 +70,7 @@ class Judged:
         return self
 
     def lost(self, reasons: Iterable[str]) -> "Judged":
-        """What is lost, each said once; nothing of a statement that is out."""
+        """Adds what is lost, each reason once; nothing for a statement that is out."""
         if self.verdict is not Verdict.OUT:
             self.reasons = [*dict.fromkeys([*self.reasons, *map(legible, reasons)])]
         if self.reasons and self.verdict is Verdict.EXACT:
@@ -80,7 +80,7 @@ class Judged:
 
 @dataclass
 class Translated:
-    """A statement that translates, and what it does."""
+    """A statement with a translation, and what it does."""
 
     judged: Judged
     pieces: List[Piece]
@@ -94,7 +94,7 @@ class Import:
         self._see_ahead([it.content for it in lines])
         # The number that pf gives the next rule.
         self._number = 0
-        # How many rules a node has by now.
+        # How many rules a node has so far.
         self.rule_lines = 0
         # The rules of the filter that match something, by their statements.
         self._asked: List[Asked] = []
@@ -111,7 +111,7 @@ class Import:
         self._say_lost()
 
     def _see_ahead(self, contents: Sequence[Content]) -> None:
-        """What holds of the whole file: interfaces that pf skips, tags that rules give, and whether there are anchors."""
+        """What holds for the whole file: interfaces that pf skips, tags that rules give, and whether there are anchors."""
         skipped = [it for one in contents if isinstance(one, Setting) for it in one.interfaces]
         rules = [it for one in contents if isinstance(one, (Filter, Translation)) for it in one.match.interfaces]
         spoofed = [it.text for one in contents if isinstance(one, Antispoof) for it in one.interfaces]
@@ -142,7 +142,7 @@ class Import:
         return self._other(judged, content) if isinstance(content, Other) else judged
 
     def _other(self, judged: Judged, content: Other) -> Judged:
-        """A statement that is no rule of the filter, and no translation."""
+        """A statement that is neither a rule of the filter nor a translation."""
         if not self._is_for(content.interfaces):
             judged.verdict = Verdict.ELSEWHERE
             return judged
@@ -154,7 +154,7 @@ class Import:
     # ---- rules
 
     def _rule(self, judged: Judged, content: Union[Filter, Antispoof]) -> Judged:
-        """A rule: those that pf makes of it are counted for all interfaces, and taken in for the one."""
+        """A rule: the rules that pf makes of it are counted for all interfaces, and taken in for one."""
         judged.is_rule = not _is_anchor(content)
         try:
             words = without_spoofs(content) if isinstance(content, Antispoof) else [content]
@@ -172,11 +172,11 @@ class Import:
         return judged.out(_ANCHORED) if _is_anchor(content) else self._taken(judged, own)
 
     def _taken(self, judged: Judged, own: Sequence[Tuple[int, PfRule]]) -> Judged:
-        """The rules of a statement for the interface; it is out where one of them is."""
+        """The rules of a statement for the interface; the statement is out if one of them is."""
         its: Dict[int, Taken] = {}
         for number, rule in own:
             if self.rule_lines > MOST_RULES:
-                # (more are of no use, and there may be very many)
+                # (more are useless, and there may be very many)
                 break
             its[number] = it = taken(rule, self.settings.context)
             self.rule_lines += len(it.lines)
@@ -190,7 +190,7 @@ class Import:
         return judged.lost(reason for it in its.values() for reason in it.lost)
 
     def _say_lost(self) -> None:
-        """Says what is lost by translations, and of which rules of pf several rules here count their states each for itself."""
+        """Reports what is lost by translations, and for which pf rules several rules here each count their own states."""
         entries = [it for section in self.sections for it in section.entries]
         own = [it.number for judged in self.judged for it in judged.rules for _ in it.lines]
         counts = Counter([*own, *(it.asked.number for it in entries if it.asked for _ in it.lines)])
@@ -203,7 +203,7 @@ class Import:
     # ---- translations
 
     def _translation(self, judged: Judged, content: Translation) -> Judged:
-        """A translation; what becomes of its packets depends on the whole filter, and is looked at when all is read."""
+        """A translation; what becomes of its packets depends on the whole filter, and is decided when everything is read."""
         judged.is_translation = True
         if not self._is_for(content.match.interfaces):
             judged.verdict = Verdict.ELSEWHERE
@@ -211,7 +211,7 @@ class Import:
         its = translated(self.firewall, content, self.settings.context)
         if its.out:
             return judged.out(_untranslated(its.out))
-        # (each piece comes to a rule or more for each of its nets)
+        # (each piece makes at least one rule for each of its nets)
         regions = ((it.direction, region) for it in its.pieces for few, rest in [it.region.but_few()] for region in (*few, rest))
         counts = accumulate(len(lines_of(region, RuleLine("block", direction))) for direction, region in regions)
         if any(it > MOST_RULES for it in counts):
@@ -220,7 +220,7 @@ class Import:
         return judged.lost(its.lost)
 
     def _sections(self, is_out: Dict[int, str]) -> List[Section]:
-        """The rules for packets that are translated, without these translations, and without those for which there is no room then."""
+        """The rules for packets that are translated, without these translations, and without those that then have no room."""
         owned = [(at, it) for at, one in enumerate(self.translations) if at not in is_out for it in one.pieces]
         found = sections(owned, self._asked, MOST_RULES - self.rule_lines)
         without = {it.owner: it.out for it in found if it.out} or self._too_many(found)
@@ -231,7 +231,7 @@ class Import:
         return found
 
     def _too_many(self, found: Sequence[Section]) -> Dict[int, str]:
-        """The first translation with whose rules a node has too many, and all after it."""
+        """The first translation whose rules are too many for a node, and all after it."""
         own = [sum(it.count for it in found if it.owner == at) for at in range(len(self.translations))]
         is_over = [self.rule_lines + count > MOST_RULES for count in accumulate(own)]
         return {at: TOO_MANY for at, over in enumerate(is_over) if over}
@@ -241,7 +241,7 @@ class Import:
     def _table(self, judged: Judged, table: Table) -> Judged:
         """A table: its nets, and those of its files."""
         files = {path: hosts_in(judged.line.path, path) for path in table.files}
-        lost = [f"there is no file {path} that can be read: nothing is taken from it" for path, its in files.items() if its is None]
+        lost = [f"there is no readable file {path}: nothing is taken from it" for path, its in files.items() if its is None]
         hosts = [*table.hosts, *(it for its in files.values() for it in its or [])]
         entries: List[Tuple[Network, bool]] = []
         for host in hosts:
@@ -257,12 +257,12 @@ class Import:
 
 
 def _without(action: str, *why: str) -> str:
-    """Why a rule is out, and what the others are without it."""
+    """Why a rule is out, and how the others are without it."""
     return "; ".join([*why, f"the rules may be {'stricter' if action == 'pass' else 'laxer'} without it"])
 
 
 def _untranslated(why: str) -> str:
-    """Why a translation is out, and what the rules are without it."""
+    """Why a translation is out, and how the rules are without it."""
     return f"{why}; the rules see addresses as they are without it"
 
 
@@ -272,5 +272,5 @@ def _is_anchor(content: Content) -> bool:
 
 
 def is_counted(judged: Judged) -> bool:
-    """Whether a statement is one of those that the sum calls other lines."""
+    """Whether a statement counts among the sum's other lines."""
     return not (judged.is_rule or judged.is_translation or isinstance(judged.line.content, Macro))

@@ -51,7 +51,7 @@ _ICMP_NUMBERS = {4: _numbers(_ICMP), 6: _numbers(_ICMP6)}
 
 
 def number_of(text: str, most: int) -> Optional[int]:
-    """A number of decimal digits up to the greatest; None for another word."""
+    """A number in decimal digits, up to the greatest; None for any other word."""
     return int(text) if text.isascii() and text.isdigit() and len(text) <= 10 and int(text) <= most else None
 
 

@@ -30,7 +30,7 @@ _POOLS = ("bitmask", "random", "source-hash", "round-robin", "static-port", "sti
 _TRANSLATIONS = ("nat", "rdr", "binat")
 _BEFORE_OPTIONS = ("in", "out", "log", "quick", "on", "inet", "inet6", "proto", "all", "from", "os", "to")
 _OF_LISTS = ("timeout", "limit")
-# What the manual of later versions, or of OpenBSD, has.
+# What is in the manual of later versions, or of OpenBSD.
 _LATER = {
     "match": "FreeBSD 13's pf has no `match`",
     "ether": "FreeBSD 13's pf has no rules for Ethernet",
@@ -110,7 +110,7 @@ def _in_parentheses(reader: Reader) -> List[Option]:
 
 
 def _route(reader: Reader) -> str:
-    """The word for another way, whose gateways are passed over."""
+    """The word for another route, whose gateways are passed over."""
     word = reader.one_of("fastroute", *_ROUTES)
     if word in _ROUTES:
         reader.several(lambda: _gateway(reader))
@@ -160,10 +160,10 @@ def _option(reader: Reader, rule: Filter) -> None:
 
 
 def _misplaced(word: str) -> str:
-    """Why a word is none of the options at the end of a rule."""
+    """Why a word is not one of the options at the end of a rule."""
     if word in _BEFORE_OPTIONS:
         return f"`{word}` is in the wrong place: pfctl wants {', '.join(_BEFORE_OPTIONS)} in this order, and then the options"
-    return _LATER.get(word, f"`{word}` is no option of a rule")
+    return _LATER.get(word, f"`{word}` is not an option of a rule")
 
 
 def _flags(reader: Reader) -> str:
@@ -180,7 +180,7 @@ def _icmp_type(reader: Reader, version: int) -> IcmpType:
 
 
 def _state_option(reader: Reader) -> Option:
-    """An option of a state; commas between them may be left out, so each takes the words that it has."""
+    """An option of a state; commas between options may be left out, so each takes the words that belong to it."""
     word = reader.word("an option of a state")
     if word in ("no-sync", "sloppy", "floating", "if-bound", "pflow"):
         return Option(word)
@@ -332,7 +332,7 @@ def _include(reader: Reader, _: str) -> Include:
 
 
 def _others(reader: Reader, word: str) -> Other:
-    """A statement whose interfaces alone are looked at."""
+    """A statement of which only the interfaces matter."""
     interfaces: List[Interface] = []
     while not reader.is_done:
         if reader.is_next("on") and not interfaces:
@@ -357,7 +357,7 @@ _STATEMENTS: Dict[str, Callable[[Reader, str], Content]] = {
 
 
 def host_of(text: str) -> Optional[Host]:
-    """An address as a file of a table has it: `!` before it, and a length after a slash."""
+    """An address in the form of a table's file: `!` before it, and a length after a slash."""
     is_not, text = text.startswith("!"), text.lstrip("!")
     address, slash, length = text.partition("/")
     return Host(HostKind.ADDRESS, address, length=length if slash else None, is_not=is_not) if address else None

@@ -1,4 +1,4 @@
-"""What rc.conf(5) says of pfsync(4): `maxupd` and `defer`."""
+"""What rc.conf(5) says about pfsync(4): `maxupd` and `defer`."""
 from __future__ import annotations
 
 import re
@@ -23,7 +23,7 @@ class Assigned(NamedTuple):
 
 
 class Rc(NamedTuple):
-    """The lines of a setup, what is to be said, and whether something is out."""
+    """The lines of a setup, what to report, and whether something is out."""
 
     lines: List[str] = []
     said: List[str] = []
@@ -31,7 +31,7 @@ class Rc(NamedTuple):
 
 
 def of_rc(path: str) -> Rc:
-    """What a file of rc.conf's form says of pfsync."""
+    """What a file in the form of rc.conf says about pfsync."""
     its = _assigned(path)
     lines: List[str] = []
     said = [] if its else [f"{legible(path)}: no {' or '.join(_NAMES)} is in it: the defaults of pfsync stay"]
@@ -47,7 +47,7 @@ def of_rc(path: str) -> Rc:
 
 
 def _assigned(path: str) -> Dict[str, Assigned]:
-    """What is assigned to the variables of pfsync0, the last value of each."""
+    """The assignments to the variables of pfsync0, with the last value of each."""
     found: Dict[str, Assigned] = {}
     for number, line in enumerate(read(path).split("\n"), 1):
         name = _ASSIGNMENT.match(line)
@@ -57,7 +57,7 @@ def _assigned(path: str) -> Dict[str, Assigned]:
 
 
 def _words(line: str) -> List[str]:
-    """The words of the value of an assignment; none where a shell would not take it."""
+    """The words of the value of an assignment; none if a shell would not take it."""
     try:
         return "".join(shlex.split(line, comments=True)[:1]).partition("=")[2].split()
     except ValueError:
@@ -65,7 +65,7 @@ def _words(line: str) -> List[str]:
 
 
 def _limits(words: List[str]) -> Iterator[Tuple[Limit, Optional[int]]]:
-    """The limits that words of ifconfig(8) set; None for a number out of its range."""
+    """The limits that words of ifconfig(8) set; None for a number out of range."""
     for at, word in enumerate(words):
         if word in ("defer", "-defer"):
             yield DEFER, int(word == "defer")

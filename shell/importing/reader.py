@@ -36,17 +36,17 @@ class Reader:
         return token
 
     def is_next(self, *texts: str) -> bool:
-        """Whether one of these words or marks follows; what stands in quotes is none."""
+        """Whether one of these words or marks follows; what is in quotes is neither."""
         return self.next.kind in (Kind.WORD, Kind.MARK) and self.next.text in texts
 
     def accept(self, text: str) -> bool:
-        """Takes a word or a mark if it follows: whether it did."""
+        """Takes a word or a mark if it follows; returns whether it did."""
         found = self.is_next(text)
         self._at += found
         return found
 
     def one_of(self, *texts: str) -> str:
-        """Takes one of these if it follows; empty where none does."""
+        """Takes one of these if it follows; empty if none does."""
         return self.take().text if self.is_next(*texts) else ""
 
     def expect(self, text: str) -> None:
@@ -66,12 +66,12 @@ class Reader:
     # ---- lists
 
     def several(self, item: Callable[[], Item]) -> List[Item]:
-        """One item, or a list of them in braces, which may be in one another."""
+        """One item, or a list of items in braces, which may be nested."""
         if not self.accept("{"):
             return [item()]
         self._depth += 1
         if self._depth > MOST_IN_ONE_ANOTHER:
-            raise NotRead(f"lists are in one another more than {MOST_IN_ONE_ANOTHER} deep")
+            raise NotRead(f"lists are nested more than {MOST_IN_ONE_ANOTHER} deep")
         found = self.until("}", lambda: self.several(item))
         self._depth -= 1
         if not found:
@@ -79,7 +79,7 @@ class Reader:
         return [it for part in found for it in part]
 
     def until(self, mark: str, item: Callable[[], Item]) -> List[Item]:
-        """Items up to a mark, with commas between them or without."""
+        """Items up to a mark, with or without commas between them."""
         found: List[Item] = []
         self._pass_over()
         while not self.accept(mark):
@@ -94,7 +94,7 @@ class Reader:
     # ---- parts of rules
 
     def match(self) -> Match:
-        """Interfaces, family, protocols, source and destination; those that are left out are for all."""
+        """Interfaces, family, protocols, source and destination; whatever is left out is for all."""
         match = Match(interfaces=self.interfaces())
         self.rest_of(match)
         return match
@@ -146,7 +146,7 @@ class Reader:
         return self.word("the length of a net") if self.accept("/") else None
 
     def port(self) -> Operation:
-        """A port, or how ports compare with one or two."""
+        """A port, or a comparison with one or two ports."""
         operator = self.one_of(*_COMPARISONS)
         if operator:
             return Operation(operator, self.word("a port"))
@@ -158,18 +158,18 @@ class Reader:
             return Operation("=", first)
         low, _, high = first.partition(":")
         if not low or not high:
-            raise NotRead(f"`{first}` is no range of ports: both ends are wanted, LOW:HIGH")
+            raise NotRead(f"`{first}` is not a range of ports: both ends are wanted, LOW:HIGH")
         return Operation(":", low, high)
 
     def user(self) -> Operation:
-        """A user or a group, or how they compare with one or two."""
+        """A user or a group, or a comparison with one or two of them."""
         operator = self.one_of(*_COMPARISONS)
         first = self.word("a user or a group")
         between = "" if operator else self.one_of(*_RANGES)
         return Operation(between, first, self.word("a user or a group")) if between else Operation(operator or "=", first)
 
     def option(self) -> Option:
-        """An option in parentheses, with the words up to a comma or their end."""
+        """An option in parentheses, with the words up to a comma or the end."""
         word, values = self.word("an option"), []
         while not self.is_next(",", ")") and not self.is_done:
             values.append(self.take().text)

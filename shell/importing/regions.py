@@ -1,4 +1,4 @@
-"""Sets of packets: which ones a rule of the filter, or a translation, is for."""
+"""Sets of packets: those that a rule of the filter, or a translation, is for."""
 from __future__ import annotations
 
 from typing import List, NamedTuple, Optional, Sequence, Tuple
@@ -27,7 +27,7 @@ class Side(NamedTuple):
         return Side(addresses, ports)
 
     def holds(self, other: "Side", family: int) -> bool:
-        """Whether every end of the other that is of a family is one of these."""
+        """Whether every end of the other that is of this family is one of these."""
         has_addresses = self.addresses is None or not _only(other.addresses, family).minus(self.addresses).spans(family)
         return has_addresses and holds(self.ports, other.ports)
 
@@ -42,13 +42,13 @@ class Region(NamedTuple):
 
     @property
     def families(self) -> List[int]:
-        """The families of which there are packets."""
+        """The families that have packets."""
         ends = [it.addresses for it in (self.source, self.destination) if it.addresses is not None]
         has_ports = () not in (self.source.ports, self.destination.ports)
         return [it for it in FAMILIES if has_ports and self.family in (0, it) and all(end.spans(it) for end in ends)]
 
     def common(self, other: "Region") -> Optional["Region"]:
-        """The packets that are in both; None where there are none."""
+        """The packets in both; None if there are none."""
         families, protocols = {self.family, other.family} - {0}, {self.protocol, other.protocol} - {None}
         if len(families) > 1 or len(protocols) > 1:
             return None
@@ -57,7 +57,7 @@ class Region(NamedTuple):
         return found if found.families else None
 
     def holds(self, other: "Region") -> bool:
-        """Whether every packet of the other is in this one, as far as one rule says it."""
+        """Whether every packet of the other is in this one, as far as one rule can say so."""
         return (
             self.protocol in (None, other.protocol)
             and all(self.family in (0, it) for it in other.families)
@@ -65,7 +65,7 @@ class Region(NamedTuple):
         )
 
     def but_few(self) -> Tuple[List["Region"], "Region"]:
-        """These packets with fewer nets, where they are for all but a few addresses: those that are left out, and what is then held."""
+        """These packets with fewer nets, if they are for all but a few addresses: those that are left out, and what then holds them all."""
         families = self.families
         source, destination = _left_out(self.source, families), _left_out(self.destination, families)
         opened = self._replace(
@@ -73,13 +73,13 @@ class Region(NamedTuple):
             source=Side(ports=self.source.ports) if source else self.source,
             destination=Side(ports=self.destination.ports) if destination else self.destination,
         )
-        # (what one end leaves out is left out whatever the other is)
+        # (what one end leaves out is left out whatever the other end is)
         left_out = [opened._replace(source=source)] if source else []
         return [*left_out, *([opened._replace(destination=destination)] if destination else [])], opened
 
 
 def _left_out(side: Side, families: Sequence[int]) -> Optional[Side]:
-    """What an end leaves out, where that is fewer nets by far."""
+    """What an end leaves out, if that makes far fewer nets."""
     if side.addresses is None:
         return None
     others = side.addresses.complement(families)

@@ -5,6 +5,7 @@ from dataclasses import dataclass, field
 from itertools import islice, product
 from typing import Dict, Iterator, List, NamedTuple, Optional, Sequence, Set
 
+from ..language.forms import GREATEST
 from ..language.lines import LONGEST_LINE
 from ..language.setups import CLASSES, MOST_RULES
 from .addresses import NETS, Network, Span, merged, rest
@@ -14,13 +15,12 @@ from .names import GREATEST_PORT, ICMP, ICMP6, TCP, UDP, WITH_PORTS, icmp_number
 from .regions import EVERY_PORT, Ports, Region, Side
 
 CLASS_WORDS = tuple(it.word for it in CLASSES)
-GREATEST = 4294967295
-# That of a line without `rule a `.
+# The greatest length of a line without `rule a `.
 LONGEST_TEXT = LONGEST_LINE - len("rule a ")
 _NAMED = {TCP: "tcp", UDP: "udp", ICMP: "icmp"}
 _ECHO = (0, 8)
-_NO_SOCKETS = "packets of the laboratory belong to no local socket, as forwarded ones"
-# What takes nothing from the verdict of a rule.
+_NO_SOCKETS = "packets of the laboratory belong to no local socket, like forwarded ones"
+# What has no effect on the verdict of a rule.
 _WITHOUT_EFFECT = ("label", "tag", "queue", "dnpipe", "dnqueue", "prio", "set", "allow-opts")
 _ROUTES = {
     "route-to": "`route-to` is left out: packets go where they would go without it",
@@ -41,7 +41,7 @@ class Never(Exception):
 
 @dataclass
 class Context:
-    """What a rule depends on beside its own words: what stands above it, and the tags that the file gives packets anywhere."""
+    """What a rule depends on besides its own words: what is above it, and the tags that the file gives to packets anywhere."""
 
     answer: str = "drop"
     state_defaults: List[Option] = field(default_factory=list)
@@ -50,7 +50,7 @@ class Context:
 
 
 class RuleLine(NamedTuple):
-    """A rule of the laboratory; what is left empty is left out. `translation` is what becomes of an end."""
+    """A rule of the laboratory; what is empty is left out. `translation` is what becomes of an end."""
 
     action: str
     direction: str
@@ -78,7 +78,7 @@ class RuleLine(NamedTuple):
 
 @dataclass
 class Taken:
-    """What became of a rule of pf: which packets it is for, None for none of them, and a line without addresses and ports."""
+    """What became of a rule of pf: which packets it is for, None for none, and a line without addresses and ports."""
 
     base: RuleLine
     region: Optional[Region] = None
@@ -117,17 +117,17 @@ def _protocol(rule: PfRule) -> Optional[int]:
         return None
     number = protocol_number(rule.protocol)
     if number is None:
-        raise Out(f"the protocol `{rule.protocol}` is no number, and no name that is known here")
+        raise Out(f"the protocol `{rule.protocol}` is neither a number nor a name known here")
     return number or None
 
 
 def protocol_text(number: Optional[int]) -> str:
-    """A protocol as a rule has it; empty for all."""
+    """A protocol in the form of a rule; empty for all."""
     return "" if number is None else _NAMED.get(number, str(number))
 
 
 def _refused(rule: PfRule, number: Optional[int]) -> None:
-    """What pfctl refuses of rules that can be read."""
+    """Raises what pfctl refuses in rules that can be read."""
     words = rule.words
     has_ports, has_users = rule.source_port or rule.destination_port, rule.user or rule.group
     if (has_ports or has_users) and number not in WITH_PORTS:
@@ -149,7 +149,7 @@ def _refused(rule: PfRule, number: Optional[int]) -> None:
 
 
 def _of_options(rule: PfRule, context: Context) -> Iterator[str]:
-    """What is lost by the options of a rule and by its ways."""
+    """What is lost by the options of a rule and by its routes."""
     if rule.words.route:
         yield _ROUTES[rule.words.route]
     for option in rule.words.options:
@@ -168,7 +168,7 @@ def _of_options(rule: PfRule, context: Context) -> Iterator[str]:
 
 
 def _tagged(option: Option, context: Context) -> Iterator[str]:
-    """What is lost by asking for a tag, which packets have only where something gives it to them."""
+    """What is lost by asking for a tag, which packets have only if something gives it to them."""
     name = option.values[0]
     if name in context.tags:
         raise Out(f"`{option}`: packets of the laboratory have no tags, and this file gives them this one")
@@ -194,7 +194,7 @@ def _of_packets(rule: PfRule, number: Optional[int]) -> Iterator[str]:
 
 
 def _owned_by_none(it: Operation) -> bool:
-    """Whether a comparison of users holds of a packet that no local socket owns."""
+    """Whether a comparison of users is true for a packet that no local socket owns."""
     return (it.operator, it.first == "unknown") in (("=", True), ("!=", False))
 
 
@@ -202,7 +202,7 @@ def _of_icmp(action: str, it: IcmpType) -> str:
     """What is lost by a type of ICMP."""
     number = icmp_number(it.version, it.text)
     if number is None:
-        raise Out(f"the type of ICMP `{it.text}` is no number, and no name that is known here")
+        raise Out(f"the type of ICMP `{it.text}` is neither a number nor a name known here")
     if it.version == 4 and number not in _ECHO:
         raise Never("every ICMP packet of the laboratory is an echo request or its reply")
     if action == "block":
@@ -232,7 +232,7 @@ def _base(rule: PfRule, number: Optional[int], context: Context, lost: List[str]
 
 
 def _of_flags(flags: str) -> Iterator[str]:
-    """What is lost by flags, where a pass rule takes SYN without ACK."""
+    """What is lost by flags, as a pass rule takes SYN without ACK."""
     wanted, _, of = flags.partition("/")
     if flags in ("", "any") or ({*wanted}, {*of}) == ({"S"}, {*"SA"}):
         return
@@ -265,22 +265,22 @@ def _with_options(line: RuleLine, options: Sequence[Option], number: Optional[in
             raise Out("`sloppy`: states of the laboratory test the window")
         elif word not in (*_TRACKED, "sloppy", "floating", "if-bound"):
             lost.append(_of_timeout(word))
-    # (0 stands for the seconds of the class)
+    # (0 means the seconds of the class)
     return line._replace(timeouts=[f"{it} {seconds[it]}" for it in CLASS_WORDS if seconds.get(it)])
 
 
 def _of_timeout(word: str) -> str:
-    """What is lost by an option of a state that is no class of timeouts."""
+    """What is lost by an option of a state that is not a class of timeouts."""
     if word in ("adaptive.start", "adaptive.end"):
-        return f"`{word}` of a rule is left out: timeouts shrink by the states of a node alone"
+        return f"`{word}` of a rule is left out: timeouts shrink only by the states of a node"
     if word in ("src.track", "tcp.tsdiff"):
         return f"`{word}` is left out: the laboratory has nothing that it is for"
-    raise Out(f"`{word}` is no option of a state with its number")
+    raise Out(f"`{word}` is not an option of a state with its number")
 
 
 def lines_of(region: Region, base: RuleLine) -> List[RuleLine]:
-    """The lines for packets, one for each pair of nets and of spans of ports. A table can come to any number of nets, and of more rules
-    than a node may have none is written: of these one more is found."""
+    """The lines for packets, one for each pair of nets and of spans of ports. A table can expand to any number of nets, and if there are
+    more rules than a node may have, none is written: so at most one more than that is made."""
     found = list(islice(_lines(region, base), MOST_RULES + 1))
     if any(len(it.text) > LONGEST_TEXT for it in found):
         raise Out(f"a rule here would have more than {LONGEST_TEXT} characters")
@@ -293,7 +293,7 @@ def _lines(region: Region, base: RuleLine) -> Iterator[RuleLine]:
         families: Set[int] = {it.version for it in (source, destination) if it is not None}
         if len(families) > 1 or (region.family and families - {region.family}):
             continue
-        # (a translation is for packets of its own family alone)
+        # (a translation is only for packets of its own family)
         is_said = families or not region.family or base.translation
         source = source if is_said else NETS[region.family]
         line = base._replace(source=_net_text(source), destination=_net_text(destination))
@@ -317,7 +317,7 @@ def _ports(it: Optional[Operation]) -> Optional[Ports]:
 
 
 def _port_texts(ports: Optional[Ports]) -> List[str]:
-    """Spans of ports, each as a rule has it; empty for every port."""
+    """Spans of ports, each in the form of a rule; empty for every port."""
     return [""] if ports is None else [port_text(it) for it in ports]
 
 
@@ -343,5 +343,5 @@ def _spans(it: Operation) -> List[Span]:
 def port_of(text: str) -> int:
     number = port_number(text)
     if number is None:
-        raise Out(f"the port `{text}` is no number up to {GREATEST_PORT}, and no name that is known here")
+        raise Out(f"the port `{text}` is neither a number up to {GREATEST_PORT} nor a name known here")
     return number

@@ -1,4 +1,4 @@
-"""The rules of the laboratory for packets that are translated: each translation with the rules of the filter that then come to them.
+"""The rules of the laboratory for packets that are translated: each translation with the rules of the filter that then apply.
 
 pf translates a packet by the first translation that is for it, and asks the filter about the translated packet. A rule here is asked
 about the packet as it comes, and translates as it passes. So each translation is a section of `quick` rules before those of the filter:
@@ -32,7 +32,7 @@ class Asked(NamedTuple):
 
 
 class Entry(NamedTuple):
-    """Lines of a section, and the rule of the filter that they are of; None where none is asked, or none matches."""
+    """Lines of a section, and the rule of the filter that they are from; None if none is asked, or none matches."""
 
     asked: Optional[Asked]
     lines: List[RuleLine]
@@ -40,13 +40,13 @@ class Entry(NamedTuple):
 
 @dataclass
 class Section:
-    """The lines for the packets of a translation, which is the one of this number in its list, and what is lost by them."""
+    """The lines for the packets of a translation, the one with this number in its list, and what is lost by them."""
 
     owner: int
     piece: Piece
     entries: List[Entry] = field(default_factory=list)
     lost: List[str] = field(default_factory=list)
-    # Whose packets are passed, and not translated.
+    # The places whose packets are passed but not translated.
     untranslated: List[str] = field(default_factory=list)
     out: str = ""
 
@@ -67,8 +67,8 @@ Owned = Tuple[int, Piece]
 
 
 def sections(owned: Sequence[Owned], filters: Sequence[Asked], room: int) -> List[Section]:
-    """The sections of translations, in the order in which pf looks at them. They are filled in the order of the list, until there is no
-    more room for rules."""
+    """The sections of translations, in the order in which pf looks at them. They are filled in the order of the list, until there is
+    no more room for rules."""
     ways = _ordered(owned, OUT, (BINAT, NAT)), _ordered(owned, IN, (RDR, BINAT))
     ordered = [it for way in ways for it in _needed(_in_few_nets(way))]
     asked = [*(it for it in filters if it.base.is_quick), *reversed([it for it in filters if not it.base.is_quick])]
@@ -86,7 +86,7 @@ def sections(owned: Sequence[Owned], filters: Sequence[Asked], room: int) -> Lis
 
 def _ordered(owned: Sequence[Owned], direction: str, kinds: Tuple[str, str]) -> List[Owned]:
     """The pieces of a direction in the order in which pf looks at them: those of one kind, then those of the other. An exception of the
-    first kind leaves its packets to the other."""
+    first kind leaves its packets to the second."""
     first, second = ([it for it in owned if (it[1].direction, it[1].kind) == (direction, kind)] for kind in kinds)
     found: List[Owned] = []
     for owner, piece in first:
@@ -103,8 +103,8 @@ def _within(owned: Iterable[Owned], region: Region) -> Iterator[Owned]:
 
 
 def _in_few_nets(owned: Sequence[Owned]) -> List[Owned]:
-    """The same translations with fewer nets: one that is for all but a few addresses is for all of them, after exceptions, whose packets
-    are left to what follows."""
+    """The same translations with fewer nets: one that is for all but a few addresses becomes one for all of them, after exceptions,
+    which leave their packets to what follows."""
     found: List[Owned] = []
     for owner, piece in reversed(owned):
         exceptions, region = piece.region.but_few() if len(found) < MOST_RULES else ([], piece.region)
@@ -115,7 +115,7 @@ def _in_few_nets(owned: Sequence[Owned]) -> List[Owned]:
 
 
 def _needed(owned: Sequence[Owned]) -> List[Owned]:
-    """Those that take packets which no earlier one takes, and which change something: an exception does where a translation after it
+    """The pieces that take packets which no earlier one takes, and that change something: an exception does if a later translation
     would take its packets."""
     reached = [it for at, it in enumerate(owned) if not _is_taken(it[1].region, owned[:at])]
     needed: List[Owned] = []
@@ -134,7 +134,7 @@ def _is_taken(region: Region, earlier: Sequence[Owned]) -> bool:
 
 
 def _entries(section: Section, asked: Sequence[Asked]) -> Iterator[Entry]:
-    """The lines for the packets of a translation: of the rules that match them, up to one that matches all of them."""
+    """The lines for the packets of a translation: those of the rules that match them, up to one that matches all of them."""
     piece, count = section.piece, 0
     seen: List[Tuple[Region, bool]] = []
     for it in () if piece.passes else asked:
@@ -157,7 +157,7 @@ def _is_full(base: RuleLine, region: Region) -> bool:
 
 
 def _before(piece: Piece, asked: Asked, lost: List[str]) -> Optional[Region]:
-    """The packets of a translation that a rule of the filter matches once they are translated, as they come."""
+    """The packets of a translation, as they come, that a rule of the filter matches once they are translated."""
     if asked.base.direction not in ("any", piece.direction):
         return None
     near = asked.region.source if piece.direction == OUT else asked.region.destination
@@ -171,12 +171,12 @@ def _before(piece: Piece, asked: Asked, lost: List[str]) -> Optional[Region]:
     if region is None or Side(ports=(piece.ports,)).common(near).ports == ():
         return None
     if not holds(near.ports, (piece.ports,)):
-        lost.append(f"{asked.place} is for some of its ports alone: the first one decides")
+        lost.append(f"{asked.place} is for only some of its ports: the first one decides")
     return region if holds(near.ports, ((piece.ports[0],) * 2,)) else None
 
 
 def _of_no_rule(section: Section) -> List[RuleLine]:
-    """The lines for what no rule of the filter matches: pf passes it, and keeps a state where it is translated."""
+    """The lines for what no rule of the filter matches: pf passes it, and keeps a state if it is translated."""
     piece = section.piece
     if piece.target is None:
         section.lost.append("what no rule of the filter matches makes a state here")
@@ -188,7 +188,7 @@ def _of_no_rule(section: Section) -> List[RuleLine]:
 
 
 def _written(section: Section, region: Region, base: RuleLine, place: str) -> List[RuleLine]:
-    """The lines of a rule for packets as they come, with what becomes of their ends where it passes them."""
+    """The lines of a rule for packets as they come, with what becomes of their ends if it passes them."""
     piece = section.piece
     base = base._replace(direction=piece.direction, is_quick=True)
     if base.action == "block" or piece.target is None:
@@ -203,7 +203,7 @@ def _narrowed(base: RuleLine, region: Region) -> RuleLine:
 
 
 def _text(piece: Piece, ports: Optional[Span]) -> str:
-    """The words of a rule for a translation; empty for ports to which none can be written."""
+    """The words of a rule for a translation; empty for ports for which none can be written."""
     if ports is None or piece.target is None:
         return ""
     address = f"[{piece.target.exploded}]" if piece.target.version == 6 else str(piece.target)
@@ -231,7 +231,7 @@ def _pools(section: Section, region: Region, place: str) -> List[Tuple[Region, O
 
 
 def _instead(section: Section, near: Side, place: str) -> Optional[Span]:
-    """The ports in place of the packet's own, for which a rule here has no form."""
+    """The ports used instead of the packet's own, for which a rule here has no form."""
     if section.piece.direction == IN:
         section.untranslated.append(place)
         return None

@@ -1,15 +1,16 @@
-"""What `set` of a pf.conf(5) is in the laboratory: timeouts, limits, and what the rules after it depend on."""
+"""What `set` of a pf.conf(5) does in the laboratory: timeouts, limits, and what the rules after it depend on."""
 from __future__ import annotations
 
 from dataclasses import dataclass, field
 from typing import Dict, List, NamedTuple, Optional, Sequence, Tuple
 
+from ..language.forms import GREATEST
 from ..language.setups import AEND, ASTART, STATES
 from .grammar import Setting
 from .names import number_of
-from .rules import CLASS_WORDS, GREATEST, Context
+from .rules import CLASS_WORDS, Context
 
-# pf's own where a pf.conf sets none.
+# pf's own, if a pf.conf sets none.
 DEFAULT_LIMIT, DEFAULT_START, DEFAULT_END = 100_000, 60_000, 120_000
 _START, _END = "adaptive.start", "adaptive.end"
 # pfctl's profiles, by the classes that they set.
@@ -29,7 +30,7 @@ _LEFT_OUT = {
     "tcp.tsdiff": "`tcp.tsdiff`: packets of the laboratory have no timestamps",
 }
 _OTHER_LIMITS = ("frags", "src-nodes", "tables", "table-entries")
-# What changes no state of an interface.
+# What does not affect the states of an interface.
 _WITHOUT_EFFECT = (
     *("loginterface", "fingerprints", "debug", "ruleset-optimization", "require-order", "keepcounters", "state-policy"),
     *("skip", "state-defaults", "block-policy"),
@@ -89,7 +90,7 @@ class Settings:
         return Set(lines, lost)
 
     def _number(self, name: str, number: int) -> List[str]:
-        """Takes a number of states: what is lost where it is beyond the range here."""
+        """Takes a number of states; returns what is lost if it is beyond the range here."""
         if name == _START:
             self.start = number
         elif name == _END:
@@ -103,7 +104,7 @@ class Settings:
 
     def lines(self) -> List[str]:
         """The limits of states, and between which numbers timeouts shrink: pfctl's 60% and 120% of a limit that is set, unless either
-        is set as well."""
+        is set, too."""
         start, end = DEFAULT_START, DEFAULT_END
         if self.limit is not None and self.start is None and self.end is None:
             start, end = self.limit // 10 * 6, self.limit // 10 * 12

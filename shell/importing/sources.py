@@ -14,7 +14,7 @@ MOST_FILES = 256
 
 
 def read(path: str) -> str:
-    """A file's text, whatever bytes it has."""
+    """The text of a file, whatever bytes it has."""
     try:
         with open(path, encoding="utf-8", errors="surrogateescape", newline="") as it:
             return it.read()
@@ -25,19 +25,19 @@ def read(path: str) -> str:
 
 
 def place(path: str, number: int) -> str:
-    """The file of a line without its folder, as one word, and the line's number."""
+    """A line's file without its folder, as one word, and the line's number."""
     return f"{legible(os.path.basename(path)).replace(' ', '_')}:{number}"
 
 
 class Sources:
-    """Reads a file with those that it includes."""
+    """Reads a file with the files that it includes."""
 
     def __init__(self) -> None:
         self._macros: Dict[str, str] = {}
         self._files = 0
 
     def lines(self, path: str, depth: int = 0) -> Iterator[Line]:
-        """The statements of a file. Those of a file that is included follow the statement that includes it."""
+        """The statements of a file. Those of an included file follow the statement that includes it."""
         self._files += 1
         text = read(path)
         lexer, lines = Lexer(text, self._macros), text.split("\n")
@@ -47,16 +47,16 @@ class Sources:
             if isinstance(content, Macro):
                 self._macros[content.name] = content.value
             elif isinstance(content, Include):
-                yield from self.lines(_beside(path, content.path), depth + 1)
+                yield from self.lines(_relative(path, content.path), depth + 1)
 
     def _checked(self, path: str, content: Content, depth: int) -> Content:
-        """A statement; an include that cannot be followed is a faulty one."""
+        """A statement; an include that cannot be followed becomes a faulty one."""
         if not isinstance(content, Include):
             return content
         if depth >= MOST_INCLUDED or self._files >= MOST_FILES:
-            return Faulty("include", f"files are included in one another more than {MOST_INCLUDED} deep, or more than {MOST_FILES} of them")
+            return Faulty("include", f"includes are nested more than {MOST_INCLUDED} deep, or there are more than {MOST_FILES} of them")
         try:
-            read(_beside(path, content.path))
+            read(_relative(path, content.path))
             return content
         except OSError as error:
             return Faulty("include", f"{error.filename}: {error.strerror}")
@@ -67,15 +67,15 @@ def _text(lines: Sequence[str], statement: Statement) -> str:
     return legible(" ".join(lines[statement.first - 1 : statement.last]))
 
 
-def _beside(path: str, named: str) -> str:
-    """A file that is named in another one, relative to the folder of that."""
+def _relative(path: str, named: str) -> str:
+    """A file that another file names, relative to the folder of that other file."""
     return os.path.join(os.path.dirname(path), named)
 
 
 def hosts_in(path: str, named: str) -> Optional[List[Host]]:
-    """The entries of a table's file; None where there is none that can be read."""
+    """The entries of a table's file; None if no such file can be read."""
     try:
-        text = read(_beside(path, named))
+        text = read(_relative(path, named))
     except OSError:
         return None
     words = (word for line in text.split("\n") for word in line.partition("#")[0].split())

@@ -1,4 +1,4 @@
-"""The tokens of a pf.conf(5), as pfctl(8) reads them: words, quoted strings and marks, with macros written out."""
+"""The tokens of a pf.conf(5), as pfctl(8) reads them: words, quoted strings and marks, with macros expanded."""
 from __future__ import annotations
 
 import re
@@ -42,7 +42,7 @@ class NotEnded(NotRead):
 
 
 class Statement(NamedTuple):
-    """A statement as a file has it: its tokens, its first line and its last one, and why it is not understood, if it is not."""
+    """A statement of a file: its tokens, its first and its last line, and why it is not understood, if it is not."""
 
     tokens: List[Token]
     first: int
@@ -57,11 +57,11 @@ class Lexer:
         self._text, self._at, self._line = text.replace("\r\n", "\n"), 0, 1
         self._macros = macros
         self._unended = 0
-        # A macro that is being read in place of the file, and how much of it is read.
+        # A macro that is being read instead of the file, and how much of it has been read.
         self._macro, self._macro_at = "", 0
 
     def statement(self) -> Optional[Statement]:
-        """The next statement; None at the end of the file. Lines go on within braces."""
+        """The next statement; None at the end of the file. Within braces it continues over line ends."""
         first = self._skip_blank()
         if first is None:
             return None
@@ -71,7 +71,7 @@ class Lexer:
             fault = self._read(tokens)
             return Statement(tokens, line, max(line, self._line - self._is_after_line), fault)
         except NotEnded as why:
-            # The rest of the file would be a part of it: what follows its first line is read, unless there are many such.
+            # The rest of the file would be part of it: what follows its first line is read, unless there are many of these.
             self._unended += 1
             self._macro_at, self._at, self._line = len(self._macro), at, line
             self._pass_over_line()
@@ -90,7 +90,7 @@ class Lexer:
         return self._peek() or None
 
     def _read(self, tokens: List[Token]) -> str:
-        """Takes the tokens up to the end of a line, or of the line in which braces end: the first fault of one, if there is one."""
+        """Takes the tokens up to the end of a line, or of the line where braces end; returns the first fault, if any."""
         depth, fault = 0, ""
         while True:
             try:
@@ -112,7 +112,7 @@ class Lexer:
 
     @property
     def _is_after_line(self) -> bool:
-        """Whether the last character that was read ends a line."""
+        """Whether the last character read ends a line."""
         return self._text[self._at - 1 : self._at] == "\n"
 
     def _token(self) -> Optional[Token]:
@@ -123,7 +123,7 @@ class Lexer:
             elif self._peek() == "$" and not self._in_macro:
                 self._begin_macro()
             elif self._take() == "$":
-                raise NotRead("a macro has `$` in its quotes, where pfctl writes out no macro: end the quotes before it")
+                raise NotRead("a macro has `$` in its quotes, where pfctl expands no macro: end the quotes before it")
         character = self._take()
         if character == "\n":
             return Token(Kind.LINE_END, "\n")
@@ -143,7 +143,7 @@ class Lexer:
         return word
 
     def _quoted(self, quote: str) -> str:
-        """What stands in quotes, in which line feeds count as nothing."""
+        """What is in quotes, where line feeds count as nothing."""
         found = ""
         while True:
             character = self._take()
@@ -165,7 +165,7 @@ class Lexer:
         self._macro, self._macro_at = self._macros[name], 0
 
     def _comment(self) -> None:
-        """Passes over a comment, up to the end of its line; as pfctl has it, a backslash there takes the next line in."""
+        """Passes over a comment, up to the end of its line; as in pfctl, a backslash there takes in the next line."""
         while self._peek() not in ("", "\n"):
             if not self._take_run(_COMMENT):
                 self._take()
@@ -187,7 +187,7 @@ class Lexer:
         return self._text[self._at : self._at + 1]
 
     def _take_run(self, pattern: Pattern[str]) -> str:
-        """Takes characters that need no look one by one: none of them ends a line, or has it go on."""
+        """Takes characters that need no look one by one: none of them ends or continues a line."""
         found = pattern.match(*((self._macro, self._macro_at) if self._in_macro else (self._text, self._at)))
         run = found[0] if found else ""
         if self._in_macro:

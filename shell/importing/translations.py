@@ -1,4 +1,4 @@
-"""What `nat`, `rdr` and `binat` of a pf.conf(5) do: to which packets, and what becomes of one of their ends."""
+"""What `nat`, `rdr` and `binat` of a pf.conf(5) do: which packets they are for, and what becomes of one of their ends."""
 from __future__ import annotations
 
 from dataclasses import dataclass, field, replace
@@ -17,9 +17,9 @@ from .tokens import NotRead
 
 NAT, RDR, BINAT = "nat", "rdr", "binat"
 OUT, IN = "out", "in"
-# The ports of a `nat` that says none (PF_NAT_PROXY_PORT_LOW and _HIGH).
+# The ports of a `nat` that names none (PF_NAT_PROXY_PORT_LOW and _HIGH).
 POOL: Span = (50001, 65535)
-# So many ports are written out one by one, where each is translated to one of its own.
+# At most this many ports are written out one by one, if each is translated to one of its own.
 MOST_PORTS = 16
 STATIC = "static-port"
 TOO_MANY = f"with its rules a node would have more than {MOST_RULES}"
@@ -27,8 +27,8 @@ _OF_FILTER = ("tag", "tagged", "! tagged", "rtable")
 
 
 class Piece(NamedTuple):
-    """Packets that are translated alike on their way: to an address, None where they stay as they are, and to ports, None where the
-    packet's own stays."""
+    """Packets that are translated alike on their way: to an address, None if they stay as they are, and to ports, None if the packet
+    keeps its own."""
 
     kind: str
     direction: str
@@ -46,7 +46,7 @@ class Piece(NamedTuple):
         return self.region.source if self.direction == OUT else self.region.destination
 
     def with_near(self, near: Side, region: Region) -> Region:
-        """A region with another end in place of that which is translated."""
+        """A region with another end instead of the translated one."""
         return region._replace(source=near) if self.direction == OUT else region._replace(destination=near)
 
 
@@ -60,14 +60,14 @@ class Pieces:
 
 
 class Target(NamedTuple):
-    """The family that addresses give their rule, 0 for none; and by families the address that is taken."""
+    """The family that addresses give their rule, 0 for none; and by family the address that is taken."""
 
     family: int = 0
     addresses: Dict[int, Address] = {}
 
 
 def translated(firewall: Firewall, words: Translation, context: Context) -> Pieces:
-    """What a translation does on the interface that is taken; nothing where it is for others."""
+    """What a translation does on the interface that is taken; nothing if it is for others."""
     its = Pieces()
     try:
         target = Target(words.match.family) if words.is_no else _target(firewall, words, its.lost)
@@ -127,7 +127,7 @@ def _target(firewall: Firewall, words: Translation, lost: List[str]) -> Target:
     several = [it for it in firsts.values() if sum(net.num_addresses for net in own if net.version == it.version) > 1]
     if several and words.kind == BINAT:
         raise Out("a net would keep the rest of each address, and addresses are translated one by one here")
-    lost += [f"of several addresses to translate to the first is taken, {it.network_address}" for it in several]
+    lost += [f"of several addresses to translate to, the first is taken, {it.network_address}" for it in several]
     return Target(family, {version: net.network_address for version, net in firsts.items()})
 
 
@@ -142,7 +142,7 @@ def _both_ways(piece: Piece) -> Iterator[Piece]:
 
 
 def _single(side: Side, family: int) -> Optional[Address]:
-    """The address of an end that has one."""
+    """The address of an end that has only one."""
     nets = (side.addresses or NONE).networks()
     return nets[0].network_address if len(nets) == 1 and nets[0].num_addresses == 1 and nets[0].version == family else None
 
@@ -151,7 +151,7 @@ def _single(side: Side, family: int) -> Optional[Address]:
 
 
 def _pool(words: Translation) -> Optional[Span]:
-    """The ports of a `nat`; None where each packet keeps its own."""
+    """The ports of a `nat`; None if each packet keeps its own."""
     if any(it.word == STATIC for it in words.options):
         if words.port:
             raise Out(f"pfctl takes no `{STATIC}` with a port")
@@ -164,7 +164,7 @@ def _pool(words: Translation) -> Optional[Span]:
 
 
 def _redirected(words: Translation, of: Optional[Operation], piece: Piece) -> Iterator[Piece]:
-    """An `rdr`: to one port, or each port to one of its own, reckoned from the first that it is for."""
+    """An `rdr`: to one port, or each port to one of its own, counted from the first that it is for."""
     if any(it.word == STATIC for it in words.options):
         raise Out(f"pfctl takes `{STATIC}` only with `nat`")
     if words.port and piece.region.protocol not in WITH_PORTS:
@@ -181,7 +181,7 @@ def _redirected(words: Translation, of: Optional[Operation], piece: Piece) -> It
 
 
 def _mapped(of: Optional[Operation], alternatives: int, first: int, last: str) -> Iterator[Tuple[int, int]]:
-    """Each port that is redirected, and the port that it is redirected to."""
+    """Each port that is redirected, and its new port."""
     if of is None or of.operator not in ("=", ":") or (last == "*" and alternatives > 1):
         raise Out("ports are redirected to others one by one here only from one port, or from one range LOW:HIGH")
     low = port_of(of.first)
@@ -195,6 +195,6 @@ def _mapped(of: Optional[Operation], alternatives: int, first: int, last: str) -
 
 
 def few_of(ports: Optional[Ports]) -> List[int]:
-    """Ports, where they are few enough to be written out one by one; else none."""
+    """Ports, if they are few enough to be written out one by one; else none."""
     count = MOST_PORTS + 1 if ports is None else sum(high - low + 1 for low, high in ports)
     return [it for low, high in ports or () for it in range(low, high + 1)] if count <= MOST_PORTS else []

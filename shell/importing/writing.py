@@ -15,13 +15,13 @@ from .sections import Section
 
 
 def setup_lines(its: Import, nodes: Sequence[str], extra: Sequence[str], opens: bool) -> List[str]:
-    """The setup: what is set, the rules with where each comes from, and `open`."""
+    """The setup: what is set, the rules and where each comes from, and `open`."""
     on = its.firewall.on
     lines = [f"# The rules of {on}, taken in from a pf.conf by `./lab import`.", *extra]
     lines += [line for judged in its.judged for line in _settings(judged)]
     lines += [*its.settings.lines(), ""]
     if its.is_skipped:
-        lines.append(f"# `set skip` has pf filter nothing on {on}: without rules every packet passes, and makes no state")
+        lines.append(f"# `set skip` makes pf filter nothing on {on}: without rules every packet passes, and makes no state")
     lines += [line for it in its.translations for line in _lost(it.judged)]
     for owner, sections in groupby(its.sections, lambda it: it.owner):
         lines += _translated(its.translations[owner].judged, sections, nodes)
@@ -30,12 +30,12 @@ def setup_lines(its: Import, nodes: Sequence[str], extra: Sequence[str], opens: 
 
 
 def _settings(judged: Judged) -> List[str]:
-    """What a statement sets, below a comment that says which it is."""
+    """What a statement sets, below a comment that says which statement it is."""
     return [of_statement(judged.place, judged.line.text), *judged.settings] if judged.settings else []
 
 
 def _translated(judged: Judged, sections: Iterable[Section], nodes: Sequence[str]) -> Iterator[str]:
-    """The rules for the packets of a translation, below a comment that says which it is."""
+    """The rules for the packets of a translation, below a comment that says which translation it is."""
     yield of_statement(judged.place, judged.line.text)
     for piece, entry in ((section.piece, entry) for section in sections for entry in section.entries):
         if entry.asked:
@@ -51,7 +51,7 @@ def _lost(judged: Judged) -> Iterator[str]:
 
 
 def _rules(judged: Judged, nodes: Sequence[str]) -> Iterator[str]:
-    """The rules of a statement; where it is out a comment says so in its place."""
+    """The rules of a statement; if it is out, a comment says so instead."""
     if judged.verdict is Verdict.OUT or judged.rules:
         yield from (of_reason(judged.place, judged.verdict.value, it) for it in judged.reasons)
     if judged.verdict is Verdict.OUT:
@@ -61,7 +61,7 @@ def _rules(judged: Judged, nodes: Sequence[str]) -> Iterator[str]:
 
 
 def _numbered(judged: Judged, it: Numbered, nodes: Sequence[str]) -> Iterator[str]:
-    """The lines of one of pf's rules, below a comment that says which it is."""
+    """The lines of one of pf's rules, below a comment that says which rule it is."""
     yield of_rule(judged.place, it.number, judged.line.text, bool(it.lines))
     yield from _written(it.lines, nodes)
 
@@ -71,13 +71,13 @@ def _written(lines: Sequence[RuleLine], nodes: Sequence[str]) -> Iterator[str]:
 
 
 def first_too_many(its: Import) -> str:
-    """The statement by which a node has more rules than it may, with what to do; empty where none is."""
+    """The statement that gives a node more rules than it may have, with what to do; empty if there is none."""
     counts = accumulate(sum(len(it.lines) for it in judged.rules) for judged in its.judged)
     over = next((judged for judged, count in zip(its.judged, counts) if count > MOST_RULES), None)
     if over is None:
         return ""
     where = f"{legible(over.line.path)}:{over.line.number}"
-    return f"{where}: with its rules a node has more than {MOST_RULES}, and nothing is written: leave statements out, or give fewer nets"
+    return f"{where}: with its rules a node has more than {MOST_RULES}, so nothing is written: leave statements out, or give fewer nets"
 
 
 def report(its: Import, path: str) -> Iterator[str]:
@@ -110,11 +110,11 @@ def _sum(judged: Sequence[Judged], head: str) -> str:
 
 
 def _notes(its: Import) -> Iterator[str]:
-    """What may be meant otherwise than it was taken."""
+    """What may be meant differently from how it was taken."""
     on = its.firewall.on
     if its.is_skipped:
-        yield f"`set skip` has pf filter nothing on {on}, so there are no rules"
+        yield f"`set skip` makes pf filter nothing on {on}, so there are no rules"
     if its.named and not any(its.firewall.is_on(it) for it in its.named):
         yield f"no rule names {on}; they name {', '.join(its.named)}"
     for name in its.unknown_groups:
-        yield f"`{name}` is taken for another interface than {on}; if it is a group with {on} in it, --group {name}={on} says so"
+        yield f"`{name}` is taken for an interface other than {on}; if it is a group with {on} in it, --group {name}={on} says so"

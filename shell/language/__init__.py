@@ -1,2 +1,2 @@
-"""The laboratory's language, once for all who read it: its words with their forms, numbers and answers as rows of tables, and what
-is wrong with a line. The rows are those of docs/FORMATS.md, and a test holds the two against each other."""
+"""The laboratory's language, in one place for all its readers: its words with their forms, numbers and answers as rows of tables, and
+what is wrong with a line. The rows are those of docs/FORMATS.md, and a test compares the two."""

@@ -1,4 +1,4 @@
-"""The lines of a setup and the commands that follow it, each as a row: its form, what it answers, and why it may be refused."""
+"""The lines of a setup and the commands after it, each as a row: its form, what it answers, and why it may be refused."""
 from __future__ import annotations
 
 from dataclasses import dataclass
@@ -13,7 +13,7 @@ MOST_BRANCHES = 16
 
 
 def _read_apart(name: str) -> Form:
-    """What is read by a table of its own."""
+    """A part that a table of its own reads."""
     return Form(name, "", lambda word: None)
 
 
@@ -22,7 +22,7 @@ LIMIT, EVENT = _read_apart("LIMIT"), _read_apart("EVENT")
 
 @dataclass(frozen=True)
 class Other:
-    """Another form of a line: the place of the word by which it is known, what that is, and the forms that follow the line's word."""
+    """Another form of a line: the place of the word that identifies it, that word, and the forms that follow the line's word."""
 
     place: int
     words: Tuple[str, ...]
@@ -39,9 +39,9 @@ class Line:
     more: str = ""
     replies: Tuple[str, ...] = ()
     refusals: Tuple[str, ...] = ()
-    # Whether its reply goes on up to a line `end`.
+    # Whether its reply continues up to a line `end`.
     is_long: bool = False
-    # Whether the shell has a word of its own in its place.
+    # Whether the shell has a word of its own instead.
     is_hidden: bool = False
     other: Optional[Other] = None
 
@@ -52,11 +52,11 @@ class Line:
 
     @property
     def form(self) -> str:
-        """Its form, or each of two on a line."""
+        """Its form, or both forms, one per line."""
         return "\n".join(" ".join([self.word, *(it.name for it in values)]) for values in self.alternatives)
 
     def values_of(self, words: Sequence[str]) -> Tuple[Form, ...]:
-        """The forms of the words that follow its own, which is the first of these."""
+        """The forms of the words after its own, which is the first of these."""
         is_other = self.other and len(words) > self.other.place and words[self.other.place] in self.other.words
         return self.other.values if self.other and is_other else self.values
 
@@ -64,10 +64,10 @@ class Line:
 SET = Line(
     "set",
     (LIMIT, form.N),
-    "sets a limit of the pair, or the seconds of a class at both nodes, where the rule of a state does not set them",
+    "sets a limit of the pair, or the seconds of a class at both nodes, unless the rule of a state sets them",
     f"Limits: {', '.join(it.word + ' (0 or 1)' * it.is_switch for it in LIMITS.values())}. The last value "
-    "of each limit and of each class counts. Where a node has more states than `astart` (three fifths of `states` where it is not "
-    "set), timeouts are scaled by (aend - its states) / (aend - astart), and from `aend` (six fifths of `states`) on they are 0. Where `aend` is "
+    "of each limit and of each class counts. If a node has more states than `astart` (three fifths of `states` if it is not "
+    "set), timeouts are scaled by (aend - its states) / (aend - astart), and from `aend` (six fifths of `states`) on they are 0. If `aend` is "
     "not above `astart`, as with both 0, they are whole.",
     other=Other(1, (TIMEOUT.word,), (choice(TIMEOUT.word, (TIMEOUT.word,)), *TIMEOUT.values)),
 )
@@ -75,9 +75,9 @@ RULE = Line(
     "rule",
     (form.NODE, _read_apart(RULE_FORM)),
     "adds a rule to node a's or b's set; the last rule that matches decides, or the first that is quick",
-    "The words stand in this order. NET is ADDRESS/LENGTH. PORTS is N, or LO:HI for the ports from LO to HI. POOL is ADDRESS:PORTS, "
+    "The words come in this order. NET is ADDRESS/LENGTH. PORTS is N, or LO:HI for the ports from LO to HI. POOL is ADDRESS:PORTS, "
     "for IPv6 [ADDRESS]:PORTS: a new state gets the first of its ports that no state has in use. `nat` replaces the near end on the "
-    "wire, on a rule that is `out`; `rdr` replaces it on the stack, on one that is `in`. Where no rule matches, the packet passes "
+    "wire, on a rule that is `out`; `rdr` replaces it on the stack, on one that is `in`. If no rule matches, the packet passes "
     "without a state.",
 )
 OPEN = Line("open", (), "ends the setup; events and commands follow", "The branch main is there, with no events.")
@@ -110,7 +110,7 @@ SHOW = Line(
     "`view` shows the same for people.", ("branch NAME events E cursor C",), ("NoBranch",), is_long=True,
 )
 PAST = Line(
-    "past", _BRANCH_K, "shows a branch, as `show` does, as it was after its first K events, those after the cursor too",
+    "past", _BRANCH_K, "shows a branch, as `show` does, as it was after its first K events, even events after the cursor",
     "K is at most the number of its events, and 0 is the pair of the opening. The branch stays as it is.",
     ("branch NAME events E cursor C",), ("NoBranch", "NothingForward"), is_long=True,
 )
@@ -123,7 +123,7 @@ FRAME = Line(
     "frame", (form.BRANCH, form.TICKET), "shows a frame that an event of the branch sent, and what became of it", "",
     ("frame NAME TICKET",), ("NoBranch", "NoFrame"), is_long=True, is_hidden=True,
 )
-NAMES = Line("names", (), "tells the names of the branches", "", ("names NAME NAME ..",))
+NAMES = Line("names", (), "lists the names of the branches", "", ("names NAME NAME ..",))
 EXCISE = Line(
     "excise", _BRANCH_K, "takes the K-th event out; the others happen again without it",
     "Answers `excised` and the places of those that fell out with it, since they could not happen any more.",
@@ -134,12 +134,12 @@ RESTORE = Line(
     "", ("restored CURSOR",), ("NoBranch", "NothingExcised"),
 )
 LOG = Line(
-    "log", _BRANCH, "tells all events of the branch in order, each as the line that steps it, and the cursor",
+    "log", _BRANCH, "lists all events of the branch in order, each as the line that steps it, and the cursor",
     "", ("log NAME events E cursor C",), ("NoBranch",), is_long=True, is_hidden=True,
 )
 COMMANDS = {it.word: it for it in (STEP, BACK, FORWARD, FORK, DROP, SHOW, PAST, WHY, FRAME, NAMES, EXCISE, RESTORE, LOG)}
-# Those that change the pair; the others look.
+# The commands that change the pair; the others look.
 CHANGING = tuple(it.word for it in (STEP, BACK, FORWARD, FORK, DROP, EXCISE, RESTORE))
 LOOKING = tuple(word for word in COMMANDS if word not in CHANGING)
-# Those that the shell takes as they are.
+# The commands that the shell takes as they are.
 TYPED = {word: it for word, it in COMMANDS.items() if not it.is_hidden}

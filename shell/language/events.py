@@ -10,14 +10,14 @@ from .forms import Form, number
 from .packets import PacketEvent
 
 LAST_MILLISECOND = 1000000000000
-# Who asks for all states gives up after this many tries.
+# A node that asks for all states gives up after this many tries.
 MOST_TRIES = 12
 _PATTERNS = {"NAME": r"[0-9]+\.[0-9]+", "K": f"[1-{len(FRAME_FAULTS)}]"}
 
 
 @dataclass(frozen=True)
 class Outcome:
-    """What an accepted event answers: its form, what the help adds, and a chart's words for it, in which `n` is its number."""
+    """The answer of an accepted event: its form, what the help adds, and a chart's words for it, where `n` is its number."""
 
     form: str
     help: str = ""
@@ -29,31 +29,31 @@ class Outcome:
 
     @property
     def pattern(self) -> str:
-        """The regular expression of what has this form."""
+        """The regular expression for this form."""
         return " ".join(_PATTERNS.get(it, "[0-9]+" if it.isupper() else f"(?:{it})") for it in self.form.split())
 
 
 @dataclass(frozen=True)
 class Event:
-    """An event: its word and the forms of those that follow, what happens, what it answers, and its refusals in their order."""
+    """An event: its word and the forms of those that follow, what happens, what it answers, and its refusals in order."""
 
     word: str
     values: Tuple[Form, ...]
     what: str
     outcomes: Tuple[Outcome, ...]
     refusals: Tuple[str, ...]
-    # How a chart begins to tell of it; in place of {} stands the last word of its line.
+    # How its words in a chart begin; {} is the last word of its line.
     drawn: str = ""
-    # What else the help says of it.
+    # What else the help says about it.
     more: str = ""
-    # The word by which the shell lets it happen at both nodes, or to all frames.
+    # The word that makes it happen at both nodes, or to all frames, in the shell.
     every: str = ""
-    # The words that follow its own where it is a packet of TCP.
+    # The words after its own if it is a TCP packet.
     of_tcp: Tuple[Form, ...] = ()
 
     @property
     def forms(self) -> Tuple[str, ...]:
-        """Its form, and that of a packet of TCP where it has one."""
+        """Its form, and the form for a TCP packet if it has one."""
         return tuple(self.form_with(it) for it in (self.values, self.of_tcp) if it)
 
     @property
@@ -62,14 +62,14 @@ class Event:
         return tuple(numbered(it, EVENT_REFUSALS) for it in self.refusals)
 
     def outcome_of(self, words: Sequence[str]) -> Outcome:
-        """The row of an outcome by its words."""
+        """The row of an outcome, from its words."""
         return next(it for it in self.outcomes if it.word == words[0])
 
     def form_with(self, values: Sequence[Form]) -> str:
         return " ".join([self.word, *map(str, values)])
 
     def values_of(self, words: Sequence[str]) -> Tuple[Form, ...]:
-        """The forms of the words that follow its own, which is the first of these."""
+        """The forms of the words after its own, which is the first of these."""
         return self.of_tcp if self.of_tcp and len(words) > 3 and form.is_tcp(words[3]) else self.values
 
 
@@ -83,7 +83,7 @@ PASS = Outcome("pass NAME", " (by the state NAME)")
 PASS_WITHOUT_STATE = Outcome("pass -", " (without a state)")
 HELD_BACK = Outcome("held NAME", " (until the peer knows the state)")
 DROPPED = Outcome("drop block|max|full|key|window")
-TAKEN = Outcome("taken N", ", the records of the frame, those that were bad or stale among them (`why` tells which),")
+TAKEN = Outcome("taken N", ", the records of the frame, including those that were bad or stale (`why` says which),")
 BROKEN = Outcome("broken K")
 SENT = Outcome("sent TICKET LEN")
 LOST = Outcome("lost")
@@ -119,10 +119,10 @@ TICK = Event(
 PURGE = Event(
     "purge", _NODE, "a node deletes the states that have expired",
     (Outcome("purged N", drawn="{states} deleted"),), ("QueueFull", "CountFull"), "purge:",
-    more="Timeouts are those of as many states as it finds (`help set`).",
+    more="Timeouts depend on how many states it finds (`help set`).",
 )
 RELEASE = Event(
-    "release", _NODE, "a node lets held packets go that are due",
+    "release", _NODE, "a node lets go held packets that are due",
     (Outcome("released N", drawn="{packets} let go"),), ("NothingPending", "TooEarly", "CountFull"), "release:",
 )
 KILL = Event(
@@ -130,7 +130,7 @@ KILL = Event(
     (Outcome("killed"),), ("NoSuchState", "QueueFull", "CountFull"), "kill {}",
 )
 CLEAR = Event(
-    "clear", _NODE, "a node gives up all its states, and tells the peer so",
+    "clear", _NODE, "a node gives up all its states, and reports that to the peer",
     (Outcome("cleared N", drawn="{states} given up"),), ("QueueFull", "CountFull"), "clear:",
 )
 RESTART = Event(
@@ -151,7 +151,7 @@ OF_FRAME = {it.word: it for it in _EVENTS if it.values[0] is form.TICKET}
 
 
 def plain_event(words: Sequence[str]) -> str:
-    """An event as a log has it, out of the words of its line."""
+    """An event as a log has it, from the words of its line."""
     event = EVENTS[words[0]]
     return " ".join([event.word, *(it.plain(word) for it, word in zip(event.values_of(words), words[1:]))])
 

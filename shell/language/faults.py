@@ -7,7 +7,7 @@ LINE_FAULTS = ("Long", "NotAscii", "Unknown", "Missing", "Number", "Extra", "Pac
 RULE_FAULTS = ("TooMany", "NatNotOut", "ZeroMax", "NoMemory", "RdrNotIn")
 LIMIT_FAULTS = ("TooSmall", "TooLarge", "NoMemory")
 FRAME_FAULTS = ("Short", "Version", "Length", "Action", "Count", "Value")
-# Why an event is refused. Each can be refused for the last, which its row leaves out.
+# Why an event is refused. Any event can be refused for the last reason, which the rows leave out.
 EVENT_REFUSALS = (
     *("NoSuchFrame", "NothingPending", "NoSuchState", "LinkFull", "QueueFull", "ClockFull", "CountFull", "NotSyncing", "TooEarly"),
     "NoMemory",
@@ -19,5 +19,5 @@ COMMAND_REFUSALS = (
 
 
 def numbered(name: str, names: Sequence[str]) -> str:
-    """A fault or a refusal as replies tell it, its number before its name: `5 Number`."""
+    """A fault or a refusal as in replies, its number before its name: `5 Number`."""
     return f"{names.index(name) + 1} {name}"

@@ -1,4 +1,4 @@
-"""The forms of single words in lines: what a word may be, what is wrong with another, and how the program prints it."""
+"""The forms of single words in lines: what a word may be, what is wrong with any other, and how the program prints it."""
 from __future__ import annotations
 
 import re
@@ -16,8 +16,8 @@ PROTOCOLS: Dict[int, str] = {1: "icmp", 6: "tcp", 17: "udp"}
 
 @dataclass(frozen=True)
 class Form:
-    """A form: its name, what has it, what is wrong with a word that has not, and how one that has is printed. Where the words of
-    a form can be listed they are."""
+    """A form: its name, what has it, what is wrong with a word that does not, which says all that there is to say, and how a word that
+    does is printed. If the words of a form can be listed, they are."""
 
     name: str
     what: str
@@ -31,17 +31,17 @@ class Form:
 
     @property
     def missing(self) -> str:
-        """What is said where there is no word."""
+        """The message if there is no word."""
         return f"expected {self.what}, found nothing" if self.words else f"{self.name} is missing: {self.what}"
 
     def fault(self, word: str, meant: str = "") -> Optional[str]:
-        """What is said of a word that has not the form, and what to write in its place where that is known."""
+        """The message about a word without the form, and what to write instead if that is known."""
         wrong = self.wrong(word)
         if wrong is None:
             return None
         if self.words:
             return f"expected {self.what}, found `{word}`" + (f": {meant}" if meant else nearest(word, self.words))
-        return f"`{word}` is no {self.name}: {meant}" if meant else f"`{word}` {wrong}; {self.name} is {self.what}"
+        return f"`{word}` is no {self.name}: {meant}" if meant else f"`{word}` {wrong}"
 
     def named(self, name: str) -> "Form":
         """The same form under another name."""
@@ -55,13 +55,13 @@ def nearest(word: str, words: Iterable[str]) -> str:
 
 
 def one_of(words: Iterable[str]) -> str:
-    """Words of which one is wanted: `a`, `a or b`, `a, b or c`."""
+    """Words, one of which is wanted: `a`, `a or b`, `a, b or c`."""
     *others, last = words
     return f"{', '.join(others)} or {last}" if others else last
 
 
 def quoted(words: Iterable[str]) -> str:
-    """Words of which one is wanted, as they are typed: `a` or `b`, each with its marks."""
+    """Words, one of which is wanted, as they are typed: `a` or `b`, each with its marks."""
     return one_of(f"`{it}`" for it in words)
 
 
@@ -74,7 +74,7 @@ def number(name: str, most: int) -> Form:
 
     def wrong(word: str) -> Optional[str]:
         if not re.fullmatch("[0-9]+", word):
-            return "is no number of decimal digits"
+            return "is not a number of decimal digits"
         return f"is above {most}" if int(word) > most else None
 
     return Form(name, f"a number from 0 to {most}", wrong, plain_number)
@@ -114,14 +114,14 @@ def _end_wrong(word: str) -> Optional[str]:
         return _bracketed_wrong(word, "PORT", _port_wrong)
     address, colon, port = word.partition(":")
     if not colon:
-        return _v4_wrong(address) or "has no port: ADDRESS:PORT (0 for a protocol without ports)"
+        return f"does not have the form {END.what}" if _v4_wrong(address) else "has no port: ADDRESS:PORT (0 for a protocol without ports)"
     if word.count(":") > 1:
-        return "looks like IPv6, which stands in brackets: [ADDRESS]:PORT"
+        return "looks like IPv6, which is written in brackets: [ADDRESS]:PORT"
     return _v4_wrong(address) or _port_wrong(port)
 
 
 def _bracketed_wrong(word: str, name: str, after_wrong: Callable[[str], Optional[str]]) -> Optional[str]:
-    """What is wrong with an IPv6 address in brackets, and with what follows its colon, which has this name."""
+    """What is wrong with an IPv6 address in brackets, or with what follows its colon, which has this name."""
     address, bracket, after = word[1:].partition("]:")
     if not bracket:
         return f"has no `]:{name}` after its address"
@@ -131,7 +131,7 @@ def _bracketed_wrong(word: str, name: str, after_wrong: Callable[[str], Optional
 def _ports_wrong(word: str) -> Optional[str]:
     first, colon, last = word.partition(":")
     if not all(re.fullmatch("[0-9]+", it) for it in (first, *[last] * bool(colon))):
-        return "has not the form N or LO:HI, of decimal digits"
+        return "does not have the form N or LO:HI, in decimal digits"
     above = [it for it in (first, last or first) if int(it) > 65535]
     if above:
         return f"has port {above[0]}, above 65535"
@@ -143,10 +143,10 @@ def _pool_wrong(word: str) -> Optional[str]:
         return _bracketed_wrong(word, "PORTS", _ports_wrong)
     address, colon, ports = word.partition(":")
     if not colon:
-        return _v4_wrong(address) or "has no port: ADDRESS:PORTS"
-    if word.count(":") > 2:
+        return f"does not have the form {POOL.what}" if _v4_wrong(address) else "has no port: ADDRESS:PORTS"
+    if word.count(":") > 2 or word.startswith("::"):
         is_v6 = "." not in address
-        return "looks like IPv6, which stands in brackets: [ADDRESS]:PORTS" if is_v6 else "has more than two ports: ADDRESS:LO:HI"
+        return "looks like IPv6, which is written in brackets: [ADDRESS]:PORTS" if is_v6 else "has more than two ports: ADDRESS:LO:HI"
     return _v4_wrong(address) or _ports_wrong(ports)
 
 
@@ -169,7 +169,7 @@ def _flags_wrong(word: str) -> Optional[str]:
         return None
     unknown = [it for it in word if it not in FLAG_LETTERS]
     if unknown:
-        return f"has `{unknown[0]}`, which is no flag"
+        return f"has `{unknown[0]}`, which is not a flag: flags are letters of {FLAG_LETTERS} in this order, or `-` for none"
     ordered = "".join(it for it in FLAG_LETTERS if it in word)
     return None if word == ordered else f"has flags in another order or twice: write `{ordered}`"
 
@@ -177,7 +177,7 @@ def _flags_wrong(word: str) -> Optional[str]:
 def _name_wrong(word: str) -> Optional[str]:
     creator, dot, number_there = word.partition(".")
     if not dot or not re.fullmatch("[0-9]+", creator) or not re.fullmatch("[0-9]+", number_there):
-        return "is not two numbers with one dot between them"
+        return "is not the name of a state, CREATOR.ID: two numbers with one dot between them"
     if int(creator) > GREATEST:
         return f"has the creator {creator}, above {GREATEST}"
     return f"has the id {number_there}, above {GREATEST_LONG}" if int(number_there) > GREATEST_LONG else None
@@ -186,12 +186,12 @@ def _name_wrong(word: str) -> Optional[str]:
 def _protocol_wrong(word: str) -> Optional[str]:
     if word in PROTOCOLS.values() or re.fullmatch("[0-9]+", word) and int(word) <= 255:
         return None
-    return "is no protocol"
+    return "is not a protocol"
 
 
 def _branch_wrong(word: str) -> Optional[str]:
-    # Up to 32 characters the line is read, and the name answered with NoBranch or BadName.
-    return f"has {len(word)} characters" if len(word) > 32 else None
+    # A line with a name of up to 32 characters is read, and the name answered with NoBranch or BadName.
+    return f"has {len(word)} characters, and a name has at most 16" if len(word) > 32 else None
 
 
 def _protocol_plain(word: str) -> str:
@@ -199,7 +199,7 @@ def _protocol_plain(word: str) -> str:
 
 
 def _dotted_plain(word: str) -> str:
-    """An IPv4 address or the name of a state; an IPv6 address is read in the form alone in which it is printed."""
+    """An IPv4 address or the name of a state; an IPv6 address is read only in the form in which it is printed."""
     return word if ":" in word else ".".join(map(plain_number, word.split(".")))
 
 
@@ -214,7 +214,7 @@ def _plain_around(mark: str) -> Callable[[str], str]:
 
 
 def _ports_plain(word: str) -> str:
-    """The first and the last port, or one where they are the same."""
+    """The first and the last port, or one if they are the same."""
     first, _, last = word.partition(":")
     return ":".join(dict.fromkeys(map(plain_number, (first, last or first))))
 
@@ -249,5 +249,5 @@ MS = number("MS", GREATEST_LONG)
 
 
 def is_tcp(word: str) -> bool:
-    """Whether the word of a protocol is TCP's."""
+    """Whether the word for a protocol is TCP's."""
     return _protocol_plain(word) == "tcp"

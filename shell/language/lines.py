@@ -1,4 +1,4 @@
-"""Lines as the program reads them: which there are in a text, and the first fault of one, read from the left (docs/FORMATS.md)."""
+"""Lines as the program reads them: the lines of a text, and the first fault of a line, read from the left (docs/FORMATS.md)."""
 from __future__ import annotations
 
 from typing import List, Sequence
@@ -16,23 +16,23 @@ from .setups import CLASSES, LIMITS, OPTIONS, TIMEOUT
 LONGEST_LINE = 512
 # The first words of lines that follow a setup.
 KNOWN = (*COMMANDS, SEARCH)
-# What the shell takes in place of a search.
+# What the shell takes as a search.
 FOR_PEOPLE = (f"{SEARCH} drops packet .. [, PART]..", f"{SEARCH} passes packet .. [, PART]..", f"{SEARCH} {APART} [, PART]..")
 
 
 def lines_of(text: str) -> List[str]:
-    """The lines of a text, which only a line feed ends; what follows the last one counts."""
+    """The lines of a text, which only a line feed ends; what follows the last line feed counts."""
     lines = text.split("\n")
     return lines if lines[-1] else lines[:-1]
 
 
 def content_of(line: str) -> str:
-    """A line without the CR that its end may begin with."""
+    """A line without the CR that may begin its end."""
     return line[:-1] if line.endswith("\r") else line
 
 
 def has_word(line: str) -> bool:
-    """Whether a line is read: it has a word, and that does not begin a comment."""
+    """Whether a line is read: it has a word that does not begin a comment."""
     text = content_of(line).strip(" \t")
     return bool(text) and not text.startswith("#")
 
@@ -43,10 +43,10 @@ def opens(line: str) -> bool:
 
 
 def check_line(line: str, of_setup: bool) -> None:
-    """Raises the first fault of a line of the setup, or of one that follows it."""
+    """Raises the first fault of a line of the setup, or of a line after it."""
     line = content_of(line)
     if len(line) > LONGEST_LINE:
-        raise LineFault("Long", None, f"the line has {len(line)} characters, and at most {LONGEST_LINE} are read")
+        raise LineFault("Long", None, f"the line has {len(line)} characters, but at most {LONGEST_LINE} are read")
     for at, byte in enumerate(line):
         if byte != "\t" and not " " <= byte <= "~":
             raise LineFault("NotAscii", None, f"character {at + 1}, {byte!r}, is neither a tab nor printable ASCII")
@@ -111,18 +111,18 @@ def _check_rule_end(reader: Reader) -> None:
     if word == TIMEOUT.word:
         reader.at += 1
         reader.take(TIMEOUT.values[0])
-        raise LineFault("Extra", place, "the timeouts stand in the order of their classes' numbers, each class once")
+        raise LineFault("Extra", place, "the timeouts must be in the order of their classes' numbers, each class once")
     if word in OPTIONS:
-        raise LineFault("Extra", place, f"`{word}` is out of its order, or there twice: the order is {' '.join(OPTIONS)}")
+        raise LineFault("Extra", place, f"`{word}` is out of order, or there twice: the order is {' '.join(OPTIONS)}")
     meant = f": {hint(word)}" if hint(word) else nearest(word, OPTIONS)
-    raise LineFault("Unknown", place, f"`{word}` is no option of a rule{meant}")
+    raise LineFault("Unknown", place, f"`{word}` is not an option of a rule{meant}")
 
 
 # ---- events
 
 
 def _check_step(reader: Reader) -> None:
-    """The event of a step, whose packet is judged once no word is left over."""
+    """The event of a step; its packet is judged once no word is left over."""
     first = reader.at
     _take_event(reader)
     reader.finish()
@@ -130,7 +130,7 @@ def _check_step(reader: Reader) -> None:
 
 
 def _check_event(reader: Reader) -> None:
-    """An event, whose packet is judged as soon as its words are read."""
+    """An event; its packet is judged as soon as its words are read."""
     first = reader.at
     _take_event(reader)
     _check_event_at(reader, first)
@@ -150,21 +150,21 @@ def _check_event_at(reader: Reader, first: int) -> None:
 
 
 def _check_packet(packet: PacketEvent, first: int) -> None:
-    """What makes fields of the right forms no packet; `first` is the place of the word `packet`."""
+    """Raises what keeps fields of the right forms from making a packet; `first` is the place of the word `packet`."""
     last = first + (10 if packet.is_tcp else 6)
     source, destination = first + 4, first + 5
     if packet.length > 65495:
         raise LineFault("Packet", last, f"LEN {packet.length} is above 65495, the most that an IP packet can carry")
     if packet.scale is not None and "S" not in packet.flags:
-        raise LineFault("Packet", last + 1, f"only a packet with SYN has a SCALE, and the flags are {packet.flags}")
+        raise LineFault("Packet", last + 1, f"only a packet with SYN has a SCALE, but the flags are {packet.flags}")
     if packet.scale is not None and packet.scale > 14:
         raise LineFault("Packet", last + 1, f"SCALE {packet.scale} is above 14")
     if packet.source.startswith("[") != packet.destination.startswith("["):
         raise LineFault("Packet", destination, "one end is IPv4 and the other IPv6")
     ports = [end.rpartition(":")[2] for end in (packet.source, packet.destination)]
     if packet.protocol == "icmp" and ports[0] != ports[1]:
-        same = "both ends of icmp have the same identifier in the place of a port"
-        raise LineFault("Packet", destination, f"{same}, and these are {ports[0]} and {ports[1]}")
+        same = "both ends of icmp have the same identifier in place of a port"
+        raise LineFault("Packet", destination, f"{same}, but these are {ports[0]} and {ports[1]}")
     if not packet.is_tcp and packet.protocol not in ("udp", "icmp") and ports != ["0", "0"]:
         place = source if ports[0] != "0" else destination
         raise LineFault("Packet", place, f"protocol {packet.protocol} has no ports: write port 0 at both ends")
@@ -183,7 +183,7 @@ def _check_search(line: str) -> None:
     first.finish("goal")
     for many, (before, end) in enumerate(zip(ends, ends[1:])):
         if many == MOST_CHOICES:
-            raise LineFault("Extra", before, f"a search has {MOST_CHOICES} choices at most")
+            raise LineFault("Extra", before, f"a search has at most {MOST_CHOICES} choices")
         _check_choice(Reader(words, before + 1, end))
 
 
@@ -208,13 +208,19 @@ def _check_choice(reader: Reader) -> None:
 # ---- what was wanted
 
 
-def wanted_form(words: Sequence[str]) -> List[str]:
-    """The form of the line that was probably meant; none where its first word is unknown."""
+def wanted_word(words: Sequence[str]) -> str:
+    """The word by which the form of a line is known: that of its event, or its first one."""
     first = words[0] if words else ""
+    return words[2] if first in (STEP.word, WHY.word) and len(words) > 2 and words[2] in EVENTS else first
+
+
+def wanted_form(words: Sequence[str]) -> List[str]:
+    """The form of the line that was probably meant; none if its first word is unknown."""
+    first, word = words[0] if words else "", wanted_word(words)
     if first == SEARCH:
         return [FORM, *FOR_PEOPLE]
-    event = EVENTS.get(words[2]) if first in (STEP.word, WHY.word) and len(words) > 2 else None
-    if event is None:
+    if word == first:
         return [it for table in (SETUP, COMMANDS) if first in table for it in table[first].form.split("\n")]
+    event = EVENTS[word]
     forms = event.forms if len(words) <= 5 else (event.form_with(event.values_of(words[2:])),)
     return [f"{first} {form.BRANCH} {it}" for it in forms]

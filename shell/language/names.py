@@ -14,7 +14,7 @@ OTHER_LEVELS = ("NO_TRAFFIC", "SINGLE", "MULTIPLE")
 
 
 def level_name(protocol: str, level: int) -> str:
-    """An end's level as `pfctl -ss` prints it; for ICMP that is its number."""
+    """The level of an end as `pfctl -ss` prints it; for ICMP that is its number."""
     if protocol == "icmp":
         return str(level)
     names = TCP_LEVELS if protocol == "tcp" else OTHER_LEVELS
@@ -43,7 +43,7 @@ BULK_STATUSES: Dict[int, str] = {BULK_START: "start", BULK_END: "end"}
 
 
 class Name(NamedTuple):
-    """A state's name: the boot that made it, and its number there. Names are ordered so."""
+    """A state's name: the boot that made it, and its number there. Names are ordered this way."""
 
     creator: int
     id: int
@@ -57,10 +57,10 @@ class Name(NamedTuple):
         return f"{self.creator}.{self.id}"
 
 
-# The name that stands for all states.
+# The name that means all states.
 ALL_STATES = Name(0, 0)
 
 
 def number_or_none(text: str) -> Optional[int]:
-    """A number, or nothing where the line has a dash."""
+    """A number, or nothing if the line has a dash."""
     return None if text == "-" else int(text)

@@ -1,4 +1,4 @@
-"""The packet of a `packet` event, out of the event's words."""
+"""The packet of a `packet` event, from the event's words."""
 from __future__ import annotations
 
 from dataclasses import dataclass
@@ -9,7 +9,7 @@ CIRCLE = 2**32
 
 @dataclass(frozen=True)
 class Key:
-    """The two ends of a flow, each `ADDRESS:PORT`, as the packet's receiver is far or near."""
+    """The two ends of a flow, each `ADDRESS:PORT`, far from the node or near to it."""
 
     far: str
     near: str
@@ -17,7 +17,7 @@ class Key:
 
 @dataclass(frozen=True)
 class PacketEvent:
-    """A packet that comes to a node; a protocol without sequence numbers has 0 in their places."""
+    """A packet that comes to a node; a protocol without sequence numbers has 0 in their place."""
 
     node: str
     direction: str
@@ -47,7 +47,7 @@ class PacketEvent:
 
     @property
     def is_request(self) -> bool:
-        """It asks for a connection: SYN without ACK."""
+        """Whether it asks for a connection: SYN without ACK."""
         return "S" in self.flags and "A" not in self.flags
 
     @property

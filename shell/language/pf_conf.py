@@ -1,9 +1,9 @@
-"""Words of a pf.conf(5) that the language has not, and what to write in their place."""
+"""Words of a pf.conf(5) that the language does not have, and what to write instead."""
 from __future__ import annotations
 
 from .forms import ACTION, ANY, NET
 
-# The words that a rule of a pf.conf begins with.
+# The words that begin a rule of a pf.conf.
 RULES = ("pass", "block", "match")
 _OPTIONS = {
     "port": "a port is `fport PORTS` after `from`, `tport PORTS` after `to`",
@@ -20,8 +20,8 @@ _OPTIONS = {
 
 
 def hint(word: str, wanted: str = "") -> str:
-    """What to write in place of a word of a pf.conf, where a form of this name is wanted, or without one an option of a rule; empty
-    where nothing is known of the word."""
+    """What to write instead of a word of a pf.conf, when a form of this name is wanted, or if none is named, an option of a rule;
+    empty if nothing is known about the word."""
     if word.startswith("{"):
         return "there are no lists; write a rule for each member"
     if wanted == NET.name:
@@ -29,7 +29,7 @@ def hint(word: str, wanted: str = "") -> str:
     if wanted == ACTION.name and word == "match":
         return "a rule here passes or blocks"
     if wanted == ANY.name and "/" in word:
-        return "leave it out for `flags S/SA`; a rule without `flags` matches of TCP only a SYN without ACK"
+        return "leave it out for `flags S/SA`; of TCP, a rule without `flags` matches only a SYN without ACK"
     return "" if wanted else _OPTIONS.get(word, "")
 
 

@@ -1,4 +1,4 @@
-"""Words that are read from the left, and the first fault that is met."""
+"""Reads words from the left, up to the first fault."""
 from __future__ import annotations
 
 from typing import Collection, Optional, Sequence
@@ -8,7 +8,7 @@ from .pf_conf import hint
 
 
 class LineFault(Exception):
-    """The first fault of a line: its name, the place of its word, from 0 on (after the last where one is missing), and why."""
+    """The first fault of a line: its name, the place of its word, from 0 on (after the last if one is missing), and why."""
 
     def __init__(self, name: str, place: Optional[int], why: str):
         super().__init__(why)
@@ -16,7 +16,7 @@ class LineFault(Exception):
 
 
 class Reader:
-    """Words that are read from the left, all of them or those before an end."""
+    """Words to be read from the left, all of them or those before an end."""
 
     def __init__(self, words: Sequence[str], at: int = 0, end: Optional[int] = None):
         self.words, self.at = words, at
@@ -34,7 +34,7 @@ class Reader:
         return word
 
     def known(self, what: str, words: Collection[str], meant: str = "") -> str:
-        """A word out of a list, by which the rest is read; what was meant by another is found in the list where that is not given."""
+        """A word from a list, which decides how the rest is read; for any other word, what was meant is given, or found in the list."""
         word = self._one(f"the {what} is missing: {one_of(words)}")
         if word not in words:
             meant = meant or nearest(word, words) or f": expected {quoted(words)}"

@@ -7,8 +7,8 @@ from typing import Dict
 
 @dataclass(frozen=True)
 class RecordKind:
-    """A kind of record: its number, its name, the bytes of a record, its word where it is explained or shown, that of the queue that
-    sends it, if one does, and how many words say what it is about."""
+    """A kind of record: its number, its name, the bytes of a record, its word in explanations and shown frames, the word of the queue
+    that sends it, if any, and how many words say what it is about."""
 
     number: int
     name: str

@@ -1,4 +1,4 @@
-"""The form of the line `search`: its parts stand between semicolons."""
+"""The form of the line `search`: semicolons separate its parts."""
 from __future__ import annotations
 
 from typing import List
@@ -10,10 +10,10 @@ from .forms import number
 SEARCH = "search"
 MOST_CHOICES = 16
 DEEPEST = 64
-# Where a search is asked, and for what. About a packet are all of the goals but one.
+# When a search is asked, and for what. All goals except one are about a packet.
 SCOPES = (LANDED, SETTLED) = ("landed", "settled")
 GOALS = (APART, PASSED, UNPASSED) = ("apart", "passed", "unpassed")
-# What a choice says of an event of any frame.
+# What a choice says for an event of any frame.
 ANY = "any"
 _CHOICES = ("N EVENT", *(" ".join(["N", ANY, it.word, *map(str, it.values[1:])]) for it in OF_FRAME.values()))
 FORM = (
@@ -25,6 +25,6 @@ HEAD = (form.BRANCH, number("DEPTH", DEEPEST), number("RUNS", form.GREATEST))
 
 
 def words_of(line: str) -> List[str]:
-    """The words of a line; in a search each semicolon is one of them."""
+    """The words of a line; in a search each semicolon is a word."""
     words = line.split()
     return line.replace(";", " ; ").split() if words[:1] == [SEARCH] else words

@@ -10,7 +10,7 @@ from .forms import Form, choice, number
 
 @dataclass(frozen=True)
 class Limit:
-    """A limit of the pair: its range, and what it is where it is not set, a number or this many fifths of `states`."""
+    """A limit of the pair: its range, and its default, a number or this many fifths of `states`."""
 
     word: str
     least: int
@@ -20,7 +20,7 @@ class Limit:
 
     @property
     def is_switch(self) -> bool:
-        """Whether a line can set it to 0 or 1 alone."""
+        """Whether a line can set it only to 0 or 1."""
         return self.most == 1
 
 
@@ -34,7 +34,7 @@ DEFER_MS = Limit("defer_ms", 1, 10000, 20)
 MAXUPD = Limit("maxupd", 1, 255, 128)
 BATCH = Limit("batch", 1, 256, 16)
 BULK_MS = Limit("bulk_ms", 1, 60000, 10000)
-# Between these two timeouts shrink.
+# Timeouts shrink between these two.
 ASTART = Limit("astart", 0, 131072, fifths=3)
 AEND = Limit("aend", 0, 131072, fifths=6)
 _LIMITS = (STATES, QUEUE, FRAMES, MTU, HELD, DEFER, DEFER_MS, MAXUPD, BATCH, BULK_MS, ASTART, AEND)
@@ -43,7 +43,7 @@ LIMITS = {it.word: it for it in _LIMITS}
 
 @dataclass(frozen=True)
 class TimeoutClass:
-    """A class of timeouts, with its seconds where neither a rule nor `set timeout` sets others."""
+    """A class of timeouts, with its seconds unless a rule or `set timeout` sets others."""
 
     word: str
     seconds: int
@@ -89,11 +89,11 @@ TO, TO_PORT = Option("to", (form.NET,)), Option("tport", (form.PORTS,))
 FLAGS_ANY = Option("flags", (form.ANY,))
 NO_SYNC = Option("no-sync")
 MAX = Option("max", (form.N,))
-# What replaces the near end on the wire, of a rule for the way out, and on the stack, of one for the way in.
+# What replaces the near end: on the wire for a rule on the way out, on the stack for a rule on the way in.
 NAT, RDR = Option("nat", (form.POOL,)), Option("rdr", (form.POOL,))
-# May come for each class, in the order of their numbers. A line `set timeout` has the same words.
+# May come once for each class, in the order of their numbers. A line `set timeout` has the same words.
 TIMEOUT = Option("timeout", (CLASS, number("SECONDS", form.GREATEST)))
-# In the order in which a rule has them.
+# In the order in which they come in a rule.
 _OPTIONS = (QUICK, PROTO, FROM, FROM_PORT, TO, TO_PORT, FLAGS_ANY, NO_SYNC, MAX, NAT, RDR, TIMEOUT)
 OPTIONS = {it.word: it for it in _OPTIONS}
 RULE_FORM = f"pass|block in|out|any {' '.join(it.form for it in OPTIONS.values())}..."

@@ -1,1 +1,1 @@
-"""A run as a page: one file, or served to browsers of this machine."""
+"""A run as a page: one file, or served to browsers on this machine."""

@@ -1,4 +1,4 @@
-"""Who stepped the events of a pair: also those that were undone, and those of branches that were forked."""
+"""Who stepped the events of a pair, including those that were undone, and those of branches that were forked."""
 from __future__ import annotations
 
 from typing import Dict, List, NamedTuple, Sequence
@@ -12,15 +12,15 @@ class Stepped(NamedTuple):
 
 
 class Authors:
-    """The name beside each event of each branch; an empty one where it is not known, as of a script."""
+    """The name next to each event of each branch; empty if it is not known, as in a script."""
 
     def __init__(self) -> None:
         self._of: Dict[str, List[Stepped]] = {}
-        # Those of a branch before its newest excision.
+        # The names of a branch before its newest excision.
         self._excised: Dict[str, List[Stepped]] = {}
 
     def follow(self, words: Sequence[str], reply: Sequence[str]) -> None:
-        """Takes a command after which events have another branch or another place."""
+        """Takes a command that gives events another branch or another place."""
         own = self._of.get("".join(words[1:2]), [])
         if reply[0] == "forked":
             self._of[words[3]] = own[: int(words[2])]
@@ -32,7 +32,7 @@ class Authors:
             self._of[words[1]] = self._excised.pop(words[1], [])
 
     def names(self, branch: Branch, who: str) -> List[str]:
-        """The names beside the events of a branch, of which this one stepped those that are new."""
+        """The names next to the events of a branch, where this person stepped the new ones."""
         own = self._of.get(branch.name, [])
         same = common([it.event for it in own], branch.events)
         self._of[branch.name] = own[:same] + [Stepped(event, who) for event in branch.events[same:]]

@@ -26,13 +26,13 @@ from .runs import Run
 from .session import Branches
 from .typed import Typed
 
-# How often it is looked whether something happened, and how long a browser waits for an answer, in seconds.
+# How often to look whether something happened, and how long a browser waits for an answer, in seconds.
 PERIOD = 0.25
 PATIENCE = 60.0
 OTHERS = "another session"
-# What one may do who has the address for it.
+# What someone with the address for it may do.
 STEP, WATCH = "step", "watch"
-# How often branches are compared at the beginning that other sessions may be changing.
+# How often to compare branches at the beginning, while other sessions may be changing them.
 TRIES = 3
 # The name of a branch in the laboratory of its record.
 MAIN = "main"
@@ -42,7 +42,7 @@ T = TypeVar("T")
 
 
 class KnownBranches(Laboratory):
-    """The branches as they are known here, for reasons of refusals: a server keeps what it is asked, so it is not asked."""
+    """The branches as they are known here, for the reasons of refusals: a server keeps all that it is asked, so it is not asked."""
 
     def __init__(self, program: str, branches: Dict[str, Branch]):
         super().__init__(program)
@@ -57,7 +57,7 @@ class KnownBranches(Laboratory):
 
 
 class Overtaken(Exception):
-    """A line that was sent before its page knew of a change after which it means something else."""
+    """A line was sent before its page knew of a change that gives the line another meaning."""
 
 
 class Bridge:
@@ -71,7 +71,7 @@ class Bridge:
         self._records = {it.name: it for it in run.records if not it.former}
         self._former = FormerRuns(program, run.setup, [it for it in run.records if it.former])
         self._lost: List[Lost] = []
-        # Of each branch the version with its newest change.
+        # For each branch the version with its newest change.
         self._versions: Dict[str, int] = {}
         self._authors = Authors()
         # The branches as pages have them; and the newest page of each kind, with its version.
@@ -82,31 +82,31 @@ class Bridge:
     # ---- for any thread
 
     def begin(self) -> None:
-        """Reads what is there."""
+        """Reads the branches."""
         self._submitted(self._begin).result()
 
     def watch(self) -> None:
-        """Sees what other sessions do, until the server ends."""
+        """Watches what other sessions do, until the server ends."""
         while True:
             self._submitted(self._hear).result()
             self._branches.wait(PERIOD)
 
     def do(self, typed: Typed) -> Data:
-        """Gives the server a line: its reply, the reasons where there is something to say, and the version after it."""
+        """Gives the server a line; returns its reply, the reasons if there is something to say, and the version after it."""
         return self._awaited(self._do, typed)
 
     def page_for(self, may: str) -> bytes:
-        """The page with all of now, for one who may do this."""
+        """The page as of now, for someone who may do this."""
         return self._awaited(self._page, may)
 
     def close(self) -> None:
-        """Ends the work, which an end of the session hastens, and closes the records."""
+        """Ends the work, which goes faster once the session has ended, and closes the records."""
         self._worker.shutdown()
         for it in self._records.values():
             it.close()
 
     def _awaited(self, task: Callable[[A], T], argument: A) -> T:
-        """What a task of the one thread gives, after those before it. One that has not begun in time never does."""
+        """What a task of the one thread returns, after those before it. A task that has not begun in time never begins."""
         future = self._submitted(task, argument)
         try:
             return future.result(PATIENCE)
@@ -114,19 +114,19 @@ class Bridge:
             future.cancel()
             raise Ended(f"the server did not answer in {PATIENCE:.0f} seconds") from error
         except (OSError, Unknown) as error:
-            # (as where the program's file is gone: the next look ends the page)
+            # (for example if the program's file is gone: the next look ends the page)
             raise Ended(f"the page cannot go on: {error}") from error
 
     def _submitted(self, task: Callable[..., T], *arguments: object) -> "Future[T]":
         try:
             return self._worker.submit(task, *arguments)
         except RuntimeError as error:
-            raise Ended("the page is served no more") from error
+            raise Ended("the page is no longer served") from error
 
     # ---- for the one thread
 
     def _begin(self) -> None:
-        """Reads what is there, more than once where other sessions change it meanwhile."""
+        """Reads the branches, more than once if other sessions change them meanwhile."""
         for _ in range(TRIES):
             self._branches.look()
             self._changes("")
@@ -134,10 +134,10 @@ class Bridge:
             if not differing:
                 self._page(STEP)
                 return
-        raise Unknown(f"{differing[0]} is not here what it is at the server: the server's setup is another one")
+        raise Unknown(f"{differing[0]} is not the same here as at the server: the server has another setup")
 
     def _differs(self, name: str) -> bool:
-        """Whether the server shows a branch otherwise than its record does."""
+        """Whether the server and the record show a branch differently."""
         own, its = self._records[name].laboratory.show(MAIN), self._branches.shown(name)
         return its is None or (own.nodes, own.frames) != (its.nodes, its.frames)
 
@@ -150,7 +150,7 @@ class Bridge:
         self._publish(OTHERS, "", ())
         newest, name = self._versions.get(typed.takes_from, 0), typed.takes_from
         if typed.version is not None and typed.version < newest:
-            raise Overtaken(f"somebody was faster: {name} has changed since this page was told of it")
+            raise Overtaken(f"somebody was faster: {name} has changed since this page last heard of it")
         reply = self._branches.ask(typed.line)
         first, words = reply[0].split(), typed.line.split()
         if first[0] not in ("bad", "refused"):
@@ -178,19 +178,19 @@ class Bridge:
         names = list(self._shown)
         self._former.leave([it.branch for it in self._shown.values()])
         if changes or names != before:
-            self._tell({"who": who, "line": line, "reply": list(reply), "branches": changes})
+            self._announce({"who": who, "line": line, "reply": list(reply), "branches": changes})
             self._versions.update({it["name"]: self.news.version for it in changes})
         lost, self._lost = self._lost, []
         for it in self._former.take(lost):
             its_chart = dict(it["chart"], count=len(it["chart"]["sheets"]), sheets=dict(enumerate(it["chart"]["sheets"])))
-            self._tell({"who": who, "line": "", "reply": [], "branches": [dict(it, keep=0, chart=its_chart)]})
+            self._announce({"who": who, "line": "", "reply": [], "branches": [dict(it, keep=0, chart=its_chart)]})
 
-    def _tell(self, update: Data) -> None:
+    def _announce(self, update: Data) -> None:
         """Makes news of an update, with the order of the branches."""
         self.news.publish({**update, "order": [*self._shown, *(it["name"] for it in self._former.data)]})
 
     def _changes(self, who: str) -> List[Data]:
-        """Brings the records to the branches: what changed of each."""
+        """Updates the records to the branches; returns what changed in each."""
         now, before = self._branches.by_name, self._shown
         made = {it.name: self._changed(it, who) for it in now.values() if it.name not in before or it != before[it.name].branch}
         for name in before.keys() - now.keys():
@@ -199,7 +199,7 @@ class Bridge:
         return [its_change for _, its_change in made.values()]
 
     def _changed(self, branch: Branch, who: str) -> Tuple[Shown, Data]:
-        """A branch as it is now, and what changed of it. A record that fails, as where its program is gone, is made anew once."""
+        """A branch as it is now, and what changed in it. A record that fails, for example as its program is gone, is remade once."""
         names, old = self._authors.names(branch, who), self._shown.get(branch.name)
         if old and common(old.branch.events, branch.events) < len(old.branch.events):
             self._lost.append(Lost(old.branch, old.names))
@@ -209,11 +209,11 @@ class Bridge:
             return self._recorded(branch, names)
 
     def _recorded(self, branch: Branch, names: Sequence[str]) -> Tuple[Shown, Data]:
-        """Brings its record to a branch, whose events these people stepped."""
+        """Updates the record to a branch, whose events these people stepped."""
         record = self._records.pop(branch.name, None) or Record(self._program, self._run.setup, branch.name)
         old = self._shown.get(branch.name)
         try:
-            # (what the script says of events that are gone is gone too)
+            # (what the script says about events that are gone is gone, too)
             record.keep_texts(common(old.branch.events, branch.events) if old else len(branch.events))
             keep = record.sync(branch)
             for moment, who in zip(record.moments[keep:], names[keep:]):
@@ -237,4 +237,4 @@ class Bridge:
                 return why_ahead(self._records[words[1]].laboratory, MAIN, " ".join(words[2:]), PLAIN)
             return explain_command(KnownBranches(self._program, self._branches.by_name), line, reply)
         except (Unknown, Ended, KeyError):
-            return ["other sessions changed the branches since: what they are now does not show it"]
+            return ["other sessions have changed the branches since: as they are now, they do not show why"]

@@ -1,4 +1,4 @@
-"""A branch as pages show it already, and what changed of it since."""
+"""A branch as pages show it already, and what has changed in it since."""
 from __future__ import annotations
 
 from typing import Any, Dict, List, NamedTuple, Optional, Sequence
@@ -11,7 +11,7 @@ Data = Dict[str, Any]
 
 
 class Shown(NamedTuple):
-    """A branch as pages have it, with who stepped each event, what is offered where it stands, and its chart."""
+    """A branch as pages have it: who stepped each event, what is offered where it stands, and its chart."""
 
     branch: Branch
     names: Sequence[str]
@@ -20,7 +20,7 @@ class Shown(NamedTuple):
 
 
 def change(old: Optional[Shown], new: Shown, record: Record, keep: int) -> Data:
-    """The change of a branch of which pages keep the first moments; of a branch that is new, all of it."""
+    """The change of a branch whose first moments pages keep; for a new branch, all of it."""
     sheets = new.chart["sheets"]
     chart = {**new.chart, "count": len(sheets), "sheets": _sheets(old.chart["sheets"] if old else [], sheets)}
     its: Data = {"name": record.name, "keep": keep, "undone": record.undone, "moments": record.moments_as_data(keep)}
@@ -29,5 +29,5 @@ def change(old: Optional[Shown], new: Shown, record: Record, keep: int) -> Data:
 
 
 def _sheets(old: List[Data], new: List[Data]) -> Dict[str, Data]:
-    """The sheets of a chart that are not what they were, by their places."""
+    """The sheets of a chart that have changed, by their places."""
     return {str(at): sheet for at, sheet in enumerate(new) if at >= len(old) or sheet != old[at]}

@@ -17,14 +17,14 @@ from .news import MOST_STREAMS
 
 HERE = "127.0.0.1"
 MOST_CONNECTIONS = MOST_STREAMS + 100
-# What may be open at once: the connections, and what the runs of the branches and the rest of the process need.
+# How much may be open at once: the connections, and what the runs of the branches and the rest of the process need.
 MOST_FILES = MOST_CONNECTIONS + 200
-# (as socketserver has it, whose other servers have datagrams)
+# (as in socketserver, whose other servers have datagrams)
 Request = Union[socket.socket, Tuple[bytes, socket.socket]]
 
 
 def make_room() -> None:
-    """Lets enough files be open, as far as the system allows that: with none left, no branch can begin."""
+    """Allows enough open files, as far as the system permits: with none left, no branch can begin."""
     now, most = resource.getrlimit(resource.RLIMIT_NOFILE)
     wanted = MOST_FILES if most == resource.RLIM_INFINITY else min(MOST_FILES, most)
     if now != resource.RLIM_INFINITY and now < wanted:
@@ -32,7 +32,7 @@ def make_room() -> None:
 
 
 class Tokens(NamedTuple):
-    """What an address has in it, for stepping and for watching alone."""
+    """The tokens in addresses, for stepping and for watching only."""
 
     step: str
     watch: str
@@ -42,13 +42,13 @@ class Tokens(NamedTuple):
         return cls(secrets.token_urlsafe(16), secrets.token_urlsafe(16))
 
     def may(self, token: str) -> Optional[str]:
-        """What one with a token may do. How long it takes to know that says nothing of the tokens."""
+        """What someone with a token may do. How long this takes reveals nothing about the tokens."""
         steps, watches = (hmac.compare_digest(token.encode(errors="replace"), it.encode()) for it in self)
         return STEP if steps else WATCH if watches else None
 
 
 class Door(socketserver.ThreadingTCPServer):
-    """A port of this machine alone. Each connection has a thread of its own, up to a limit."""
+    """A port of this machine only. Each connection has a thread of its own, up to a limit."""
 
     daemon_threads = allow_reuse_address = True
     request_queue_size = 128
@@ -65,7 +65,7 @@ class Door(socketserver.ThreadingTCPServer):
 
     @property
     def hosts(self) -> Tuple[str, str]:
-        """What browsers of this machine call this place. Where another name leads here, somebody else made it do so."""
+        """What browsers on this machine call this place. If another name leads here, somebody else made it do so."""
         return f"{HERE}:{self.port}", f"localhost:{self.port}"
 
     def address(self, token: str) -> str:
@@ -78,7 +78,7 @@ class Door(socketserver.ThreadingTCPServer):
         try:
             super().process_request(request, client_address)
         except BaseException:
-            # (no thread began)
+            # (no thread was begun)
             self._room.release()
             raise
 
@@ -89,13 +89,13 @@ class Door(socketserver.ThreadingTCPServer):
             self._room.release()
 
     def handle_error(self, request: Request, client_address: object) -> None:
-        # (that somebody goes away, or does not read, is no fault)
+        # (someone who goes away, or does not read, is not a fault)
         if not isinstance(sys.exc_info()[1], (ConnectionError, socket.timeout)):
             super().handle_error(request, client_address)
 
 
 class Within(io.RawIOBase):
-    """What comes over a connection within some seconds in all, however slowly."""
+    """What comes over a connection within some seconds in total, however slowly."""
 
     def __init__(self, connection: socket.socket, seconds: float):
         self._connection, self._end = connection, time.monotonic() + seconds

@@ -1,4 +1,4 @@
-"""The facts of a pair by key, as a page has them, and which of them an event changed."""
+"""The facts about a pair by key, as a page has them, and which of them an event changed."""
 from __future__ import annotations
 
 from typing import Callable, Dict, Iterator, List, NamedTuple, Sequence, Tuple
@@ -18,7 +18,7 @@ from ..states import State
 from ..views import frame_head, held_packet
 from ..words import FLAGS, bulk_status, cleared, flow, levels, near_and_far, request, rule_number, scaling, sequence
 
-# Values for JSON, by key. Among changes nothing stands for a key that is gone.
+# Values for JSON, by key. Among changes, nothing means that a key is gone.
 Facts = Dict[str, object]
 Fact = Tuple[str, object]
 
@@ -36,7 +36,7 @@ class Looker:
     """Looks at one pair again and again."""
 
     def __init__(self, setup: Setup, with_contents: Callable[[Pair], Pair]) -> None:
-        """The function adds what the lines of a shown pair do not have: the records of frames, and held packets."""
+        """The function adds what the lines of a shown pair lack: the records of frames, and held packets."""
         self.setup, self._with_contents = setup, with_contents
         self.facts: Facts = {}
         self._eye = Eye.new()
@@ -48,7 +48,7 @@ class Looker:
         return self._eye.pair
 
     def take(self, shown: Sequence[str]) -> Look:
-        """Takes the lines of a shown pair: what changed."""
+        """Takes the lines of a shown pair; returns what changed."""
         seen = self._eye.see(shown)
         self._with_contents(seen.after)
         edits = {key: value for key, value in self._facts(seen) if self.facts.get(key) != value}
@@ -95,7 +95,7 @@ class Looker:
 
     def _row(self, state: State, node: Node) -> Dict[str, object]:
         """A state in the words of pfctl; its last use and change are times of the node's clock, in milliseconds, and its timeout is in
-        seconds, as long as it is where no number of states shortens it."""
+        seconds, before any number of states shortens it."""
         rule = self.setup.rule(node.id, state.rule)
         return {
             "flow": flow(state),
@@ -107,7 +107,7 @@ class Looker:
             "peer": state.peer,
             "updates": state.updates,
             "flags": "" if state.flags == "-" else FLAGS.get(state.flags, state.flags),
-            "rule": rule_number(state.rule) + (f": {rule.told}" if rule else ""),
+            "rule": rule_number(state.rule) + (f": {rule.described}" if rule else ""),
         }
 
     # ---- both nodes, and the link
@@ -126,7 +126,7 @@ class Looker:
 
 
 def _messages(node: Node) -> Iterator[str]:
-    """What waits to be sent to the peer and is about no queued state."""
+    """What waits to be sent to the peer but is not about a queued state."""
     yield from (f"{UPDATE_REQUEST.name} {request(it)}" for it in node.asks)
     yield from (f"{BULK_STATUS.name} {bulk_status(it)}" for it in node.statuses)
     yield from (f"{CLEAR.name} {cleared(it)}" for it in node.clears)

@@ -1,4 +1,4 @@
-"""Runs of a live page that people undid and stepped over, or took an event out of: the newest of them are kept, as far as they are short."""
+"""Runs of a live page that people undid and stepped over, or took an event out of: the newest are kept, if they are short."""
 from __future__ import annotations
 
 from itertools import count
@@ -9,14 +9,14 @@ from ..setups import Setup
 from .record import Record
 from .runs import MOST_FORMER
 
-# A run with more events takes too long to be played once more: some milliseconds each.
+# A run with more events takes too long to play again: some milliseconds each.
 MOST_EVENTS = 300
 
 Data = Dict[str, Any]
 
 
 class Lost(NamedTuple):
-    """A branch as it was before events of it were lost, and who stepped each."""
+    """A branch as it was before it lost events, and who stepped each."""
 
     branch: Branch
     names: Sequence[str]
@@ -30,7 +30,7 @@ class FormerRun(NamedTuple):
 
 
 class FormerRuns:
-    """The runs that are kept, the newest last."""
+    """The runs that are kept, newest last."""
 
     def __init__(self, program: str, setup: Setup, records: Sequence[Record]) -> None:
         self._program, self._setup = program, setup
@@ -42,18 +42,18 @@ class FormerRuns:
         return [it.data for it in self._kept]
 
     def leave(self, branches: Sequence[Branch]) -> None:
-        """Keeps no longer what is the beginning of a branch again."""
+        """Drops what is the beginning of a branch again."""
         self._kept = [it for it in self._kept if not any(one.events[: len(it.events)] == it.events for one in branches)]
 
     def take(self, lost: Sequence[Lost]) -> Iterator[Data]:
-        """Keeps what was lost, if it is short: those that are new, as pages have them."""
+        """Keeps what was lost, if it is short; yields the new runs, as pages have them."""
         for it in lost:
             if len(it.branch.events) <= MOST_EVENTS:
                 self._kept = [*self._kept, FormerRun(it.branch.events, self._played(it))][-MOST_FORMER:]
                 yield self._kept[-1].data
 
     def _played(self, lost: Lost) -> Data:
-        """A run that is played once more for its page."""
+        """A run, played again for its page."""
         name, events = lost.branch.name, lost.branch.events
         record = Record(self._program, self._setup, f"{name}~{next(self._numbers)}", True)
         try:

@@ -1,4 +1,4 @@
-"""`page --serve`: a page that shows a pair as it goes on, to browsers of this machine."""
+"""`page --serve`: a page that shows a pair as it goes on, to browsers on this machine."""
 from __future__ import annotations
 
 import contextlib
@@ -21,13 +21,13 @@ from .server import started
 from .serving import Visit
 from .session import branches_of
 
-# Without a script: a pair whose nodes let everything pass, and make states of it.
+# Without a script: a pair whose nodes let everything pass, and make states for it.
 OPENING = ("rule a pass any", "rule b pass any", OPEN.word)
-STOPPED = "the page is served no more: its bridge was stopped"
+STOPPED = "the page is no longer served: its bridge was stopped"
 # A session of a server, and the run that its page shows.
 Pair = Tuple[Union[Client, Shared], Run]
 Served = ContextManager[Pair]
-# How long the end waits for those who watch to hear of it, in seconds.
+# How long the end waits for watchers to hear of it, in seconds.
 GRACE = 2.0
 
 
@@ -42,14 +42,14 @@ def serve(program: str, port: int, pair: Served, out: TextIO) -> None:
 
 
 def interrupt_at_ends() -> None:
-    """Has the signals that end a program interrupt it, so that all who watch hear of it. One that is ignored stays so."""
+    """Makes the signals that end a program interrupt it, so that all watchers hear of it. A signal that is ignored stays ignored."""
     for it in (signal.SIGTERM, signal.SIGHUP):
         if signal.getsignal(it) is signal.SIG_DFL:
             signal.signal(it, signal.default_int_handler)
 
 
 def watch(bridge: Bridge) -> None:
-    """Looks at what other sessions do until something ends it, and says so to all who watch."""
+    """Watches what other sessions do until something ends it, and reports that to all watchers."""
     try:
         bridge.watch()
     except BaseException as why:
@@ -90,7 +90,7 @@ def begun(program: str, script: Sequence[str], name: str) -> Iterator[Pair]:
 
 @contextlib.contextmanager
 def joined(program: str, port: int, setup: Optional[Setup], out: TextIO) -> Iterator[Pair]:
-    """A session of a server that runs already."""
+    """A session of a server that is already running."""
     with at_port(port):
         client = Client(port)
     with contextlib.ExitStack() as ends:
@@ -108,7 +108,7 @@ def joined(program: str, port: int, setup: Optional[Setup], out: TextIO) -> Iter
 
 @contextlib.contextmanager
 def at_port(port: int) -> Iterator[None]:
-    """Has a fault of the network say at which port it is."""
+    """Adds the port to a fault of the network."""
     try:
         yield
     except OSError as error:
@@ -116,7 +116,7 @@ def at_port(port: int) -> Iterator[None]:
 
 
 def cut_off(session: Union[Client, Shared]) -> None:
-    """Has a session end that may wait for a reply."""
+    """Ends a session that may be waiting for a reply."""
     client = session.client if isinstance(session, Shared) else session
     with contextlib.suppress(OSError):
         client.connection.shutdown(socket.SHUT_RDWR)

@@ -1,4 +1,4 @@
-"""Looks at one pair again and again: only the lines that changed since the look before are read."""
+"""Looks at one pair again and again, reading only the lines that changed since the last look."""
 from __future__ import annotations
 
 from dataclasses import dataclass, replace
@@ -10,14 +10,14 @@ from ..states import State
 
 
 class Changed(NamedTuple):
-    """The names of what changed at a node: states, and what is queued of them."""
+    """The names of what changed at a node: states, and what is queued about them."""
 
     states: Set[Name]
     queued: Set[Name]
 
 
 class Seen(NamedTuple):
-    """A pair before and after, and what changed at each node of what it may have many of."""
+    """A pair before and after, and what changed at each node among the things of which it may have many."""
 
     before: Pair
     after: Pair
@@ -25,13 +25,13 @@ class Seen(NamedTuple):
 
     @property
     def reduced(self) -> Tuple[Pair, Pair]:
-        """Both pairs without the states, and without what is queued, that are as they were."""
+        """Both pairs without the states and the queued names that have not changed."""
         return _reduced(self.before, self.changed), _reduced(self.after, self.changed)
 
 
 @dataclass
 class Eye:
-    """What was seen of a pair last."""
+    """What was last seen of a pair."""
 
     pair: Pair
     lines: Set[str]
@@ -39,7 +39,7 @@ class Eye:
 
     @classmethod
     def new(cls) -> "Eye":
-        """One that has seen nothing: nodes without states."""
+        """An eye that has seen nothing: nodes without states."""
         counters = {it.name: 0 for it in COUNTERS}
         nodes = {it: Node(it, 0, 0, 0, 0, False, "-", "-", counters) for it in NODES}
         return cls(Pair("main", 0, 0, nodes), set(), {it: {} for it in NODES})
@@ -92,7 +92,7 @@ class Eye:
 
 
 def _parted(shown: Sequence[str]) -> Tuple[Set[str], List[str]]:
-    """The lines of states and queues, of which there can be many, and the others."""
+    """The lines of states and queues, which can be many, and the others."""
     many: List[str] = []
     few: List[str] = []
     for line in shown:

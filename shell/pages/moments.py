@@ -22,7 +22,7 @@ MOST_LINES = 60
 
 @dataclass
 class Moment:
-    """An event and what came of it. There are no edits where the pair was not looked at afterwards."""
+    """An event and what came of it. There are no edits if the pair was not looked at afterwards."""
 
     event: str
     outcome: str
@@ -43,14 +43,14 @@ class Moment:
 
 @dataclass
 class Known:
-    """What is known of some events: their lines, what came of each and which frame it sent, if it did, and all frames by ticket."""
+    """What is known about some events: their lines, what came of each and which frame it sent, if any, and all frames by ticket."""
 
     lines: List[str] = field(default_factory=list)
     explained: List[Tuple[Explanation, Optional[Flight]]] = field(default_factory=list)
     flights: Dict[int, Flight] = field(default_factory=dict)
 
     def history(self, lab: Laboratory, look: Look) -> History:
-        """The events before the newest one, of which nearly all that a reason is made of is at hand."""
+        """The events before the newest one, with nearly all that a reason needs at hand."""
         number = len(self.lines)
         history = History(lab, "main", self.lines[: number - 1])
         pairs, past = {number - 1: look.before, number: look.after}, history.pair
@@ -61,7 +61,7 @@ class Known:
 
 
 def moment(lab: Laboratory, known: Known, look: Look) -> Moment:
-    """The newest of some events, after which the pair was looked at, as it was before."""
+    """The newest of some events, if the pair was looked at after it, and also before."""
     it, before = known.explained[-1][0], known.history(lab, look)
     why = [line.strip() for line in reasons(Question(before, it, PLAIN))]
     changes = _first([(_tone(one), str(one)) for one in look.differences], "change")
@@ -69,7 +69,7 @@ def moment(lab: Laboratory, known: Known, look: Look) -> Moment:
 
 
 def unseen(it: Explanation, look: Optional[Look]) -> Moment:
-    """An event before which the pair was not looked at: its reason is in the words of the program."""
+    """An event, if the pair was not looked at before it: its reason is in the words of the program."""
     return Moment(it.event.line, it.event.came, _first_lines(it.lines), edits=look.edits if look else None)
 
 

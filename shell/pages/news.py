@@ -1,4 +1,4 @@
-"""The news of a live page: its newest updates, for any number of streams that wait for them, each with a place of its own."""
+"""The news of a live page: its newest updates, for any number of streams that wait for them, each at its own place."""
 from __future__ import annotations
 
 import json
@@ -23,7 +23,7 @@ RELOAD = message({"reload": True})
 
 @dataclass
 class Stream:
-    """What a watcher has been sent: all up to a version, and the newest number of people."""
+    """What a watcher has been sent: everything up to a version, and the newest number of people."""
 
     version: int
     people: int = 0
@@ -31,7 +31,7 @@ class Stream:
 
 
 class News:
-    """Updates with versions from 1 on, of which the newest are kept, the number of people who watch, and the end."""
+    """Updates with versions from 1 on, of which the newest are kept, the number of people watching, and the end."""
 
     def __init__(self) -> None:
         self._changed = threading.Condition()
@@ -56,13 +56,13 @@ class News:
             self._changed.notify_all()
 
     def end(self, why: str) -> None:
-        """Says to everybody that nothing comes any more; the first reason stands."""
+        """Announces that nothing more will come; the first reason counts."""
         with self._changed:
             self._ended = self._ended or message({"ended": why})
             self._changed.notify_all()
 
     def come(self) -> bool:
-        """Counts one who watches from now on; not where there are too many."""
+        """Counts a new watcher, unless there are too many; returns whether it did."""
         with self._changed:
             if self.people == MOST_STREAMS:
                 return False
@@ -71,19 +71,19 @@ class News:
             return True
 
     def go(self) -> None:
-        """Counts one less."""
+        """Counts one watcher less."""
         with self._changed:
             self.people -= 1
             self._changed.notify_all()
 
     def awaited(self, stream: Stream, seconds: float) -> List[bytes]:
-        """The messages that a stream lacks, as soon as there are some; none where these seconds bring none."""
+        """The messages that a stream lacks, as soon as there are some; none if none come within this many seconds."""
         with self._changed:
             self._changed.wait_for(lambda: self._has_news(stream), seconds)
             return self._taken(stream)
 
     def everybody_left(self, seconds: float) -> bool:
-        """Waits until nobody watches any more, for these seconds at most."""
+        """Waits until nobody watches any more, at most this many seconds."""
         with self._changed:
             return self._changed.wait_for(lambda: not self.people, seconds)
 

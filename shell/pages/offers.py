@@ -1,4 +1,4 @@
-"""What a click can step next where a branch stands: its events, each with what would come of it, or why it would be refused."""
+"""What a click can step next where a branch stands: the events, each with what would come of it, or why it would be refused."""
 from __future__ import annotations
 
 from itertools import chain, islice
@@ -16,7 +16,7 @@ from ..reasons.refusals import explain_refusal
 
 OF_NODE = (FLUSH, PURGE, TURN, RETRY, RELEASE, CLEAR, RESTART)
 OF_FRAME = (DELIVER, LOSE, REPEAT)
-# Of the frames in flight, and of each node's states, only the first are offered.
+# Only the first of the frames in flight, and of each node's states, are offered.
 MOST = 50
 
 

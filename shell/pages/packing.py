@@ -22,7 +22,7 @@ class NotPacked(Exception):
 
 
 def page(data: Mapping[str, object], served: bool = False) -> str:
-    """The page that shows this data. One that is served may ask its server, and no page may ask another one."""
+    """The page that shows this data. A served page may ask its server; no page may ask any other."""
     style, script, title = read(STYLE), packed(), escape(str(data["title"]))
     allowed = policy(style, script, served)
     parts = {
@@ -31,12 +31,12 @@ def page(data: Mapping[str, object], served: bool = False) -> str:
         "<!-- data -->": f'<script type="application/json" id="run">{written(data)}</script>',
         "<!-- script -->": f'<script type="module">{script}</script>',
     }
-    # (in one pass, so that nothing within a part stands for another one)
+    # (in one pass, so that nothing within a part is taken for another part)
     return re.sub("|".join(parts), lambda it: parts[it[0]], read(TEMPLATE))
 
 
 def written(data: Mapping[str, object]) -> str:
-    """Data as JSON that may stand in a page."""
+    """Data as JSON that is safe in a page."""
     text = json.dumps(data, separators=(",", ":"))
     for it in MARKUP:
         text = text.replace(it, f"\\u{ord(it):04x}")
@@ -44,7 +44,7 @@ def written(data: Mapping[str, object]) -> str:
 
 
 def policy(style: str, script: str, served: bool) -> str:
-    """What the page may do: run this script and have this style, and nothing else."""
+    """What the page may do: run this script and use this style, and nothing else."""
     allowed = f"default-src 'none'; script-src {_digest(script)}; style-src {_digest(style)}; base-uri 'none'; form-action 'none'"
     return allowed + ("; connect-src 'self'" if served else "")
 
@@ -68,7 +68,7 @@ def packed() -> str:
     for module, text in texts.items():
         for name in NAMED.findall(text):
             if name in names:
-                raise NotPacked(f"{name} stands in {names[name]} and in {module}")
+                raise NotPacked(f"{name} is in {names[name]} and in {module}")
             names[name] = module
     return "\n".join(texts.values())
 

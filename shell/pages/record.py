@@ -1,4 +1,4 @@
-"""A branch moment by moment, kept by a run of the program of its own, in which the branch stands as it does in the pair."""
+"""A branch moment by moment, kept by a run of the program of its own, in which the branch stands as in the pair."""
 from __future__ import annotations
 
 from dataclasses import replace
@@ -9,7 +9,7 @@ from .moments import Known, Moment, moment, unseen
 from ..branches import Branch, common
 from ..charts.chart import drawn
 from ..charts.picture import Drawing
-from ..held import held_packets, tell_packets
+from ..held import held_packets, with_packets
 from ..laboratory import Laboratory, Unknown
 from ..explanations import read_explanation
 from ..flights import read_flight
@@ -19,7 +19,7 @@ from ..language.names import Name
 from ..pair import Pair
 from ..setups import Setup
 
-# How many lines of shown pairs are read for the new events of a branch, and then those after the last one. Of a longer run the pair is
+# How many lines of shown pairs are read for the new events of a branch, besides those after the last one. In a longer run the pair is
 # not looked at after each event.
 MOST_SHOWN = 2_500_000
 
@@ -28,7 +28,7 @@ class Record:
     """A branch of a pair, moment by moment."""
 
     def __init__(self, program: str, setup: Setup, name: str, former: bool = False) -> None:
-        """One without events. A former branch is what a branch was before its events were undone and others stepped."""
+        """A record without events. A former branch is what a branch was before its events were undone and others stepped."""
         self.name, self.former, self.undone = name, former, 0
         # The paragraphs about events, those after them, and the branches that begin there, by the numbers of the events.
         self.notes: Mapping[int, Sequence[str]] = {}
@@ -44,12 +44,12 @@ class Record:
         self._looker = Looker(setup, self._with_contents)
         self._drawing = Drawing()
         self._shown = 0
-        # The moment at which the pair was looked at last.
+        # The moment of the last look at the pair.
         self._looked = 0
         self.opening = self._looker.take(self._show()).edits
 
     def sync(self, branch: Branch) -> int:
-        """Brings it to the events of a branch that stand: how many of its moments are as they were."""
+        """Updates it to the events of a branch that stand; returns how many of its moments are unchanged."""
         events = branch.events[: branch.cursor]
         same = common(events, [it.event for it in self.moments])
         kept = self._take_back(same) if same < len(self.moments) else same
@@ -60,7 +60,7 @@ class Record:
         return kept
 
     def keep_texts(self, number: int) -> None:
-        """Keeps the paragraphs of the first events alone, and the branches that begin after them."""
+        """Keeps only the paragraphs of the first events, and the branches that begin after them."""
         all_texts = (self.notes, self.after, self.forks)
         self.notes, self.after, self.forks = ({at: those for at, those in it.items() if at <= number} for it in all_texts)
 
@@ -70,7 +70,7 @@ class Record:
     # ---- for a page
 
     def as_data(self) -> Dict[str, object]:
-        """All of the branch, for JSON."""
+        """Everything about the branch, for JSON."""
         its: Dict[str, object] = {"name": self.name, "former": self.former, "undone": self.undone, "opening": self.opening}
         its["notes"] = list(self.after.get(0, ()))
         its["forks"] = {str(place): list(names) for place, names in sorted(self.forks.items())}
@@ -88,7 +88,7 @@ class Record:
     # ---- events
 
     def _step(self, event: str, at: int, last: int) -> None:
-        """Lets an event happen, the one at this place of those that are new."""
+        """Steps an event: the one at this place among the new ones."""
         number, sends = len(self.moments) + 1, event.split()[0] in (FLUSH.word, REPEAT.word)
         is_seen, was_seen = self._affords(at, last), self._looked == number - 1
         lines = [f"{STEP.word} main {event}", f"{WHY.word} main {number}"]
@@ -96,7 +96,7 @@ class Record:
         lines += [f"{FRAME.word} main {len(self._known.flights) + 1}"] * sends + [f"{SHOW.word} main"] * is_seen
         (stepped, *_), why, *replies = self._session.ask_together(lines)
         if not stepped.startswith(STEP.word):
-            raise Unknown(f"`{event}` was answered `{stepped}` where {self.name} was played again")
+            raise Unknown(f"`{event}` was answered `{stepped}` when {self.name} was played again")
         it = read_explanation(why)
         self._known.lines.append(event)
         self._known.explained.append((it, read_flight(replies[0]) if sends else None))
@@ -108,7 +108,7 @@ class Record:
         self.moments.append(moment(self.laboratory, self._known, look) if look and was_seen else unseen(it, look))
 
     def _remember(self, number: int) -> None:
-        """Notes the frame that an event sent, or what befell one, and the packet that was held."""
+        """Notes the frame that an event sent, or what happened to a frame, and the packet that was held."""
         it, flight = self._known.explained[number - 1]
         self._packets.update(held_packets([it.event.line], [it.event.came]))
         if flight:
@@ -121,7 +121,7 @@ class Record:
         return at == last or self._shown + len(self._looker.facts) <= MOST_SHOWN * at // last
 
     def _take_back(self, number: int) -> int:
-        """Goes back to the first events: how many moments are as they were."""
+        """Goes back to the first events; returns how many moments are unchanged."""
         self.laboratory.ask(f"{BACK.word} main {len(self.moments) - number}")
         del self.moments[number:], self._known.lines[number:], self._known.explained[number:]
         self._known.flights.clear()
@@ -133,7 +133,7 @@ class Record:
         return self._mended(number)
 
     def _mended(self, number: int) -> int:
-        """Has the newest moment show what was looked up now, where the pair was not looked at after it."""
+        """Makes the newest moment show what was just looked up, if the pair had not been looked at after it."""
         facts = dict(self.opening)
         for it in self.moments:
             facts.update(it.edits or {})
@@ -155,4 +155,4 @@ class Record:
         """A pair with the records of its frames, and with the packets that its nodes hold."""
         for ticket, it in pair.frames.items():
             pair.frames[ticket] = it if it.broken else replace(it, records=self._known.flights[ticket].frame.records)
-        return tell_packets(pair, self._packets)
+        return with_packets(pair, self._packets)

@@ -11,13 +11,13 @@ from ..scripts import title_of
 from ..setups import Setup
 from ..stories import Former, Places, Story, legible, story_of
 
-# Of the runs that were undone and stepped over, or lost an event, a page keeps the newest.
+# How many of the runs that were undone and stepped over, or lost an event, a page keeps: the newest.
 MOST_FORMER = 8
 
 
 @dataclass
 class Run:
-    """A script's run as a page has it: its story, its setup, and its branches, those that were undone last."""
+    """A script's run as a page has it: its story, its setup, and its branches, with those that were undone at the end."""
 
     title: str
     intro: List[str]
@@ -34,7 +34,7 @@ class Run:
 
 
 def run_of(program: str, script: Sequence[str], name: str) -> Run:
-    """The run of a script without faults; a name stands for a title where it has none."""
+    """The run of a script without faults; if it has no title, the name is used."""
     lab = Laboratory(program)
     try:
         story = story_of(lab, script)
@@ -53,7 +53,7 @@ def run_of(program: str, script: Sequence[str], name: str) -> Run:
 
 
 def _undone(story: Story, branches: Sequence[Branch]) -> Iterator[Former]:
-    """The branches of which events were undone at the end, with these."""
+    """The branches that have undone events at their end, with these."""
     for it in branches:
         if it.cursor < len(it.events):
             yield Former(replace(it, cursor=len(it.events)), story.branches[it.name].notes)

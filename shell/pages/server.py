@@ -8,12 +8,12 @@ from typing import Sequence
 from ..language.commands import OPEN
 from ..programs import Ended
 
-# How often a free port is sought: another program can take one in the meantime.
+# How often to look for a free port: another program can take one in the meantime.
 TRIES = 5
 
 
 class Server:
-    """The program as a server with one session, on a port that was free."""
+    """The program as a server with one session, at a port that was free."""
 
     def __init__(self, program: str, setup: Sequence[str]):
         self.port = free_port()
@@ -32,7 +32,7 @@ class Server:
             with self.process.stdin as it:
                 it.write("".join(f"{line}\n" for line in (*setup, OPEN.word)))
         except BrokenPipeError:
-            pass  # (it has ended, and says why)
+            pass  # (it has ended, and has reported why)
         self.process.stdin = None
         try:
             self.is_listening = bool(self.process.stdout.readline())
@@ -41,7 +41,7 @@ class Server:
             raise
 
     def close(self) -> str:
-        """Waits until it has ended, which it does with its session, and ends it where it does not: what it said of faults."""
+        """Waits until it has ended, which it does with its session, and kills it if it does not; returns the faults that it reported."""
         try:
             _, said = self.process.communicate(timeout=2)
         except subprocess.TimeoutExpired:

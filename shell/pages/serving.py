@@ -1,4 +1,4 @@
-"""The live page over HTTP: what is answered to a request, and what to a stranger's."""
+"""The live page over HTTP: the answers to requests, and to those of strangers."""
 from __future__ import annotations
 
 import io
@@ -17,11 +17,11 @@ from .door import Door, Within
 from .news import Stream
 from .typed import NotTaken, read_typed
 
-# The seconds in which a request has to be there, those in which each piece of what is sent has to be taken, and those between signs
-# of life.
+# The seconds within which a request has to arrive, those within which each piece of what is sent has to be taken, and those between
+# signs of life.
 READ_SECONDS = WRITE_SECONDS = BEAT = 10.0
 PIECE = 64 << 10
-# How soon a stream notices that nobody is there any more.
+# How soon a stream notices that its watcher is gone.
 LOOK = 1.0
 MOST_BODY = 64 << 10
 HTML, JSON, TEXT, EVENTS = "text/html; charset=utf-8", "application/json", "text/plain; charset=utf-8", "text/event-stream"
@@ -34,14 +34,14 @@ HEADERS = {
     "Cross-Origin-Opener-Policy": "same-origin",
     "Connection": "close",
 }
-# The page itself says in a <meta> which script and which style it has; who may frame it, only a header can say.
+# The page itself says in a <meta> which script and which style it has; only a header can say who may frame it.
 POLICY = "frame-ancestors 'none'; base-uri 'none'; form-action 'none'"
 METHODS = {"": "GET", "events": "GET", "do": "POST"}
 _TARGET = re.compile(r"/([^/?]*)/([^/?]*)(?:\?(.*))?")
 
 
 class Refused(Exception):
-    """A request that is not answered with what it asks for, and why."""
+    """A request does not get what it asks for, with the reason."""
 
     def __init__(self, status: HTTPStatus, why: str = ""):
         super().__init__(why or status.phrase)
@@ -49,14 +49,14 @@ class Refused(Exception):
 
 
 class Visit(BaseHTTPRequestHandler):
-    """A connection, which is for one request."""
+    """A connection, for one request."""
 
     server: Door
-    # (what names no version that there is gets a whole answer too, with all headers)
+    # (a request with an unknown version gets a whole answer, too, with all headers)
     protocol_version = default_request_version = "HTTP/1.1"
     disable_nagle_algorithm = True
 
-    # ---- what the standard library's has otherwise
+    # ---- what differs from the standard library
 
     def setup(self) -> None:
         super().setup()
@@ -67,10 +67,10 @@ class Visit(BaseHTTPRequestHandler):
         return "pfl_lab"
 
     def log_message(self, format: str, *words: object) -> None:
-        """Nothing is logged."""
+        """Logs nothing."""
 
     def send_error(self, code: int, message: Optional[str] = None, explain: Optional[str] = None) -> None:
-        """Answers what is no request, or has a method that there is not."""
+        """Answers what is not a request, or has an unknown method."""
         status = HTTPStatus.METHOD_NOT_ALLOWED if code == HTTPStatus.NOT_IMPLEMENTED else HTTPStatus(code)
         self._answer(status, TEXT, status.phrase)
 
@@ -100,22 +100,22 @@ class Visit(BaseHTTPRequestHandler):
             self._answer(HTTPStatus.OK, HTML, self.server.bridge.page_for(may))
 
     def _post(self) -> None:
-        # (what is small is read before anything is refused: a connection that is closed before loses its answer)
+        # (a small body is read before anything is refused: a connection closed before that loses its answer)
         body = self._body()
         may, _, _ = self._target()
         self._check_sender()
         if may != STEP:
-            raise Refused(HTTPStatus.FORBIDDEN, "who has this address may watch, and not step")
+            raise Refused(HTTPStatus.FORBIDDEN, "this address is for watching, not for stepping")
         try:
             typed = read_typed(body)
         except NotTaken as why:
             raise Refused(HTTPStatus.BAD_REQUEST, str(why)) from why
         self._answer(HTTPStatus.OK, JSON, json.dumps(self.server.bridge.do(typed)))
 
-    # ---- what a request has to have
+    # ---- what a request must have
 
     def _target(self) -> Tuple[str, str, str]:
-        """What the sender may do, the path after the token, and the query; the method has to be that of the path."""
+        """What the sender may do, the path after the token, and the query; the method must be that of the path."""
         if self.headers.get_all("Host", []) not in [[it] for it in self.server.hosts]:
             raise Refused(HTTPStatus.FORBIDDEN, "this host is not known here")
         found = _TARGET.fullmatch(self.path)
@@ -140,11 +140,11 @@ class Visit(BaseHTTPRequestHandler):
         return body
 
     def _check_sender(self) -> None:
-        """Whether it is the page that sends this, and not a form or a script of another place."""
+        """Checks that the page sent this, and not a form or a script from another place."""
         origins: List[str] = self.headers.get_all("Origin", [])
         is_own = origins in [[f"http://{it}"] for it in self.server.hosts]
         if not is_own and (origins or self.headers.get("Sec-Fetch-Site", "same-origin") != "same-origin"):
-            raise Refused(HTTPStatus.FORBIDDEN, "this was sent by another place than the page")
+            raise Refused(HTTPStatus.FORBIDDEN, "this was not sent by the page")
         if self.headers.get_content_type() != JSON:
             raise Refused(HTTPStatus.UNSUPPORTED_MEDIA_TYPE, f"the body has to be {JSON}")
 
@@ -157,7 +157,7 @@ class Visit(BaseHTTPRequestHandler):
             self._send(body)
 
     def _send(self, content: bytes) -> None:
-        """Sends what may be long to one who may read it slowly."""
+        """Sends what may be long to a reader who may be slow."""
         for at in range(0, len(content), PIECE):
             self.wfile.write(content[at : at + PIECE])
 
@@ -178,14 +178,14 @@ class Visit(BaseHTTPRequestHandler):
         if not after:
             raise Refused(HTTPStatus.BAD_REQUEST, "events?after=VERSION is wanted")
         if not self.server.bridge.news.come():
-            raise Refused(HTTPStatus.SERVICE_UNAVAILABLE, "there are too many who watch")
+            raise Refused(HTTPStatus.SERVICE_UNAVAILABLE, "too many people are watching")
         try:
             self._stream(Stream(int(after[1])))
         finally:
             self.server.bridge.news.go()
 
     def _stream(self, stream: Stream) -> None:
-        """Sends what a watcher lacks as it comes, and signs of life. One who does not read holds up this thread alone."""
+        """Sends what a watcher lacks as it comes, and signs of life. A watcher who does not read holds up only this thread."""
         self._begin(HTTPStatus.OK, EVENTS, {})
         sent = time.monotonic()
         while not stream.is_over and not self._is_left():

@@ -12,12 +12,12 @@ from ..mirror import Entry, Shared
 from ..pair import Pair, read_shown
 from ..programs import FULL, VIEW, Client, Ended, Session, commands_of
 
-# How long to wait, at most, before branches are read anew whose numbers look the same.
+# How long to wait, at most, before branches whose numbers look the same are read again.
 LONGEST_PAUSE = 30.0
 
 
 class Branches:
-    """The branches, followed by the replies to this session's own commands, and read anew where other sessions have changed something."""
+    """The branches, followed by the replies to this session's own commands, and read again if other sessions have changed something."""
 
     def __init__(self, session: Session):
         self.session = session
@@ -25,15 +25,15 @@ class Branches:
         self._is_stale = True
 
     def look(self) -> None:
-        """Has the branches be as they are by now."""
+        """Updates the branches."""
         raise NotImplementedError
 
     def hear(self) -> None:
-        """Has the branches be as they are, as far as that is to be known without a question to a server that is followed."""
+        """Updates the branches, as far as that is possible without asking a server that is followed."""
         raise NotImplementedError
 
     def wait(self, seconds: float) -> None:
-        """Waits until something may have happened, for these seconds at most."""
+        """Waits until something may have happened, at most this many seconds."""
         raise NotImplementedError
 
     def ask(self, line: str) -> List[str]:
@@ -41,7 +41,7 @@ class Branches:
         raise NotImplementedError
 
     def shown(self, name: str) -> Optional[Pair]:
-        """The pair that the server shows; none where the branch is gone."""
+        """The pair that the server shows; none if the branch is gone."""
         lines = self._ask(f"{SHOW.word} {name}")
         return read_shown(lines) if lines[-1] == "end" else None
 
@@ -49,7 +49,7 @@ class Branches:
         """Reads all branches."""
         self._is_stale = False
         logs = [self._ask(f"{LOG.word} {name}") for name in self._ask(NAMES.word)[0].split()[1:]]
-        # (one can be gone since)
+        # (a branch can be gone by now)
         self.by_name = {it.name: it for it in map(read_log, (lines for lines in logs if lines[-1] == "end"))}
 
     def _ask(self, line: str) -> List[str]:
@@ -76,8 +76,8 @@ class Branches:
 
 
 class FollowedBranches(Branches):
-    """Those of a server that is followed, which sends each command, so that it is asked for a view only before a command of one's own;
-    they are read from the mirror."""
+    """The branches of a server that is followed. It sends each command, so it is asked for a view only before a command of our own;
+    the branches are read from the mirror."""
 
     def __init__(self, session: Shared):
         super().__init__(session)
@@ -118,18 +118,19 @@ class FollowedBranches(Branches):
 
 
 class PolledBranches(Branches):
-    """Those of a server that does not send its commands: a `view` says whether other sessions gave some, which is no command and waits
-    for nobody."""
+    """The branches of a server that does not send its commands: a `view`, which is no command and waits for no one, says whether other
+    sessions gave any."""
 
     def __init__(self, session: Client):
         super().__init__(session)
-        # The number of commands that the server took, as far as it is known here, and the other numbers of the newest view.
+        # How many commands the server has taken, as far as known here, and the other numbers of the newest view.
         self._commands, self._numbers = 0, [""]
         self._pause, self._not_before = 0.0, 0.0
 
     def look(self) -> None:
-        """Reads the branches anew where they may have changed. Others mostly ask questions where no number of the view but that of
-        the commands changes, and take a reading for a command in turn: so each that brings nothing makes the next wait longer."""
+        """Reads the branches again if they may have changed. If only the number of commands in the view changes, others have mostly
+        asked questions, and a reading looks like a command to them in turn: so each reading that brings nothing makes the next wait
+        longer."""
         self._see()
         if self._is_stale and time.monotonic() >= self._not_before:
             before = dict(self.by_name)
@@ -152,7 +153,7 @@ class PolledBranches(Branches):
         return reply
 
     def _see(self) -> None:
-        """Looks whether other sessions gave commands, and whether something else than their number changed."""
+        """Looks whether other sessions gave commands, and whether anything but their number changed."""
         view = self.session.ask(VIEW)[0]
         commands, numbers = commands_of(view), view.split()[2:]
         if not view.startswith(f"{VIEW} ") or numbers != self._numbers:
@@ -167,5 +168,5 @@ class PolledBranches(Branches):
 
 
 def branches_of(session: Union[Client, Shared]) -> Branches:
-    """The branches of a session, by what its server tells."""
+    """The branches of a session, depending on what its server sends."""
     return FollowedBranches(session) if isinstance(session, Shared) else PolledBranches(session)

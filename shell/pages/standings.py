@@ -12,7 +12,7 @@ from ..states import State
 
 # A protocol, which of the two keys it is, and the key.
 FlowKey = Tuple[str, str, Key]
-# How a state stands, for JSON: with the fields that differ, or where one node alone has it the other's names for the flow.
+# How a state stands, for JSON: with the fields that differ, or if only one node has it, the other's names for the flow.
 Standing = Dict[str, object]
 
 
@@ -25,17 +25,17 @@ class Change(NamedTuple):
 
 
 class Standings:
-    """The states of both nodes set against each other, of which a few change at a time."""
+    """The states of both nodes compared, as a few change at a time."""
 
     def __init__(self, one_rule_set: bool) -> None:
         self.one_rule_set = one_rule_set
-        # The states of each node by their keys, how each state stands, and how many stand so.
+        # The states of each node by their keys, how each state stands, and how many stand that way.
         self._names: Dict[str, Dict[FlowKey, Set[Name]]] = {it: {} for it in NODES}
         self._kinds: Dict[Name, str] = {}
         self._numbers: Numbers[str] = Counter()
 
     def take(self, changes: Sequence[Change], pair: Pair) -> Iterator[Tuple[Name, Optional[Standing]]]:
-        """Takes what changed, and the pair as it is now: how each state stands that may stand otherwise than before; nothing where both
+        """Takes what changed, and the pair as it is now; yields how each state stands that may stand differently now; nothing if both
         nodes have the same, or neither has it."""
         concerned = {it.name for it in changes}
         for change in changes:
@@ -53,7 +53,7 @@ class Standings:
         return Counts(number["a"] + number["a twice"], number["b"] + number["b twice"], number["differ"], number["same"], number["a twice"])
 
     def _index(self, change: Change) -> Set[Name]:
-        """Has the keys name a state that changed, and no longer what it was: the states that have one of these keys."""
+        """Updates the keys for a state that changed; returns the states that have one of these keys."""
         concerned: Set[Name] = set()
         for names, was, now in zip(self._names.values(), change.before, change.after):
             for key in _keys(was):
@@ -70,8 +70,8 @@ class Standings:
         """The kind by which a state is counted, and how it stands."""
         if one and two:
             parts = {it: both for it, both in unequal_fields(one, two).items() if self.one_rule_set or it not in RULE}
-            told: Standing = {"how": "differ", "parts": [[it, *both] for it, both in parts.items()]}
-            return ("differ", told) if parts else ("same", None)
+            differing: Standing = {"how": "differ", "parts": [[it, *both] for it, both in parts.items()]}
+            return ("differ", differing) if parts else ("same", None)
         node, state = ("a", one) if one else ("b", two)
         if state is None:
             return "", None

@@ -1,4 +1,4 @@
-"""What a browser sends: a line of the language with the name of who sends it, taken from the body of a request, or refused."""
+"""What a browser sends: a line of the language with the name of its sender, taken from the body of a request, or refused."""
 from __future__ import annotations
 
 import json
@@ -6,7 +6,7 @@ from typing import NamedTuple, Optional
 
 from ..language.commands import BACK, CHANGING, DROP, EXCISE, FORWARD, RESTORE
 
-# Those that mean something else after another change of their branch.
+# The commands that mean something else after another change of their branch.
 COUNTING = tuple(it.word for it in (BACK, FORWARD, DROP, EXCISE, RESTORE))
 LONGEST_LINE = 4096
 LONGEST_NAME = 40
@@ -14,11 +14,11 @@ NOBODY = "somebody"
 
 
 class NotTaken(ValueError):
-    """A body that is not given to the program, with the reason."""
+    """A body is not given to the program, with the reason."""
 
 
 class Typed(NamedTuple):
-    """A line that changes the pair, who sends it, and the version of the page that it was sent from, if it says so."""
+    """A line that changes the pair, its sender, and the version of the page that it was sent from, if given."""
 
     name: str
     line: str
@@ -26,13 +26,13 @@ class Typed(NamedTuple):
 
     @property
     def takes_from(self) -> str:
-        """The branch from which it takes events by how many there are, or where they are; none of another line."""
+        """The branch whose events it takes by their number or their place; none for any other line."""
         words = self.line.split()
         return words[1] if words[0] in COUNTING and len(words) > 1 else ""
 
 
 def read_typed(body: bytes) -> Typed:
-    """The line that a body has, and the name."""
+    """The line in a body, and the name."""
     try:
         it = json.loads(body.decode())
     except (ValueError, RecursionError):
@@ -46,13 +46,13 @@ def read_typed(body: bytes) -> Typed:
 
 def _check(line: str) -> None:
     if len(line.encode(errors="replace")) > LONGEST_LINE:
-        raise NotTaken(f"the line is too long: {LONGEST_LINE} bytes are read at most")
+        raise NotTaken(f"the line is too long: at most {LONGEST_LINE} bytes are read")
     if any(it < " " or "\x7f" <= it < "\xa0" or "\ud800" <= it < "\ue000" for it in line):
-        raise NotTaken("the line has a control character; one line is sent at a time")
+        raise NotTaken("the line has a control character; send one line at a time")
     if line.split()[:1] not in [[it] for it in CHANGING]:
         raise NotTaken(f"a page sends only lines that change the pair: {', '.join(CHANGING)}")
 
 
 def _cleaned(name: str) -> str:
-    """A name as it is shown: what does not print, or turns the way of writing around, is left out."""
+    """A name as it is shown, without what does not print or reverses the direction of writing."""
     return "".join(it for it in name if it.isprintable())[:LONGEST_NAME].strip() or NOBODY

@@ -1,4 +1,4 @@
-"""Why a node has no state for a packet that its peer has one for: what became of the frames that told of it."""
+"""Why a node has no state for a packet for which its peer has one: what became of the frames about it."""
 from __future__ import annotations
 
 from dataclasses import replace
@@ -13,20 +13,20 @@ from ..language.names import Name
 from ..language.packets import PacketEvent
 from ..language.records import INSERT, QUEUES, SHORT_UPDATE, UPDATE, RecordKind
 from ..pair import Node, other
-from .questions import Question, peer_of, told_state
+from .questions import Question, peer_of, state_words
 from .records import became, came_records
 
-# What brings a state to a node that does not have it, and what else tells of one.
+# What brings a state to a node that does not have it, and what else is about one.
 WHOLE = (INSERT, UPDATE)
-TOLD = (*WHOLE, SHORT_UPDATE)
+ABOUT_STATES = (*WHOLE, SHORT_UPDATE)
 # Whether a node lost a state, by what it was before and after an event.
 IsLoss = Callable[[Node, Node], bool]
-# So many frames that told of a state are spoken of.
+# At most this many frames about a state are named.
 MOST_FATES = 4
 
 
 def explain_absence(question: Question) -> List[str]:
-    """Why no state matched where one could be expected; nothing where there is none to expect."""
+    """Why no state matched when one could be expected; nothing if none could be."""
     packet = question.packet
     here, there = question.table(packet.node), peer_of(question, packet.node)
     if here.found(packet) is not None:
@@ -38,11 +38,11 @@ def explain_absence(question: Question) -> List[str]:
     if state.name in here.states:
         return [*lines, f"node {there.id} matches it to state {state.name}, which {here.id} has with other keys"]
     why = _why_absent(question, state.name, packet.node)
-    return [*lines, f"node {there.id} has {told_state(state)} for this flow; {here.id} does not: {why[0]}", *why[1:]]
+    return [*lines, f"node {there.id} has {state_words(state)} for this flow; {here.id} does not: {why[0]}", *why[1:]]
 
 
 def _gone_by_flow(question: Question) -> List[str]:
-    """The last event that took a state of this flow from the node, where neither node has one now."""
+    """The last event that removed a state of this flow from the node, if neither node has one now."""
     packet = question.packet
 
     def is_loss(before: Node, after: Node) -> bool:
@@ -51,15 +51,15 @@ def _gone_by_flow(question: Question) -> List[str]:
 
     lost = _newest_loss(question, _names_of(question), is_loss)
     state = question.history.pair(lost.number - 1).nodes[packet.node].found(packet) if lost else None
-    return [f"node {packet.node} had {told_state(state)} for this flow until {lost}; no node has one now"] if state else []
+    return [f"node {packet.node} had {state_words(state)} for this flow until {lost}; no node has one now"] if state else []
 
 
 def _names_of(question: Question) -> List[Name]:
     """The states that a node can have had for the packet's flow: those of the packets of both nodes with the same ends, or the
-    same far end where rules are known to translate the near one. A state that a frame brought was made by a packet too."""
+    same far end if rules are known to translate the near one. A state that a frame brought was made by a packet, too."""
     packet = question.packet
     translate = any(it.pool for rules in question.lab.setup.rules.values() for it in rules)
-    # (a look at the text first: there can be many packets)
+    # (first a look at the text: there can be many packets)
     lines = (it for it in enumerate(question.history.lines, 1) if it[1].startswith(f"{PACKET.word} ") and packet.key.far in it[1])
     packets = ((number, read_packet(line)) for number, line in lines)
     made = (number for number, one in packets if _meets(one, packet) and (translate or one.key == packet.key))
@@ -68,7 +68,7 @@ def _names_of(question: Question) -> List[Name]:
 
 
 def _newest_loss(question: Question, names: Sequence[Name], is_loss: IsLoss) -> Optional[Happened]:
-    """The last event that took a state from the packet's node: one of these names, as the node before and after it shows."""
+    """The last event that removed a state of one of these names from the packet's node, as the node before and after it shows."""
     node, history = question.packet.node, question.history
     for number in range(len(history.lines) if names else 0, 0, -1):
         if _may_take(question, number, names) and is_loss(*(history.pair(number - more).nodes[node] for more in (1, 0))):
@@ -77,7 +77,7 @@ def _newest_loss(question: Question, names: Sequence[Name], is_loss: IsLoss) -> 
 
 
 def _may_take(question: Question, number: int, names: Sequence[Name]) -> bool:
-    """Whether an event can have taken one of the states of the packet's flow, if it did not do so at the other node."""
+    """Whether an event can have removed one of the states of the packet's flow, if it did not do so at the other node."""
     packet, line = question.packet, question.history.lines[number - 1]
     words = line.split()
     event = EVENTS[words[0]]
@@ -86,7 +86,7 @@ def _may_take(question: Question, number: int, names: Sequence[Name]) -> bool:
     if words[1] != packet.node:
         return False
     if event is PACKET:
-        # A new connection ends a closed one of the same ends.
+        # A new connection ends a closed one with the same ends.
         return is_tcp(words[3]) and read_packet(line).is_request and _meets(read_packet(line), packet)
     return event in (PURGE, CLEAR, RESTART) or event is KILL and Name.read(words[2]) in names
 
@@ -96,25 +96,25 @@ def _meets(one: PacketEvent, two: PacketEvent) -> bool:
 
 
 def _turned(node: Node, packet: PacketEvent) -> List[str]:
-    """States of the same two ends that this packet's direction, or its untranslated end, keeps from matching."""
+    """States with the same two ends that do not match, because of this packet's direction or its untranslated end."""
     lines = []
     way = "in" if packet.direction == "out" else "out"
     as_turned = node.found(replace(packet, direction=way))
     if as_turned is not None:
-        lines.append(f"{told_state(as_turned)} of {node.id} has these ends, but matches this packet on its way {way} alone")
+        lines.append(f"{state_words(as_turned)} of {node.id} has these ends, but matches this packet only on its way {way}")
     for state in node.states.values():
         keys = {"wire": state.wire, "stack": state.stack}
         which, translated = ("wire", "stack") if packet.direction == "in" else ("stack", "wire")
         if state.protocol == packet.protocol and keys[translated] == packet.key:
             lines.append(
-                f"{told_state(state)} of {node.id} is translated: on the way {packet.direction} its {which} key counts, "
+                f"{state_words(state)} of {node.id} is translated: on the way {packet.direction} its {which} key counts, "
                 f"with {keys[which].near}, and the packet has {packet.key.near}"
             )
     return lines
 
 
 def _why_absent(question: Question, name: Name, node: str) -> List[str]:
-    """What kept or took the state from the node, newest first where several things did."""
+    """What kept the state from the node or removed it, newest first if several things did."""
 
     def is_loss(before: Node, after: Node) -> bool:
         return name in before.states and name not in after.states
@@ -122,33 +122,33 @@ def _why_absent(question: Question, name: Name, node: str) -> List[str]:
     gone = _newest_loss(question, [name], is_loss)
     since = gone.number if gone else 0
     carriers = (it for it in _carriers(question, name, node, WHOLE) if it.ended is None or it.ended.number > since)
-    told = _fates(question, islice(carriers, MOST_FATES), name)
+    fates = _fates(question, islice(carriers, MOST_FATES), name)
     if gone is None:
-        return told or [_untold(question, peer_of(question, node), name)]
+        return fates or [_unsent(question, peer_of(question, node), name)]
     there = f"it was there until {gone}"
     # A short update would not bring it.
     queued = _queued(peer_of(question, node), name, (INSERT.queue, UPDATE.queue))
-    parts = [*([queued] if queued else []), *told]
+    parts = [*([queued] if queued else []), *fates]
     return [*parts[:-1], f"{parts[-1]}; before that {there}"] if parts else [there]
 
 
 def _fates(question: Question, newest: Iterable[Flight], name: Name) -> List[str]:
-    """What became of frames with the state, the newest first."""
+    """What became of frames with the state, newest first."""
     return [f"{'before that, ' * bool(at)}{_fate(question, it, name)}" for at, it in enumerate(newest)]
 
 
 def explain_lag(question: Question, name: Name, node: str) -> List[str]:
-    """Why a node's copy of a state is not what the peer has: what the peer has still to tell, or what was lost of it."""
+    """Why a node's copy of a state is not what the peer has: what the peer has yet to send, or what was lost."""
     peer = peer_of(question, node)
     queued = _queued(peer, name)
     if queued:
         return [queued]
-    newest = islice(_carriers(question, name, node, TOLD), 1)
-    return [f"the newest that {peer.id} told of it: {it}" for it in _fates(question, newest, name)]
+    newest = islice(_carriers(question, name, node, ABOUT_STATES), 1)
+    return [f"the newest that {peer.id} sent about it: {it}" for it in _fates(question, newest, name)]
 
 
 def _carriers(question: Question, name: Name, node: str, kinds: Sequence[RecordKind]) -> Iterator[Flight]:
-    """The frames to the node with such records of the state, the newest first."""
+    """The frames to the node with such records of the state, newest first."""
     return (it for it in question.history.newest_flights() if it.to == node and _carried(it, name, kinds))
 
 
@@ -158,13 +158,13 @@ def _carried(flight: Flight, name: Name, kinds: Sequence[RecordKind]) -> Optiona
 
 
 def _fate(question: Question, flight: Flight, name: Name) -> str:
-    """What became of a frame that told of the state."""
+    """What became of a frame about the state."""
     frame, sent, ended = f"frame {flight.ticket}", f"(event {flight.sent.number})", flight.ended
     if ended is None:
         if flight.now.broken:
             return f"{frame}, which brought it {sent}, is in flight, but was cut short"
         return f"{frame}, which brings it {sent}, is still in flight"
-    kind = _carried(flight, name, TOLD)
+    kind = _carried(flight, name, ABOUT_STATES)
     what = "insertion" if kind is INSERT else kind.name if kind else ""
     if flight.is_lost:
         return f"its {what} was lost in {frame} (event {ended.number})"
@@ -176,16 +176,16 @@ def _fate(question: Question, flight: Flight, name: Name) -> str:
 
 
 def _queued(peer: Node, name: Name, kinds: Container[str] = QUEUES) -> str:
-    """That the peer has still to tell of a state, by these queues; empty where it has not."""
+    """A line that the peer has yet to send something about a state, by these queues; empty if it has not."""
     for it in peer.queue:
         if it.name == name and it.kind in kinds:
             return f"{peer.id} has it on its {QUEUES[it.kind]} queue, and has not sent it yet (`flush {peer.id}`)"
     return ""
 
 
-def _untold(question: Question, peer: Node, name: Name) -> str:
+def _unsent(question: Question, peer: Node, name: Name) -> str:
     """Why no frame brought the state."""
     state = peer.states[name]
     if "n" in state.flags:
-        return f"{question.rule_words(peer.id, state.rule)} made it with `no-sync`, so {peer.id} never tells of it"
+        return f"{question.rule_words(peer.id, state.rule)} made it with `no-sync`, so {peer.id} never sends it"
     return _queued(peer, name) or f"no frame to {other(peer.id)} has carried it"

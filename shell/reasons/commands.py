@@ -1,4 +1,4 @@
-"""Why a command on branches was refused, in words, with the numbers that it met."""
+"""Why a command on branches was refused, in words and numbers."""
 from __future__ import annotations
 
 from difflib import get_close_matches
@@ -11,7 +11,7 @@ from ..language.searches import FOUND, GAVE_UP, NONE, SEARCH
 from ..pair import Pair
 from ..words import counted
 
-NOT_SHOWN = "the branches as they are now do not show it: the shell cannot tell more"
+NOT_SHOWN = "the branches as they are now do not show why: the shell knows no more"
 NAME_FORM = f"a branch's name is {BRANCH.what}"
 
 
@@ -60,8 +60,8 @@ def _nothing_forward(lab: Laboratory, words: Sequence[str]) -> List[str]:
     undone = pair.events - pair.cursor
     if number <= undone:
         return [NOT_SHOWN]
-    behind = f"{counted(undone, 'undone event')} of {words[1]} {'is' if undone == 1 else 'are'} after the cursor"
-    return [f"{counted(number, 'event')} cannot happen again: {behind}"]
+    undone_events = f"{counted(undone, 'undone event')} of {words[1]} {'is' if undone == 1 else 'are'} after the cursor"
+    return [f"{counted(number, 'event')} cannot happen again: {undone_events}"]
 
 
 def _last_branch(lab: Laboratory, words: Sequence[str]) -> List[str]:
@@ -110,8 +110,8 @@ _REFUSALS: Dict[str, Callable[[Laboratory, Sequence[str]], List[str]]] = {
 # What the first word of a reply to a search says.
 _SEARCHED = {
     FOUND: "no run of these choices with fewer events leads to the goal: that is proved; `take` steps this one on a new branch",
-    NONE: "no run of at most so many events of these choices leads to the goal: that is proved",
-    GAVE_UP: "more runs were to be tried, and nothing is known: allow more runs, or fewer events or choices",
+    NONE: "no run of at most this many events of these choices leads to the goal: that is proved",
+    GAVE_UP: "there were more runs to try, so nothing is known: allow more runs, or fewer events or choices",
 }
 
 
@@ -121,12 +121,12 @@ def explain_command(lab: Laboratory, line: str, reply: str) -> List[str]:
 
 
 def explain_done(words: Sequence[str], reply: str) -> List[str]:
-    """What a command that was done tells of reasons: of an excision, why other events fell out."""
+    """What there is to explain about a command that was done: for an excision, why other events fell out."""
     places = reply.split()[1:]
     if words[0] == SEARCH:
         return [_SEARCHED[reply.split()[0]]]
     if words[0] != EXCISE.word:
-        return ["it was done: `why` has reasons of events, refusals and faulty lines"]
+        return ["it was done: `why` gives reasons for events, refusals and faulty lines"]
     if not places:
         return [f"every other event of {words[1]} was accepted without event {words[2]} too: none fell out with it"]
     gone = f"events {', '.join(places[:-1])} and {places[-1]}" if len(places) > 1 else f"event {places[0]}"

@@ -1,4 +1,4 @@
-"""What events without packets found to do: sending, clocks, purges, releases and bulk updates."""
+"""What events without a packet found to do: sending, clocks, purges, releases and bulk updates."""
 from __future__ import annotations
 
 from typing import Callable, Dict, List
@@ -12,7 +12,7 @@ from ..language.records import SHORT_DELETE
 from ..language.setups import BATCH, BULK_MS, DEFER_MS, MTU
 from ..pair import Node, other
 from ..states import State
-from .questions import Question, name_list, told_state
+from .questions import Question, name_list, state_words
 from ..words import counted, scaled_by
 
 
@@ -21,8 +21,8 @@ def _node(question: Question) -> Node:
 
 
 def _purged(question: Question) -> List[str]:
-    """What a purge found expired, the first to expire first, and when the next of what is left expires. Its timeouts are those of the
-    number of states at its start, and the next purge may have longer ones."""
+    """What a purge found expired, the first to expire first, and when the next of the rest expires. Its timeouts follow from the
+    number of states at its start; the next purge may have longer ones."""
     purge, node = question.reason, _node(question)
     assert isinstance(purge, Purge)
     due = sorted(purge.due, key=lambda it: (it.expires, it.name))
@@ -45,7 +45,7 @@ def _expired(question: Question, it: Expiry, state: State) -> str:
     said = f" ({said_by})" if said_by else ""
     scaled = f", scaled to {it.scaled} s" if it.scaled != it.timeout else ""
     used = f"last used at {it.last} ms, and {it.timeout_class} is {it.timeout} s{said}{scaled}"
-    return f"{told_state(state)} expired at {it.expires} ms: {used}"
+    return f"{state_words(state)} expired at {it.expires} ms: {used}"
 
 
 def _released(question: Question) -> List[str]:
@@ -78,7 +78,7 @@ def _queued(question: Question) -> List[str]:
     ended = f"these were the last: {node.id} lists the end of the bulk update"
     return [
         f"a turn passes over states that are queued already, `no-sync`, or newer from the peer; {question.lab.limit(BATCH)}",
-        ended if after.serve == "-" else f"{node.id} serves on",
+        ended if after.serve == "-" else f"{node.id} goes on serving",
     ]
 
 
@@ -92,18 +92,18 @@ def _clock(question: Question) -> List[str]:
 
 def _killed(question: Question) -> List[str]:
     node, name = _node(question), Name.read(question.words[2])
-    told = any(it.name == name and it.kind == SHORT_DELETE.queue for it in question.after.nodes[node.id].queue)
+    is_queued = any(it.name == name and it.kind == SHORT_DELETE.queue for it in question.after.nodes[node.id].queue)
     peer = other(node.id)
     return [
-        f"{told_state(node.states[name])} of {node.id} is deleted",
-        f"{peer} is to be told: a short delete is queued" if told else f"{peer} was never told of it, and is not told now",
+        f"{state_words(node.states[name])} of {node.id} is deleted",
+        f"a short delete is queued for {peer}" if is_queued else f"nothing about it was ever sent to {peer}, and nothing is now",
     ]
 
 
 def _cleared(question: Question) -> List[str]:
     node = _node(question)
     bounds = [it for it in question.after.nodes[node.id].clears if it not in node.clears]
-    lines = [f"{node.id} gave up {counted(len(node.states), 'state')}, those of the other boots too"]
+    lines = [f"{node.id} gave up {counted(len(node.states), 'state')}, including those of other boots"]
     peer = other(node.id)
     return lines + [f"a clear is listed: {peer} is to give up those of boot {it.creator} up to id {it.bound}" for it in bounds]
 
@@ -114,8 +114,8 @@ def _cut(question: Question) -> List[str]:
     if was == now:
         return [f"frame {ticket} had {was} bytes, and keeps them all"]
     if now < HEADER:
-        return [f"frame {ticket} had {was} bytes; {now} are less than a header, so that its receiver cannot read it (Short)"]
-    return [f"frame {ticket} had {was} bytes; its header tells its first length still, so that its receiver cannot read it"]
+        return [f"frame {ticket} had {was} bytes; {now} are less than a header, so its receiver cannot read it (Short)"]
+    return [f"frame {ticket} had {was} bytes; its header still has its first length, so its receiver cannot read it"]
 
 
 def _boot(question: Question) -> List[str]:

@@ -1,11 +1,12 @@
-"""Which word of a line is at fault. The program names the fault alone; the word is found by the forms of lines, and told only
-where the fault found so is the program's."""
+"""Which word of a line is at fault. The program names only the fault; the word is found by the forms of lines, and is named only
+if the fault found this way is the program's."""
 from __future__ import annotations
 
-from typing import List, Optional, Sequence
+from typing import List, Optional, Sequence, Set
 
+from .. import helps
 from ..fitting import shortened
-from ..language.lines import check_line, wanted_form
+from ..language.lines import check_line, wanted_form, wanted_word
 from ..language.readers import LineFault
 from ..language.searches import words_of
 from ..language.setups import LIMITS, MOST_RULES
@@ -15,34 +16,42 @@ _WORDS = {
     "NotAscii": "the line has a character that is not ASCII",
     "Unknown": "a word is unknown",
     "Missing": "a word is missing",
-    "Number": "a word has not the form that is wanted",
-    "Extra": "there are words left over, or out of their order",
+    "Number": "a word has the wrong form",
+    "Extra": "there are words left over, or out of order",
     "Packet": "the fields make no packet",
 }
 _OF_SETUPS = {
     "open": "the setup ends without a line `open`",
-    "TooMany": f"a node has {MOST_RULES} rules at most",
+    "TooMany": f"a node has at most {MOST_RULES} rules",
     "NatNotOut": "a rule with `nat` has to be for the way `out`",
     "RdrNotIn": "a rule with `rdr` has to be for the way `in`",
-    "ZeroMax": "a rule has to allow one state at least, and says `max 0`",
+    "ZeroMax": "a rule has to allow at least one state, but says `max 0`",
     "NoMemory": "the program had no memory for the setup",
 }
 
 
-def explain_fault(line: str, reply: str, columns: Optional[int] = None) -> List[str]:
-    """What is wrong with a line, and where. The reply is the program's, `bad 5 Number`, or of a setup, `line 5 Number`, or of
-    what a line of good form says, like `rule 2 NatNotOut` or `world 1 TooSmall`. The line is shown in
-    rows of at most these columns."""
+def explain_fault(line: str, reply: str, columns: Optional[int] = None, shown: Optional[Set[str]] = None) -> List[str]:
+    """What is wrong with a line, and where. The reply is the program's `bad 5 Number`, or for a setup `line 5 Number`, or for what
+    a line of good form says, `rule 2 NatNotOut` or `world 1 TooSmall`. The line is shown in rows of at most this many columns. A
+    dialogue gives the forms that it has shown: they are not shown again, and those of this line are added."""
     kind, name = reply.split()[0], reply.split()[-1]
     if kind not in ("bad", "line"):
         return _of_content(line.split(), name)
     fault = _first_fault(line, kind == "line")
     if fault is None or fault.name != name:
-        lines = [f"{_WORDS.get(name, name)}; which word, the shell cannot tell"]
+        lines = [f"{_WORDS.get(name, name)}; the shell cannot say which word"]
     else:
         lines = [shortened(fault.why), *_marked([*map(shortened, words_of(line))], fault.place, columns)]
-    forms = wanted_form(line.split())
-    return [*lines, *(f"wanted: {it}" for it in forms)]
+    return [*lines, *_wanted(line.split(), set() if shown is None else shown)]
+
+
+def _wanted(words: Sequence[str], shown: Set[str]) -> List[str]:
+    """The forms of the line that was probably meant, or where these were shown, how to see them again."""
+    forms, word = wanted_form(words), wanted_word(words)
+    if not shown.issuperset(forms):
+        shown.update(forms)
+        return [f"wanted: {it}" for it in forms]
+    return [f"`help {word}` shows the form"] if forms and helps.shows(word, forms) else []
 
 
 def _first_fault(line: str, of_setup: bool) -> Optional[LineFault]:
@@ -58,7 +67,7 @@ def _marked(words: Sequence[str], place: Optional[int], columns: Optional[int]) 
     if place is None:
         return []
     lines: List[str] = []
-    # (what is missing at the end has its mark there)
+    # (a word missing at the end has its mark there)
     left, width = place, len(words[place]) if place < len(words) else 1
     for row in _rows([*words, *[""] * (place == len(words))], columns):
         lines.append(f"  {' '.join(row)}".rstrip())
@@ -70,7 +79,7 @@ def _marked(words: Sequence[str], place: Optional[int], columns: Optional[int]) 
 
 
 def _rows(words: Sequence[str], columns: Optional[int]) -> List[List[str]]:
-    """Words in rows, which begin with two spaces, and leave room for a mark after the last word."""
+    """Words in rows that begin with two spaces and leave room for a mark after the last word."""
     rows: List[List[str]] = [[]]
     for word in words:
         if columns and word and rows[-1] and len("  " + " ".join([*rows[-1], word]) + " ^") > columns:
@@ -80,7 +89,7 @@ def _rows(words: Sequence[str], columns: Optional[int]) -> List[List[str]]:
 
 
 def _of_content(words: Sequence[str], name: str) -> List[str]:
-    """The faults of lines of good form, by name, with the line's own number where it is the one at fault."""
+    """The faults of lines of good form, by name, with the line's own number if that is at fault."""
     if name not in ("TooSmall", "TooLarge"):
         return [_OF_SETUPS[name]]
     what = f"a limit is {'below' if name == 'TooSmall' else 'above'} its range"

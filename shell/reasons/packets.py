@@ -1,4 +1,4 @@
-"""Why a packet passed, is held or was dropped: by a state, or by a rule and what stood against a new state."""
+"""Why a packet passed, is held or was dropped: by a state, or by a rule and what prevented a new state."""
 from __future__ import annotations
 
 from itertools import islice
@@ -9,7 +9,7 @@ from ..explanations import Judged, OfState
 from ..language.events import DROPPED, HELD_BACK
 from ..language.packets import PacketEvent
 from ..language.setups import DEFER_MS, FLAGS_ANY, HELD, QUICK, RDR
-from .questions import Question, name_list, told_state
+from .questions import Question, name_list, state_words
 from ..rulings import deciding
 from ..setups import Rule
 from .windows import explain_window
@@ -17,7 +17,7 @@ from ..words import counted
 
 
 def explain_packet(question: Question) -> List[str]:
-    """The state that has the packet's key, or what the rules made of it, and why there is no such state."""
+    """The state with the packet's key, or what the rules made of the packet, and why there is no such state."""
     reason = question.reason
     if isinstance(reason, OfState):
         is_dropped = question.outcome[0] == DROPPED.word
@@ -30,13 +30,13 @@ def explain_packet(question: Question) -> List[str]:
 def _passed(question: Question, reason: OfState) -> List[str]:
     node = question.table(question.packet.node)
     key = "wire" if question.packet.direction == "in" else "stack"
-    by_key = f"{told_state(node.states[reason.name])} of {node.id} matches it by its {key} key"
+    by_key = f"{state_words(node.states[reason.name])} of {node.id} matches it by its {key} key"
     lines = [f"{by_key}; a packet of a state is not tested against rules"]
     return lines + ["it also let the held packet of the state go"] * (reason.name in [it.name for it in node.held])
 
 
 def _held(question: Question) -> List[str]:
-    """How long a packet waits, and whose place it took."""
+    """How long a packet waits, and which one it displaced."""
     node, after = question.table(question.packet.node), question.after.nodes[question.packet.node]
     known, wait = question.lab.knows_setup, question.lab.setup.limits[DEFER_MS]
     due = f"{node.clock + wait} ms" if known else f"`{DEFER_MS.word}` after {node.clock} ms"
@@ -50,7 +50,7 @@ def _held(question: Question) -> List[str]:
 
 
 def _judged(question: Question, reason: Judged) -> List[str]:
-    """What the rules made of it, after the closed connection went that a packet of a new one ends."""
+    """What the rules made of it, after any closed connection that a packet of a new one ends was deleted."""
     states, node = question.table(question.packet.node).states, question.packet.node
     rule = question.rule_words(node, reason.rule)
     if reason.how == "":
@@ -65,33 +65,33 @@ def _judged(question: Question, reason: Judged) -> List[str]:
     else:
         lines = [_room(question, reason), f"{rule} decided, and would make a state"]
     if reason.closed is not None:
-        old = told_state(states[reason.closed])
+        old = state_words(states[reason.closed])
         lines.append(f"{old} was closed at both ends, and this packet begins a new connection: so it was deleted first")
     return lines
 
 
 def _of(question: Question) -> str:
-    """Of how many rules none matches."""
+    """How many rules there are, none of which matches."""
     rules = question.lab.setup.rules[question.packet.node]
     return f", which has {counted(len(rules), 'rule')}" if question.lab.knows_setup else ""
 
 
 def _place(rule: Optional[Rule]) -> str:
-    """Why a rule is the one that decides."""
+    """Why a rule decides."""
     if rule is None:
         return ""
     return ": it is the first `quick` rule that matches" if rule.has(QUICK) else ": it is the last rule that matches"
 
 
 def _room(question: Question, reason: Judged) -> str:
-    """That the table is full, or which state has a key of the new one."""
+    """A line that the table is full, or which state has a key of the new one."""
     node = question.table(question.packet.node)
     if reason.how == "full":
         entries = counted(int(reason.values[1]), "entry", "entries")
         return f"the state table of {node.id} has {entries}, and the limit `states` is {reason.values[0]}"
     state, rule = node.states[reason.name], question.rule(node.id, reason.rule)
     key = state.wire if reason.how == "wire" else state.stack
-    has = f"{told_state(state)} of {node.id} has its {reason.how} key already: {key.near} and {key.far}"
+    has = f"{state_words(state)} of {node.id} has its {reason.how} key already: {key.near} and {key.far}"
     # (the other key is that of the packet, whatever the port)
     is_translated = reason.how == ("stack" if rule and rule.has(RDR) else "wire")
     if rule is None or not is_translated or not _may_choose(rule, question.packet):
@@ -100,13 +100,13 @@ def _room(question: Question, reason: Judged) -> str:
 
 
 def _may_choose(rule: Rule, packet: PacketEvent) -> bool:
-    """Whether the ports of a rule's pool give the packet several keys; to a protocol without ports they give one."""
+    """Whether the ports of a rule's pool give the packet several keys; a protocol without ports gets one key."""
     first, *others = islice(rule.keys(packet), 2)
     return others != [] and others[0] != first
 
 
 def _but_for_flags(question: Question) -> List[str]:
-    """The last pass rule that would take the packet if it said `flags any`; nothing where there is none, or rules are not known."""
+    """The last pass rule that would take the packet if it said `flags any`; nothing if there is none, or rules are not known."""
     packet, lab = question.packet, question.lab
     rules = lab.setup.rules[packet.node] if lab.knows_setup else []
     open_to = [number for number, it in enumerate(rules) if it.action == "pass" and not it.has(FLAGS_ANY)]

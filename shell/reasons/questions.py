@@ -1,4 +1,4 @@
-"""A question for the reason of an event's outcome: what stood before it, and what the proved program made of it."""
+"""A question for the reason of an event's outcome: the pair before it, and what the proved program made of it."""
 from __future__ import annotations
 
 from dataclasses import dataclass
@@ -20,7 +20,7 @@ from ..words import flow
 
 @dataclass(eq=False)
 class Question:
-    """An event after those before it, what came of it, and why. An event that is refused changes nothing."""
+    """An event, those before it, what came of it, and why. An event that is refused changes nothing."""
 
     history: History
     explanation: Explanation
@@ -48,7 +48,7 @@ class Question:
 
     @property
     def place(self) -> int:
-        """How many events were before it."""
+        """How many events came before it."""
         return len(self.history.lines)
 
     @property
@@ -63,7 +63,7 @@ class Question:
 
     @cached_property
     def packet(self) -> PacketEvent:
-        """The packet of an event that is one."""
+        """The packet, of an event that is a packet."""
         return read_packet(self.explanation.event.line)
 
     def table(self, node: str) -> Node:
@@ -71,16 +71,16 @@ class Question:
         return self.pair.nodes[node]
 
     def rule(self, node: str, number: Optional[int]) -> Optional[Rule]:
-        """A rule of a node by its number, where the setup is known."""
+        """A rule of a node by its number, if the setup is known."""
         return self.lab.setup.rule(node, number) if self.lab.knows_setup else None
 
     def rule_words(self, node: str, number: Optional[int]) -> str:
-        """A rule by its number with its words, as `rule 1 of a (pass out)`, and where it is from if that is known."""
+        """A rule by its number with its words, such as `rule 1 of a (pass out)`, and where it is from, if that is known."""
         rule = self.rule(node, number)
-        return f"rule {number} of {node}" + (f" ({rule.told})" if rule else "")
+        return f"rule {number} of {node}" + (f" ({rule.described})" if rule else "")
 
 
-def told_state(state: State) -> str:
+def state_words(state: State) -> str:
     """A state with its flow as `pfctl -ss` prints it: `state 1.1 (udp 10.0.0.1:1000 -> 192.0.2.9:53)`."""
     return f"state {state.name} ({flow(state)})"
 
@@ -91,6 +91,6 @@ def peer_of(question: Question, node: str) -> Node:
 
 
 def name_list(names: Sequence[Name], most: int = 6) -> str:
-    """Names, of many only the first."""
+    """Names; if there are many, only the first."""
     shown = ", ".join(str(it) for it in names[:most])
     return f"{shown} and {len(names) - most} more" if len(names) > most else shown

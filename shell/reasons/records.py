@@ -1,5 +1,5 @@
-"""What the records of a delivered frame did, one after another: the program tells what became of each, and the node before the frame
-shows what it met there. Where an earlier record of the frame has changed that, the words are fewer."""
+"""What the records of a delivered frame did, one after another: the program reports what became of each, and the node before the frame
+shows what it met there. If an earlier record of the frame has changed that, the words are fewer."""
 from __future__ import annotations
 
 from itertools import takewhile
@@ -19,7 +19,7 @@ from ..words import bulk_status, counted
 
 
 class Came(NamedTuple):
-    """A record that came, what became of it, the node that it came to, as that was before its frame, and how many states it may have."""
+    """A record that came, what became of it, the node that it came to, as it was before the frame, and how many states it may have."""
 
     record: Record
     taken: TakenRecord
@@ -28,7 +28,7 @@ class Came(NamedTuple):
 
     @property
     def name(self) -> Name:
-        """The state that it is about."""
+        """The name of the state that it is about."""
         return self.record.name
 
     def __str__(self) -> str:
@@ -83,7 +83,7 @@ def _bad(it: Came) -> str:
         "unknown": f"{node.id} has no such state to {'send' if it.record.kind is UPDATE_REQUEST else 'delete'}",
         "known": f"{has} ({known.protocol} {known.wire.near}, {known.wire.far})" if known else has,
         "notgiven": f"{node.id} is boot {node.boot} itself and has not given the id {it.name.id} yet (its next id is {node.next_id})",
-        "deleting": f"{node.id} has deleted the state, and has still to tell so",
+        "deleting": f"{node.id} has deleted the state, and has yet to report that",
         "full": f"the state table of {node.id} is full: {it.limit}",
     }[why]
 
@@ -97,7 +97,7 @@ def _imported(it: Came) -> str:
 
 
 def _merged(it: Came) -> str:
-    """An update of a known state: each end is taken where it is not stale."""
+    """An update of a known state: each end is taken unless it is stale."""
     stale, last = it.taken.stale, f"last used at {it.taken.fate[2]} ms"
     why = "; ".join(_staleness(it, end) for end in stale)
     if len(stale) == 2:
@@ -136,7 +136,7 @@ def _heard(status: int, node: Node) -> str:
     waits = node.sync != "-"
     if status == BULK_START:
         return f"the bulk update begins, and {node.id} " + ("goes on waiting for its end" if waits else "was not waiting for one")
-    ended = f"{node.id}, which was waiting, waits no more, whatever came" if waits else f"{node.id} was not waiting for it"
+    ended = f"{node.id}, which was waiting, no longer waits, whatever came" if waits else f"{node.id} was not waiting for it"
     return f"the server says that it is at the end; {ended}"
 
 
@@ -144,7 +144,7 @@ def _heard(status: int, node: Node) -> str:
 
 
 def explain_taken(question: Question) -> List[str]:
-    """Each record of the frame with what it did, and what else is to be known of them."""
+    """Each record of the frame with what it did, and what else there is to know about them."""
     ticket, history = int(question.words[1]), question.history
     came, node = came_records(history, question.place + 1, ticket), question.table(history.flight(ticket).to)
     return [
@@ -156,7 +156,7 @@ def explain_taken(question: Question) -> List[str]:
 
 
 def _without_rule(came: List[Came], after: Node) -> List[str]:
-    """States that came with a rule's number and stand without it."""
+    """States that came with a rule's number and are kept without it."""
     new = (it.record.state for it in came if it.taken.fate[0] == "imported")
     with_rule = (it.name for it in new if isinstance(it, Carried) and it.rule is not None)
     names = sorted(it for it in with_rule if it in after.states and after.states[it].rule is None)
@@ -165,11 +165,11 @@ def _without_rule(came: List[Came], after: Node) -> List[str]:
     return [f"without the number of its rule, since the sender's rules are not those of {after.id}: {name_list(names)}"]
 
 
-# ---- bulk updates, which end for a node with the end that the server sends
+# ---- bulk updates, which end for a node when the server sends the end
 
 
 def _without_start(history: History, came: List[Came], node: Node) -> List[str]:
-    """That a node heard the end of a bulk update, and not its start: what came with the start was lost, or is on its way. A
+    """A line that a node heard the end of a bulk update, but not its start: what came with the start was lost, or is on its way. A
     node without states sends no start."""
     statuses = _statuses([it.record for it in came])
     if BULK_END not in statuses or BULK_START in statuses[: statuses.index(BULK_END)] or node.sync == "-":
@@ -187,7 +187,7 @@ def _without_start(history: History, came: List[Came], node: Node) -> List[str]:
 
 
 def _statuses(records: Sequence[Record]) -> List[int]:
-    """What records say of a bulk update."""
+    """What records say about a bulk update."""
     return [int(it.about[0]) for it in records if it.kind is BULK_STATUS]
 
 

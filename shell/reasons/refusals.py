@@ -1,4 +1,4 @@
-"""Why an event is refused, in words, with the numbers that stand against it."""
+"""Why an event is refused, in words, with the numbers that cause it."""
 from __future__ import annotations
 
 from difflib import get_close_matches
@@ -115,10 +115,10 @@ def _too_early(question: Question, clock: int, due: int) -> List[str]:
 
 
 def _no_memory(question: Question) -> List[str]:
-    return ["the program had no memory for it, where nothing else kept it from happening"]
+    return ["the program had no memory for it; nothing else kept it from happening"]
 
 
-# (each takes the numbers that its refusal is explained by)
+# (each takes the numbers that explain its refusal)
 _REFUSALS: Dict[str, Callable[..., List[str]]] = {
     "NoSuchFrame": _no_such_frame,
     "NothingPending": _nothing_pending,

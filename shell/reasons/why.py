@@ -1,5 +1,5 @@
-"""`why`: the reason of what the program replied, in words and with numbers. Of an event the program says itself what came of it, or
-would come of it, and why."""
+"""`why`: the reason for what the program replied, in words and numbers. For an event the program itself says what came of it, or would
+come of it, and why."""
 from __future__ import annotations
 
 from typing import Callable, Dict, List, Optional, Sequence
@@ -33,15 +33,15 @@ _OF_OUTCOMES: Dict[str, Callable[[Question], List[str]]] = {
 
 
 def why_event(lab: Laboratory, branch: Branch, number: int, paint: Paint) -> List[str]:
-    """The reason of what became of an event of a branch, by its place from 1 on: the outcome, and under it the reason."""
-    return _told(lab, branch, lab.explanation(branch.name, number), paint)
+    """Why an event of a branch, by its place from 1 on, had its outcome: the outcome, and under it the reason."""
+    return _explained(lab, branch, lab.explanation(branch.name, number), paint)
 
 
 def why_ahead(lab: Laboratory, name: str, event: str, paint: Paint) -> List[str]:
-    """What would come of an event where a branch stands, and why. One that would be accepted happens aside, for what it would do."""
+    """What would come of an event where a branch stands, and why. If it would be accepted, it happens aside, to see what it would do."""
     it, branch = lab.explanation(name, event), lab.branch(name)
     if it.event.is_refused:
-        return _told(lab, branch, it, paint)
+        return _explained(lab, branch, it, paint)
     if not lab.knows_setup:
         return [_head(it, paint), *_indented([*it.lines, "it would be accepted; with --setup FILE, or once it is stepped, `why` says more"])]
     with lab.beside(branch) as other:
@@ -50,7 +50,7 @@ def why_ahead(lab: Laboratory, name: str, event: str, paint: Paint) -> List[str]
 
 
 def why_last(lab: Laboratory, paint: Paint, columns: Optional[int] = None) -> List[str]:
-    """The reason of the newest reply; a faulty line is shown in rows of at most these columns."""
+    """The reason for the newest reply; a faulty line is shown in rows of at most this many columns."""
     if lab.last is None:
         raise Unknown("nothing was asked yet")
     line, reply = lab.last.line, lab.last.reply[0]
@@ -67,17 +67,17 @@ def why_last(lab: Laboratory, paint: Paint, columns: Optional[int] = None) -> Li
         same = lines[0] == paint.head(f"{plain_event(words[2:])}: {outcome_of(reply)}")
         return lines if same else [paint.note(f"another session has moved {branch.name} on since; its newest event is this:"), *lines]
     lines = why_ahead(lab, words[1], " ".join(words[2:]), paint)
-    moved = paint.dim("told from the branch as it is now, which other sessions may have changed since")
+    moved = paint.dim("this is from the branch as it is now, which other sessions may have changed since")
     return lines if lab.port is None else [*lines, *_indented([moved])]
 
 
-def _told(lab: Laboratory, branch: Branch, it: Explanation, paint: Paint) -> List[str]:
+def _explained(lab: Laboratory, branch: Branch, it: Explanation, paint: Paint) -> List[str]:
     before = History(lab, branch.name, branch.events[: it.event.number - 1])
     return [_head(it, paint), *_indented(reasons(Question(before, it, paint)))]
 
 
 def reasons(question: Question) -> List[str]:
-    """The reason of an event's outcome, line by line."""
+    """The reason for an event's outcome, line by line."""
     return _OF_OUTCOMES.get(question.outcome[0], explain_other)(question)
 
 

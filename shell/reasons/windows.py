@@ -8,16 +8,16 @@ from ..explanations import Edge, OfState
 from ..language.names import level_name
 from ..language.packets import CIRCLE, PacketEvent
 from ..states import End, State
-from .questions import Question, peer_of, told_state
+from .questions import Question, peer_of, state_words
 
 
 def explain_window(question: Question, reason: OfState) -> List[str]:
-    """Which edges the packet misses, its numbers and those of the state, and what the peer would have done."""
+    """The edges that the packet misses, its numbers and those of the state, and what the peer would have done."""
     packet, state = question.packet, question.table(question.packet.node).states[reason.name]
     words = [(edge.missed, _edge(which, edge, state, packet)) for which, edge in reason.edges.items()]
     return [
         *(text for missed, text in words if missed is not None),
-        f"{told_state(state)} of {packet.node} matches it, and it comes from the {_ends(state, packet)[2]} end",
+        f"{state_words(state)} of {packet.node} matches it, and it comes from the {_ends(state, packet)[2]} end",
         _packet_words(packet),
         f"source end: {_end_words(state, state.source)}",
         f"destination end: {_end_words(state, state.destination)}",
@@ -27,7 +27,7 @@ def explain_window(question: Question, reason: OfState) -> List[str]:
 
 
 def _ends(state: State, packet: PacketEvent) -> Tuple[End, End, str, str]:
-    """The sender's end and the other one before the packet, and their names."""
+    """The sender's end and the other end before the packet, and their names."""
     if packet.direction == state.direction:
         return state.source, state.destination, "source", "destination"
     return state.destination, state.source, "destination", "source"
@@ -42,7 +42,7 @@ def _edge(which: str, edge: Edge, state: State, packet: PacketEvent) -> str:
         return f"seq {packet.seq} ends at {edge.number}, {beyond} {bound} (hi of the {name} end)"
     if which == "left":
         beyond = "not below" if edge.missed is None else f"{edge.missed} below"
-        # (an end that was silent begins with this packet)
+        # (an end that had been silent begins with this packet)
         first = sender.lo if sender.level else packet.seq
         window = (first - bound) % CIRCLE
         scaled = "" if window == receiver.window else f" ({receiver.window} at scale {receiver.scale})"
@@ -57,7 +57,7 @@ def _edge(which: str, edge: Edge, state: State, packet: PacketEvent) -> str:
 
 
 def _at_peer(question: Question, state: State) -> List[str]:
-    """What the program answers to the same packet at the peer, where that has other numbers for the state."""
+    """What the program answers to the same packet at the peer, if that has other numbers for the state."""
     packet, peer, lab = question.packet, peer_of(question, question.packet.node), question.lab
     copy = peer.states.get(state.name)
     if copy is None or (copy.source, copy.destination) == (state.source, state.destination):

@@ -18,7 +18,7 @@ class Found:
 
 @dataclass(frozen=True)
 class NoRun:
-    """There is no run of at most `depth` events, and how many were tried."""
+    """There is no run of at most `depth` events; and how many were tried."""
 
     depth: int
     runs: int
@@ -26,7 +26,7 @@ class NoRun:
 
 @dataclass(frozen=True)
 class GaveUp:
-    """More runs were to be tried than allowed."""
+    """There were more runs to try than allowed."""
 
     runs: int
 
@@ -35,7 +35,7 @@ Answer = Union[Found, NoRun, GaveUp]
 
 
 def read_answer(reply: Sequence[str]) -> Optional[Answer]:
-    """What a reply answers; nothing where it is a refusal or a fault."""
+    """What a reply answers; nothing if it is a refusal or a fault."""
     words = reply[0].split()
     if words[0] == FOUND:
         return Found(words[1], tuple(line.split(" ", 4)[4] for line in reply[1:-1]), int(words[5]))

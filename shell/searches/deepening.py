@@ -1,5 +1,4 @@
-"""A search that goes deeper and deeper, in a run of its own: where a person interrupts it, the pair that she works with is none
-the worse."""
+"""A search that goes deeper and deeper, in a run of its own: an interrupt does no harm to the pair that a person works with."""
 from __future__ import annotations
 
 from dataclasses import dataclass
@@ -21,7 +20,7 @@ Watch = Callable[[int, Optional[NoRun]], None]
 
 
 class Step(NamedTuple):
-    """An event that was found, and the frame that it sends, or that it is about, as it leaves it."""
+    """An event that was found, and the frame that it sends or is about, as the event leaves it."""
 
     event: Happened
     frame: Optional[Frame]
@@ -29,8 +28,8 @@ class Step(NamedTuple):
 
 @dataclass(frozen=True)
 class Outcome:
-    """How a search ended: its answer, or none where it was interrupted; the depth that it had come to; and what was found, step by
-    step, with what then becomes of the packet that it is about."""
+    """How a search ended: its answer, or none if it was interrupted; the depth that it reached; and what was found, step by step,
+    with what then becomes of the packet that it is about."""
 
     answer: Optional[Answer]
     depth: int

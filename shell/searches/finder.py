@@ -11,7 +11,7 @@ from ..laboratory import Unknown
 from .answers import Found, NoRun, read_answer
 from .deepening import search
 from .reading import is_for_people, read
-from .telling import runs, told
+from .report import report, runs
 
 if TYPE_CHECKING:
     from ..shell import Shell
@@ -25,7 +25,7 @@ NAME = "found"
 
 @dataclass(frozen=True)
 class Way:
-    """What a search found: the events that stood on its branch, and those that go on from there."""
+    """What a search found: the events that stood on its branch, and those that follow."""
 
     branch: str
     stood: Tuple[str, ...]
@@ -33,7 +33,7 @@ class Way:
 
 
 class Status:
-    """How far a search is, in a line of a terminal that is written over; elsewhere it is not shown."""
+    """How far a search is, in a line that is overwritten on a terminal, and not shown elsewhere."""
 
     def __init__(self, out: IO[str], paint: Paint, is_shown: bool):
         self.out, self.paint, self.is_shown = out, paint, is_shown
@@ -54,7 +54,7 @@ class Status:
 
 
 class Finder:
-    """Searches for the person at a shell, and steps what was found."""
+    """Searches for the user of a shell, and steps what was found."""
 
     def __init__(self, shell: Shell):
         self.shell, self.lab = shell, shell.lab
@@ -71,7 +71,7 @@ class Finder:
             self._ask(line)
 
     def _ask(self, line: str) -> None:
-        """The program's own line, which is answered as it is."""
+        """The program's own line, whose answer is shown as it is."""
         self.shell.ask(line)
         reply = self.lab.last.reply if self.lab.last else ("",)
         answer = read_answer(reply)
@@ -86,7 +86,7 @@ class Finder:
         finally:
             status.clear()
         self._keep(branch.name, outcome.answer.events if isinstance(outcome.answer, Found) else None)
-        self.shell.tell(told(sought, outcome, self.shell.paint))
+        self.shell.show(report(sought, outcome, self.shell.paint))
         if outcome.answer is None and not self.shell.is_typed:
             # (outside a dialogue an interrupt ends the shell)
             raise KeyboardInterrupt
@@ -104,10 +104,10 @@ class Finder:
         way = self._way()
         name = words[0] if words else next(self._names())
         fork = f"fork {way.branch} {len(way.stood)} {name}"
-        self.shell.tell_whole([self.shell.paint.dim(f"> {fork}")])
+        self.shell.show_whole([self.shell.paint.dim(f"> {fork}")])
         if self.shell.ask(fork):
             self.lab.in_use = name
-            self.shell.tell([self.shell.paint.note(f"the branch in use is now {name}")])
+            self.shell.show([self.shell.paint.note(f"the branch in use is now {name}")])
             self.shell.steps(name, way.events)
 
     def _way(self) -> Way:

@@ -1,4 +1,4 @@
-"""What a word of a search can be, by the words before it: for the key that completes a line."""
+"""What a word of a search can be, given the words before it: for the key that completes a line."""
 from __future__ import annotations
 
 from typing import List, NamedTuple, Sequence, Tuple
@@ -11,7 +11,7 @@ from .sought import GOALS
 
 
 class Offers(NamedTuple):
-    """The words that may come, or those of an event that has begun, by which the next one is known."""
+    """The words that may come, or the words of an event that has begun, which determine the next one."""
 
     words: Tuple[str, ...] = ()
     event: Tuple[str, ...] = ()
@@ -19,7 +19,7 @@ class Offers(NamedTuple):
 
 
 def offers(words: Sequence[str]) -> Offers:
-    """What may come after words of which the first is `search`."""
+    """What may come after words that begin with `search`."""
     if len(words) == 1:
         return Offers(tuple(GOALS))
     if is_for_people(" ".join(words)):
@@ -28,7 +28,7 @@ def offers(words: Sequence[str]) -> Offers:
 
 
 def _of_people(words: Sequence[str]) -> Offers:
-    """Parts that commas end."""
+    """Parts that end with commas."""
     part: List[str] = []
     for word in words:
         part = [] if word.endswith(",") else [*part, word]
@@ -44,7 +44,7 @@ def _of_people(words: Sequence[str]) -> Offers:
 
 
 def _of_line(words: Sequence[str]) -> Offers:
-    """Parts that semicolons end, where the first has a branch, a depth and a number of runs, and the others how often."""
+    """Parts that end with semicolons; the first has a branch, a depth and a number of runs, the others how often."""
     ends = [at for at, word in enumerate(words) if word == ";"]
     part = list(words[ends[-1] + 2 :]) if ends else [it for it in words[4:] if it not in SCOPES]
     if ends and words[-1] == ";" or not ends and len(words) < 4:

@@ -14,7 +14,7 @@ from .sought import ALWAYS, ANY_DELIVERY, GOALS, RUNS, SCOPE, WHERE, Choice, Sou
 from .sought import EVENTS as EVENTS_AT_MOST
 
 PARTS = (*WHERE, "within", "at", *EVENTS)
-# What happens to any frame: the number after it says how often, and is no ticket.
+# What happens to any frame: the number after it says how often, and is not a ticket.
 OF_ANY = (DELIVER.word, LOSE.word, REPEAT.word)
 
 
@@ -26,7 +26,7 @@ def is_for_people(line: str) -> bool:
 
 
 def read(line: str, branch: str) -> Sought:
-    """The search from a branch that a line asks for in people's words; raises what is wrong with it."""
+    """The search from a branch that a line asks for in people's words; raises what is wrong with the line."""
     # (a comma before a digit belongs to a number, as in 1,000,000)
     first, *rest = (it.split() for it in re.split(",(?![0-9])", line.split(None, 1)[1]))
     parts = _Parts()
@@ -36,12 +36,12 @@ def read(line: str, branch: str) -> Sought:
     sought = parts.sought(first[0], packet)
     length = len(sought.line(branch, sought.within))
     if length > LONGEST_LINE:
-        raise Unknown(f"the line that says this has {length} characters, and at most {LONGEST_LINE} are read: allow fewer events")
+        raise Unknown(f"the line that says this has {length} characters, but at most {LONGEST_LINE} are read: allow fewer events")
     return sought
 
 
 def _packet(words: Sequence[str]) -> str:
-    """The packet that is to drop or to pass; empty where nodes are to be apart."""
+    """The packet that is to drop or to pass; empty if nodes are to be apart."""
     kind, *event = words
     if kind == APART:
         if event:
@@ -59,12 +59,12 @@ class _Parts:
         self.scope: Optional[str] = None
         self.within: Optional[int] = None
         self.runs: Optional[int] = None
-        # Of each choice that is named how often it may happen; nothing stands for as often as there are events.
+        # How often each choice that is named may happen; nothing means as often as there are events.
         self.uses: Dict[str, Optional[int]] = {}
 
     def take(self, words: Sequence[str]) -> None:
         if not words:
-            raise Unknown("a part without a word: parts stand between commas")
+            raise Unknown("a part without a word: commas separate the parts")
         if words[0] in WHERE and len(words) == 1:
             _once("where it is asked", self.scope)
             self.scope = words[0]
@@ -83,7 +83,7 @@ class _Parts:
         within = EVENTS_AT_MOST if self.within is None else self.within
         uses = {**dict.fromkeys(ALWAYS), **self.uses}
         if len(uses) > MOST_CHOICES:
-            raise Unknown(f"a search has {MOST_CHOICES} choices at most, and these are {len(uses)}: {', '.join(uses)}")
+            raise Unknown(f"a search has at most {MOST_CHOICES} choices, but these are {len(uses)}: {', '.join(uses)}")
         choices = tuple(Choice(what, within if many is None else many) for what, many in uses.items())
         runs = RUNS if self.runs is None else self.runs
         return Sought(kind, packet, self.scope or SCOPE, within, runs, choices)
@@ -91,11 +91,11 @@ class _Parts:
 
 def _once(what: str, had: object) -> None:
     if had is not None:
-        raise Unknown(f"{what} is said twice")
+        raise Unknown(f"{what} is given twice")
 
 
 def _choices(words: Sequence[str]) -> List[Tuple[str, Optional[int]]]:
-    """What a part allows, and how often; nothing in place of a number is as often as there are events."""
+    """What a part allows, and how often; nothing for a number means as often as there are events."""
     if words[0] not in EVENTS:
         meant = nearest(words[0], PARTS) or "; `help search` lists them"
         raise Unknown(f"`{words[0]}` begins no part of a search{meant}")
@@ -108,14 +108,14 @@ def _choices(words: Sequence[str]) -> List[Tuple[str, Optional[int]]]:
 
 
 def _any(words: Sequence[str]) -> str:
-    """What happens to any frame; empty where a ticket says to which."""
+    """What happens to any frame; empty if a ticket says to which."""
     if words[0] == CUT.word and len(words) == 2:
         return f"{ANY} {CUT.word} {_number(words[1], GREATEST, 'cut LENGTH N')}"
     return f"{ANY} {words[0]}" if words[0] in OF_ANY and len(words) == 1 else ""
 
 
 def _times(words: Sequence[str]) -> Tuple[List[str], int]:
-    """A part without how often it may happen, and that: `N times`, or a number alone where one can stand; once if not said."""
+    """A part without how often it may happen, and how often: `N times`, or just a number where one may come; once if not said."""
     if words[-1] in ("times", "time") and len(words) > 2:
         return list(words[:-2]), _number(words[-2], GREATEST, f"{' '.join(words[:-2])} N times")
     if words[-1] == "once" and len(words) > 1:
@@ -136,5 +136,5 @@ def _counted(words: Sequence[str], noun: str, most: int, form: str) -> int:
 def _number(word: str, most: int, form: str) -> int:
     digits = word.replace(",", "")
     if not re.fullmatch("[0-9]{1,20}", digits) or int(digits) > most:
-        raise Unknown(f"`{word}` is no number from 0 to {most}: {form}")
+        raise Unknown(f"`{word}` is not a number from 0 to {most}: {form}")
     return int(digits)

@@ -12,12 +12,12 @@ from ..words import counted
 
 # What people say, and the goal of the line.
 GOALS: Dict[str, str] = {"drops": UNPASSED, "passes": PASSED, APART: APART}
-# Where the question is asked, unless people say something else: of a pair at rest.
+# Where the question is asked, unless people say something else: at a pair at rest.
 SCOPE = SETTLED
 ANYWHERE = "anywhere"
 WHERE: Dict[str, str] = {
-    LANDED: "where no frame is in flight",
-    SETTLED: "where nothing is in flight or pending",
+    LANDED: "when no frame is in flight",
+    SETTLED: "when nothing is in flight or pending",
     ANYWHERE: "after each event",
 }
 EVENTS, RUNS = 8, 1_000_000
@@ -28,7 +28,7 @@ ALWAYS = (ANY_DELIVERY, *(f"{FLUSH.word} {node}" for node in NODES))
 
 @dataclass(frozen=True)
 class Choice:
-    """Something that may happen, and how many times at most."""
+    """Something that may happen, and how often at most."""
 
     what: str
     uses: int
@@ -65,14 +65,14 @@ class Sought:
         return "; ".join([f"{SEARCH} {branch} {depth} {self.runs} {goal}", *choices])
 
     @property
-    def told(self) -> List[str]:
-        """Where it is asked, and what was allowed, defaults too."""
+    def terms(self) -> List[str]:
+        """When it is asked, and what was allowed, including defaults."""
         runs = "1 run" if self.runs == 1 else f"{self.runs:,} runs"
         asked = f"asked {WHERE[self.scope]}, within {counted(self.within, 'event')}, at most {runs}"
-        parts = [_told(uses, [it.words for it in those]) for uses, those in groupby(self.choices, lambda it: it.times)]
+        parts = [_allowed(uses, [it.words for it in those]) for uses, those in groupby(self.choices, lambda it: it.times)]
         return [asked, f"allowed: {'; '.join(parts)}; nothing else"]
 
 
-def _told(times: str, choices: List[str]) -> str:
+def _allowed(times: str, choices: List[str]) -> str:
     each = " each" if len(choices) > 1 and times not in ("never", "once") else ""
     return f"{', '.join(choices)} ({times}{each})"

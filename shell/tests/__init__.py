@@ -28,7 +28,7 @@ def laboratory(script: str) -> Laboratory:
         elif lab.is_open:
             lab.ask(line)
         else:
-            lab.tell_setup(line)
+            lab.take_setup(line)
     return lab
 
 

@@ -116,7 +116,7 @@ class Steps(Bridged):
         body = json.dumps({"line": "back main 1", "version": 1})
         answers = [self.asked(door, "POST", f"/{door.tokens.step}/do", body) for _ in range(2)]
         self.assertEqual([it.status for it in answers], [200, 409])
-        self.assertEqual(answers[1].body, "somebody was faster: main has changed since this page was told of it\n")
+        self.assertEqual(answers[1].body, "somebody was faster: main has changed since this page last heard of it\n")
         self.assertEqual(self.page(door)["branches"][0]["undone"], 1)
         # What is no matter of how many events there are is done all the same, and so is what another branch is asked.
         for line in ("step main tick a 1", "back other 1"):

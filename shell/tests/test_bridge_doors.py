@@ -36,7 +36,7 @@ class Doors(Bridged):
 
     def test_who_may_watch_may_not_step(self) -> None:
         answer = self.asked(self.door, "POST", f"/{self.door.tokens.watch}/do", LINE)
-        self.assertEqual((answer.status, answer.body), (403, "who has this address may watch, and not step\n"))
+        self.assertEqual((answer.status, answer.body), (403, "this address is for watching, not for stepping\n"))
         self.is_untouched()
 
     def test_the_page_says_what_its_reader_may_do(self) -> None:

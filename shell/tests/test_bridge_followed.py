@@ -78,7 +78,7 @@ class Followed(Pages):
         self.step(door, PACKET)
         shell.ask("step main tick a 1")
         answer = self.asked(door, "POST", f"/{door.tokens.step}/do", '{"line": "back main 1", "version": 1}')
-        self.assertEqual((answer.status, answer.body), (409, "somebody was faster: main has changed since this page was told of it\n"))
+        self.assertEqual((answer.status, answer.body), (409, "somebody was faster: main has changed since this page last heard of it\n"))
 
     def test_the_branches_are_those_of_the_log_whatever_comes_between(self) -> None:
         port = self.begin(2, RULES)
@@ -170,7 +170,7 @@ class Setups(Pages):
         door = self.served(joined(program(), self.begin(1, RULES), Setup.of(["rule a block any"]), out))
         self.step(door, PACKET)
         self.assertEqual(self.page(door)["branches"][0]["moments"][0]["outcome"], "pass 1.1")
-        self.assertEqual(out.getvalue().splitlines()[1:], ["the server's setup is another one than the file of --setup has, and is taken"])
+        self.assertEqual(out.getvalue().splitlines()[1:], ["the server's setup differs from the file of --setup, and is used"])
 
     def test_a_server_of_an_older_release_needs_one(self) -> None:
         with contextlib.ExitStack() as ends:

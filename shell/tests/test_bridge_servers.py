@@ -102,10 +102,10 @@ class Joined(Bridged):
             shell, own, again = (self.session(port) for _ in range(3))
             shell.ask(PACKET)
             run = Run("", [], Setup.of(["rule a block any"]), [])
-            with self.assertRaisesRegex(Unknown, "main is not here what it is at the server: the server's setup is another one"):
+            with self.assertRaisesRegex(Unknown, "main is not the same here as at the server: the server has another setup"):
                 serve(program(), 0, contextlib.nullcontext((own, run)), io.StringIO())
             shell.ask("step main flush a")
-            refused = "`flush a` was answered `refused 8 Event 2 NothingPending` where main was played again"
+            refused = "`flush a` was answered `refused 8 Event 2 NothingPending` when main was played again"
             with self.assertRaisesRegex(Unknown, refused):
                 serve(program(), 0, contextlib.nullcontext((again, run)), io.StringIO())
 
@@ -198,7 +198,7 @@ class Processes(unittest.TestCase):
             self.assertRegex(lines[1], r"^http://127\.0\.0\.1:[0-9]+/[\w-]{22}/ for those who only watch$")
             with urllib.request.urlopen(f"{lines[1].split()[0]}events?after=0") as events:
                 its.send_signal(end)
-                self.assertIn(b'data: {"ended":"the page is served no more: its bridge was stopped"}', events.read())
+                self.assertIn(b'data: {"ended":"the page is no longer served: its bridge was stopped"}', events.read())
             self.assertEqual((its.wait(5), its.communicate()[1]), (130, ""), end)
 
     def test_a_crowd_takes_no_files_from_the_branches(self) -> None:

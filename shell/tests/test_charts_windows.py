@@ -135,7 +135,7 @@ class Flows(unittest.TestCase):
         self.assertEqual(events(it), [(1, 1), (2, 2), (4, 4), (5, 5), (7, 7)])
 
     def test_no_such_state(self) -> None:
-        with self.assertRaisesRegex(Unknown, "^no packet of main that stands made a state 1.3; made were 1.1, 1.2$"):
+        with self.assertRaisesRegex(Unknown, "^no packet of main that stands made a state 1.3; those made are 1.1, 1.2$"):
             drawn(CROSSING, Window(flow=Name(1, 3)))
         with self.assertRaisesRegex(Unknown, "^no packet of main that stands made a state 1.1, nor any other$"):
             drawn(RULES, Window(flow=Name(1, 1)))
@@ -155,7 +155,7 @@ class Words(unittest.TestCase):
     def test_wrong_values(self) -> None:
         with self.assertRaisesRegex(Unknown, "^0: the events of a branch are counted from 1 on$"):
             read_asked("from 0".split())
-        with self.assertRaisesRegex(Unknown, "^x: a flow is meant by a state's name, CREATOR.ID, as 1.3$"):
+        with self.assertRaisesRegex(Unknown, "^x: a flow is named by a state's name, CREATOR.ID, such as 1.3$"):
             read_asked("flow x".split())
 
 

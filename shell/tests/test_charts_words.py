@@ -73,9 +73,9 @@ class Command(unittest.TestCase):
         for words, status, told in (
             (("--from", "13"), 1, "lab: main has no event 13 to draw: those that stand are counted from 1 to 12\n"),
             (("--from", "3", "--to", "2"), 1, "lab: there is nothing to draw from event 3 to event 2, which comes before it\n"),
-            (("--flow", "1.2"), 1, "lab: no packet of main that stands made a state 1.2; made were 1.1\n"),
+            (("--flow", "1.2"), 1, "lab: no packet of main that stands made a state 1.2; those made are 1.1\n"),
             (("--from", "x"), 2, "argument --from: x: the events of a branch are counted from 1 on\n"),
-            (("--flow", "x"), 2, "argument --flow: x: a flow is meant by a state's name, CREATOR.ID, as 1.3\n"),
+            (("--flow", "x"), 2, "argument --flow: x: a flow is named by a state's name, CREATOR.ID, such as 1.3\n"),
             (("--branch", "none"), 1, "lab: there is no branch none; `names` lists them\n"),
         ):
             ran = self.ran(LESSON, *words)
@@ -111,8 +111,8 @@ class Dialogue(unittest.TestCase):
         self.assertEqual(self.said("chart main other"), [form])
         self.assertEqual(self.said("chart main from"), [form])
         self.assertEqual(self.said("chart from 15"), ["main has no event 15 to draw: those that stand are counted from 1 to 14"])
-        self.assertEqual(self.said("chart flow 1.9"), ["no packet of main that stands made a state 1.9; made were 1.1, 1.2"])
-        self.assertEqual(self.said("chart flow x"), ["x: a flow is meant by a state's name, CREATOR.ID, as 1.3"])
+        self.assertEqual(self.said("chart flow 1.9"), ["no packet of main that stands made a state 1.9; those made are 1.1, 1.2"])
+        self.assertEqual(self.said("chart flow x"), ["x: a flow is named by a state's name, CREATOR.ID, such as 1.3"])
 
 
 if __name__ == "__main__":

@@ -13,7 +13,7 @@ from ..arguments import parser
 from . import TOP
 
 COMPLETIONS = f"{TOP}/installing/completions"
-OPTION = re.compile(r"--[a-z]+")
+OPTION = re.compile(r"--[a-z]+(?:-[a-z]+)*")
 LETTER = re.compile(r"(?<![\w-])-[a-zA-Z]\b")
 # Asks bash for what its words complete to: the last of them is the one that has begun.
 ASKING = """

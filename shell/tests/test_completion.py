@@ -63,6 +63,32 @@ class Offered(unittest.TestCase):
         self.offers("notes o", "on", "off")
         self.offers("notes on ")
 
+    def test_ends_of_packets_the_newest_first(self) -> None:
+        client, server = "10.0.0.1:1000", "192.0.2.9:53"
+        self.offers("packet a out udp ", client, server)
+        self.offers("packet a out udp 1", client, server)
+        self.offers(f"step main packet b in udp {server} ", client)
+        self.offers("why packet a in tcp 192", server)
+        self.offers("search drops packet b in udp 19", server)
+        self.offers(f"packet a out udp {client} {server} ")
+        self.lab.ask("step main packet b in tcp 192.0.2.9:53 10.0.0.7:022 S 1 0 9 0")
+        self.offers("packet a out udp ", server, "10.0.0.7:22", client)
+        # A packet that was not taken has none.
+        self.lab.ask("step none packet b in udp 1.2.3.4:5 1.2.3.4:6 7")
+        self.lab.ask("step main packet b in udp 1.2.3.4:5")
+        self.offers("packet a out udp 1.")
+
+    def test_ends_of_states_that_are_translated(self) -> None:
+        lab = self.lab = laboratory("rule a pass out nat 203.0.113.1:5000\nopen\nstep main packet a out udp 10.0.0.1:1000 192.0.2.9:53 40")
+        self.addCleanup(lab.close)
+        self.offers("packet a in udp 192.0.2.9:53 ", "10.0.0.1:1000", "203.0.113.1:5000")
+
+    def test_some_dozens_of_ends(self) -> None:
+        for number in range(40):
+            self.lab.ask(f"step other packet a out udp 10.0.0.1:{number} 192.0.2.9:{number} 40")
+        found = candidates(self.lab, "packet a out udp".split(), "")
+        self.assertEqual((len(found), found[:2], found[-1]), (48, ["10.0.0.1:39", "192.0.2.9:39"], "192.0.2.9:16"))
+
     def test_places_nodes_and_states(self) -> None:
         self.offers("back ", "main", "other", "to")
         self.offers("back main ", "to")

@@ -134,7 +134,7 @@ class Links(unittest.TestCase):
 
         whole = frame("01000001", UDP)
         self.assertEqual(put("a", whole), ["link: frame 1 receiver: b -> a"])
-        cut = "link: frame 1 content: 1 insert -> broken: bytes 2 and 3 of its header say 148 bytes, and 100 are there"
+        cut = "link: frame 1 content: 1 insert -> broken: bytes 2 and 3 of its header say 148 bytes, but 100 are there"
         self.assertEqual(put("b", whole[:100]), ["link: frame 1 size: 148 bytes -> 100 bytes", cut])
         rules = "link: frame 1 checksum: d41d8cd98f00b204e9800998ecf8427e -> 00" + "1d8cd98f00b204e9800998ecf8427e"
         self.assertEqual(put("b", whole[:4] + b"\0" + whole[5:]), [rules])

@@ -117,7 +117,7 @@ class BetweenNodes(unittest.TestCase):
         rules = "rules: those of a and b differ, so neither keeps the other's rule numbers"
         self.assertEqual(other_rules, ["a and b agree in 1 state", rules, "agree, but apart: 1.1  rule 0 | none"])
         unknown = between_nodes(pair(*states), None, PLAIN)
-        note = "the setup is not known here: times of expiry are those of the default timeouts and limits"
+        note = "the setup is not known here: expiry times are those of the default timeouts and limits"
         self.assertEqual(unknown, ["a and b agree in 1 state", note, "agree, but apart: 1.1  rule 0 | none"])
 
     def test_one_flow_with_two_names(self) -> None:

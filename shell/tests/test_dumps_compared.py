@@ -194,7 +194,7 @@ class Alone(DumpCase):
             said = self.compared(WEB + state, WEB)
             self.assertEqual((said.status, said.err), (0, []))
             self.assertEqual(said.out[0], "a and b agree in 1 state")
-            self.assertEqual(said.out[-1], "no-sync, only on a: 1 state, which no peer is told of")
+            self.assertEqual(said.out[-1], "no-sync, only on a: 1 state, never sent to the peer")
 
     def test_one_flow_under_two_names(self) -> None:
         made_by_b = WEB.replace("5f00a1b200000003 creatorid: 8a1b2c3d", "6000000000000001 creatorid: 0000b0b0")
@@ -207,7 +207,7 @@ class Alone(DumpCase):
         self.assertEqual(said.out[-1].strip(), f"5f00a1b200000003/8a1b2c3d | 6000000000000001/0000b0b0  {flow}")
 
     def test_no_state_at_both_nodes(self) -> None:
-        note = "no state stands at both nodes: are these files of one pair, and does pfsync run?"
+        note = "no state is at both nodes: are these files of one pair, and is pfsync running?"
         self.assertEqual(self.compared(WEB, QUERY).out[2], note)
         for b in (WEB, WEB + QUERY, ""):
             self.assertNotIn(note, self.compared(WEB, b).out)

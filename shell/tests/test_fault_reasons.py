@@ -6,8 +6,12 @@ import unittest
 from typing import List, Optional
 
 from . import program
-from ..language.lines import check_line
+from .. import helps
+from ..language.commands import SETUP as SETUP_WORDS, STEP, TYPED, WHY
+from ..language.events import EVENTS
+from ..language.lines import check_line, wanted_form
 from ..language.readers import LineFault
+from ..language.searches import SEARCH
 from ..language.setups import LIMITS
 from ..reasons.faults import explain_fault
 from ..programs import check_setup, run_lines
@@ -24,10 +28,10 @@ COMMANDS = [
     ("rule a pass out", "bad 3 Unknown", "rule", "it belongs to the setup"),
     ("step main flsh a", "bad 3 Unknown", "flsh", "did you mean `flush`?"),
     ("step main packet a", "bad 4 Missing", "", "expected `in` or `out`, found nothing"),
-    ("show " + "x" * 33, "bad 5 Number", "x" * 33, "has 33 characters; BRANCH is a letter from a to z and at most 15 more of"),
+    ("show " + "x" * 33, "bad 5 Number", "x" * 33, "has 33 characters, and a name has at most 16"),
     ("fork main 3", "bad 4 Missing", "", "NEW is missing"),
     ("why main", "bad 4 Missing", "", "K is missing"),
-    ("why main flsh", "bad 5 Number", "flsh", "is no number of decimal digits"),
+    ("why main flsh", "bad 5 Number", "flsh", "is not a number of decimal digits"),
     ("why main flush", "bad 4 Missing", "", "expected `a` or `b`, found nothing"),
     ("why main 3 4", "bad 6 Extra", "4", "the line was complete before `4`"),
     (PACKET.replace("step", "why").replace("2 3", "2 65500"), "bad 7 Packet", "65500", "above 65495"),
@@ -39,16 +43,16 @@ COMMANDS = [
     (PACKET.replace("udp", "UDP"), "bad 5 Number", "UDP", "expected `tcp`, `udp`, `icmp` or a number from 0 to 255, found `UDP` (did you mean `udp`?)"),
     (PACKET.replace("udp", "256"), "bad 5 Number", "256", "or a number from 0 to 255, found `256`"),
     (PACKET.replace("1.2.3.4:1", "[::1]:1"), "bad 5 Number", "[::1]:1", "no `::`"),
-    (PACKET.replace("1.2.3.4:1", "::1"), "bad 5 Number", "::1", "stands in brackets"),
+    (PACKET.replace("1.2.3.4:1", "::1"), "bad 5 Number", "::1", "is written in brackets"),
     (PACKET.replace("1.2.3.4:1", "1.2.3.4"), "bad 5 Number", "1.2.3.4", "has no port"),
     (PACKET.replace("1.2.3.4:1", "1.2.3.400:1"), "bad 5 Number", "1.2.3.400:1", "has 400 in its address"),
     (PACKET.replace("2.3.4.5:2", "2.3.4.5:65536"), "bad 5 Number", "2.3.4.5:65536", "has port 65536, above 65535"),
     (TCP.replace("S 1", "AS 1"), "bad 5 Number", "AS", "write `SA`"),
-    (TCP.replace("S 1", "SE 1"), "bad 5 Number", "SE", "has `E`, which is no flag"),
+    (TCP.replace("S 1", "SE 1"), "bad 5 Number", "SE", "has `E`, which is not a flag"),
     (TCP.replace("S 1", "S 4294967296"), "bad 5 Number", "4294967296", "is above 4294967295"),
     ("step main flush c", "bad 5 Number", "c", "expected `a` or `b`, found `c`"),
     ("step main kill a 5", "bad 5 Number", "5", "two numbers with one dot"),
-    ("step main tick a -1", "bad 5 Number", "-1", "is no number of decimal digits"),
+    ("step main tick a -1", "bad 5 Number", "-1", "is not a number of decimal digits"),
     ("show main now", "bad 6 Extra", "now", "the line was complete before `now`"),
     (PACKET.replace("2 3", "2 65500"), "bad 7 Packet", "65500", "above 65495"),
     (TCP.replace("S 1", "A 1") + " 5", "bad 7 Packet", "5", "only a packet with SYN has a SCALE"),
@@ -67,7 +71,7 @@ COMMANDS = [
     ("search main 8 9 apart; 1 any flush a", "bad 3 Unknown", "flush", "is no event of any frame"),
     ("search main 8 9 apart;1 any cut;2 flush a", "bad 4 Missing", ";", "LEN is missing"),
     ("search main 8 9 apart; 1 any cut 5 2", "bad 6 Extra", "2", "the choice was complete before `2`"),
-    ("search main 8 9 apart" + "; 1 flush a" * 16 + ";", "bad 6 Extra", ";", "a search has 16 choices at most"),
+    ("search main 8 9 apart" + "; 1 flush a" * 16 + ";", "bad 6 Extra", ";", "a search has at most 16 choices"),
     (PACKET.replace("step main", "search main 8 9 passed").replace("2 3", "2 65500 x"), "bad 7 Packet", "65500", "above 65495"),
     (PACKET.replace("2 3", "2 65500 x"), "bad 6 Extra", "x", "the line was complete before `x`"),
     ("search;", "bad 3 Unknown", "search;", "did you mean `search`?"),
@@ -81,7 +85,7 @@ SETUPS = [
     ("set aend 4294967296", "line 5 Number", "4294967296", "is above 4294967295"),
     ("rule a pass in from 10.0.0.1", "line 5 Number", "10.0.0.1", "has no length after a slash"),
     ("rule a pass in from 10.0.0.0/33", "line 5 Number", "10.0.0.0/33", "has the length 33, above 32"),
-    ("rule a pass in to 10.0.0.0/8 from 10.0.0.0/8", "line 6 Extra", "from", "out of its order"),
+    ("rule a pass in to 10.0.0.0/8 from 10.0.0.0/8", "line 6 Extra", "from", "out of order"),
     ("set timeout", "line 4 Missing", "", "expected `tcp.first`, `tcp.opening`, "),
     ("set timeout udp.x 3", "line 5 Number", "udp.x", "or `other.multiple`, found `udp.x`"),
     ("set timeout udp.first", "line 4 Missing", "", "SECONDS is missing"),
@@ -90,20 +94,20 @@ SETUPS = [
     ("set timeot udp.first 3", "line 3 Unknown", "timeot", "did you mean `timeout`?"),
     ("rule a pass in port 80", "line 3 Unknown", "port", "`fport PORTS` after `from`"),
     ("rule a pass out tport 9:3", "line 5 Number", "9:3", "has 9 before 3: the lower port comes first"),
-    ("rule a pass out tport 9:", "line 5 Number", "9:", "has not the form N or LO:HI"),
-    ("rule a pass out fport :9", "line 5 Number", ":9", "has not the form N or LO:HI"),
-    ("rule a pass out fport 1:2:3", "line 5 Number", "1:2:3", "has not the form N or LO:HI"),
+    ("rule a pass out tport 9:", "line 5 Number", "9:", "does not have the form N or LO:HI"),
+    ("rule a pass out fport :9", "line 5 Number", ":9", "does not have the form N or LO:HI"),
+    ("rule a pass out fport 1:2:3", "line 5 Number", "1:2:3", "does not have the form N or LO:HI"),
     ("rule a pass out tport 70000", "line 5 Number", "70000", "has port 70000, above 65535"),
     ("rule a pass out tport 1:65536", "line 5 Number", "1:65536", "has port 65536, above 65535"),
     ("rule a pass out nat 1.2.3.4", "line 5 Number", "1.2.3.4", "has no port: ADDRESS:PORTS"),
-    ("rule a pass out nat 1.2.3.4:5:x", "line 5 Number", "1.2.3.4:5:x", "has not the form N or LO:HI"),
+    ("rule a pass out nat 1.2.3.4:5:x", "line 5 Number", "1.2.3.4:5:x", "does not have the form N or LO:HI"),
     ("rule a pass out nat 1.2.3.4:1:2:3", "line 5 Number", "1.2.3.4:1:2:3", "has more than two ports"),
     ("rule a pass in rdr 1.2.3.400:5", "line 5 Number", "1.2.3.400:5", "has 400 in its address"),
-    ("rule a pass in rdr 1:2:3:4:5:6:7:8", "line 5 Number", "1:2:3:4:5:6:7:8", "stands in brackets: [ADDRESS]:PORTS"),
+    ("rule a pass in rdr 1:2:3:4:5:6:7:8", "line 5 Number", "1:2:3:4:5:6:7:8", "is written in brackets: [ADDRESS]:PORTS"),
     ("rule a pass in rdr [::1]:5:6", "line 5 Number", "[::1]:5:6", "no `::`"),
     (f"rule a pass in rdr {V6[:-2]}", "line 5 Number", V6[:-2], "has no `]:PORTS` after its address"),
     (f"rule a pass in rdr {V6}:0", "line 5 Number", f"{V6}:0", "has 1 before 0"),
-    ("rule a pass in rdr 1.2.3.4:5 nat 1.2.3.4:5", "line 6 Extra", "nat", "out of its order"),
+    ("rule a pass in rdr 1.2.3.4:5 nat 1.2.3.4:5", "line 6 Extra", "nat", "out of order"),
     ("rule a pass in qick", "line 3 Unknown", "qick", "did you mean `quick`?"),
     ("rule a pass in timeout tcp.last 5", "line 5 Number", "tcp.last", "or `other.multiple`, found `tcp.last` (did you mean `tcp.first`?)"),
     ("rule a pas out", "line 5 Number", "pas", "expected `pass` or `block`, found `pas` (did you mean `pass`?)"),
@@ -115,8 +119,8 @@ SETUPS = [
     ("rule a pass out to <lan>", "line 5 Number", "<lan>", "there are no tables"),
     ("rule a pass out proto { tcp udp }", "line 5 Number", "{", "found `{`: there are no lists; write a rule for each member"),
     ("rule a pass out tport {80,443}", "line 5 Number", "{80,443}", "`{80,443}` is no PORTS: there are no lists"),
-    ("rule a pass out { 80 }", "line 3 Unknown", "{", "`{` is no option of a rule: there are no lists"),
-    (f"rule a pass out {'x' * 100}", "line 3 Unknown", f"{'x' * 40}..", f"`{'x' * 40}..` is no option of a rule"),
+    ("rule a pass out { 80 }", "line 3 Unknown", "{", "`{` is not an option of a rule: there are no lists"),
+    (f"rule a pass out {'x' * 100}", "line 3 Unknown", f"{'x' * 40}..", f"`{'x' * 40}..` is not an option of a rule"),
     ("rule a pass in timeout udp.first 5 timeout tcp.first 5", "line 6 Extra", "timeout", "in the order of their classes"),
 ]
 POOL = (
@@ -158,6 +162,29 @@ class FaultReasons(unittest.TestCase):
         ):
             self.assertEqual(explain_fault(line, "bad 6 Extra")[-len(wanted) :], [f"wanted: {it}" for it in wanted])
 
+    def test_the_help_shows_the_forms_that_are_shown_once(self) -> None:
+        for word in (*SETUP_WORDS, *TYPED, *EVENTS):
+            self.assertTrue(helps.shows(word, wanted_form([STEP.word, "main", word] if word in EVENTS else [word])), word)
+        self.assertFalse(any(helps.shows(word, wanted_form([word])) for word in (SEARCH, WHY.word, "frame", "log")))
+
+    def test_each_thing_is_said_once(self) -> None:
+        setups = [
+            ("set states x", "`x` is not a number of decimal digits"),
+            ("set defer 2", "`2` is above 1"),
+            ("rule a pass in tport 80-90", "`80-90` does not have the form N or LO:HI, in decimal digits"),
+            ("rule a pass in from 10.0.0.1", "`10.0.0.1` has no length after a slash: a single IPv4 address is ADDRESS/32"),
+            ("rule a pass out nat ::1", "`::1` looks like IPv6, which is written in brackets: [ADDRESS]:PORTS"),
+            ("rule a pass out nat x", "`x` does not have the form ADDRESS:PORTS or for IPv6 [ADDRESS]:PORTS, where PORTS is a port or LO:HI"),
+        ]
+        ends = [
+            ("::1", "`::1` looks like IPv6, which is written in brackets: [ADDRESS]:PORT"),
+            ("10.0.0.1", "`10.0.0.1` has no port: ADDRESS:PORT (0 for a protocol without ports)"),
+            ("10.0.0", "`10.0.0` does not have the form ADDRESS:PORT or for IPv6 [ADDRESS]:PORT"),
+            ("host:80", "`host:80` has no address of four numbers joined by dots"),
+        ]
+        for line, why in (*setups, *((PACKET.replace("2.3.4.5:2", end), why) for end, why in ends)):
+            self.assertEqual(explain_fault(line, f"{'bad' if line.startswith('step') else 'line'} 5 Number")[0], why)
+
     def test_setups(self) -> None:
         for line, reply, word, part in SETUPS:
             with self.subTest(line):
@@ -178,7 +205,7 @@ class FaultReasons(unittest.TestCase):
             ("set aend 131073", "world 2 TooLarge", "a limit is above its range: `aend` is from 0 to 131072, and not 131073"),
             ("rule b pass in nat 1.2.3.4:5", "rule 2 NatNotOut", "a rule with `nat` has to be for the way `out`"),
             ("rule b pass any rdr 1.2.3.4:5", "rule 5 RdrNotIn", "a rule with `rdr` has to be for the way `in`"),
-            ("rule a pass out max 0", "rule 3 ZeroMax", "a rule has to allow one state at least, and says `max 0`"),
+            ("rule a pass out max 0", "rule 3 ZeroMax", "a rule has to allow at least one state, but says `max 0`"),
         ]
         for line, reply, why in cases:
             with self.subTest(line):
@@ -199,7 +226,7 @@ class FaultReasons(unittest.TestCase):
 
     def test_a_fault_that_the_shell_does_not_find_is_not_explained(self) -> None:
         lines = explain_fault("step main flush a", "bad 5 Number")
-        self.assertEqual(lines[0], "a word has not the form that is wanted; which word, the shell cannot tell")
+        self.assertEqual(lines[0], "a word has the wrong form; the shell cannot say which word")
 
     def test_the_shell_finds_what_the_program_finds(self) -> None:
         """Lines with a word or two exchanged, left out or added, against the program's check."""

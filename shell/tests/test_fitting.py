@@ -79,6 +79,8 @@ class Dialogue(unittest.TestCase):
 
     def said(self, line: str, out: io.StringIO) -> List[str]:
         self.shell.out = out
+        # (a form that was shown once is not shown again)
+        self.shell.forms.clear()
         self.shell.onecmd(line)
         return out.getvalue().splitlines()
 
@@ -110,7 +112,7 @@ class Command(unittest.TestCase):
 
     def test_help(self) -> None:
         rows = self.rows("--help", last="--version  Print version")
-        at = rows.index("  import     Takes the rules of an interface in from a pf.conf, as a setup:")
+        at = rows.index("  import     Takes in the rules of an interface from a pf.conf, as a setup:")
         self.assertEqual(rows[at + 1], "             ./lab import PF.CONF --on IF")
 
     def test_a_fault(self) -> None:

@@ -68,7 +68,7 @@ class Contents(unittest.TestCase):
 
     def test_bytes_that_are_no_frame(self) -> None:
         whole = frame("02000001", NAME)
-        cases = ((0, 1, "it has 0 bytes, and"), (19, 1, "it has 19 bytes, and a"), (20, 3, "say 36 bytes, and 20"), (35, 3, "and 35 are"))
+        cases = ((0, 1, "it has 0 bytes, but"), (19, 1, "it has 19 bytes, but a"), (20, 3, "say 36 bytes, but 20"), (35, 3, "but 35 are"))
         for length, fault, words in cases:
             self.assertEqual(contents(whole[:length]), [f"broken {fault}"])
             self.assertIn(words, Frame(1, "b", whole[:length]).summary)

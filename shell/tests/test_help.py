@@ -6,12 +6,12 @@ import re
 import subprocess
 import sys
 import unittest
-from typing import Sequence
+from typing import List, Sequence
 
 from proving import releases
 
 from . import TOP, program
-
+from .test_completed_words import shell_options
 
 # What each of the program's words reads.
 READS = {"run": "SCRIPT", "check": "SCRIPT", "serve": "SETUP"}
@@ -67,9 +67,23 @@ class AtOnce(unittest.TestCase):
         for word in ("run", "check", "serve", "try", "build", "release", "install", "uninstall"):
             self.assertRegex(ran.stdout, rf"(?m)^  {word} +\w")
 
-    def test_no_word_is_a_fault_with_the_help(self) -> None:
+    def test_help_that_could_not_be_written_is_reported_by_every_word(self) -> None:
+        asked: List[List[str]] = [[], ["--help"], ["help", "shell"], *([it, "--help"] for it in (*READS, *shell_options()))]
+        for words in asked:
+            with self.subTest(words), open("/dev/full", "w", encoding="utf-8") as full:
+                ran = subprocess.run((sys.executable, f"{TOP}/lab", *words), stdout=full, stderr=subprocess.PIPE, text=True, timeout=20)
+                self.assertEqual((ran.returncode, ran.stderr), (1, "lab: help could not be written: No space left on device\n"))
+
+    def test_a_reader_of_help_that_has_enough_ends_it_quietly(self) -> None:
+        for words in ("--help", "whatif --help"):
+            ran = subprocess.run(f"{sys.executable} {TOP}/lab {words} | :", shell=True, capture_output=True, text=True, timeout=20)
+            self.assertEqual((ran.stdout, ran.stderr), ("", ""))
+
+    def test_no_word_asks_for_the_help_and_an_empty_one_is_a_fault(self) -> None:
         ran = lab()
-        self.assertEqual((ran.returncode, ran.stdout, ran.stderr), (2, "", lab("--help").stdout))
+        self.assertEqual((ran.returncode, ran.stdout, ran.stderr), (0, lab("--help").stdout, ""))
+        ran = lab("")
+        self.assertEqual((ran.returncode, ran.stdout, ran.stderr), (2, "", "lab: there is no command ''\n"))
 
     def test_an_unknown_word_is_named(self) -> None:
         ran = lab("rum")

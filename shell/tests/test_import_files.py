@@ -148,7 +148,7 @@ class Command(unittest.TestCase):
         ports = " ".join(str(it) for it in range(1, 257))
         self.assertEqual(len(taken_in(f"pass in proto tcp to port {{ {ports} }}").rules()), 256)
         its = taken_in(f"pass out\npass in proto tcp to port {{ {ports} }}\npass in")
-        why = "pf.conf:2: with its rules a node has more than 256, and nothing is written: leave statements out, or give fewer nets"
+        why = "pf.conf:2: with its rules a node has more than 256, so nothing is written: leave statements out, or give fewer nets"
         self.assertEqual((its.status, its.setup, its.said), (1, [], [why]))
 
     def test_very_many_rules_are_no_trouble(self) -> None:
@@ -244,7 +244,7 @@ class Origins(unittest.TestCase):
             path = os.path.join(folder, "pair.pfl")
             taken_in("block all\npass out", "-o", path)
             rules = setup_from(program(), path).rules["b"]
-        self.assertEqual([it.told for it in rules], ["block any; pf.conf:1 @0", "pass out; pf.conf:2 @1"])
+        self.assertEqual([it.described for it in rules], ["block any; pf.conf:1 @0", "pass out; pf.conf:2 @1"])
 
     def test_other_comments_say_nothing_of_a_rule(self) -> None:
         packet = "step main packet a in udp 192.0.2.9:123 10.0.0.1:1000 40"

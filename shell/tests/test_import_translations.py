@@ -188,7 +188,7 @@ class NotExact(unittest.TestCase):
 
     def test_the_first_of_several_addresses(self) -> None:
         for to, first in (("{ 10.1.2.3, 10.1.2.4 } round-robin", "10.1.2.3"), ("10.1.2.3/30 source-hash", "10.1.2.0")):
-            why = f"of several addresses to translate to the first is taken, {first}"
+            why = f"of several addresses to translate to, the first is taken, {first}"
             rule = f"pass in quick proto tcp tport 80 flags any rdr {first}:80"
             self.judged(f"rdr pass on em0 proto tcp to port 80 -> {to}", "approximated", why, rule)
 
@@ -206,7 +206,7 @@ class NotExact(unittest.TestCase):
 
     def test_some_of_the_ports(self) -> None:
         text = "nat on em0 proto udp from 10.0.0.0/24 to any -> (em0) port 1000:2000\nblock all\npass out proto udp from any port"
-        why = "pf.conf:3 is for some of its ports alone: the first one decides"
+        why = "pf.conf:3 is for only some of its ports: the first one decides"
         rule = f"pass out quick proto udp {FROM} nat 192.0.2.1:1000:2000"
         self.judged(f"{text} < 1024", "approximated", why, rule, "block any", "pass out proto udp fport 0:1023")
         rules = (f"block out quick proto udp {FROM}", "block any", "pass out proto udp fport 1024:65535")
@@ -223,13 +223,13 @@ class NotExact(unittest.TestCase):
         beyond = "its ports go beyond the last one, or from the last to the first"
         tagged = "`tagged X`: packets of the laboratory have no tags, and this file gives them this one"
         for text, why in (
-            ("nat on em0 from any to any -> em2", "the addresses of em2 are not known: --address em2=ADDRESS/LENGTH says them"),
+            ("nat on em0 from any to any -> em2", "the addresses of em2 are not known: --address em2=ADDRESS/LENGTH gives them"),
             ("nat on em0 inet6 from any to any -> 192.0.2.1", "no address of its family follows `->`"),
             ("nat on em0 inet from 2001:db8::/32 to any -> (em0)", families),
-            ("nat on em0 from any to any -> ! 192.0.2.1", "what follows `->` is no address, and no table of the file"),
-            ("nat on em0 from any to any -> <none>", "what follows `->` is no address, and no table of the file"),
+            ("nat on em0 from any to any -> ! 192.0.2.1", "what follows `->` is neither an address nor a table of the file"),
+            ("nat on em0 from any to any -> <none>", "what follows `->` is neither an address nor a table of the file"),
             ("nat on em0 from any to any -> em0 port 7 static-port", "pfctl takes no `static-port` with a port"),
-            ("nat on em0 from any to any -> em0 port x", "the port `x` is no number up to 65535, and no name that is known here"),
+            ("nat on em0 from any to any -> em0 port x", "the port `x` is neither a number up to 65535 nor a name known here"),
             ("nat on em0 from any port 7 to any -> em0", "pfctl takes a port only with `proto tcp` or `proto udp`"),
             ("rdr on em0 from any to any -> 10.0.0.1 port 7", "pfctl takes a port only with `proto tcp` or `proto udp`"),
             ("rdr on em0 proto tcp to any -> 10.0.0.1 static-port", "pfctl takes `static-port` only with `nat`"),

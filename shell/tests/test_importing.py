@@ -46,7 +46,7 @@ class Rules(unittest.TestCase):
         self.assertEqual(
             its.said[:2],
             [
-                "pf.conf: `lan` is taken for another interface than em0; if it is a group with em0 in it, --group lan=em0 says so",
+                "pf.conf: `lan` is taken for an interface other than em0; if it is a group with em0 in it, --group lan=em0 says so",
                 "pf.conf: 1 rule of em0: 1 exact, 0 approximated, 0 out; 1 for other interfaces; 1 rule line a node",
             ],
         )
@@ -114,7 +114,7 @@ class Rules(unittest.TestCase):
         its = taken_in('table <t> file "bad.txt"\nblock in from <t>', bad_txt="10.0.0.1 # one\n\n!10.0.0.2\n10.0.0.2/31\n")
         self.assertEqual(its.rules(), ["block in from 10.0.0.1/32", "block in from 10.0.0.3/32"])
         its = taken_in('table <t> file "bad.txt"\nblock in from <t>')
-        why = "approximated: there is no file bad.txt that can be read: nothing is taken from it"
+        why = "approximated: there is no readable file bad.txt: nothing is taken from it"
         self.assertEqual((its.rules(), its.said[:2]), ([], [f"pf.conf:{it}: {why}" for it in (1, 2)]))
 
     def test_ports(self) -> None:
@@ -175,7 +175,7 @@ class Rules(unittest.TestCase):
         self.approximated("pass in proto tcp flags S/S", f"`flags S/S`: {takes}, and none with it", "pass in proto tcp")
         why = "without `max-src-conn`, `max-src-conn-rate`, `overload`: sources are not counted"
         self.approximated("pass in keep state (max-src-conn 9, max-src-conn-rate 5/3, overload <b> flush global)", why, "pass in")
-        why = "`adaptive.start` of a rule is left out: timeouts shrink by the states of a node alone"
+        why = "`adaptive.start` of a rule is left out: timeouts shrink only by the states of a node"
         self.approximated("pass in keep state (adaptive.start 9)", why, "pass in")
         text, nets = "pass in from ! 10.0.0.0/8 keep state (max 9)", _without_ten()
         self.approximated(text, "each of its 8 rules here has a `max` of its own", *(f"pass in from {it} max 9" for it in nets))
@@ -206,7 +206,7 @@ class Rules(unittest.TestCase):
         self.approximated("pass in from ! no-route", routes, "pass in")
         self.approximated("block in fragment", "no packet of the laboratory is a fragment")
         self.approximated("pass in tos lowdelay", "packets of the laboratory have no TOS")
-        sockets = "packets of the laboratory belong to no local socket, as forwarded ones"
+        sockets = "packets of the laboratory belong to no local socket, like forwarded ones"
         self.approximated("pass out proto tcp user { root, > 1000 }", sockets)
         self.approximated("pass out proto tcp user != root", sockets, "pass out proto tcp")
         self.approximated("pass out proto tcp group unknown", sockets, "pass out proto tcp")
@@ -236,7 +236,7 @@ class Rules(unittest.TestCase):
     def test_what_is_skipped_has_no_rules(self) -> None:
         its = taken_in("set skip on { lo0 em0 }\nblock all\nnat on em0 from any to any -> 192.0.2.1")
         self.assertEqual((its.rules(), its.status), ([], 0))
-        self.assertIn("# `set skip` has pf filter nothing on em0: without rules every packet passes, and makes no state", its.setup)
+        self.assertIn("# `set skip` makes pf filter nothing on em0: without rules every packet passes, and makes no state", its.setup)
 
 
 def _without_ten() -> List[str]:
@@ -276,7 +276,7 @@ class Reading(unittest.TestCase):
         self.assertEqual(its.rules(), ["block in", "pass out"])
         self.assertEqual(its.comments, ["# more.conf:2 @0 block in on $i", "# pf.conf:3 @1 pass out on $j"])
         its = taken_in('include "pf.conf"\npass in')
-        why = "files are included in one another more than 16 deep, or more than 256 of them"
+        why = "includes are nested more than 16 deep, or there are more than 256 of them"
         self.assertEqual(its.said[0], f"pf.conf:1: out: {why}")
         self.assertEqual(its.rules(), ["pass in"] * 17)
 

@@ -365,7 +365,7 @@ class Command(Room):
         (self.room / "here/bin/pfl_lab").unlink()
         ran = self.run_in(self.room, "here/bin/pfl_shell", "verify", "x")
         self.assertEqual((ran.returncode, ran.stdout), (125, ""))
-        self.assertEqual(ran.stderr, f"pfl_shell: there is no program at {self.room}/here/bin/pfl_lab; PFL_LAB names another one\n")
+        self.assertEqual(ran.stderr, f"pfl_shell: there is no program at {self.room}/here/bin/pfl_lab; PFL_LAB can name another one\n")
         self.assertEqual(self.run_in(self.room, "here/bin/pfl_shell", "--help").returncode, 0)
         self.assertIn("step pass", self.run_in(self.room, "here/bin/pfl_shell", given=SCRIPT, PFL_LAB=str(self.built)).stdout)
         ran = self.run_in(self.room, "here/bin/pfl_shell", PFL_LAB="/nowhere")

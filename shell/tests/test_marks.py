@@ -32,7 +32,7 @@ class Places(unittest.TestCase):
         self.assertEqual(self.said("back to 1"), ["> back main 2", "at 1"])
         self.assertEqual(self.said("back main to 2"), ["> forward main 1", "at 2"])
         self.assertEqual(self.said("back to 2"), ["> back main 0", "at 2"])
-        self.assertEqual(self.said("back to 4"), ["main has 3 events, and no place 4"])
+        self.assertEqual(self.said("back to 4"), ["main has 3 events, so it has no place 4"])
         self.assertEqual(self.said("back to 99999999999"), ["there is no mark 99999999999; `mark` lists them"])
 
     def test_a_mark_is_found_by_its_name(self) -> None:
@@ -45,7 +45,7 @@ class Places(unittest.TestCase):
 
     def test_a_mark_has_a_name(self) -> None:
         for name in ("1", "One", "a b", "a" * 17):
-            told = f"{name} is no name of a mark: that is a letter from a to z and at most 15 more of a to z, 0 to 9 and `-`"
+            told = f"{name} is not the name of a mark: that is a letter from a to z and at most 15 more of a to z, 0 to 9 and `-`"
             self.assertEqual(self.said(f"mark {name}"), [told])
 
     def test_a_mark_is_one_of_its_events(self) -> None:

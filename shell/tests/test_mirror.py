@@ -216,7 +216,7 @@ class Older(Followers):
         self.assertRegex(self.said(shell, "log")[0], "the outcomes are known with --setup FILE")
         self.assertRegex(self.said(shell, "whatif")[0], "^a server does not report its setup")
         self.assertRegex(self.said(shell, "search apart")[0], "^a server does not search")
-        self.assertRegex(self.said(shell, "notes off")[0], "^notes are of what other sessions")
+        self.assertRegex(self.said(shell, "notes off")[0], "^notes show what other sessions")
         self.assertRegex(self.said(shell, "save x")[0], "this server does not report them$")
         self.assertEqual(self.said(shell, "setup")[0], "bad 3 Unknown")
         self.assertEqual(self.server.asked[1][:3], ["setup", STEP, "log main"])
@@ -235,7 +235,7 @@ class Given(Followers):
     def test_another_one_than_the_servers_is_said_and_not_taken(self) -> None:
         for lines in (["rule a block any"], [*RULES[:-1], "set states 9"], ["# pf.conf:1 @1 pass", *RULES[:-1]]):
             lab = self.laboratory(self.serve(1), Setup.of(lines))
-            self.assertEqual(lab.join(), "the server's setup is another one than the file of --setup has, and is taken")
+            self.assertEqual(lab.join(), "the server's setup differs from the file of --setup, and is used")
             self.assertEqual(lab.setup, Setup.of(RULES[:-1]))
 
     def test_the_same_one_is_taken_in_silence(self) -> None:
@@ -248,7 +248,7 @@ class Given(Followers):
         shared_by = lab.session
         assert isinstance(shared_by, Client)
         shared_by.wait()
-        told = "the program here does not take the server's setup: bad 3 Unknown; looks are asked of the server"
+        told = "the program here does not take the server's setup: bad 3 Unknown; the server answers looks"
         self.assertEqual((lab.join(), lab.knows_setup, lab.names()), (told, False, ["main"]))
 
 

@@ -48,7 +48,7 @@ class Broken(Followers):
         lab.ask(STEP)
         self.kill(lab)
         self.assertEqual(lab.show("main").events, 1)
-        told = "the mirror of the server's pair is used no more, and looks are asked of the server: the program has ended"
+        told = "the mirror of the server's pair is no longer used, and the server answers looks: the program has ended"
         self.assertEqual(said, [told])
         self.assertEqual(lab.ask("step main flush a"), ["step sent 1 148 dropped 0"])
         self.assertEqual(lab.show("main").events, 2)
@@ -64,7 +64,7 @@ class Broken(Followers):
         session = self.with_rule(self.serve(1), "rule a block any")
         self.assertEqual(session.ask("step main tick a 1"), ["step clock 1 dropped 0"])
         self.assertEqual(session.ask(STEP), ["step pass 1.1 dropped 0"])
-        self.assertRegex(self.complaints[0], f"to entry 2, `{STEP}`, it replied `step drop block dropped 0`, and the server `step pass 1.1 dropped 0`$")
+        self.assertRegex(self.complaints[0], f"to entry 2, `{STEP}`, it replied `step drop block dropped 0`, but the server `step pass 1.1 dropped 0`$")
         self.assertIn("state a 1.1 ", "\n".join(session.ask("show main")))
         self.assertEqual(self.server.asked[1][-1], "show main")
 
@@ -88,7 +88,7 @@ class Broken(Followers):
             lab.join()
             shared(lab).say = self.complaints.append
             self.assertEqual(lab.names(), ["main"])
-        self.assertRegex(self.complaints[0], "the server has 1 entries, and sent none after entry 0 in 0 seconds$")
+        self.assertRegex(self.complaints[0], "the server has 1 entries, but sent none after entry 0 in 0 seconds$")
 
     def test_entries_with_a_gap(self) -> None:
         its = self.scripted("view 0 1 0 0 0 0 0 0\n", "rule a pass any\nopen\n", f"following 0\nentry 2 1 {STEP}\n", "view 2 1 1 1 1 0 0 0\n", "", "names main\n")
@@ -106,7 +106,7 @@ class Broken(Followers):
         one, two = self.shells(port, 2)
         self.said(one, QUERY)
         self.kill(one.lab)
-        self.assertRegex(self.said(one, "diff")[0], "^the mirror of the server's pair is used no more")
+        self.assertRegex(self.said(one, "diff")[0], "^the mirror of the server's pair is no longer used")
         self.assertEqual(one.prompt, "main> ")
         self.said(two, "flush a")
         # (nothing waits for it where there is no mirror)

@@ -69,12 +69,12 @@ class Told(Followers):
         one, two = self.shells(port, 2, is_typed=False)
         self.said(two, QUERY)
         self.assertEqual(self.said(one, "names"), ["names main"])
-        self.assertRegex(self.said(one, "notes")[0], "^notes are of what other sessions of a server do, in a dialogue")
+        self.assertRegex(self.said(one, "notes")[0], "^notes show what other sessions of a server do, in a dialogue")
 
     def test_a_pair_of_ones_own_has_none(self) -> None:
         lab = Laboratory(program())
         self.addCleanup(lab.close)
-        self.assertRegex(self.said(Shell(lab, io.StringIO(), PLAIN, is_typed=True), "notes")[0], "^notes are of what other sessions")
+        self.assertRegex(self.said(Shell(lab, io.StringIO(), PLAIN, is_typed=True), "notes")[0], "^notes show what other sessions")
 
     def test_a_branch_in_use_that_another_session_dropped(self) -> None:
         one, two = self.shells(self.serve(2), 2)

@@ -30,7 +30,7 @@ class Modules(unittest.TestCase):
         self.assertEqual(script, "const a = 1;\n\nfunction b() {\n  return a;\n}\n\nb(a);\n")
 
     def test_a_name_of_two_modules_is_refused(self) -> None:
-        with self.assertRaisesRegex(NotPacked, "^a stands in b.js and in main.js$"):
+        with self.assertRaisesRegex(NotPacked, "^a is in b.js and in main.js$"):
             self.packed(main='import { b } from "./b.js";\nconst a = 1;\n', b="const a = 2;\nexport const b = 3;\n")
 
     def test_a_circle_is_refused(self) -> None:

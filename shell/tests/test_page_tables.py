@@ -90,7 +90,7 @@ def at_its_end(script: str) -> Laboratory:
         if lab.is_open:
             lab.ask(line)
         else:
-            lab.tell_setup(line)
+            lab.take_setup(line)
     return lab
 
 

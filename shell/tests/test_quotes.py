@@ -103,12 +103,12 @@ class Quotes(unittest.TestCase):
     def test_a_law_of_a_promise_has_to_be_quoted(self) -> None:
         self.change("docs/PROVED.md", "Pair::apply all_is_well", "Pair::apply")
         self.change("docs/READING.md", "step AllIsWell is_well", "step")
-        self.refuses("README.md: all_is_well is named by a promise, and docs/PROVED.md quotes no contract of it")
+        self.refuses("README.md: all_is_well is named by a promise, but docs/PROVED.md does not quote its contract")
 
     def test_a_function_of_a_promise_has_to_be_quoted(self) -> None:
         self.change("docs/PROVED.md", "Pair::apply all_is_well", "all_is_well")
         self.change("docs/READING.md", "step AllIsWell", "AllIsWell")
-        self.refuses("README.md: Pair::apply is named by a promise, and docs/PROVED.md quotes no contract of it")
+        self.refuses("README.md: Pair::apply is named by a promise, but docs/PROVED.md does not quote its contract")
 
     def test_the_promises_have_to_be_there(self) -> None:
         self.change("README.md", "## What it promises", "## Promises")
@@ -116,15 +116,15 @@ class Quotes(unittest.TestCase):
 
     def test_the_statement_of_a_law_has_to_be_shown(self) -> None:
         self.change("docs/READING.md", "step AllIsWell is_well", "step is_well")
-        self.refuses("docs/READING.md: AllIsWell of pfl_pair.specs.Laws is cited by a contract or a law of docs/PROVED.md, and not shown")
+        self.refuses("docs/READING.md: AllIsWell of pfl_pair.specs.Laws is cited by a contract or a law of docs/PROVED.md, but not shown")
 
     def test_what_the_statement_is_made_of_has_to_be_shown(self) -> None:
         self.change("docs/READING.md", "step AllIsWell is_well", "step AllIsWell")
-        self.refuses("docs/READING.md: is_well of pfl_pair.specs.Laws is cited by a contract or a law of docs/PROVED.md, and not shown")
+        self.refuses("docs/READING.md: is_well of pfl_pair.specs.Laws is cited by a contract or a law of docs/PROVED.md, but not shown")
 
     def test_what_a_contract_cites_has_to_be_shown(self) -> None:
         self.change("docs/READING.md", "step AllIsWell is_well", "AllIsWell is_well")
-        self.refuses("docs/READING.md: step of pfl_pair.specs.Pairs is cited by a contract or a law of docs/PROVED.md, and not shown")
+        self.refuses("docs/READING.md: step of pfl_pair.specs.Pairs is cited by a contract or a law of docs/PROVED.md, but not shown")
 
     def test_a_page_has_to_show_what_the_contracts_reach(self) -> None:
         (self.top / "docs/READING.md").write_text("# Reading\n")

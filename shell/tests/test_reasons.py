@@ -137,7 +137,7 @@ DROPS: Cases = {
     ),
     "block, the state is not told": (
         "rule a pass out no-sync\nrule b block any\nopen\n" + QUERY + ANSWER_AT_B,
-        [ABSENT + "rule 0 of a (pass out no-sync) made it with `no-sync`, so a never tells of it"],
+        [ABSENT + "rule 0 of a (pass out no-sync) made it with `no-sync`, so a never sends it"],
     ),
     "block, the state expired at both": (
         "rule a pass out timeout udp.first 5\nrule b block any\nopen\n"
@@ -147,7 +147,7 @@ DROPS: Cases = {
     ),
     "block, the other way": (
         WALLS + QUERY + "step main packet a in udp 10.0.0.1:1000 192.0.2.9:53 40",
-        [f"{FLOW} of a has these ends, but matches this packet on its way out alone"],
+        [f"{FLOW} of a has these ends, but matches this packet only on its way out"],
     ),
     "max": (
         "rule a pass out max 1\nopen\n" + QUERY + SECOND,
@@ -230,7 +230,7 @@ DROPS: Cases = {
         [
             "seq 6001 ends at 7001, 1999 above 5002 (hi of the source end)",
             "node a has other numbers for state 1.1: the same packet at a gives `pass 1.1`",
-            "the newest that a told of it: its short update was lost in frame 2 (event 7)",
+            "the newest that a sent about it: its short update was lost in frame 2 (event 7)",
         ],
     ),
 }
@@ -456,7 +456,7 @@ class Reasons(unittest.TestCase):
                 lines = reasons(script)
                 for line in expected:
                     self.assertIn(line, lines)
-                self.assertNotIn("cannot tell", " ".join(lines))
+                self.assertNotRegex(" ".join(lines), "cannot say|knows no more")
 
     def test_drops(self) -> None:
         self.check(DROPS)
@@ -524,7 +524,7 @@ class Reasons(unittest.TestCase):
                 lab.knows_setup, lab.port = False, 1
                 lines = [it.strip() for it in why_last(lab, PLAIN)]
                 lab.close()
-                for line in [*expected, "told from the branch as it is now, which other sessions may have changed since"]:
+                for line in [*expected, "this is from the branch as it is now, which other sessions may have changed since"]:
                     self.assertIn(line, lines)
 
     def test_an_accepted_event_of_a_server_without_its_setup(self) -> None:

@@ -94,7 +94,7 @@ CASES: Cases = {
     ),
     "bad, the deletion is to be told": (
         OPEN + QUERY + FLUSH + "step main repeat 1\nstep main deliver 1\nstep main kill b 1.1\nstep main deliver 2",
-        ["1. insert 1.1: bad: b has deleted the state, and has still to tell so"],
+        ["1. insert 1.1: bad: b has deleted the state, and has yet to report that"],
     ),
     "bad, the table is full": (
         "set states 1\n" + OPEN + QUERY + SECOND.replace(" a ", " b ") + SYNC,
@@ -119,7 +119,7 @@ CASES: Cases = {
     "the end of a bulk update": (
         OPEN + "step main restart b\nstep main flush b\nstep main deliver 1\nstep main flush a\nstep main deliver 2",
         [
-            "1. bulk status end: the server says that it is at the end; b, which was waiting, waits no more, whatever came",
+            "1. bulk status end: the server says that it is at the end; b, which was waiting, no longer waits, whatever came",
         ],
     ),
     "the start of a bulk update": (
@@ -133,7 +133,7 @@ CASES: Cases = {
         UNHEARD + "step main deliver 4",
         [
             "1. update 1.2: new: inserted, since b did not know the state; last used at 0 ms",
-            "2. bulk status end: the server says that it is at the end; b, which was waiting, waits no more, whatever came",
+            "2. bulk status end: the server says that it is at the end; b, which was waiting, no longer waits, whatever came",
             "b has not heard the start since it asked for all states (event 5, `restart b`): frame 3, which had it, was lost "
             "(event 10)",
         ],
@@ -162,19 +162,19 @@ CASES: Cases = {
     ),
     "cut within its header": (
         OPEN + QUERY + FLUSH + "step main cut 1 3",
-        ["frame 1 had 148 bytes; 3 are less than a header, so that its receiver cannot read it (Short)"],
+        ["frame 1 had 148 bytes; 3 are less than a header, so its receiver cannot read it (Short)"],
     ),
     "broken, cut within its records": (
         OPEN + QUERY + FLUSH + "step main cut 1 40\nstep main repeat 1\nstep main deliver 2",
         [
-            "Length: bytes 2 and 3 of its header say 148 bytes, and 40 are there",
+            "Length: bytes 2 and 3 of its header say 148 bytes, but 40 are there",
             "frame 2 is a copy of frame 1 (event 4)",
             "event 3 cut frame 1 from 148 bytes to 40",
         ],
     ),
     "broken, cut within its header": (
         OPEN + QUERY + FLUSH + "step main cut 1 4\nstep main deliver 1",
-        ["Short: it has 4 bytes, and a header alone has 20", "event 3 cut frame 1 from 148 bytes to 4"],
+        ["Short: it has 4 bytes, but a header alone has 20", "event 3 cut frame 1 from 148 bytes to 4"],
     ),
 }
 

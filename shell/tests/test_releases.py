@@ -89,7 +89,7 @@ class Releases(SmallTree):
         self.change_source()
         status, _, said = self.run_it(NO_CHECKER, "test")
         self.assertEqual(status, 1)
-        self.assertIn("release: the release is of another tree than this one; renew it: ./lab release; git add", said)
+        self.assertIn("release: the release is not of this tree; renew it: ./lab release; git add", said)
 
     def test_the_test_command_sees_another_release(self) -> None:
         self.change_byte()

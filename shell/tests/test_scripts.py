@@ -77,6 +77,13 @@ class Verify(unittest.TestCase):
         self.assertEqual(found.lines, [f"{len(paths)} scripts: all replies as they say"])
 
 
+    def test_the_time_is_told_to_who_waits(self) -> None:
+        found = scripts.Verified(["one", "1 script: 1 differs"], 1, 1.264)
+        self.assertEqual(found.shown(True), ["one", "1 script: 1 differs, in 1.26 s"])
+        self.assertEqual(found.shown(False), found.lines)
+        self.assertGreater(scripts.verified(program(), [f"{TOP}/examples/one-packet.pfl"]).seconds, 0)
+
+
 class Annotate(unittest.TestCase):
     def test_it_writes_what_comes_and_keeps_the_rest(self) -> None:
         bare = "".join(line for line in RIGHT.splitlines(keepends=True) if not line.startswith("#>"))
@@ -93,6 +100,23 @@ class Annotate(unittest.TestCase):
             scripts.annotated(program(), RIGHT.replace("rule a", "rul a"))
         with self.assertRaises(scripts.NotWritten):
             scripts.annotated("/bin/true", RIGHT)
+
+    def test_a_dry_run_shows_what_would_change_and_writes_nothing(self) -> None:
+        with tempfile.TemporaryDirectory() as folder:
+            path, right = f"{folder}/case.pfl", f"{folder}/right.pfl"
+            text = "open\nnames\n#> names other"
+            scripts.write(path, text)
+            scripts.write(right, RIGHT)
+            lines = ["@@ -1,3 +1,3 @@", " open", " names", "-#> names other", "\\ No newline at end of file", "+#> names main"]
+            said = [*scripts.annotated_all(program(), [path, right], is_dry=True)]
+            self.assertEqual(said, [f"--- {path}", f"+++ {path}", *lines, f"{path}: replies would be written", f"{right}: as it was"])
+            self.assertEqual((scripts.read(path), sorted(os.listdir(folder))), (text, ["case.pfl", "right.pfl"]))
+            scripts.write(path, "open\nnames")
+            said = [*scripts.annotated_all(program(), [path], is_dry=True)]
+            self.assertEqual(said[-4:-1], ["\\ No newline at end of file", "+names", "+#> names main"])
+            scripts.write(path, "rule a\nopen\nnames\n")
+            with self.assertRaisesRegex(scripts.NotWritten, "case.pfl: pfl_lab: setup line 1: line 4: nothing is written"):
+                list(scripts.annotated_all(program(), [path], is_dry=True))
 
     def test_the_file_keeps_its_mode_and_nothing_else_is_left(self) -> None:
         with tempfile.TemporaryDirectory() as folder:

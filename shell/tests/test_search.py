@@ -41,19 +41,19 @@ FAULTS = [
     (f"search drops {ANSWER} settled", "the line was complete before `settled`"),
     (f"search drops {ANSWER.replace('in', 'on')}", "expected `in` or `out`, found `on`"),
     (f"search drops {ANSWER.replace(':53', '')}", "`192.0.2.9` has no port"),
-    ("search apart, landed, settled", "where it is asked is said twice"),
-    ("search apart, within 3, within 4", "`within` is said twice"),
-    ("search apart, lose 1, lose 2", "`any lose` is said twice"),
+    ("search apart, landed, settled", "where it is asked is given twice"),
+    ("search apart, within 3, within 4", "`within` is given twice"),
+    ("search apart, lose 1, lose 2", "`any lose` is given twice"),
     ("search apart,, lose 1", "a part without a word"),
-    ("search apart, within 65", "`65` is no number from 0 to 64: within N"),
+    ("search apart, within 65", "`65` is not a number from 0 to 64: within N"),
     ("search apart, within", "`within N` has one number"),
     ("search apart, at least 5", "`at most RUNS` has one number"),
-    ("search apart, at most 4294967296", "is no number from 0 to 4294967295"),
-    ("search apart, lose x", "`x` is no number from 0 to 4294967295: lose N"),
+    ("search apart, at most 4294967296", "is not a number from 0 to 4294967295"),
+    ("search apart, lose x", "`x` is not a number from 0 to 4294967295: lose N"),
     ("search apart, flsh a 2", "`flsh` begins no part of a search (did you mean `flush`?)"),
     ("search apart, flush c", "expected `a` or `b`, found `c`"),
     ("search apart, flush a; 3 any lose", "expected `a` or `b`, found `a;`"),
-    ("search apart, " + ", ".join(f"tick a {it}" for it in range(14)), "a search has 16 choices at most, and these are 17"),
+    ("search apart, " + ", ".join(f"tick a {it}" for it in range(14)), "a search has at most 16 choices, but these are 17"),
     ("search apart, " + ", ".join(QUERY.replace(":1000", f":100{it}") for it in range(9)), "at most 512 are read"),
 ]
 
@@ -80,14 +80,14 @@ class Words(unittest.TestCase):
 
     def test_what_is_left_out_is_told(self) -> None:
         self.assertEqual(
-            read(f"search drops {ANSWER}, lose 2, cut 20, flush b 0, at most 5000", "main").told,
+            read(f"search drops {ANSWER}, lose 2, cut 20, flush b 0, at most 5000", "main").terms,
             [
-                "asked where nothing is in flight or pending, within 8 events, at most 5,000 runs",
+                "asked when nothing is in flight or pending, within 8 events, at most 5,000 runs",
                 "allowed: deliver any frame, flush a (up to 8 times each); flush b (never); lose any frame (up to 2 times); "
                 "cut any frame to 20 bytes (once); nothing else",
             ],
         )
-        self.assertEqual(read("search apart, within 1", "main").told[0], "asked where nothing is in flight or pending, within 1 event, at most 1,000,000 runs")
+        self.assertEqual(read("search apart, within 1", "main").terms[0], "asked when nothing is in flight or pending, within 1 event, at most 1,000,000 runs")
 
     def test_the_completing_key(self) -> None:
         lab = laboratory("\n".join([*SETUP, f"step main {QUERY}", "step main flush a", "fork main 1 other"]))
@@ -124,7 +124,7 @@ class Answers(Dialogue):
                 "  2  flush a  sent 1 148  frame 1 to b: 1 insert",
                 "  3  lose 1   lost        frame 1 to b: 1 insert",
                 f"  then {ANSWER}: drop block",
-                "asked where nothing is in flight or pending, within 4 events, at most 1,000,000 runs",
+                "asked when nothing is in flight or pending, within 4 events, at most 1,000,000 runs",
                 "allowed: deliver any frame, flush a, flush b (up to 4 times each); lose any frame (once); nothing else",
                 "`take` steps them on a new branch",
             ],
@@ -144,7 +144,7 @@ class Answers(Dialogue):
         said = self.said(self.shell(), f"search drops {ANSWER}, anywhere")
         self.assertEqual(said[0], "found: no event is needed, it is so where the branch stands (1 run tried)")
         self.assertEqual(said[1], f"  then {ANSWER}: drop block")
-        self.assertEqual(said[2], "something is still in flight or pending: `settled` asks only where nothing is in flight or pending")
+        self.assertEqual(said[2], "something is still in flight or pending: `settled` asks only when nothing is in flight or pending")
 
     def test_nodes_that_are_apart(self) -> None:
         said = self.said(self.shell(), "search apart, lose 1, within 3")

@@ -61,15 +61,35 @@ class Lines(Dialogue):
     def test_a_faulty_setup_line_is_told_at_once_and_not_taken(self) -> None:
         shell = self.shell()
         said = self.said(shell, "rule a pass out proto nosuch")
-        self.assertEqual(said[-1], "the setup is without this line: bad 5 Number")
-        self.assertEqual(self.said(shell, "set states 0")[-1], "the setup is without this line: limits 1 TooSmall")
+        self.assertEqual(said[-1], "this line is left out of the setup: bad 5 Number")
+        self.assertEqual(self.said(shell, "set states 0")[-1], "this line is left out of the setup: limits 1 TooSmall")
         self.assertEqual(
-            self.said(shell, "rule a pass in nat 192.0.2.1:5000")[-1], "the setup is without this line: rules 2 NatNotOut"
+            self.said(shell, "rule a pass in nat 192.0.2.1:5000")[-1], "this line is left out of the setup: rules 2 NatNotOut"
         )
         self.assertEqual(
-            self.said(shell, "rule a pass out rdr 192.0.2.1:80:81")[-1], "the setup is without this line: rules 5 RdrNotIn"
+            self.said(shell, "rule a pass out rdr 192.0.2.1:80:81")[-1], "this line is left out of the setup: rules 5 RdrNotIn"
         )
         self.assertEqual(self.said(shell, "set states 9", "rule a pass out", "open", QUERY), ["step pass 1.1 dropped 0"])
+
+    def test_a_form_is_shown_once_in_a_dialogue(self) -> None:
+        shell = self.shell()
+        shell.is_typed = True
+        wanted = ["wanted: set LIMIT N", "wanted: set timeout CLASS SECONDS"]
+        said = [self.said(shell, line) for line in ("set states x", "set batch y", "rule a pas", *SETUP)]
+        self.assertEqual(said[0][-3:-1], wanted)
+        self.assertEqual(said[1][0], "`y` is not a number of decimal digits")
+        self.assertEqual(said[1][-2], "`help set` shows the form")
+        self.assertRegex(said[2][-2], "^wanted: rule NODE ")
+        # Each event has a form, and that of a packet is another one for TCP.
+        udp, tcp = QUERY.replace(":53", ""), QUERY.replace("udp", "tcp")
+        ends = [self.said(shell, line)[-1] for line in ("flush c", "step main flush", "step main", udp, udp, tcp, tcp)]
+        self.assertEqual(ends[:3], ["wanted: step BRANCH flush NODE", "`help flush` shows the form", "wanted: step BRANCH EVENT"])
+        self.assertEqual(ends[3::2], ["wanted: step BRANCH packet NODE in|out PROTO SRC DST LEN", self.said(shell, "why")[-1].strip()])
+        self.assertEqual(ends[4::2], ["`help packet` shows the form"] * 2)
+        # The help of `search` has another form than the program's own.
+        lines = [self.said(shell, "search main 65 9 apart") for _ in range(2)]
+        self.assertRegex(lines[0][-4], "^wanted: search BRANCH DEPTH RUNS ")
+        self.assertEqual(lines[1][-1].strip(" "), "^^")
 
     def test_a_question_before_open_says_what_is_missing(self) -> None:
         self.assertRegex(self.said(self.shell(), "view")[0], "not set up")
@@ -112,7 +132,7 @@ class Lines(Dialogue):
         shell = self.shell()
         self.said(shell, *SETUP, QUERY)
         with mock.patch("shell.views.view", side_effect=KeyError("nothing")):
-            self.assertRegex(self.said(shell, "view")[0], "the shell failed here, and the pair is as it was: KeyError")
+            self.assertRegex(self.said(shell, "view")[0], "the shell failed here, but the pair is as it was: KeyError")
         self.assertEqual(self.said(shell, "names"), ["names main"])
 
     def test_every_word_has_its_help(self) -> None:
@@ -252,6 +272,20 @@ class Files(Dialogue):
                     it.read().splitlines()[:6], ["# A story.", *SETUP, f"step main {QUERY}", "#> step pass 1.1 dropped 0"]
                 )
 
+    def test_comments_that_were_typed_stay_in_what_is_saved(self) -> None:
+        shell = self.shell()
+        with tempfile.TemporaryDirectory() as folder:
+            self.said(shell, "# Before.", "open", "# Then.", "names", f"save {folder}/saved.pfl")
+            with open(f"{folder}/saved.pfl", encoding="utf-8") as it:
+                self.assertEqual(it.read().splitlines(), ["# Before.", "open", "# Then.", "names", "#> names main"])
+        self.assertIn("Comments that were typed (`# ..`) stay in it", " ".join(self.said(shell, "help save")))
+
+    def test_verify_tells_its_time_to_who_types(self) -> None:
+        shell = self.shell()
+        shell.is_typed = True
+        said = self.said(shell, f"verify {TOP}/examples/one-packet.pfl")
+        self.assertRegex("\n".join(said), r"^1 script: all replies as they say, in \d+\.\d\d s$")
+
     def test_a_file_is_read_as_if_it_were_typed(self) -> None:
         shell = self.shell()
         said = self.said(shell, f"read {TOP}/examples/one-packet.pfl")
@@ -263,13 +297,27 @@ class Files(Dialogue):
         for word in ("read", "save", "verify", "annotate", "use"):
             self.assertRegex(self.said(self.shell(), word)[0], f"^usage: {word}")
 
+    def test_a_dry_run_of_annotate_writes_nothing(self) -> None:
+        shell = self.shell()
+        with tempfile.TemporaryDirectory() as folder:
+            path = f"{folder}/case.pfl"
+            self.said(shell, *SETUP, "names", f"save {path}")
+            with open(path, "a", encoding="utf-8") as it:
+                it.write("names\n")
+            for option in ("-n", "--dry-run"):
+                said = self.said(shell, f"annotate {option} {path}")
+                self.assertEqual(said[-2:], ["+#> names main", f"{path}: replies would be written"])
+            self.assertEqual(self.said(shell, f"annotate {path}"), [f"{path}: replies written"])
+            self.assertEqual(self.said(shell, f"annotate -n {path}"), [f"{path}: as it was"])
+        self.assertEqual(self.said(shell, "annotate -n"), ["usage: annotate [--dry-run] FILE.."])
+
     def test_a_file_that_reads_itself_is_read_once(self) -> None:
         with tempfile.TemporaryDirectory() as folder:
             path = f"{folder}/self.pfl"
             with open(path, "w", encoding="utf-8") as it:
                 it.write(f"open\nread {path}\nnames\n")
             said = self.said(self.shell(), f"read {path}")
-        self.assertEqual(said[-3:], [f"{path} is being read already", "> names", "names main"])
+        self.assertEqual(said[-3:], [f"{path} is already being read", "> names", "names main"])
 
     def test_slips_are_no_part_of_what_is_saved(self) -> None:
         shell = self.shell()
@@ -330,7 +378,7 @@ class Command(unittest.TestCase):
     def test_a_picture_has_a_name_of_its_own(self) -> None:
         ran = self.ran("chart", f"{TOP}/examples/one-packet.pfl", f"{TOP}/examples/restart.pfl")
         self.assertEqual(ran.returncode, 2)
-        self.assertIn("ends in .svg", ran.stderr)
+        self.assertIn("must end in .svg", ran.stderr)
 
     def test_a_script_with_faulty_lines_is_not_drawn(self) -> None:
         with tempfile.TemporaryDirectory() as folder:
@@ -375,6 +423,15 @@ class Command(unittest.TestCase):
             ran = self.ran("verify", f"{folder}/wrong.pfl")
         told = f"{folder}/wrong.pfl:3: reply\n  wanted: names other\n  came:   names main\n1 script: 1 differs\n"
         self.assertEqual((ran.stdout, ran.returncode), (told, 1))
+
+    def test_a_dry_run_of_annotate_shows_what_would_change(self) -> None:
+        with tempfile.TemporaryDirectory() as folder:
+            with open(f"{folder}/bare.pfl", "w", encoding="utf-8") as it:
+                it.write("open\nnames\n")
+            for option in ("-n", "--dry-run"):
+                ran = self.ran("annotate", option, f"{folder}/bare.pfl")
+                self.assertEqual(ran.stdout.splitlines()[-2:], ["+#> names main", f"{folder}/bare.pfl: replies would be written"])
+                self.assertEqual((ran.stderr, ran.returncode), ("", 0))
 
     def ran_by(self, named: str, *words: str) -> "subprocess.CompletedProcess[str]":
         """What `./lab` does where PFL_LAB names this."""

@@ -7,7 +7,7 @@ from typing import List, Tuple
 
 from ..checksums import canonical_text, rules_checksum
 from ..colours import PLAIN, Paint
-from ..held import tell_packets
+from ..held import with_packets
 from ..language.names import Name
 from ..pair import NotShown, Pair, read_shown
 from ..setups import Rule, Setup
@@ -55,7 +55,7 @@ class Whole(unittest.TestCase):
             # 60 s of udp.first, less half a second: 59 whole ones.
             "       expires in 59 s, udp.first, last used 0.5 s ago, rule 1: pass out",
             "  counters: packets passed 1; the other 6 are 0",
-            "  to be told to b (1): insert 1.1",
+            "  to send to b (1): insert 1.1",
             "node b  clock 0 s, boot 2, next id 1, next queueing number 1",
             "  no states",
             "  counters: all 0",
@@ -82,8 +82,8 @@ class Whole(unittest.TestCase):
         expected = [
             "link  2 frames in flight, next ticket 3, next boot 3",
             f"  frame 1 to b, 100 bytes, {rules} of a, b has others: "
-            "broken: bytes 2 and 3 of its header say 148 bytes, and 100 are there",
-            "  frame 2 to b, 4 bytes: broken: it has 4 bytes, and a header alone has 20",
+            "broken: bytes 2 and 3 of its header say 148 bytes, but 100 are there",
+            "  frame 2 to b, 4 bytes: broken: it has 4 bytes, but a header alone has 20",
         ]
         self.assertEqual(view(lab.with_contents(lab.show("main")), lab.setup, PLAIN)[-3:], expected)
         lab.ask("step main repeat 1")
@@ -222,15 +222,15 @@ class Waiting(unittest.TestCase):
         expected = [
             "  no states",
             "  counters: all 0",
-            "  to be told to b (9, push asked): insert 1.4, 1.5; short update 1.2; short delete 1.3;"
-            " update request 2.1, 0.0 (all",
-            "    states); bulk status start, end; clear creator 1 up to id 7",
+            "  to send to b (9, push asked): insert 1.4, 1.5; short update 1.2; short delete 1.3;"
+            " update request 2.1, 0.0 (all states);",
+            "    bulk status start, end; clear creator 1 up to id 7",
         ]
         self.assertEqual(node_a(pair), expected)
 
     def test_a_push_alone(self) -> None:
         pair = shown(node="clock 0 boot 1 id 9 seq 9 push 1 serve - sync -")
-        self.assertEqual(node_a(pair)[2:], ["  nothing to be told to the peer, push asked"])
+        self.assertEqual(node_a(pair)[2:], ["  nothing to send to the peer, push asked"])
 
     def test_held_packets(self) -> None:
         pair = shown("held a 1.1 2980", "held a 1.2 2990")
@@ -243,7 +243,7 @@ class Waiting(unittest.TestCase):
             "  held packet of 1.1 (udp 10.0.0.1:1 192.0.2.9:2 40): since 2.98 s, due since 3 s",
             "  held packet of 1.2 (tcp 10.0.0.1:1 192.0.2.9:2 S 1 0 9 0 7): since 2.99 s, due at 3.01 s",
         ]
-        self.assertEqual(node_a(tell_packets(pair, packets))[2:], expected)
+        self.assertEqual(node_a(with_packets(pair, packets))[2:], expected)
 
     def test_a_held_packet_is_shown_by_its_state_and_a_time(self) -> None:
         for line in ("held a 1.1", "held a 1.1 2980 udp 10.0.0.1:1 192.0.2.9:2 40"):

@@ -374,12 +374,12 @@ class Options(Tries):
 
     def test_words_that_are_not_understood(self) -> None:
         for words, told in (
-            (["--faults", "loose"], r"`loose` is no kind of fault \(did you mean `lose`\?\)"),
+            (["--faults", "loose"], r"`loose` is not a kind of fault \(did you mean `lose`\?\)"),
             (["--watch", "fail"], "`fail` is not pass, drop, apart or the number of an event"),
             (["--watch", "0"], "`0` is not"),
             (["--from", "0"], "counted from 1 on"),
             (["--only", "x"], "groups are numbered from 1 on"),
-            (["--out", "x.txt"], "the name of a script ends in .pfl"),
+            (["--out", "x.txt"], "the name of a script must end in .pfl"),
             (["--pears"], "unrecognized arguments: --pears; usage: whatif"),
             (["main", "other"], "unrecognized arguments: other"),
         ):
@@ -391,7 +391,7 @@ class Options(Tries):
             self.lines([])
         lab = self.lab([QUERY])
         lab.ask("back main 1")
-        with self.assertRaisesRegex(Unknown, "all that it has are undone"):
+        with self.assertRaisesRegex(Unknown, "all of them are undone"):
             course_of(lab, lab.branch("main"))
 
     def test_only_events_that_stand_count(self) -> None:

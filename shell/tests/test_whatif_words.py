@@ -83,7 +83,7 @@ class Command(Written):
     def test_a_wrong_option_is_named(self) -> None:
         status, _, told = said_by(self.script, "--faults", "loose")
         self.assertEqual(status, 2)
-        self.assertIn("argument --faults: `loose` is no kind of fault (did you mean `lose`?)", told)
+        self.assertIn("argument --faults: `loose` is not a kind of fault (did you mean `lose`?)", told)
 
     def test_an_interrupt_ends_it_with_what_was_found(self) -> None:
         flows = [QUERY.replace(":1000", f":{port}") for port in range(1000, 1050)]

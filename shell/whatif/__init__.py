@@ -1,1 +1,1 @@
-"""`whatif`: each single fault of a run, tried by itself, and the faults grouped by what they change."""
+"""`whatif`: tries each single fault of a run by itself, and groups the faults by what they change."""

@@ -1,4 +1,4 @@
-"""The answer to a `whatif`: the groups in words, and the script with variants where one is asked for."""
+"""The answer to a `whatif`: the groups in words, and the script with variants if one is asked for."""
 from __future__ import annotations
 
 import time
@@ -10,16 +10,16 @@ from ..laboratory import Laboratory, Unknown
 from ..scripts import NotWritten
 from .asked import Asked
 from .plays import Player
-from .report import shown_groups, told
+from .report import report, shown_groups
 from .tries import Progress, course_of, tried
 from .variants import Written, with_variants
 
-# A line of progress is renewed after this many seconds.
+# How many seconds pass before the line of progress is renewed.
 RENEWED = 0.2
 
 
 class Answer(NamedTuple):
-    """What is said, and whether an interrupt ended it; the script that is to be written, or why none is."""
+    """The lines of the answer, and whether an interrupt ended it; the script to write, or why there is none."""
 
     lines: List[str]
     is_interrupted: bool
@@ -28,12 +28,12 @@ class Answer(NamedTuple):
 
 
 def answer(lab: Laboratory, branch: Branch, asked: Asked, paint: Paint, progress: Progress, script: Callable[[], str]) -> Answer:
-    """Tries the faults of a branch in a run of its own; nothing changes here. The script is the one that variants are added to."""
+    """Tries the faults of a branch in a run of its own; nothing changes here. Variants are added to the script."""
     course, taken = course_of(lab, branch), lab.names()
     with lab.beside(branch) as other:
         it = tried(Player(other, branch, course), asked, progress)
         groups = shown_groups(it)
-        found = Answer(told(it, groups, paint), it.is_interrupted)
+        found = Answer(report(it, groups, paint), it.is_interrupted)
         try:
             return found._replace(written=with_variants(it, script(), taken, groups)) if asked.out else found
         except (NotWritten, Unknown) as why:
@@ -42,7 +42,7 @@ def answer(lab: Laboratory, branch: Branch, asked: Asked, paint: Paint, progress
 
 
 class Counter:
-    """How many variants are tried, on a line of a terminal that is written over; elsewhere it is not shown."""
+    """How many variants are tried, on a line that is overwritten on a terminal, and not shown elsewhere."""
 
     def __init__(self, out: IO[str]):
         self.out, self.is_shown = out, out.isatty()

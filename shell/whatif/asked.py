@@ -1,4 +1,4 @@
-"""What a `whatif` asks for, out of the words of a command line or of a dialogue."""
+"""What a `whatif` asks for, from the words of a command line or of a dialogue."""
 from __future__ import annotations
 
 import argparse
@@ -15,7 +15,7 @@ from .groups import WATCHED, Watch
 
 @dataclass(frozen=True)
 class Asked:
-    """Which faults are tried, at which events, alone or two together; which groups are shown; and the file for variants."""
+    """Which faults to try, at which events, alone or two together; which groups to show; and the file for variants."""
 
     faults: Tuple[str, ...] = ()
     watch: Watch = Watch()
@@ -30,7 +30,7 @@ class Asked:
         return self.faults or (OF_PAIRS if self.pairs else tuple(KINDS))
 
     def within(self, branch: str, events: int) -> Tuple[int, int]:
-        """The first and the last event that faults are tried at, or what is wrong with them."""
+        """The first and the last event at which to try faults; raises what is wrong with them."""
         last = events if self.last is None else self.last
         for number in (self.first, last):
             if not 1 <= number <= events:
@@ -41,7 +41,7 @@ class Asked:
 
 
 class Options(argparse.Namespace):
-    """The words as they are read: those of the options, and the branch of a dialogue."""
+    """The words that were read: the options, and the branch in a dialogue."""
 
     branch: str
     faults: Tuple[str, ...]
@@ -56,15 +56,15 @@ class Options(argparse.Namespace):
 def add_options(words: argparse.ArgumentParser) -> None:
     """The options, the same on a command line and in a dialogue."""
     every = ",".join(KINDS)
-    words.add_argument("--faults", type=_kinds, default=(), metavar="KINDS", help=f"tries these kinds of faults alone, out of {every}")
+    words.add_argument("--faults", type=_kinds, default=(), metavar="KINDS", help=f"tries only these kinds of faults, out of {every}")
     words.add_argument(
         "--watch", type=_watch, default=Watch(), metavar="WHAT",
-        help=f"shows the groups alone that change this: {', '.join(WATCHED)}, or numbers of events, joined by commas",
+        help=f"shows only the groups that change this: {', '.join(WATCHED)}, or numbers of events, joined by commas",
     )
     words.add_argument("--from", dest="first", type=_place, default=1, metavar="K", help="tries faults at the K-th event and later ones")
     words.add_argument("--to", dest="last", type=_place, metavar="L", help="tries faults at the L-th event and earlier ones")
-    words.add_argument("--pairs", action="store_true", help="tries each two faults together, restarts and clocks if --faults names them")
-    words.add_argument("--only", type=_groups, default=(), metavar="N", help="shows the N-th group alone, with all of its faults")
+    words.add_argument("--pairs", action="store_true", help="tries every two faults together; restarts and clocks if --faults names them")
+    words.add_argument("--only", type=_groups, default=(), metavar="N", help="shows only the N-th group, with all of its faults")
     words.add_argument(
         "--out", type=_script, metavar="FILE.pfl", help="writes a copy of the script with a branch for each group"
     )
@@ -82,7 +82,7 @@ class _OfDialogue(argparse.ArgumentParser):
 
 
 def read(words: Sequence[str]) -> Tuple[str, Asked]:
-    """The branch that is named in a dialogue, or nothing, and what is asked."""
+    """The branch that is named in a dialogue, or nothing, and what is asked for."""
     reader = _OfDialogue(prog=WHATIF, add_help=False, allow_abbrev=False)
     reader.add_argument("branch", nargs="?", default="")
     add_options(reader)
@@ -94,7 +94,7 @@ def _kinds(word: str) -> Tuple[str, ...]:
     kinds = tuple(word.split(","))
     for it in kinds:
         if it not in KINDS:
-            raise argparse.ArgumentTypeError(f"`{it}` is no kind of fault{nearest(it, KINDS)}: {one_of(KINDS)}, joined by commas")
+            raise argparse.ArgumentTypeError(f"`{it}` is not a kind of fault{nearest(it, KINDS)}: {one_of(KINDS)}, joined by commas")
     return kinds
 
 
@@ -122,7 +122,7 @@ def _groups(word: str) -> Tuple[int, ...]:
 
 def _script(word: str) -> str:
     if not word.endswith(".pfl"):
-        raise argparse.ArgumentTypeError(f"{word}: the name of a script ends in .pfl")
+        raise argparse.ArgumentTypeError(f"{word}: the name of a script must end in .pfl")
     return word
 
 

@@ -13,19 +13,19 @@ from ..words import counted, seconds
 
 # How far a clock jumps: further than the 60 s of udp.first and udp.multiple.
 JUMP = 61_000
-# How many events a frame comes late.
+# By how many events a frame comes late.
 LATE = (1, 2, 4)
 # Where the records of a frame begin: its header, and the head of its first group.
 FIRST_RECORD = 24
-# Where an event stands: after this number of events of the run, and its rank among those that stand there.
+# The place of an event: after this many events of the run, and its rank among those at the same place.
 Position = Tuple[int, int]
-# An event of the run itself, one that comes late, one that a fault puts before the next event, and what befalls that one's frame.
+# An event of the run itself, one that comes late, one that a fault puts before the next event, and what happens to that one's frame.
 OWN, AFTER, BETWEEN, BEFORE = 0, 1, 2, 3
 
 
 class Planned(NamedTuple):
-    """An event that is to happen: its number in the run, or 0 where a fault adds it; its line, with the tickets and names of the
-    run; and the ticket under which the run knows the frame that it sends, or 0. A frame that a fault adds has a negative ticket."""
+    """An event that is to happen: its number in the run, or 0 if a fault adds it; its line, with the tickets and names of the run; and
+    the ticket under which the run knows the frame that it sends, or 0. A frame that a fault adds has a negative ticket."""
 
     number: int
     line: str
@@ -43,7 +43,7 @@ class Planned(NamedTuple):
 
 
 class Sent(NamedTuple):
-    """A frame of the run: the event that sent it, its bytes, and the events about it, in their order."""
+    """A frame of the run: the event that sent it, its bytes, and the events about it, in order."""
 
     ticket: int
     number: int
@@ -55,7 +55,7 @@ class Sent(NamedTuple):
 
     @property
     def end(self) -> int:
-        """The event that delivered or lost it; 0 where it is in flight after the last event."""
+        """The event that delivered or lost it; 0 if it is in flight after the last event."""
         return next((it.number for it in self.later if it.kind in (DELIVER, LOSE)), 0)
 
 
@@ -66,7 +66,7 @@ class Course:
         self.events = [Happened(number, *it) for number, it in enumerate(zip(lines, outcomes), 1)]
         self.frames: Dict[int, Sent] = {}
         self.planned = [self._planned(it) for it in self.events]
-        # By the name of a state the first packet that met it, which made it.
+        # For the name of a state the first packet that met it, which made it.
         self.makers: Dict[str, int] = {}
         for it in self.events:
             if it.kind is PACKET and len(it.outcome) > 1 and it.outcome[0] != events.DROPPED.word:
@@ -86,25 +86,25 @@ class Course:
 
 @dataclass(frozen=True)
 class Fault:
-    """A fault: its kind, the event that it is about, what it is in words (but for the event that it comes before, where it is
-    between events), which events it leaves out, and what it adds where."""
+    """A fault: its kind, the event that it is about, the fault in words (without the event that it comes before, if it is between
+    events), which events it leaves out, and what it adds where."""
 
     kind: str
     at: int
     text: str
     left_out: FrozenSet[int] = frozenset()
     added: Tuple[Tuple[Position, Planned], ...] = ()
-    # What two faults cannot both befall: a frame by its ticket, or an event by its negative number; 0 for what is between events.
+    # What two faults cannot both happen to: a frame by its ticket, or an event by its negative number; 0 for what is between events.
     subject: int = 0
 
     @property
     def name(self) -> str:
-        """It in words, with the event that it is about."""
+        """The fault in words, with the event that it is about."""
         return self.text if self.subject else f"{self.text} before event {self.at}"
 
     @property
     def place(self) -> int:
-        """How many events of the run are as they were before the first that it changes."""
+        """How many events of the run come unchanged before the first that it changes."""
         return min([number - 1 for number in self.left_out] + [position[0] for position, _ in self.added])
 
 
@@ -113,17 +113,17 @@ Variant = Tuple[Fault, ...]
 
 
 def place_of(variant: Variant, course: Course) -> int:
-    """How many events a variant has in common with its run from the first on."""
+    """How many events from the first on a variant has in common with its run."""
     return min((it.place for it in variant), default=len(course))
 
 
 def planned(course: Course, variant: Variant) -> List[Planned]:
-    """The events of a variant, from the first that is not as it was."""
+    """The events of a variant, from the first that is changed."""
     place = place_of(variant, course)
     left_out = {number for it in variant for number in it.left_out}
     steps: List[Tuple[Position, Planned]] = [((it.number, OWN), it) for it in course.planned[place:] if it.number not in left_out]
     steps += [step for it in variant for step in it.added]
-    # (the order of those that stand at one place is that in which they are named)
+    # (those at one place are in the order in which they are named)
     return [it for _, it in sorted(steps, key=lambda step: step[0])]
 
 
@@ -131,19 +131,19 @@ def planned(course: Course, variant: Variant) -> List[Planned]:
 
 
 def _delivered(course: Course) -> Iterator[Sent]:
-    """The frames that are delivered, and those that are in flight after the last event, which are delivered at the end."""
+    """The frames that are delivered, including those in flight after the last event, which are delivered at the end."""
     return (it for it in course.frames.values() if not it.has(LOSE))
 
 
 def _of_frame(kind: str, frame: Sent, what: str, *added: Tuple[Position, Planned], is_moved: bool = False) -> Fault:
-    """What befalls a frame where it would be delivered; the delivery itself is left out where it is moved."""
+    """A fault of a frame at the place where it would be delivered; the delivery itself is left out if it is moved."""
     where = f"event {frame.end}" if frame.end else f"sent by event {frame.number}"
     left_out = frozenset([frame.end]) if is_moved and frame.end else frozenset()
     return Fault(kind, frame.end or frame.number, f"frame {frame.ticket} {what} ({where})", left_out, added, frame.ticket)
 
 
 def _before(course: Course, frame: Sent) -> Position:
-    """Just before a frame is delivered; after the last event where that is not in the run."""
+    """The place just before a frame is delivered, or after the last event if the run does not deliver it."""
     return (frame.end - 1, BEFORE) if frame.end else (len(course), BEFORE)
 
 
@@ -154,7 +154,7 @@ def _lost(course: Course) -> Iterator[Fault]:
 
 
 def _twice(course: Course) -> Iterator[Fault]:
-    """A frame is doubled, and its copy delivered just after it."""
+    """A frame is doubled, and its copy is delivered just after it."""
     for it in _delivered(course):
         again = Planned(0, f"{REPEAT.word} {it.ticket}", -it.ticket)
         second = ((it.end, AFTER), Planned(0, f"{DELIVER.word} {-it.ticket}"))
@@ -171,14 +171,14 @@ def _cut(course: Course) -> Iterator[Fault]:
 
 
 def _late(course: Course) -> Iterator[Fault]:
-    """A frame comes some events late, which are not all that follow."""
+    """A frame comes some events late, but before the last event."""
     frames = ((it, more) for it in _delivered(course) for more in LATE if 0 < it.end < len(course) - more)
     for it, more in frames:
         yield _moved("late", it, it.end + more, f"late by {counted(more, 'event')}")
 
 
 def _last(course: Course) -> Iterator[Fault]:
-    """A frame comes after all events, also one that the run lost."""
+    """A frame comes after all events, even a frame that the run lost."""
     for it in course.frames.values():
         if it.has(LOSE):
             yield _moved("last", it, len(course), "not lost, but last")
@@ -195,7 +195,7 @@ def _moved(kind: str, frame: Sent, after: int, what: str) -> Fault:
 
 
 SKIPPED = (PACKET, FLUSH, PURGE, RELEASE, TURN, RETRY)
-# Faults that the run itself has, and which are not about a frame.
+# Faults that the run itself has and that are not about a frame.
 OWN_FAULTS = (RESTART, events.KILL, events.CLEAR)
 
 
@@ -228,7 +228,7 @@ def _jumped(course: Course) -> Iterator[Fault]:
 
 
 def _undone(course: Course) -> Iterator[Fault]:
-    """The faults of the run itself, each as if it had not been."""
+    """The faults of the run itself, each as if it had not happened."""
     for it in course.events:
         if it.kind is LOSE:
             frame = course.frames[int(it.words[1])]
@@ -242,7 +242,7 @@ def _undone(course: Course) -> Iterator[Fault]:
             yield _without("undone", it)
 
 
-# The kinds of faults, in the order in which they are tried and named.
+# The kinds of faults, in the order in which they are tried and listed.
 KINDS: Dict[str, Callable[[Course], Iterator[Fault]]] = {
     "undone": _undone,
     "lose": _lost,
@@ -254,7 +254,7 @@ KINDS: Dict[str, Callable[[Course], Iterator[Fault]]] = {
     "restart": _restarted,
     "clock": _jumped,
 }
-# Those that two of are tried together, where nobody asks for others: these have no place of their own in a run.
+# The kinds of which two are tried together unless others are asked for. The others have no place of their own in a run.
 OF_PAIRS = tuple(it for it in KINDS if it not in ("restart", "clock"))
 
 
@@ -264,7 +264,7 @@ def faults_of(course: Course, kinds: Sequence[str], first: int, last: int) -> Li
 
 
 def pairs_of(faults: Sequence[Fault]) -> Iterator[Variant]:
-    """Each two of some faults that can both be."""
+    """All pairs of faults that can both happen."""
     for one, two in combinations(faults, 2):
         if not (one.subject and one.subject == two.subject) and not one.left_out & two.left_out:
             yield one, two

@@ -14,17 +14,17 @@ from ..words import flow
 from .faults import Course, Variant
 from .plays import Played
 
-# How many variants of a group are kept to be named.
+# How many variants of a group are kept, to be named.
 MOST_KEPT = 200
-# What both nodes have of a flow at the end, where that is not the same.
+# What both nodes have of a flow at the end, if that is not the same.
 DIFFER = "different on a and b"
-# What is said of a variant that comes to rest where its run did not.
+# The words for a variant that comes to rest though its run did not.
 AT_REST = "nothing is pending or in flight any more"
-# What changes, the most severe first: a packet goes on that did not, or the reverse; a packet gets another verdict otherwise; the
-# nodes are otherwise apart at the end; events are refused; nothing.
+# What changes, the most severe first: a packet goes on that did not, or the reverse; a packet gets another verdict in some other way;
+# the nodes differ in another way at the end; events are refused; nothing.
 CROSSED, JUDGED, APART, REFUSED, HARMLESS = range(5)
 
-# A flow, and where it stands alone, or that it differs.
+# A flow, and the only node that has it, or that it differs.
 Alone = Tuple[str, str]
 
 
@@ -37,7 +37,7 @@ class Verdict(NamedTuple):
 
     @property
     def passes(self) -> bool:
-        """Whether it goes on now, and did not before."""
+        """Whether it goes on now, but did not before."""
         return goes_on(self.after) and not goes_on(self.before)
 
     @property
@@ -46,8 +46,8 @@ class Verdict(NamedTuple):
 
 
 class Effect(NamedTuple):
-    """What a variant changes: verdicts; where flows stand alone at the end, or differ, that did not, and that did; and by their
-    numbers the events that are refused, where nothing else changes, of which 0 is one that the fault adds."""
+    """What a variant changes: verdicts; the flows that at the end, unlike before, are on only one node or differ, and those that no
+    longer are; and if nothing else changes, the numbers of the events that are refused, where 0 is one that the fault adds."""
 
     verdicts: Tuple[Verdict, ...] = ()
     apart: Tuple[Alone, ...] = ()
@@ -57,7 +57,7 @@ class Effect(NamedTuple):
 
     @property
     def rank(self) -> int:
-        """How severe it is, 0 the most."""
+        """How severe it is; 0 is the most severe."""
         if any(it.passes or it.drops for it in self.verdicts):
             return CROSSED
         if self.verdicts:
@@ -65,7 +65,7 @@ class Effect(NamedTuple):
         return APART if self.apart or self.together or self.trouble else REFUSED if self.refused else HARMLESS
 
     def without(self, numbers: FrozenSet[int]) -> "Effect":
-        """The same without the packets of some events, which did not come, and without what is refused."""
+        """The same without the packets of some events, which did not come, and without refusals."""
         return self._replace(verdicts=tuple(it for it in self.verdicts if it.number not in numbers), refused=())
 
     def judges(self, number: int) -> bool:
@@ -78,7 +78,7 @@ def goes_on(verdict: str) -> bool:
 
 
 def verdict_of(outcome: str) -> str:
-    """The verdict on a packet, whatever its state is called; of one that is refused the refusal."""
+    """The verdict on a packet, whatever its state is called; for a refused packet the refusal."""
     words = outcome.split()
     if words[0] == "refused":
         return f"refused {words[-1]}"
@@ -86,7 +86,7 @@ def verdict_of(outcome: str) -> str:
 
 
 def alone_in(shown: Sequence[str], setup: Setup) -> FrozenSet[Alone]:
-    """The flows of a shown pair that stand on one node alone, or differ, as `diff` finds them."""
+    """The flows of a shown pair that only one node has, or that differ, as `diff` finds them."""
     pair = read_shown(_without_likes(shown))
     compared = compare(pair, setup)
     only = {(flow(it), f"only on {node}") for node, states in compared.only.items() for it in states}
@@ -94,20 +94,20 @@ def alone_in(shown: Sequence[str], setup: Setup) -> FrozenSet[Alone]:
 
 
 def _without_likes(shown: Sequence[str]) -> List[str]:
-    """A shown pair without the states that both nodes have with the same words, but for times and what a node keeps for itself: these
-    agree, and are most."""
+    """A shown pair without the states that both nodes have with the same words, except for times and what a node keeps to itself: these
+    agree, and are the most."""
     rows = [(line, _shared(line.split()) if line.startswith("state ") else ()) for line in shown]
     many = Counter(words for _, words in rows if words)
     return [line for line, words in rows if not words or many[words] == 1]
 
 
 def _shared(words: Sequence[str]) -> Tuple[str, ...]:
-    """The words of a state that are the same at both nodes where these agree: its flow, and the rule."""
+    """The words of a state that are the same at both nodes if these agree: its flow, and the rule."""
     return (*words[2 : 2 + FLOW_WORDS], words[3 + FLOW_WORDS])
 
 
 class Base(NamedTuple):
-    """The run as it was: its verdicts by their events, and where flows stand alone at its end."""
+    """The run as it was: its verdicts by event, and the flows that only one node has, or that differ, at its end."""
 
     verdicts: Dict[int, str]
     alone: FrozenSet[Alone]
@@ -123,7 +123,7 @@ class Base(NamedTuple):
         verdicts = ((number, verdict_of(came)) for number, came in sorted(played.came.items()) if number in self.verdicts)
         changed = tuple(Verdict(number, self.verdicts[number], it) for number, it in verdicts if it != self.verdicts[number])
         trouble = (played.trouble or AT_REST) if played.trouble != self.trouble else ""
-        # (a pair that does not come to rest has no end to be compared)
+        # (a pair that does not come to rest has no end to compare)
         alone = self.alone if played.trouble or self.trouble else alone_in(played.shown, setup)
         apart, together = tuple(sorted(alone - self.alone)), tuple(sorted(self.alone - alone))
         is_else = not (changed or apart or together or trouble)
@@ -133,7 +133,7 @@ class Base(NamedTuple):
 
 @dataclass
 class Group:
-    """Variants that change the same: how many there are, and the first of them."""
+    """Variants that change the same: how many there are, and the first ones."""
 
     effect: Effect
     many: int = 0
@@ -155,14 +155,14 @@ class Groups:
         self._by_effect.setdefault(effect, Group(effect)).add(variant)
 
     def ordered(self) -> List[Group]:
-        """The most severe first, and of these the one whose first variant was tried first."""
+        """The most severe first; equals in the order in which their first variants were tried."""
         return sorted(self._by_effect.values(), key=lambda it: it.effect.rank)
 
 
 @dataclass(frozen=True)
 class Watch:
     """What a group has to change: a packet that passes, or drops, or how the nodes are apart; or the verdict of one of these events.
-    All is watched where nothing is named."""
+    Everything is watched if nothing is named."""
 
     words: FrozenSet[str] = frozenset()
     numbers: FrozenSet[int] = frozenset()
@@ -182,7 +182,7 @@ WATCHED = tuple(_WATCHED)
 
 
 def union(one: Effect, two: Effect) -> Optional[Effect]:
-    """What two faults change where each does what it does alone; nothing where they change the same packet to different verdicts."""
+    """What two faults change if each does what it does alone; nothing if they change the same packet to different verdicts."""
     verdicts = {it.number: it for it in (*one.verdicts, *two.verdicts)}
     if any(verdicts[it.number] != it for it in (*one.verdicts, *two.verdicts)):
         return None
@@ -194,7 +194,7 @@ def union(one: Effect, two: Effect) -> Optional[Effect]:
 
 
 def is_of_one(effect: Effect, one: Effect, two: Effect, left_out: FrozenSet[int]) -> bool:
-    """Whether two faults together change no more, and no less, than one of them alone or each of them alone, but for the packets that
-    one of them leaves out."""
+    """Whether two faults together change no more, and no less, than one of them alone or each of them alone, except for the packets
+    that one of them leaves out."""
     bare, first, second = (it.without(left_out) for it in (effect, one, two))
     return bare in (first, second, union(first, second))

@@ -1,4 +1,4 @@
-"""What frames and states of a run are called in a variant of it."""
+"""What the frames and states of a run are called in a variant of it."""
 from __future__ import annotations
 
 from typing import Dict, Optional, Sequence, Tuple
@@ -8,18 +8,18 @@ from .faults import Course, Planned
 
 
 class Names:
-    """The tickets and the names in a variant that parts from its run after some events. Tickets are counted, so that one is foreseen
-    where every event that sends is accepted."""
+    """The tickets and names in a variant that parts from its run after some events. Tickets are counted, so they can be foreseen as
+    long as every event that sends is accepted."""
 
     def __init__(self, course: Course, place: int):
         self.course, self.place = course, place
         self._tickets: Dict[int, int] = {}
         self._next_ticket = 1 + sum(it.number <= place for it in course.frames.values())
-        # By node and name.
+        # Names, by node and name in the run.
         self._states: Dict[Tuple[str, str], str] = {}
 
     def line(self, step: Planned) -> Optional[str]:
-        """The line of an event, if the frame or the state is there that it is about."""
+        """The line of an event, if the frame or the state that it is about exists."""
         words = step.words
         if words[0] in OF_FRAME:
             ticket = self._of_frame(int(words[1]))
@@ -30,24 +30,24 @@ class Names:
         return step.line
 
     def _of_frame(self, ticket: int) -> Optional[int]:
-        """The ticket of a frame, if it was sent. Up to the place tickets are those of the run."""
+        """The ticket of a frame, if it was sent. Up to the place, tickets are those of the run."""
         frame = self.course.frames.get(ticket)
         return ticket if frame and frame.number <= self.place else self._tickets.get(ticket)
 
     def _of_state(self, node: str, name: str) -> Optional[str]:
-        """The name of a state, as the newest packet shows that met it in the run, first of all at this node."""
+        """The name of a state, as shown by the newest packet that met it in the run, preferably at this node."""
         elsewhere = [it for (_, its), it in self._states.items() if its == name]
         as_it_was = [name] if self.course.makers.get(name, len(self.course) + 1) <= self.place else []
         return next(iter([*filter(None, [self._states.get((node, name))]), *elsewhere[-1:], *as_it_was]), None)
 
     def foresee(self, step: Planned) -> None:
-        """Gives the frame that an event will send its ticket, if it will send one."""
+        """Assigns a ticket to the frame that an event will send, if it will send one."""
         if step.sends:
             self._tickets[step.sends] = self._next_ticket
             self._next_ticket += 1
 
     def forget(self, steps: Sequence[Planned]) -> None:
-        """Takes back what was foreseen of the newest events."""
+        """Takes back what was foreseen for the newest events."""
         sent = [it.sends for it in steps if it.sends]
         for ticket in sent:
             del self._tickets[ticket]
@@ -64,5 +64,5 @@ class Names:
 
 
 def _has_state(outcome: Sequence[str]) -> bool:
-    """Whether a packet met a state, or made one, and is not dropped."""
+    """Whether a packet met or made a state, and is not dropped."""
     return outcome[0] in (PASS.word, HELD_BACK.word) and outcome[1] != "-"

@@ -1,4 +1,4 @@
-"""Plays variants of a run: one program holds the run, and a branch begins for each variant where it parts from it."""
+"""Plays variants of a run: one program holds the run, and for each variant a branch begins where it parts from the run."""
 from __future__ import annotations
 
 from collections import deque
@@ -15,20 +15,20 @@ from ..pair import Pair, read_shown
 from .faults import Course, Planned, Variant, place_of, planned
 from .names import Names
 
-# The branch that a variant is played on; the second name where the run's own branch has the first.
+# The branch that a variant is played on; the second name is used if the run's own branch has the first.
 NAMES = ("variant", "other")
-# For each line that is shown first a pair has at most this number of steps until nothing is pending or in flight, and some more: a
-# state has its turn of a bulk update, the frame that brings it, and an answer.
+# For each line that is shown first, a pair has at most this many steps until nothing is pending or in flight, and some more: a state
+# has its turn in a bulk update, the frame that brings it, and an answer.
 STEPS_OF_ONE, SPARE_STEPS = 4, 100
 NOTHING_PENDING = "NothingPending"
 ENDLESS = "the nodes go on answering each other"
-# How many lines are sent together: they and their replies have room in a pipe.
+# How many lines are sent together: they and their replies fit in a pipe.
 MOST_TOGETHER = 128
 
 
 class Refused(NamedTuple):
-    """An event that did not happen: its place among those that were to happen, from 0 on; its number in the run, or 0 where the
-    fault adds it; its line, with the variant's tickets and names; and the name of the refusal."""
+    """An event that did not happen: its place among those that were to happen, from 0 on; its number in the run, or 0 if the fault adds
+    it; its line, with the variant's tickets and names; and the name of the refusal."""
 
     at: int
     number: int
@@ -38,17 +38,17 @@ class Refused(NamedTuple):
 
 @dataclass
 class Played:
-    """A variant as it went, from the first event on that is not as it was."""
+    """A variant as it went, from the first event that is changed."""
 
     place: int
-    # By their numbers in the run what came of its events, and their places in the variant; those that the fault adds are not there.
+    # What came of its events, and their places in the variant, by their numbers in the run; without those that the fault adds.
     came: Dict[int, str] = field(default_factory=dict)
     places: Dict[int, int] = field(default_factory=dict)
-    # What was stepped: each event with its number in the run, or 0, refused ones too; and then those until all was told.
+    # What was stepped: each event with its number in the run, or 0, including refused ones; then those until everything was sent.
     steps: List[Tuple[int, str]] = field(default_factory=list)
     until_quiet: List[str] = field(default_factory=list)
     refused: List[Refused] = field(default_factory=list)
-    # The events whose frame or state is not there.
+    # The events whose frame or state does not exist.
     without_subject: List[int] = field(default_factory=list)
     # The last reply to `show`, and what keeps the pair from being quiet.
     shown: List[str] = field(default_factory=list)
@@ -61,7 +61,7 @@ class Played:
 
 
 class _Waiting(NamedTuple):
-    """An event that waits to be stepped: its place among those that are to happen, and its line in the variant."""
+    """An event that waits to be stepped: its place among those to come, and its line in the variant."""
 
     at: int
     step: Planned
@@ -69,7 +69,7 @@ class _Waiting(NamedTuple):
 
 
 class Player:
-    """Plays variants of the first events of a branch, in a laboratory of its own in which that branch stands."""
+    """Plays variants of the first events of a branch, in a laboratory of its own with that branch."""
 
     def __init__(self, lab: Laboratory, branch: Branch, course: Course):
         self.lab, self.branch, self.course = lab, branch, course
@@ -77,7 +77,7 @@ class Player:
         self._has_variant = False
 
     def play(self, variant: Variant, until: Optional[int] = None) -> Played:
-        """Plays a variant on a branch, which stays until the next one; only so many of its events, where a number is given."""
+        """Plays a variant on a branch, which stays until the next one; if a number is given, only this many of its events."""
         place = place_of(variant, self.course)
         played, names = Played(place), Names(self.course, place)
         self._begin(place)
@@ -99,7 +99,7 @@ class Player:
         return played
 
     def _begin(self, place: int) -> None:
-        """A new branch for a variant. An interrupt can have left the last one half done."""
+        """Begins a new branch for a variant. An interrupt can have left the last one half done."""
         had, self._has_variant = self._has_variant, True
         fork = f"{FORK.word} {self.branch.name} {place} {self.name}"
         replies = self._asked([*[f"{DROP.word} {self.name}"] * had, fork])
@@ -112,8 +112,8 @@ class Player:
         return [reply for at in parts for reply in session.ask_together(lines[at : at + MOST_TOGETHER])]
 
     def _step(self, waiting: List[_Waiting], played: Played, names: Names) -> List[Tuple[int, Planned]]:
-        """Steps what is waiting, and takes what comes of it. Where an event that sends is refused, the tickets of those behind it are
-        others than foreseen: these are undone and come back, the last one first."""
+        """Steps what is waiting, and takes what comes of it. If an event that sends is refused, the tickets of those after it are not
+        the ones foreseen: these are undone and returned, the last one first."""
         replies = [it[0] for it in self._asked([f"{STEP.word} {self.name} {it.line}" for it in waiting])]
         refused = [reply.startswith("refused") for reply in replies]
         good = next((at + 1 for at, it in enumerate(waiting) if it.step.sends and refused[at]), len(waiting))
@@ -145,7 +145,7 @@ class Player:
         while not played.trouble:
             played.shown = self._asked([f"{SHOW.word} {self.name}"])[0]
             most = most or SPARE_STEPS + STEPS_OF_ONE * len(played.shown)
-            # (the states do not count here, and can be many)
+            # (the states do not matter here, and can be many)
             events = next_steps(read_shown([it for it in played.shown if not it.startswith("state ")]))
             if not events:
                 return
@@ -158,8 +158,8 @@ class Player:
             played.trouble = played.trouble or ENDLESS * (len(played.until_quiet) > most)
 
     def _followed(self, events: Sequence[str], played: Played) -> List[str]:
-        """Steps what brings the pair nearer to quiet: the deliveries of what is sent then. After deliveries both nodes send what they
-        have; that one has nothing is no trouble, and asking so is quicker than looking."""
+        """Steps what brings the pair nearer to quiet; returns the deliveries of what is then sent. After deliveries both nodes send what
+        they have; it does no harm if one has nothing, and asking this way is faster than looking."""
         tried = [f"{FLUSH.word} {node}" for node in NODES] if events[0].startswith(DELIVER.word) else []
         replies = self._asked([f"{STEP.word} {self.name} {it}" for it in (*events, *tried)])
         outcomes = [(event, outcome_of(reply[0]).split()) for event, reply in zip((*events, *tried), replies)]

@@ -1,4 +1,4 @@
-"""The answer in words: each group with its faults, and the reason in the first of them."""
+"""The answer in words: each group with its faults, and the reason in its first fault."""
 from __future__ import annotations
 
 from itertools import groupby
@@ -22,7 +22,7 @@ from .tries import Tried
 
 # How many changes of a group are named, and how many of its faults.
 MOST_CHANGES, MOST_NAMED = 3, 3
-# How many states are shown that stand alone.
+# How many states that only one node has are shown.
 MOST_STATES = 3
 # A group with its number.
 Numbered = Tuple[int, Group]
@@ -39,8 +39,8 @@ def shown_groups(it: Tried) -> List[Numbered]:
     return [(number, group) for number, group in chosen if it.asked.watch.has(group.effect)]
 
 
-def told(it: Tried, groups: Sequence[Numbered], paint: Paint) -> List[str]:
-    """What was tried, how the run ends as it was, and the groups, the most severe first."""
+def report(it: Tried, groups: Sequence[Numbered], paint: Paint) -> List[str]:
+    """What was tried, how the run itself ends, and the groups, the most severe first."""
     ending = f"once nothing is pending or in flight: {between_nodes(read_shown(it.shown), it.setup, paint)[0]}"
     lines = [paint.head(_headline(it)), f"as it was, {f'at the end {it.base.trouble}' if it.base.trouble else ending}"]
     if it.is_interrupted:
@@ -70,14 +70,14 @@ def _many(number: int, one: str, many: str) -> str:
 
 
 def _nothing(it: Tried) -> str:
-    """That no group is left to be shown."""
+    """A line that there is no group to show."""
     if not it.groups.ordered():
         return "no pair does more than its two faults alone" if it.asked.pairs and it.done else "nothing was tried"
     return "no fault changes that"
 
 
 def _group(it: Tried, number: int, group: Group, paint: Paint) -> List[str]:
-    """A group: what changes, in which faults, and why in the first of them."""
+    """A group: what changes, with which faults, and why with the first of them."""
     what = counted(group.many, "pair" if it.asked.pairs else "fault")
     lines = [f"{paint.head(f'{number}  {what}:')} {change(it.course, group.effect, paint)}", f"   {_names(it, group)}"]
     if group.effect.rank == HARMLESS:
@@ -96,7 +96,7 @@ def change(course: Course, effect: Effect, paint: Paint) -> str:
 
 
 def _verdicts(verdicts: Sequence[Verdict], paint: Paint) -> List[str]:
-    """The packets that get other verdicts, those of one change together."""
+    """The packets that get other verdicts; those with the same change together."""
     numbers: Dict[Tuple[str, str], List[str]] = {}
     for it in verdicts:
         numbers.setdefault((it.before, it.after), []).append(str(it.number))
@@ -107,7 +107,7 @@ def _verdicts(verdicts: Sequence[Verdict], paint: Paint) -> List[str]:
 
 
 def _alone(how: str, flows: Sequence[Alone]) -> List[str]:
-    """The flows that stand alone at the end, or no longer do, those of one place together."""
+    """The flows that only one node has at the end, or no longer has alone; those of one place together."""
     places: Dict[str, List[str]] = {}
     for flow, where in flows:
         places.setdefault(where, []).append(flow)
@@ -115,7 +115,7 @@ def _alone(how: str, flows: Sequence[Alone]) -> List[str]:
 
 
 def _few(words: Sequence[str]) -> str:
-    """The first of some words, and how many more there are."""
+    """The first words, and how many more there are."""
     more = len(words) - MOST_CHANGES
     return ", ".join(words[:MOST_CHANGES]) + (f" and {more} more" if more > 0 else "")
 
@@ -129,7 +129,7 @@ def text_of(variant: Variant) -> str:
 
 
 def _names(it: Tried, group: Group) -> str:
-    """The first faults of a group, or all that are kept where it alone is asked for."""
+    """The first faults of a group, or all that are kept if only this group is asked for."""
     named = _named(group.variants)
     shown = named if it.asked.only else named[:MOST_NAMED]
     more = group.many - sum(many for _, many in shown)
@@ -137,7 +137,7 @@ def _names(it: Tried, group: Group) -> str:
 
 
 def _named(variants: Sequence[Variant]) -> List[Tuple[str, int]]:
-    """The names of variants, and how many each has: what happens before one event after another has one name."""
+    """The names of variants, and how many share each: what happens before consecutive events has one name."""
     named: List[Tuple[str, int]] = []
     for _, those in groupby(enumerate(variants), lambda it: _row(*it)):
         row = [variant for _, variant in those]
@@ -147,7 +147,7 @@ def _named(variants: Sequence[Variant]) -> List[Tuple[str, int]]:
 
 
 def _row(place: int, variant: Variant) -> Tuple[str, int]:
-    """What is the same of variants in a row that have one name."""
+    """What is the same for consecutive variants with one name."""
     one = variant[0]
     return (one.text, one.at - place) if len(variant) == 1 and not one.subject else ("", place)
 
@@ -156,7 +156,7 @@ def _row(place: int, variant: Variant) -> Tuple[str, int]:
 
 
 def _first(it: Tried, group: Group, paint: Paint) -> List[str]:
-    """Why the first fault of a group changes what it does, and which events it has refused."""
+    """Why the first fault of a group changes what it does, and which events it causes to be refused."""
     variant, effect = group.variants[0], group.effect
     played = it.player.play(variant)
     if effect.rank == REFUSED:
@@ -175,13 +175,13 @@ def _first(it: Tried, group: Group, paint: Paint) -> List[str]:
 
 
 def reason_at(effect: Effect) -> int:
-    """The packet whose reason is told: the first that passes or drops, else the first with another verdict."""
+    """The packet whose reason is shown: the first that passes or drops, else the first with another verdict."""
     crossed = [it.number for it in effect.verdicts if it.passes or it.drops]
     return (crossed or [it.number for it in effect.verdicts])[0]
 
 
 def _reason(it: Tried, place: int, paint: Paint) -> List[str]:
-    """What `why` says of a packet by its place in the variant that was played last: all of it where a group is asked for, else what
+    """What `why` says of a packet by its place in the variant that was played last: all of it if a group is asked for, else what
     decided, and why no state matched."""
     lab, branch = it.player.lab, it.player.lab.branch(it.player.name)
     question = Question(History(lab, branch.name, branch.events[: place - 1]), lab.explanation(branch.name, place), paint)
@@ -192,14 +192,14 @@ def _reason(it: Tried, place: int, paint: Paint) -> List[str]:
 
 
 def _refusal(it: Tried, variant: Variant, played: Played, number: int, paint: Paint) -> List[str]:
-    """What `why` says of an event that a variant has refused; the variant is played up to there."""
+    """What `why` says of an event that is refused in a variant; the variant is played up to there."""
     refused = next(one for one in played.refused if one.number == number)
     it.player.play(variant, until=refused.at)
     return why_ahead(it.player.lab, it.player.name, refused.line, paint)
 
 
 def _answered(it: Tried, played: Played, paint: Paint) -> List[str]:
-    """Why the newest two frames that arrived in a variant are answered, where the nodes go on doing so."""
+    """Why the newest two frames that arrived in a variant are answered, if the nodes go on answering."""
     branch = it.player.lab.branch(it.player.name)
     places = [place for place, line in enumerate(branch.events, 1) if line.startswith(f"{DELIVER.word} ")]
     return [line for place in places[-2:] * (played.trouble == ENDLESS) for line in why_event(it.player.lab, branch, place, paint)]

@@ -1,4 +1,4 @@
-"""Tries the faults of a run, each by itself or each two together, and groups them by what they change."""
+"""Tries the faults of a run, each by itself or every two together, and groups them by what they change."""
 from __future__ import annotations
 
 from dataclasses import dataclass, field
@@ -12,9 +12,9 @@ from .faults import Course, Fault, Variant, faults_of, pairs_of
 from .groups import Base, Effect, Groups, is_of_one
 from .plays import Player
 
-# How many events of variants are stepped at most where nobody named a part of the run, so that it takes minutes and not hours.
+# How many events of variants are stepped at most unless a part of the run was named, so that it takes minutes and not hours.
 MOST_EVENTS = 10_000_000
-# Takes how many variants are tried, and how many there are.
+# Takes how many variants have been tried, and how many there are.
 Progress = Callable[[int, int], None]
 
 ON_A_SERVER = "a server does not report its setup: with --setup FILE, the file that it read, faults are tried in runs of their own"
@@ -22,18 +22,18 @@ ON_A_SERVER = "a server does not report its setup: with --setup FILE, the file t
 
 @dataclass
 class Tried:
-    """What was tried, how far that came, and what it changes."""
+    """What was tried, how far it got, and what it changes."""
 
     player: Player
     base: Base
     asked: Asked
-    # The last reply to `show` of the run as it was, at its end.
+    # The last reply to `show` in the run itself, at its end.
     shown: List[str]
     faults: List[Fault]
     total: int
     done: int = 0
     groups: Groups = field(default_factory=Groups)
-    # How many pairs change what one of their faults alone changes, or each of them alone.
+    # How many pairs change only what one of their faults, or each of them, changes alone.
     of_one: int = 0
     is_interrupted: bool = False
 
@@ -52,13 +52,13 @@ def course_of(lab: Laboratory, branch: Branch) -> Course:
         raise Unknown(ON_A_SERVER)
     lines = branch.events[: branch.cursor]
     if not lines:
-        undone = ": all that it has are undone" if branch.events else ""
+        undone = ": all of them are undone" if branch.events else ""
         raise Unknown(f"{branch.name} has no events that stand{undone}, and so no faults to try")
     return Course(lines, lab.outcomes(lines))
 
 
 def tried(player: Player, asked: Asked, progress: Progress) -> Tried:
-    """Tries what is asked for. An interrupt ends it, and what was found until then counts."""
+    """Tries what is asked for. An interrupt ends it, and what was found so far counts."""
     course, setup = player.course, player.lab.setup
     faults = faults_of(course, asked.kinds, *asked.within(player.branch.name, len(course)))
     if not asked.pairs:
@@ -80,8 +80,8 @@ def _bounded(branch: str, course: Course, faults: List[Fault]) -> None:
     if events > MOST_EVENTS:
         raise Unknown(
             f"{branch} has {len(course):,} events that stand and {len(faults):,} single faults, whose runs have {events:,} events"
-            f" together; at most {MOST_EVENTS:,} are tried: --from K and --to L try the faults at some events alone, and --faults"
-            " some kinds alone"
+            f" together; at most {MOST_EVENTS:,} are tried: --from K and --to L try the faults at some events only, and --faults"
+            " some kinds only"
         )
 
 
@@ -90,7 +90,7 @@ def _effect(it: Tried, variant: Variant) -> Effect:
 
 
 def _counted(it: Tried, variants: Iterable[Variant], progress: Progress) -> Iterator[Variant]:
-    """The variants, each of which counts once it is done."""
+    """The variants, each counted once it is done."""
     for variant in variants:
         progress(it.done, it.total)
         yield variant
@@ -98,7 +98,7 @@ def _counted(it: Tried, variants: Iterable[Variant], progress: Progress) -> Iter
 
 
 def _watched(it: Tried, progress: Progress) -> Iterator[Fault]:
-    """The faults that are tried before any pair is."""
+    """The faults, which are tried before any pair."""
     for fault in it.faults:
         progress(0, it.total)
         yield fault

@@ -1,4 +1,4 @@
-"""Writes variants as branches of a copy of their script, with what they answer."""
+"""Writes variants as branches of a copy of their script, with their replies."""
 from __future__ import annotations
 
 import textwrap
@@ -16,18 +16,18 @@ WIDE = 126
 
 
 class Written(NamedTuple):
-    """A script with further branches, and their names."""
+    """A script with additional branches, and their names."""
 
     text: str
     names: List[str]
 
-    def told(self, path: str) -> str:
+    def message(self, path: str) -> str:
         return f"written: {path}, with {'the branch' if len(self.names) == 1 else 'the branches'} {', '.join(self.names)}"
 
 
 def with_variants(it: Tried, text: str, taken: Sequence[str], shown: Sequence[Numbered]) -> Written:
-    """A script with a branch for the first fault of each group that is shown and changes something, or is asked for by its number;
-    these branches are there at its end."""
+    """A script with a branch for the first fault of each group that is shown and changes something, or is asked for by its number; the
+    branches exist at its end."""
     groups = [(number, group) for number, group in shown if it.asked.only or group.effect.rank != HARMLESS]
     room = MOST_BRANCHES - len(taken)
     if not groups:
@@ -45,14 +45,14 @@ def with_variants(it: Tried, text: str, taken: Sequence[str], shown: Sequence[Nu
 
 
 def _name(number: int, taken: Set[str]) -> str:
-    """A name for a branch of a group that is not taken."""
+    """A name that is not taken, for the branch of a group."""
     name = f"whatif-{number}"
     more = (f"{name}-{again}" for again in range(2, MOST_BRANCHES + 2))
     return name if name not in taken else next(one for one in more if one not in taken)
 
 
 def _branch(it: Tried, name: str, group: Group) -> Iterator[str]:
-    """The lines of a variant's branch; where the nodes are apart at its end, the steps to there come too, and what is there."""
+    """The lines of a variant's branch; if the nodes are apart at its end, the steps to that point come too, and what is there."""
     played, branch, effect = it.player.play(group.variants[0]), it.player.branch.name, group.effect
     before = {one.number: one.before for one in effect.verdicts}
     yield ""

@@ -15,15 +15,15 @@ def runs(number: int) -> str:
     return "1 run" if number == 1 else f"{number:,} runs"
 
 
-def told(sought: Sought, outcome: Outcome, paint: Paint) -> List[str]:
-    """What a search found, or why it found nothing, and what it was allowed."""
+def report(sought: Sought, outcome: Outcome, paint: Paint) -> List[str]:
+    """What a search found, or why it found nothing, and what was allowed."""
     if isinstance(outcome.answer, Found):
         lines = _found(sought, outcome, outcome.answer, paint)
     elif isinstance(outcome.answer, NoRun):
         lines = [paint.head(_none(outcome.answer))]
     else:
         lines = [paint.note(_stopped(outcome))]
-    lines += [paint.dim(it) for it in sought.told]
+    lines += [paint.dim(it) for it in sought.terms]
     return [*lines, paint.dim("`take` steps them on a new branch")] if outcome.steps else lines
 
 
@@ -38,7 +38,7 @@ def _found(sought: Sought, outcome: Outcome, answer: Found, paint: Paint) -> Lis
 
 
 def _steps(steps: Sequence[Step]) -> List[str]:
-    """The events by the places that they get, as they are typed, with what becomes of each."""
+    """The events with the places that they get, as they are typed, and what comes of each."""
     rows = [(str(it.event.number), it.event.line, it.event.came, _frame(it)) for it in steps]
     number, event, outcome = (max((len(row[at]) for row in rows), default=0) for at in range(3))
     return [f"  {it[0]:>{number}}  {it[1]:<{event}}  {it[2]:<{outcome}}  {it[3]}".rstrip() for it in rows]
@@ -50,7 +50,7 @@ def _frame(step: Step) -> str:
 
 
 def _then(sought: Sought, outcome: Outcome, last: Pair, paint: Paint) -> List[str]:
-    """What meets the goal after the last event; and where that is so at once, how to ask later."""
+    """What meets the goal after the last event; and if that is so at once, how to ask later."""
     lines = [f"  then {sought.packet}: {outcome.packet}" if sought.packet else f"  then {_apart(last)}"]
     if not outcome.steps and (last.frames or last.a.pending + last.b.pending):
         lines.append(paint.note(f"something is still in flight or pending: `settled` asks only {WHERE['settled']}"))
@@ -58,7 +58,7 @@ def _then(sought: Sought, outcome: Outcome, last: Pair, paint: Paint) -> List[st
 
 
 def _apart(pair: Pair) -> str:
-    """Which states only one node has, by their names."""
+    """The states that only one node has, by their names."""
     parts = []
     for node, other in ((pair.a, pair.b), (pair.b, pair.a)):
         names = [str(it) for it in sorted(node.states) if it not in other.states]
@@ -73,7 +73,7 @@ def _none(answer: NoRun) -> str:
 
 
 def _stopped(outcome: Outcome) -> str:
-    """That a search gave up or was interrupted, and what is known all the same."""
+    """A line that a search gave up or was interrupted, and what is known nevertheless."""
     known = f"up to depth {outcome.depth - 1} there is none" if outcome.depth else "nothing is known"
     if isinstance(outcome.answer, GaveUp):
         return f"gave up after {runs(outcome.answer.runs)} at depth {outcome.depth}; {known}"
